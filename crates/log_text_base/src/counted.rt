@@ -1,0 +1,106 @@
+//! A reader or a writer that counts its failures.
+ghost use Rattle.std.specs.Prelude.{◌≡◌, ◌<◌, ◌+◌, ◌^◌, IfOk, OnOk, OnErr, length};
+ghost use Rattle.std.specs.Io.{ReadsAtMost, WritesAtMost};
+ghost use Rattle.std.specs.Io.KnownBytes.{ReadConsumes, WriteAppends, Keeps};
+ghost use Rattle.log_text_base.specs.Known.{raised};
+
+use std::io;
+use std::io::{ErrorKind, Read, Write};
+
+/// A reader or a writer, with how often it failed and how many bytes it gave.
+#[derive(Drop)]
+pub struct Counted<T> {
+    /// The reader or the writer itself.
+    pub inner: T,
+    /// The errors answered and, of a writer, the writes that took no byte of a piece that wasn't
+    /// empty. The count stops at `u64::MAX`.
+    pub errors: u64,
+    /// The bytes that a reader gave.
+    pub given: u64,
+}
+
+impl<T> Counted<T> {
+    /// Begins to count, both at 0.
+    pub fn new(inner: T) -> Counted<T>
+        ensures inner { result.inner ≡ inner }
+        ensures errors { result.errors ≡ 0 }
+        ensures given { result.given ≡ 0 }
+    {
+        Counted {
+            inner,
+            errors: 0,
+            given: 0,
+        }
+    }
+}
+
+impl<R: Read> Read for Counted<R> {
+    ghost remaining = { λ c. R.remaining c.inner };
+
+    /// Reads into `buf`, and counts. Once 2^62 bytes were given it answers an error of its own.
+    fn read(&mut self, buf: &mut [u8]) -> io::Result<usize>
+        ensures bound { ReadsAtMost result buf.new }
+        ensures bytes { ReadConsumes (R.remaining self.old.inner) (R.remaining self.new.inner)
+            result buf.new }
+        ensures ok { OnOk result (self.new.errors ≡ self.old.errors) }
+        ensures err { OnErr result (self.new.errors ≡ raised self.old.errors) }
+        ensures given { IfOk result (λ n. (self.new.given ≡ self.old.given + n)
+            × (self.old.given < 2 ^ 62)) }
+        ensures err_given { OnErr result (self.new.given ≡ self.old.given) }
+    {
+        if self.given >= 1 << 62 {
+            self.errors = self.errors.saturating_add(1);
+            return Err(io::Error::from(ErrorKind::Other));
+        }
+        match self.inner.read(buf) {
+            Ok(n) => {
+                self.given += n as u64;
+                Ok(n)
+            }
+            Err(e) => {
+                self.errors = self.errors.saturating_add(1);
+                Err(e)
+            }
+        }
+    }
+}
+
+impl<W: Write> Write for Counted<W> {
+    ghost contents = { λ c. W.contents c.inner };
+
+    /// Writes, and counts an error, or that no byte was taken of a piece that isn't empty.
+    fn write(&mut self, buf: &[u8]) -> io::Result<usize>
+        ensures bound { WritesAtMost result buf.now }
+        ensures bytes { WriteAppends (W.contents self.old.inner) (W.contents self.new.inner)
+            result buf.now }
+        ensures ok { IfOk result (λ n. (0 < n → self.new.errors ≡ self.old.errors)
+            × (n ≡ 0 → 0 < length buf.now → self.new.errors ≡ raised self.old.errors)) }
+        ensures err { OnErr result (self.new.errors ≡ raised self.old.errors) }
+    {
+        match self.inner.write(buf) {
+            Ok(n) => {
+                if n == 0 && !buf.is_empty() {
+                    self.errors = self.errors.saturating_add(1);
+                }
+                Ok(n)
+            }
+            Err(e) => {
+                self.errors = self.errors.saturating_add(1);
+                Err(e)
+            }
+        }
+    }
+
+    /// Flushes, and counts an error.
+    fn flush(&mut self) -> io::Result<()>
+        ensures bytes { Keeps (W.contents self.old.inner) (W.contents self.new.inner) }
+        ensures ok { OnOk result (self.new.errors ≡ self.old.errors) }
+        ensures err { OnErr result (self.new.errors ≡ raised self.old.errors) }
+    {
+        let flushed = self.inner.flush();
+        if flushed.is_err() {
+            self.errors = self.errors.saturating_add(1);
+        }
+        flushed
+    }
+}

@@ -1,0 +1,15 @@
+//! The bytes below a text: readers and writers that count their failures, a reader of lines, and
+//! writing in pieces.
+#![tactic(auto)]
+
+mod counted;
+mod fault;
+mod laws;
+mod line_reader;
+mod writing;
+
+pub use counted::Counted;
+pub use fault::{ReadFault, WriteFault};
+pub use laws::{lines_laws, writing_laws};
+pub use line_reader::LineReader;
+pub use writing::{PIECE_LEN, flush, write_much, write_out, write_pending};

@@ -1,0 +1,222 @@
+//! A reader of lines that keeps at most 4,097 bytes of a line.
+ghost use Rattle.std.specs.Prelude.{◌≡◌, ◌<◌, ◌≤◌, ◌+◌, ◌^◌, [], ◌++◌, IfOk, OnOk, IfErr, MatchBool, length, take, vec_len};
+ghost use Rattle.std.specs.Io.KnownBytes.{Keeps, IsAtEnd, prepend_known};
+ghost use Rattle.memchr.specs.Find.{IsFirstByte, is_byte};
+ghost use Rattle.log_text_base.specs.Known.{raised, TookLine, HadSome};
+
+use super::counted::Counted;
+use super::fault::ReadFault;
+use memchr::memchr;
+use std::alloc::{AllocError, Global};
+use std::io::Read;
+
+/// How many bytes of a line are kept.
+const KEPT_LEN: usize = 4097;
+
+/// How many bytes are read ahead at most.
+const BUFFER_LEN: usize = 65_536;
+
+/// Reads a text line by line, through a buffer of 65,536 bytes. Lines are cut at LF, and a last
+/// piece without LF is a line if it isn't empty. Of a line longer than 4,097 bytes the first 4,097
+/// are kept.
+///
+/// It doesn't own the reader, so each call is to be made with the same one.
+#[derive(Drop)]
+pub struct LineReader {
+    /// What was read ahead, from `start` to `end`.
+    buffer: Vec<u8>,
+    start: usize,
+    end: usize,
+    /// Where the line that was found last stands in the buffer, if it isn't `kept`.
+    line_start: usize,
+    line_end: usize,
+    /// Whether that line crossed the buffer's end, and was copied.
+    is_kept: bool,
+    kept: Vec<u8>,
+    ghost room: { vec_len buffer ≡ 65536 },
+    ghost ordered: { start ≤ end },
+    ghost within: { end ≤ 65536 },
+    ghost line_ordered: { line_start ≤ line_end },
+    ghost line_within: { line_end ≤ 65536 },
+    ghost short: { vec_len kept ≤ 4097 },
+}
+
+impl LineReader {
+    ghost use Rattle.log_text_base.specs.Ahead.{ahead, found_line};
+
+    /// Nothing read ahead, and no line found. The error is that memory ran out.
+    pub fn new(alloc: Global) -> Result<LineReader, AllocError>
+        ensures ahead { IfOk result (λ lines. ahead lines ≡ []) }
+        ensures line { IfOk result (λ lines. found_line lines ≡ []) }
+    {
+        Ok(LineReader {
+            buffer: vec![in alloc; 0; BUFFER_LEN]?,
+            start: 0,
+            end: 0,
+            line_start: 0,
+            line_end: 0,
+            is_kept: false,
+            kept: Vec::new(alloc),
+        })
+    }
+
+    /// The line that was found last, without its LF: its first 4,097 bytes, if it has more.
+    pub fn line(&self) -> &[u8]
+        ensures { result.now ≡ found_line self.now }
+    {
+        if self.is_kept {
+            return self.kept.as_slice();
+        }
+        &self.buffer[self.line_start..self.line_end]
+    }
+
+    /// Where the first LF ahead is.
+    fn first_feed(&self) -> Option<usize>
+        ensures { IsFirstByte (is_byte 10) (ahead self.now) result }
+    {
+        memchr(b'\n', &self.buffer[self.start..self.end])
+    }
+
+    #[tactic(auto, using(crate::proofs::Pieces::empty_range))]
+    /// Reads ahead where nothing is ahead. False at the end of what the reader gives.
+    fn refill<R: Read>(&mut self, reader: &mut Counted<R>) -> Result<bool, ReadFault>
+        requires { self.old.start ≡ self.old.end }
+        ensures bytes { OnOk result (Keeps (R.remaining reader.old.inner)
+            (prepend_known (ahead self.new) (R.remaining reader.new.inner))) }
+        ensures some { IfOk result (λ more. MatchBool more
+            (0 < length (ahead self.new))
+            ((self.new.start ≡ self.new.end) × IsAtEnd (R.remaining reader.new.inner))) }
+        ensures given { OnOk result (reader.new.given ≡ reader.old.given + length (ahead self.new)) }
+        ensures bound { 0 < length (ahead self.new) → reader.new.given ≤ 2 ^ 62 + 65536 }
+        ensures ok { OnOk result (reader.new.errors ≡ reader.old.errors) }
+        ensures err { IfErr result (λ f. (f ≡ ReadFault.Read)
+            × (reader.new.errors ≡ raised reader.old.errors)) }
+        ensures kept { self.new.kept.items ≡ self.old.kept.items }
+        ensures is_kept { self.new.is_kept ≡ self.old.is_kept }
+    {
+        match reader.read(self.buffer.as_mut_slice()) {
+            Ok(n) => {
+                self.start = 0;
+                self.end = n;
+                return Ok(n > 0);
+            }
+            Err(_) => return Err(ReadFault::Read),
+        }
+    }
+
+    /// Reads ahead if nothing is ahead. False at the end of what the reader gives.
+    fn look_ahead<R: Read>(&mut self, reader: &mut Counted<R>) -> Result<bool, ReadFault>
+        requires { 0 < length (ahead self.old) → reader.old.given ≤ 2 ^ 62 + 65536 }
+        ensures bytes { OnOk result (Keeps
+            (prepend_known (ahead self.old) (R.remaining reader.old.inner))
+            (prepend_known (ahead self.new) (R.remaining reader.new.inner))) }
+        ensures some { IfOk result (λ more. MatchBool more
+            (0 < length (ahead self.new))
+            ((ahead self.new ≡ []) × IsAtEnd (R.remaining reader.new.inner)
+                × (reader.new.given ≡ reader.old.given))) }
+        ensures given { OnOk result (reader.new.given + length (ahead self.old)
+            ≡ reader.old.given + length (ahead self.new)) }
+        ensures bound { 0 < length (ahead self.new) → reader.new.given ≤ 2 ^ 62 + 65536 }
+        ensures ok { OnOk result (reader.new.errors ≡ reader.old.errors) }
+        ensures err { IfErr result (λ f. (f ≡ ReadFault.Read)
+            × (reader.new.errors ≡ raised reader.old.errors)) }
+        ensures kept { self.new.kept.items ≡ self.old.kept.items }
+        ensures is_kept { self.new.is_kept ≡ self.old.is_kept }
+    {
+        if self.start < self.end {
+            return Ok(true);
+        }
+        let more = self.refill(reader)?;
+        Ok(more)
+    }
+
+    #[tactic(auto, using(crate::proofs::Pieces::keep_piece))]
+    /// Keeps the next n bytes ahead behind what is kept, up to 4,097 in all.
+    fn keep(&mut self, n: usize) -> Result<(), AllocError>
+        requires { n ≤ length (ahead self.old) }
+        ensures kept { OnOk result (self.new.kept.items
+            ≡ take 4097 (self.old.kept.items ++ take n (ahead self.old))) }
+        ensures ahead { ahead self.new ≡ ahead self.old }
+        ensures start { self.new.start ≡ self.old.start }
+        ensures end { self.new.end ≡ self.old.end }
+        ensures is_kept { self.new.is_kept ≡ self.old.is_kept }
+    {
+        let more = n.min(KEPT_LEN - self.kept.len());
+        self.kept
+            .extend_from_slice(&self.buffer[self.start..self.start + more])?;
+        Ok(())
+    }
+
+    #[tactic(auto, using(crate::proofs::Pieces::line_start))]
+    /// Takes the rest of the line, and keeps it behind what is kept, up to 4,097 bytes in all.
+    fn rest_of_line<R: Read>(&mut self, reader: &mut Counted<R>) -> Result<(), ReadFault>
+        requires some { 0 < length (ahead self.old) }
+        requires given { reader.old.given ≤ 2 ^ 62 + 65536 }
+        ensures line { OnOk result (TookLine
+            (prepend_known (ahead self.old) (R.remaining reader.old.inner))
+            (prepend_known (ahead self.new) (R.remaining reader.new.inner))
+            self.old.kept.items self.new.kept.items) }
+        ensures read { result ≡ Err ReadFault.Read → reader.new.errors ≡ raised reader.old.errors }
+        ensures other { (result ≡ Err ReadFault.Read → ⊥)
+            → reader.new.errors ≡ reader.old.errors }
+        ensures forward { OnOk result (
+            (reader.old.given + length (ahead self.new) < reader.new.given + length (ahead self.old))
+            × (reader.new.given ≤ 2 ^ 62 + 65536)) }
+        ensures bound { 0 < length (ahead self.new) → reader.new.given ≤ 2 ^ 62 + 65536 }
+        ensures is_kept { self.new.is_kept ≡ self.old.is_kept }
+    {
+        'pieces: loop {
+            if let Some(n) = self.first_feed() {
+                self.keep(n)?;
+                self.start += n + 1;
+                return Ok(());
+            }
+            self.keep(self.end - self.start)?;
+            self.start = self.end;
+            if !self.look_ahead(reader)? {
+                return Ok(());
+            }
+        }
+    }
+
+    /// Finds the next line, and takes it. False at the end of what the reader gives.
+    ///
+    /// `Read` comes only where the reader answered an error, or had given 2^62 bytes. After an
+    /// error the part of a line that was read is gone, and a further call may be made.
+    pub fn next_line<R: Read>(&mut self, reader: &mut Counted<R>) -> Result<bool, ReadFault>
+        requires { 0 < length (ahead self.old) → reader.old.given ≤ 2 ^ 62 + 65536 }
+        // What is still to come is what is ahead, and then what the reader has left.
+        ensures line { IfOk result (λ found. MatchBool found
+            (TookLine (prepend_known (ahead self.old) (R.remaining reader.old.inner))
+                (prepend_known (ahead self.new) (R.remaining reader.new.inner))
+                [] (found_line self.new)
+            × HadSome (prepend_known (ahead self.old) (R.remaining reader.old.inner)))
+            (IsAtEnd (prepend_known (ahead self.old) (R.remaining reader.old.inner)))) }
+        // An error of the reader is answered as such, and nothing else is.
+        ensures read { result ≡ Err ReadFault.Read → reader.new.errors ≡ raised reader.old.errors }
+        ensures other { (result ≡ Err ReadFault.Read → ⊥)
+            → reader.new.errors ≡ reader.old.errors }
+        // A line has a byte at least, so a loop over the lines ends.
+        ensures given { IfOk result (λ found. MatchBool found
+            ((reader.old.given + length (ahead self.new) < reader.new.given + length (ahead self.old))
+                × (reader.new.given ≤ 2 ^ 62 + 65536))
+            (reader.new.given ≡ reader.old.given)) }
+        // What a further call requires holds after an error too.
+        ensures bound { 0 < length (ahead self.new) → reader.new.given ≤ 2 ^ 62 + 65536 }
+    {
+        if !self.look_ahead(reader)? {
+            return Ok(false);
+        }
+        if let Some(n) = self.first_feed() {
+            self.is_kept = false;
+            self.line_start = self.start;
+            self.line_end = self.start + n.min(KEPT_LEN);
+            self.start += n + 1;
+            return Ok(true);
+        }
+        self.is_kept = true;
+        self.kept.clear();
+        self.rest_of_line(reader)?;
+        Ok(true)
+    }
+}

@@ -1,0 +1,6 @@
+pub mod Rows
+pub mod Values
+pub mod Privileges
+pub mod Body
+pub mod Outcomes
+pub mod Versions

@@ -1,0 +1,156 @@
+-- What each place of a log comes to, by a serial run: each statement in turn is checked, run, and may change who holds
+-- what. The order of the log is the order of the transactions, and a transaction's timestamp is its place: J. M. Faleiro
+-- and D. J. Abadi, "Rethinking Serializable Multiversion Concurrency Control", PVLDB 8 (2015), section 3.
+use Rattle.std.specs.Prelude.{ℕ, ◌+◌, ◌&&◌, not, true, false, Option, Some, None, List, [], ◌∷◌, ◌++◌, length, take, map, slice_get, if◌then◌else◌}
+use Rattle.std.specs.List.{flat_map, find}
+use Rattle.std.specs.Option.{option_map_or, option_map}
+use Rattle.model.specs.declared.deed.Kind.{Kind}
+use Rattle.model.specs.declared.deed.Kind.TheVariants.{Read, Insert, Update, Delete}
+use Rattle.model.specs.declared.deed.Need.{Need}
+use Rattle.model.specs.declared.deed.Cause.{Cause}
+use Rattle.model.specs.declared.deed.Cause.TheVariants.{Never, Taken}
+use Rattle.model.specs.declared.deed.Deed.{Deed}
+use Rattle.model.specs.declared.deed.Deed.TheVariants.{Granting, Revoking}
+use Rattle.model.specs.declared.statement.Access.{Access}
+use Rattle.model.specs.declared.statement.DeedForm.{DeedForm}
+use Rattle.model.specs.declared.statement.Form.{Form}
+use Rattle.model.specs.declared.statement.Statement.{Statement}
+use Rattle.model.specs.declared.outcome.DeedDone.{DeedDone}
+use Rattle.model.specs.declared.outcome.Outcome.{Outcome}
+use Rattle.model.specs.Rows.{Rows, no_rows}
+use Rattle.model.specs.Privileges.{has_kind, holds, ended_by, place_of}
+use Rattle.model.specs.Body.{Ending, completed, aborted, undeclared, meaning}
+
+-- the user who creates a table by the statement
+abbrev pub creator : ℕ → Form → List ℕ
+creator user (Form.Create table columns) = user ∷ []
+creator user (Form.Run accesses steps deed) = []
+creator user (Form.Deed deed) = []
+
+-- the owner of each table of the log, in the tables' order: the user who creates it
+abbrev pub owners : List Statement → List ℕ
+owners statements = flat_map (λ (s : Statement). creator s.user s.form) statements
+
+-- what an access needs: each declared kind, in the order of the kinds
+abbrev pub needs_of_access : Access → List Need
+needs_of_access access =
+    map (λ (kind : Kind). record { table = access.key.table; kind = kind; option = false })
+    (kind_if Read ++ kind_if Insert ++ kind_if Update ++ kind_if Delete)
+  where
+    kind_if : Kind → List Kind
+    kind_if kind = if has_kind access.kinds kind then kind ∷ [] else []
+
+-- a grant needs its kind with the option, a revocation nothing
+abbrev pub needs_of_deed : DeedForm → List Need
+needs_of_deed (DeedForm.Grant kind table grantee option) = record { table = table; kind = kind; option = true } ∷ []
+needs_of_deed (DeedForm.Revoke kind table grantee) = []
+
+-- what a statement's user must hold, in the order in which it is checked
+abbrev pub needs : Form → List Need
+needs (Form.Create table columns) = []
+needs (Form.Run accesses steps deed) = flat_map needs_of_access accesses ++ option_map_or needs_of_deed deed []
+needs (Form.Deed deed) = needs_of_deed deed
+
+-- the deed of a user at a place
+abbrev pub deed_at : ℕ → ℕ → DeedForm → Deed
+deed_at place user (DeedForm.Grant kind table grantee option) =
+    Granting (record { place = place; grantor = user; grantee = grantee; kind = kind; table = table; option = option })
+deed_at place user (DeedForm.Revoke kind table grantee) =
+    Revoking (record { place = place; grantor = user; grantee = grantee; kind = kind; table = table })
+
+-- the deed that a statement makes at a place, if its body completes
+abbrev pub deed_of : ℕ → ℕ → Form → Option Deed
+deed_of place user (Form.Create table columns) = None
+deed_of place user (Form.Run accesses steps deed) = option_map (deed_at place user) deed
+deed_of place user (Form.Deed deed) = Some (deed_at place user deed)
+
+-- the last of the later deeds that took the need away, or what was found among those of the past
+abbrev pub cause_after : List ℕ → ℕ → Need → List Deed → List Deed → Cause → Cause
+cause_after owners user need past [] found = found
+cause_after owners user need past (deed ∷ later) found =
+    cause_after owners user need (past ++ deed ∷ []) later
+    (if holds owners past user need && not (holds owners (past ++ deed ∷ []) user need) then Taken (place_of deed) else found)
+
+-- why a need isn't held after the deeds: it never was, or this is the place of the deed that took it away last
+abbrev pub cause : List ℕ → List Deed → ℕ → Need → Cause
+cause owners deeds user need = cause_after owners user need [] deeds Never
+
+-- what stands before a place: the rows, and the deeds made so far
+pub record World : Type 0 where
+  pub rows : Rows
+  pub deeds : List Deed
+
+-- before the first place there is no row and no deed
+abbrev pub empty_world : World
+empty_world = record { rows = no_rows; deeds = [] }
+
+-- the first need of a statement that its user doesn't hold
+abbrev pub missing : List ℕ → World → ℕ → Form → Option Need
+missing owners world user form = find (λ need. not (holds owners world.deeds user need)) (needs form)
+
+-- what a deed comes to
+abbrev pub deed_done : List ℕ → World → Option Deed → DeedDone
+deed_done owners world None = DeedDone.None
+deed_done owners world (Some (Granting grant)) = DeedDone.Granted
+deed_done owners world (Some (Revoking revocation)) = DeedDone.Revoked (ended_by owners world.deeds revocation)
+
+-- what the body of a statement does to the rows; a deed by itself has an empty one
+abbrev pub body : Rows → Form → Ending
+body rows (Form.Create table columns) = completed rows []
+body rows (Form.Run accesses steps deed) = meaning steps accesses rows
+body rows (Form.Deed deed) = completed rows []
+
+-- the outcome of a body that ended so, with its deed
+abbrev pub ended : List ℕ → World → Option Deed → Ending → Outcome
+ended owners world deed (completed rows outputs) = Outcome.Done outputs (deed_done owners world deed)
+ended owners world deed (aborted step reason) = Outcome.Aborted step reason
+ended owners world deed (undeclared step) = Outcome.Undeclared step
+
+-- only a completed body changes rows and makes its deed
+abbrev pub changed : World → Option Deed → Ending → World
+changed world deed (completed rows outputs) =
+    record { rows = rows; deeds = world.deeds ++ option_map_or (λ made. made ∷ []) deed [] }
+changed world deed (aborted step reason) = world
+changed world deed (undeclared step) = world
+
+-- the first missing need denies; if all are held, the body runs
+abbrev pub judged : List ℕ → ℕ → World → Statement → Option Need → Outcome × World
+judged owners place world statement (Some need) =
+    (Outcome.Denied need (cause owners world.deeds statement.user need), world)
+judged owners place world statement None = (
+  ended owners world (deed_of place statement.user statement.form) (body world.rows statement.form),
+  changed world (deed_of place statement.user statement.form) (body world.rows statement.form),
+)
+
+-- a table is created, and any other statement is judged by its user's privileges
+abbrev pub step_form : List ℕ → ℕ → World → Statement → Form → Outcome × World
+step_form owners place world statement (Form.Create table columns) = (Outcome.Created, world)
+step_form owners place world statement form =
+    judged owners place world statement (missing owners world statement.user form)
+
+-- one place of the log: its outcome, and what stands after it
+abbrev pub at_place : List ℕ → ℕ → World → Statement → Outcome × World
+at_place owners place world statement = step_form owners place world statement statement.form
+
+-- what stands after the statements, of which the first has this place
+abbrev pub world_after : List ℕ → ℕ → World → List Statement → World
+world_after owners place world [] = world
+world_after owners place world (statement ∷ statements) =
+    world_after owners (place + 1) (at_place owners place world statement).1 statements
+
+-- what stands before a place of the log
+abbrev pub world_before : List Statement → ℕ → World
+world_before log place = world_after (owners log) 0 empty_world (take place log)
+
+-- the rows before a place of the log
+abbrev pub rows_before : List Statement → ℕ → Rows
+rows_before log place = (world_before log place).rows
+
+-- the deeds before a place of the log
+abbrev pub deeds_before : List Statement → ℕ → List Deed
+deeds_before log place = (world_before log place).deeds
+
+-- the outcome of a place of the log
+abbrev pub outcome : List Statement → ℕ → Option Outcome
+outcome log place =
+    option_map (λ statement. (at_place (owners log) place (world_before log place) statement).0) (slice_get log place)

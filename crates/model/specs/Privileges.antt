@@ -1,0 +1,119 @@
+-- Who holds which privilege after a list of deeds, that is of grants and revocations.
+-- From P. P. Griffiths and B. W. Wade, "An Authorization Mechanism for a Relational Database System",
+-- ACM Transactions on Database Systems 1 (1976). That each repeated grant is kept by itself, with its own
+-- time, is R. Fagin's correction, "On an Authorization Mechanism", in the same journal, 3 (1978).
+use Rattle.std.specs.Prelude.{◌==◌, ◌<◌, ◌&&◌, ◌||◌, not, ℕ, Bool, true, false, List, [], ◌∷◌, ◌++◌, slice_get, if◌then◌else◌, IsTrue}
+use Rattle.std.specs.Prelude.{All}
+use Rattle.std.specs.List.{list_any}
+use Rattle.std.specs.Option.{option_map_or}
+use Rattle.model.specs.declared.deed.Kind.{Kind}
+use Rattle.model.specs.declared.deed.Kind.TheVariants.{Read, Insert, Update, Delete}
+use Rattle.model.specs.declared.deed.Kinds.{Kinds}
+use Rattle.model.specs.declared.deed.Grant.{Grant}
+use Rattle.model.specs.declared.deed.Revocation.{Revocation}
+use Rattle.model.specs.declared.deed.Need.{Need}
+use Rattle.model.specs.declared.deed.Deed.{Deed}
+use Rattle.model.specs.declared.deed.Deed.TheVariants.{Granting, Revoking}
+
+-- whether the kind is among these
+abbrev pub has_kind : Kinds → Kind → Bool
+has_kind kinds Read = kinds.read
+has_kind kinds Insert = kinds.insert
+has_kind kinds Update = kinds.update
+has_kind kinds Delete = kinds.delete
+
+-- whether the two kinds are the same
+abbrev pub same_kind : Kind → Kind → Bool
+same_kind Read Read = true
+same_kind Insert Insert = true
+same_kind Update Update = true
+same_kind Delete Delete = true
+same_kind _ _ = false
+
+-- whether the user owns the table; `owners` has the user who created each table, in the tables' order
+unfoldable pub owns : List ℕ → ℕ → ℕ → Bool
+owns owners user table = option_map_or (λ owner. owner == user) (slice_get owners table) false
+
+-- whether the grant gives the user what is needed
+unfoldable pub gives : Grant → ℕ → Need → Bool
+gives grant user need =
+    (grant.grantee == user) && (same_kind grant.kind need.kind && ((grant.table == need.table) && (grant.option || not need.option)))
+
+-- whether the user has what is needed as the table's owner, or by one of the grants
+unfoldable pub has : List ℕ → List Grant → ℕ → Need → Bool
+has owners grants user need = owns owners user need.table || list_any (λ grant. gives grant user need) grants
+
+-- to grant a privilege, its grantor needs it with the grant option
+abbrev pub option_of : Grant → Need
+option_of grant = record { table = grant.table; kind = grant.kind; option = true }
+
+-- whether they speak of the same kind on the same table
+abbrev pub concerns : Revocation → Grant → Bool
+concerns revocation grant = same_kind revocation.kind grant.kind && (revocation.table == grant.table)
+
+-- whether the revocation names the grant
+unfoldable pub names : Revocation → Grant → Bool
+names revocation grant =
+    (revocation.grantor == grant.grantor) && ((revocation.grantee == grant.grantee) && concerns revocation grant)
+
+-- whether the deed is a revocation that names the grant
+abbrev pub revokes : Deed → Grant → Bool
+revokes (Granting _) grant = false
+revokes (Revoking revocation) grant = names revocation grant
+
+-- the grants of the deeds, in order, without each that a later revocation names
+abbrev pub erased : List Deed → List Grant
+erased [] = []
+erased (Granting grant ∷ later) =
+    if list_any (λ deed. revokes deed grant) later then erased later else grant ∷ erased later
+erased (Revoking _ ∷ later) = erased later
+
+-- the grants made anew, in order, after those that stand already: each stands if its grantor has the
+-- option as owner, or by a grant that stands before it
+abbrev pub replayed : List ℕ → List Grant → List Grant → List Grant
+replayed owners standing [] = []
+replayed owners standing (grant ∷ grants) =
+    if has owners standing grant.grantor (option_of grant)
+    then grant ∷ replayed owners (standing ++ grant ∷ []) grants
+    else replayed owners standing grants
+
+-- the grants in force after the deeds: those that the same sequence gives without the revoked grants
+abbrev pub kept : List ℕ → List Deed → List Grant
+kept owners deeds = replayed owners [] (erased deeds)
+
+-- whether the user holds what is needed after the deeds
+abbrev pub holds : List ℕ → List Deed → ℕ → Need → Bool
+holds owners deeds user need = has owners (kept owners deeds) user need
+
+-- whether the grant of this place is among the grants
+abbrev pub is_among : ℕ → List Grant → Bool
+is_among place grants = list_any (λ grant. grant.place == place) grants
+
+-- the places, in order, of the grants of the first list that the second no longer has
+abbrev pub lost : List Grant → List Grant → List ℕ
+lost [] after = []
+lost (grant ∷ before) after = if is_among grant.place after then lost before after else grant.place ∷ lost before after
+
+-- the places of the grants that a revocation takes out of force, after the deeds
+abbrev pub ended_by : List ℕ → List Deed → Revocation → List ℕ
+ended_by owners deeds revocation = lost (kept owners deeds) (kept owners (deeds ++ Revoking revocation ∷ []))
+
+-- the place of the transaction that made the deed
+abbrev pub place_of : Deed → ℕ
+place_of (Granting grant) = grant.place
+place_of (Revoking revocation) = revocation.place
+
+-- whether a deed may be made after the others: its place is above theirs, and a grantor holds the option
+abbrev pub MayFollow : List ℕ → List Deed → Deed → Type 0
+MayFollow owners past (Granting grant) =
+    All (λ deed. place_of deed < grant.place) past × IsTrue (holds owners past grant.grantor (option_of grant))
+MayFollow owners past (Revoking revocation) = All (λ deed. place_of deed < revocation.place) past
+
+-- each of the deeds may be made after those before it
+abbrev pub IsProperAfter : List ℕ → List Deed → List Deed → Type 0
+IsProperAfter owners past [] = Unit {0}
+IsProperAfter owners past (deed ∷ later) = MayFollow owners past deed × IsProperAfter owners (past ++ deed ∷ []) later
+
+-- each deed of the list may be made after those before it
+abbrev pub IsProper : List ℕ → List Deed → Type 0
+IsProper owners deeds = IsProperAfter owners [] deeds

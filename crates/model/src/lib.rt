@@ -1,0 +1,19 @@
+//! The statements of a log, what they mean, and the plain types that all other crates share.
+//!
+//! The definitions of `specs/` are what a reader has to believe: who holds which privilege, what a body does,
+//! and what each place of a log comes to.
+#![tactic(auto)]
+
+mod deed;
+mod list;
+mod name;
+mod outcome;
+mod row;
+mod statement;
+
+pub use deed::{Cause, Deed, Grant, Kind, Kinds, Need, Revocation};
+pub use list::Items;
+pub use name::{Place, RowNumber, Table, User};
+pub use outcome::{DeedDone, Outcome, Reason};
+pub use row::{Key, Outputs, Row, Values};
+pub use statement::{Access, DeedForm, Form, Register, RowName, Statement, Step};

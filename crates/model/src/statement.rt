@@ -1,0 +1,167 @@
+//! The statements of a log.
+
+use crate::deed::{Kind, Kinds};
+use crate::list::Items;
+use crate::name::{RowNumber, Table, User};
+use crate::row::Key;
+use std::marker::Model;
+
+/// One of the sixteen registers of a body.
+#[derive(Clone, Copy, PartialEq, Eq, Debug)]
+pub struct Register(u8);
+
+impl Model for Register {
+    ghost use Rattle.std.specs.Prelude.{ℕ, ◌<◌};
+
+    ghost Value = { ℕ };
+
+    ghost view = { λ register. register.0 };
+
+    ghost invariant = { λ register. register.0 < 16 };
+
+    ghost inverse = { λ number. record { 0 = number } };
+}
+
+impl Register {
+    ghost use Rattle.std.specs.Prelude.{◌≡◌, ◌<◌};
+
+    /// The register of this number.
+    pub fn new(number: u8) -> Self
+        requires { number < 16 }
+        ensures { result ≡ number }
+    {
+        Register(number)
+    }
+
+    /// Its number, from 0 to 15.
+    pub fn index(self) -> usize
+        ensures number { result ≡ self }
+        ensures below { result < 16 }
+    {
+        self.0 as usize
+    }
+}
+
+/// How a step names its row.
+#[derive(Clone, Copy, PartialEq, Eq, Debug)]
+pub enum RowName {
+    /// By its number.
+    Number(RowNumber),
+    /// By the register that holds its number.
+    Held(Register),
+}
+
+/// A row that a statement declares, and what its body may do with it.
+#[derive(Clone, Copy, PartialEq, Eq, Debug)]
+pub struct Access {
+    pub key: Key,
+    pub kinds: Kinds,
+}
+
+/// One step of a body. Registers are named by `to`, `left`, `right`, `from` and `of`; columns are numbered from 0.
+#[derive(Debug, Drop)]
+pub enum Step {
+    Const {
+        to: Register,
+        value: i64,
+    },
+    Add {
+        to: Register,
+        left: Register,
+        right: Register,
+    },
+    Sub {
+        to: Register,
+        left: Register,
+        right: Register,
+    },
+    Mul {
+        to: Register,
+        left: Register,
+        right: Register,
+    },
+    Less {
+        to: Register,
+        left: Register,
+        right: Register,
+    },
+    Same {
+        to: Register,
+        left: Register,
+        right: Register,
+    },
+    Has {
+        to: Register,
+        table: Table,
+        row: RowName,
+    },
+    Load {
+        to: Register,
+        table: Table,
+        row: RowName,
+        column: u32,
+    },
+    Store {
+        table: Table,
+        row: RowName,
+        column: u32,
+        from: Register,
+    },
+    Insert {
+        table: Table,
+        row: RowName,
+        from: Items<Register>,
+    },
+    Delete {
+        table: Table,
+        row: RowName,
+    },
+    Check {
+        of: Register,
+    },
+    Skip {
+        of: Register,
+        steps: u32,
+    },
+    Out {
+        of: Register,
+    },
+}
+
+/// A grant or a revocation as a statement names it; its grantor is the statement's user.
+#[derive(Clone, Copy, PartialEq, Eq, Debug)]
+pub enum DeedForm {
+    Grant {
+        kind: Kind,
+        table: Table,
+        grantee: User,
+        option: bool,
+    },
+    Revoke {
+        kind: Kind,
+        table: Table,
+        grantee: User,
+    },
+}
+
+/// What a statement asks for.
+#[derive(Debug, Drop)]
+pub enum Form {
+    Create {
+        table: Table,
+        columns: u8,
+    },
+    Run {
+        accesses: Items<Access>,
+        steps: Items<Step>,
+        deed: Option<DeedForm>,
+    },
+    Deed(DeedForm),
+}
+
+/// One statement of a log, whose users and tables are named by number.
+#[derive(Debug, Drop)]
+pub struct Statement {
+    pub user: User,
+    pub form: Form,
+}
