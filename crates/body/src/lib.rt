@@ -1,13 +1,54 @@
-// A library with one function.
+//! The body of a statement, run over a window of the rows that the statement declares.
 #![tactic(auto)]
 
-ghost use Rattle.std.specs.Prelude.{◌≡◌};
-ghost use Rattle.body.specs.Echo.{echo_of};
+ghost use Rattle.std.specs.Prelude.{◌≡◌, []};
+ghost use Rattle.model.specs.Outcomes.{body};
+ghost use Rattle.model.specs.Rows.{Rows};
+ghost use Rattle.model.specs.Versions.{accesses_of};
+ghost use Rattle.body.specs.Ending.{LeavesIdle, ending_of};
+ghost use Rattle.body.specs.Premises.{IsRunnable};
+ghost use Rattle.body.specs.Shown.{Shows, with_rows};
 
-// The `ensures` clause is the contract: what `echo` returns is `echo_of` of its argument, a definition
-// in `specs/Echo.antt`, which a caller's clause can cite too.
-pub fn echo(x: usize) -> usize
-    ensures { result ≡ echo_of x }
+mod ending;
+mod filling;
+mod laws;
+mod registers;
+mod row_map;
+mod steps;
+#[cfg(test)]
+mod tests;
+mod window;
+
+pub use ending::BodyEnd;
+pub use filling::{RowSource, RowStore, accesses, filled, run_on, write_back};
+pub use laws::{keeps_others, leaves_others, shows_rows};
+use model::{Form, Statement};
+pub use row_map::RowMap;
+use steps::run_steps;
+pub use window::Window;
+
+/// Runs the body of a statement over the rows of its accesses, which the window holds by the accesses' places.
+///
+/// Registers begin at 0. The steps go in order until the last is done, or one aborts the body or touches a row or a kind
+/// that isn't declared; the answer says which, with the step's index from 0. A step is judged by what is declared before
+/// it is judged by what the row holds. After `Completed` the window has the new rows, and the outputs in order; after the
+/// other two it holds what the steps before the last came to, and is of no further use.
+///
+/// The creation of a table, and a deed by itself, have no step: they complete, and the window stays as it was.
+pub fn run(statement: &Statement, window: &mut Window) -> BodyEnd
+    requires runnable { IsRunnable statement.now }
+    requires fresh { window.old.outputs ≡ [] }
+    ensures ends { (rows : Rows) → Shows (accesses_of statement.now.form) window.old rows
+        → body rows statement.now.form
+        ≡ ending_of result (with_rows (accesses_of statement.now.form) window.new.rows rows) window.new.outputs }
+    ensures idle { LeavesIdle statement.now.form window.old window.new }
 {
-    x
+    match &statement.form {
+        Form::Run {
+            accesses,
+            steps,
+            ..
+        } => run_steps(accesses.as_slice(), steps.as_slice(), window),
+        Form::Create { .. } | Form::Deed(_) => BodyEnd::Completed,
+    }
 }

@@ -1,13 +1,21 @@
-// A library with one function.
+//! Lines of a log: read as statements with names as text, and printed back.
 #![tactic(auto)]
 
-ghost use Rattle.std.specs.Prelude.{◌≡◌};
-ghost use Rattle.log_text.specs.Echo.{echo_of};
+mod access;
+mod fault;
+mod name;
+mod number;
+mod parsing;
+mod printing;
+mod statement;
+mod step_name;
+#[cfg(test)]
+mod tests;
+mod word_list;
 
-// The `ensures` clause is the contract: what `echo` returns is `echo_of` of its argument, a definition
-// in `specs/Echo.antt`, which a caller's clause can cite too.
-pub fn echo(x: usize) -> usize
-    ensures { result ≡ echo_of x }
-{
-    x
-}
+pub use access::RawAccess;
+pub use fault::LineFault;
+pub use name::Name;
+pub use parsing::{one_spelling, parse_line};
+pub use printing::print_statement;
+pub use statement::{RawForm, RawStatement, RawStep};

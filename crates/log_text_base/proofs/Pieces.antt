@@ -15,9 +15,11 @@ KeepsLine None new front line = Unit {0}
 KeepsLine (Some xs) None front line = ⊥
 KeepsLine (Some xs) (Some ys) front line = (take 4097 (line ++ first_line ys) ≡ take 4097 (front ++ first_line xs)) × (other_lines ys ≡ other_lines xs)
 
+-- a byte that is no LF begins the first line
 first_more : (b : ℕ) (bs : List ℕ) → b ≢ 10 → first_line (b ∷ bs) ≡ b ∷ first_line bs
 first_more b bs ne = cond-false (eqb b 10) [] (b ∷ first_line bs) (ne_eqb b 10 ne)
 
+-- a byte that is no LF is none of the bytes behind the first LF
 other_more : (b : ℕ) (bs : List ℕ) → b ≢ 10 → other_lines (b ∷ bs) ≡ other_lines bs
 other_more b bs ne = cond-false (eqb b 10) bs (other_lines bs) (ne_eqb b 10 ne)
 
@@ -25,32 +27,38 @@ other_more b bs ne = cond-false (eqb b 10) bs (other_lines bs) (ne_eqb b 10 ne)
 NoFeed : List ℕ → ℕ → Type 0
 NoFeed bs n = (k : ℕ) → k < n → slice_index bs k ≢ 10
 
+-- a search that passed n bytes found no line feed among them
 no_feed : (bs : List ℕ) (n : ℕ) → Nowhere (Passes (is_byte 10) bs) 0 n → NoFeed bs n
 unfolding NoFeed
 no_feed bs n free k l e = free k (omega arith) l (eq-eqb (slice_index bs k) 10 e)
 
+-- without a line feed among bs the first line goes on in ys
 first_none : (bs ys : List ℕ) → NoFeed bs (length bs) → first_line (bs ++ ys) ≡ bs ++ first_line ys
 unfolding NoFeed
 first_none [] ys free = refl
 first_none (b ∷ bs) ys free = first_more b (bs ++ ys) (free 0 (omega arith)) ∙ ap (λ (w : List ℕ). b ∷ w) (first_none bs ys (λ k l. free (suc k) (omega arith)))
 
+-- without a line feed among bs the first LF stands in ys
 other_none : (bs ys : List ℕ) → NoFeed bs (length bs) → other_lines (bs ++ ys) ≡ other_lines ys
 unfolding NoFeed
 other_none [] ys free = refl
 other_none (b ∷ bs) ys free = other_more b (bs ++ ys) (free 0 (omega arith)) ∙ other_none bs ys (λ k l. free (suc k) (omega arith))
 
+-- the first line ends at the line feed n
 first_some : (bs ys : List ℕ) (n : ℕ) → n < length bs → NoFeed bs n → slice_index bs n ≡ 10 → first_line (bs ++ ys) ≡ take n bs
 unfolding NoFeed
 first_some [] ys n l free is = absurd (omega arith)
 first_some (b ∷ bs) ys zero l free is = let P : ℕ → Type 0 = λ v. first_line ((v ∷ bs) ++ ys) ≡ [] in subst P (sym is) refl
 first_some (b ∷ bs) ys (suc n) l free is = first_more b (bs ++ ys) (free 0 (omega arith)) ∙ ap (λ (w : List ℕ). b ∷ w) (first_some bs ys n (omega arith) (λ k l. free (suc k) (omega arith)) is)
 
+-- what follows the line feed n
 other_some : (bs ys : List ℕ) (n : ℕ) → n < length bs → NoFeed bs n → slice_index bs n ≡ 10 → other_lines (bs ++ ys) ≡ drop (suc n) bs ++ ys
 unfolding NoFeed
 other_some [] ys n l free is = absurd (omega arith)
 other_some (b ∷ bs) ys zero l free is = let P : ℕ → Type 0 = λ v. other_lines ((v ∷ bs) ++ ys) ≡ bs ++ ys in subst P (sym is) refl
 other_some (b ∷ bs) ys (suc n) l free is = other_more b (bs ++ ys) (free 0 (omega arith)) ∙ other_some bs ys n (omega arith) (λ k l. free (suc k) (omega arith)) is
 
+-- cutting the first part beforehand changes nothing
 take_twice : (n : ℕ) (xs ys : List ℕ) → take n (take n xs ++ ys) ≡ take n (xs ++ ys)
 take_twice zero xs ys = refl
 take_twice (suc n) [] ys = refl
@@ -71,6 +79,7 @@ take_range xs i j m le =
     let e : i + m - i ≡ m = omega arith in
     ap (λ (w : ℕ). take w (drop i xs)) e ∙ sym (take-take m (j - i) (drop i xs) (omega arith))
 
+-- a front of a front
 take_min : (m n : ℕ) (xs : List ℕ) → take m (take n xs) ≡ take (min n m) xs
 take_min m n xs =
     elim (cases_lt n m) [
@@ -78,6 +87,7 @@ take_min m n xs =
       | inr ge ↦ take-take m n xs ge ∙ ap (λ (w : ℕ). take w xs) (let e : m ≡ min n m = omega arith in e)
     ]
 
+-- at first all of the line is still to come
 pub line_start : (o : Option (List ℕ)) (line : List ℕ) → KeepsLine o o line line
 line_start None line = tt
 line_start (Some xs) line = (refl, refl)
@@ -134,11 +144,13 @@ took_kept (Some xs) (Some ys) None front line k t = absurd t
 took_kept (Some xs) (Some ys) (Some zs) front line k t =
     (t.0 ∙ ap (λ (w : List ℕ). take 4097 (front ++ first_line w)) k, t.1 ∙ ap other_lines k)
 
+-- with a byte ahead, some byte was still to come
 pub had_some : (o r : Option (List ℕ)) (bytes : List ℕ) → Keeps o (prepend_known bytes r) → 0 < length bytes → HadSome o
 had_some None r bytes k some = tt
 had_some (Some xs) None bytes k some = absurd k
 had_some (Some xs) (Some ys) bytes k some = omega (arith, length-append bytes ys, ap length k)
 
+-- with nothing ahead at the end of the reader, nothing was still to come
 pub at_end : (o r : Option (List ℕ)) (bytes : List ℕ) → Keeps o (prepend_known bytes r) → bytes ≡ [] → IsAtEnd r → IsAtEnd o
 at_end None r bytes k e z = tt
 at_end (Some xs) None bytes k e z = absurd k
@@ -154,13 +166,21 @@ keep_piece kept items start end n low le fits =
     ∙ sym (take-append-add kept (take n bytes) m)
     ∙ ap (λ (w : ℕ). take w (kept ++ take n bytes)) e
 
+-- a part with no length is empty
 pub empty_range : (xs : List ℕ) (i : ℕ) → slice_range xs i i ≡ []
 empty_range xs i = let e : i - i ≡ 0 = omega arith in ap (λ (w : ℕ). take w (drop i xs)) e
 
+-- with nothing ahead, what is still to come is what the reader has left
 pub keeps_empty : (o n : Option (List ℕ)) (bytes : List ℕ) → bytes ≡ [] → Keeps (prepend_known bytes o) n → Keeps o n
 keeps_empty None n bytes e k = tt
 keeps_empty (Some xs) None bytes e k = absurd k
 keeps_empty (Some xs) (Some ys) bytes e k = k ∙ ap (λ (w : List ℕ). w ++ xs) e
 
-pub whole_range : (xs : List ℕ) (i j : ℕ) → take (j - i) (slice_range xs i j) ≡ slice_range xs i j
+-- all of a part
+whole_range : (xs : List ℕ) (i j : ℕ) → take (j - i) (slice_range xs i j) ≡ slice_range xs i j
 whole_range xs i j = take-take (j - i) (j - i) (drop i xs) (omega arith)
+
+-- all that is ahead is kept
+pub piece_kept : (now then kept items : List ℕ) (start end : ℕ) → now ≡ then → then ≡ take 4097 (kept ++ take (end - start) (slice_range items start end)) → now ≡ take 4097 (kept ++ slice_range items start end)
+piece_kept now then kept items start end same is =
+    same ∙ is ∙ ap (λ (w : List ℕ). take 4097 (kept ++ w)) (whole_range items start end)

@@ -1,5 +1,5 @@
 //! A reader of lines that keeps at most 4,097 bytes of a line.
-ghost use Rattle.std.specs.Prelude.{◌≡◌, ◌<◌, ◌≤◌, ◌+◌, ◌^◌, [], ◌++◌, IfOk, OnOk, IfErr, MatchBool, length, take, vec_len};
+ghost use Rattle.std.specs.Prelude.{◌≡◌, ◌<◌, ◌≤◌, ◌+◌, ◌^◌, [], ◌++◌, IfOk, OnOk, IfErr, MatchBool, None, length, take, vec_len};
 ghost use Rattle.std.specs.Io.KnownBytes.{Keeps, IsAtEnd, prepend_known};
 ghost use Rattle.memchr.specs.Find.{IsFirstByte, is_byte};
 ghost use Rattle.log_text_base.specs.Known.{raised, TookLine, HadSome};
@@ -15,6 +15,14 @@ const KEPT_LEN: usize = 4097;
 
 /// How many bytes are read ahead at most.
 const BUFFER_LEN: usize = 65_536;
+
+/// A buffer to read into.
+fn empty_buffer(alloc: Global) -> Result<Vec<u8>, AllocError>
+    ensures { IfOk result (λ buffer. vec_len buffer ≡ BUFFER_LEN) }
+{
+    let buffer = vec![in alloc; 0; BUFFER_LEN]?;
+    Ok(buffer)
+}
 
 /// Reads a text line by line, through a buffer of 65,536 bytes. Lines are cut at LF, and a last
 /// piece without LF is a line if it isn't empty. Of a line longer than 4,097 bytes the first 4,097
@@ -50,7 +58,7 @@ impl LineReader {
         ensures line { IfOk result (λ lines. found_line lines ≡ []) }
     {
         Ok(LineReader {
-            buffer: vec![in alloc; 0; BUFFER_LEN]?,
+            buffer: empty_buffer(alloc)?,
             start: 0,
             end: 0,
             line_start: 0,
@@ -60,7 +68,8 @@ impl LineReader {
         })
     }
 
-    /// The line that was found last, without its LF: its first 4,097 bytes, if it has more.
+    /// The line that the last `next_line` found, without its LF: its first 4,097 bytes, if it has
+    /// more. Where that call answered false or an error, no promise is made of these bytes.
     pub fn line(&self) -> &[u8]
         ensures { result.now ≡ found_line self.now }
     {
@@ -113,7 +122,7 @@ impl LineReader {
         ensures some { IfOk result (λ more. MatchBool more
             (0 < length (ahead self.new))
             ((ahead self.new ≡ []) × IsAtEnd (R.remaining reader.new.inner)
-                × (reader.new.given ≡ reader.old.given))) }
+            × (reader.new.given ≡ reader.old.given))) }
         ensures given { OnOk result (reader.new.given + length (ahead self.old)
             ≡ reader.old.given + length (ahead self.new)) }
         ensures bound { 0 < length (ahead self.new) → reader.new.given ≤ 2 ^ 62 + 65536 }
@@ -188,8 +197,8 @@ impl LineReader {
         // What is still to come is what is ahead, and then what the reader has left.
         ensures line { IfOk result (λ found. MatchBool found
             (TookLine (prepend_known (ahead self.old) (R.remaining reader.old.inner))
-                (prepend_known (ahead self.new) (R.remaining reader.new.inner))
-                [] (found_line self.new)
+            (prepend_known (ahead self.new) (R.remaining reader.new.inner))
+            [] (found_line self.new)
             × HadSome (prepend_known (ahead self.old) (R.remaining reader.old.inner)))
             (IsAtEnd (prepend_known (ahead self.old) (R.remaining reader.old.inner)))) }
         // An error of the reader is answered as such, and nothing else is.
@@ -199,7 +208,7 @@ impl LineReader {
         // A line has a byte at least, so a loop over the lines ends.
         ensures given { IfOk result (λ found. MatchBool found
             ((reader.old.given + length (ahead self.new) < reader.new.given + length (ahead self.old))
-                × (reader.new.given ≤ 2 ^ 62 + 65536))
+            × (reader.new.given ≤ 2 ^ 62 + 65536))
             (reader.new.given ≡ reader.old.given)) }
         // What a further call requires holds after an error too.
         ensures bound { 0 < length (ahead self.new) → reader.new.given ≤ 2 ^ 62 + 65536 }
@@ -218,5 +227,138 @@ impl LineReader {
         self.kept.clear();
         self.rest_of_line(reader)?;
         Ok(true)
+    }
+}
+
+#[cfg(test)]
+mod tests {
+    use super::*;
+    use std::io;
+    use std::io::ErrorKind;
+    use std::test::Fail;
+
+    /// Gives so many bytes of a text at a time, and at its end perhaps an error.
+    #[derive(Drop)]
+    struct Pieces {
+        text: &'static [u8],
+        most: usize,
+        fails: bool,
+    }
+
+    impl Read for Pieces {
+        ghost remaining = { λ _. None };
+
+        fn read(&mut self, buf: &mut [u8]) -> io::Result<usize> {
+            let n = self.text.len().min(self.most).min(buf.len());
+            if n == 0 && self.fails {
+                return Err(io::Error::from(ErrorKind::Other));
+            }
+            buf[..n].copy_from_slice(&self.text[..n]);
+            self.text = &self.text[n..];
+            Ok(n)
+        }
+    }
+
+    /// So many times the byte, and then an LF.
+    fn put_line(text: &mut Vec<u8>, byte: u8, len: usize) -> Result<(), AllocError> {
+        for _ in 0..len {
+            text.push(byte)?;
+        }
+        text.push(b'\n')?;
+        Ok(())
+    }
+
+    #[test]
+    fn keeps_the_first_4097_bytes(rt: HostRuntime) -> Result<(), Fail> {
+        let mut input = Vec::new(rt.alloc());
+        put_line(&mut input, b'a', 4096)?;
+        put_line(&mut input, b'b', 4097)?;
+        put_line(&mut input, b'c', 10_000)?;
+        input.extend_from_slice(b"\nlast")?;
+        let mut reader = Counted::new(input.as_slice());
+        let mut lines = LineReader::new(rt.alloc())?;
+        assert!(rt; lines.next_line(&mut reader)?);
+        assert_eq!(rt; lines.line().len(), 4096);
+        assert!(rt; lines.line().iter().all(|b| *b == b'a'));
+        assert!(rt; lines.next_line(&mut reader)?);
+        assert_eq!(rt; lines.line().len(), 4097);
+        assert!(rt; lines.next_line(&mut reader)?);
+        assert_eq!(rt; lines.line().len(), 4097);
+        assert!(rt; lines.line().iter().all(|b| *b == b'c'));
+        assert!(rt; lines.next_line(&mut reader)?);
+        assert_eq!(rt; lines.line(), b"".as_slice());
+        assert!(rt; lines.next_line(&mut reader)?);
+        assert_eq!(rt; lines.line(), b"last".as_slice());
+        assert!(rt; !lines.next_line(&mut reader)?);
+        assert_eq!(rt; reader.errors, 0);
+        Ok(())
+    }
+
+    #[test]
+    fn reads_over_the_buffers_end(rt: HostRuntime) -> Result<(), Fail> {
+        let mut input = Vec::new(rt.alloc());
+        put_line(&mut input, b'a', 65_529)?;
+        input.extend_from_slice(b"hello world\n")?;
+        put_line(&mut input, b'b', 140_000)?;
+        input.extend_from_slice(b"\n")?;
+        let mut reader = Counted::new(input.as_slice());
+        let mut lines = LineReader::new(rt.alloc())?;
+        assert!(rt; lines.next_line(&mut reader)?);
+        assert_eq!(rt; lines.line().len(), 4097);
+        assert!(rt; lines.next_line(&mut reader)?);
+        assert_eq!(rt; lines.line(), b"hello world".as_slice());
+        assert!(rt; lines.next_line(&mut reader)?);
+        assert_eq!(rt; lines.line().len(), 4097);
+        assert!(rt; lines.next_line(&mut reader)?);
+        assert_eq!(rt; lines.line(), b"".as_slice());
+        assert!(rt; !lines.next_line(&mut reader)?);
+        Ok(())
+    }
+
+    #[test]
+    fn an_empty_text_has_no_line(rt: HostRuntime) -> Result<(), Fail> {
+        let mut reader = Counted::new(b"".as_slice());
+        let mut lines = LineReader::new(rt.alloc())?;
+        assert!(rt; !lines.next_line(&mut reader)?);
+        assert_eq!(rt; lines.line(), b"".as_slice());
+        Ok(())
+    }
+
+    #[test]
+    fn reads_byte_by_byte(rt: HostRuntime) -> Result<(), Fail> {
+        let text = b"one\n\ntwo".as_slice();
+        let mut reader = Counted::new(Pieces {
+            text,
+            most: 1,
+            fails: false,
+        });
+        let mut lines = LineReader::new(rt.alloc())?;
+        assert!(rt; lines.next_line(&mut reader)?);
+        assert_eq!(rt; lines.line(), b"one".as_slice());
+        assert!(rt; lines.next_line(&mut reader)?);
+        assert_eq!(rt; lines.line(), b"".as_slice());
+        assert!(rt; lines.next_line(&mut reader)?);
+        assert_eq!(rt; lines.line(), b"two".as_slice());
+        assert!(rt; !lines.next_line(&mut reader)?);
+        assert_eq!(rt; reader.given, 8);
+        Ok(())
+    }
+
+    #[test]
+    fn answers_an_error_of_the_reader(rt: HostRuntime) -> Result<(), Fail> {
+        let text = b"one\ntwo".as_slice();
+        let mut reader = Counted::new(Pieces {
+            text,
+            most: 5,
+            fails: true,
+        });
+        let mut lines = LineReader::new(rt.alloc())?;
+        assert!(rt; lines.next_line(&mut reader)?);
+        assert_eq!(rt; lines.line(), b"one".as_slice());
+        assert_eq!(rt; lines.next_line(&mut reader), Err(ReadFault::Read));
+        assert_eq!(rt; reader.errors, 1);
+        assert_eq!(rt; lines.next_line(&mut reader), Err(ReadFault::Read));
+        assert_eq!(rt; reader.errors, 2);
+        Ok(())
     }
 }

@@ -6,6 +6,7 @@ use Rattle.std.specs.List.{flat_map, find}
 use Rattle.std.specs.Option.{option_map_or, option_map}
 use Rattle.model.specs.declared.deed.Kind.{Kind}
 use Rattle.model.specs.declared.deed.Kind.TheVariants.{Read, Insert, Update, Delete}
+use Rattle.model.specs.declared.deed.Kinds.{Kinds}
 use Rattle.model.specs.declared.deed.Need.{Need}
 use Rattle.model.specs.declared.deed.Cause.{Cause}
 use Rattle.model.specs.declared.deed.Cause.TheVariants.{Never, Taken}
@@ -31,14 +32,21 @@ creator user (Form.Deed deed) = []
 abbrev pub owners : List Statement → List ℕ
 owners statements = flat_map (λ (s : Statement). creator s.user s.form) statements
 
--- what an access needs: each declared kind, in the order of the kinds
+-- the kind, if it is among these
+abbrev pub kind_if : Kinds → Kind → List Kind
+kind_if kinds kind = if has_kind kinds kind then kind ∷ [] else []
+
+-- some kinds in order: READ, INSERT, UPDATE, DELETE
+abbrev pub kinds_in : Kinds → List Kind
+kinds_in kinds = kind_if kinds Read ++ (kind_if kinds Insert ++ (kind_if kinds Update ++ kind_if kinds Delete))
+
+-- an access needs each of its kinds, without the option
+abbrev pub need_of : Access → Kind → Need
+need_of access kind = record { table = access.key.table; kind = kind; option = false }
+
+-- what an access needs, in order
 abbrev pub needs_of_access : Access → List Need
-needs_of_access access =
-    map (λ (kind : Kind). record { table = access.key.table; kind = kind; option = false })
-    (kind_if Read ++ kind_if Insert ++ kind_if Update ++ kind_if Delete)
-  where
-    kind_if : Kind → List Kind
-    kind_if kind = if has_kind access.kinds kind then kind ∷ [] else []
+needs_of_access access = map (need_of access) (kinds_in access.kinds)
 
 -- a grant needs its kind with the option, a revocation nothing
 abbrev pub needs_of_deed : DeedForm → List Need

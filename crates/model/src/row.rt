@@ -59,6 +59,13 @@ impl Values {
         self.len as usize
     }
 
+    /// The numbers, in order.
+    pub fn as_slice(&self) -> &[i64]
+        ensures { result.now ≡ self.now }
+    {
+        &self.values[..self.len as usize]
+    }
+
     /// Puts a number behind the others.
     pub fn push(&mut self, value: i64)
         requires { length self.old < 8 }

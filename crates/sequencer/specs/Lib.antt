@@ -1,0 +1,5 @@
+pub mod Names
+pub mod Catalog
+pub mod Refusal
+pub mod Known
+pub mod Log

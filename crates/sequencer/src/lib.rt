@@ -1,13 +1,17 @@
-// A library with one function.
+//! The log: statements in their order, with users and tables by number, and what the log refuses.
 #![tactic(auto)]
 
-ghost use Rattle.std.specs.Prelude.{◌≡◌};
-ghost use Rattle.sequencer.specs.Echo.{echo_of};
+mod admitting;
+mod catalog;
+mod log;
+mod names;
+mod numbering;
+mod refused;
+mod testing;
+#[cfg(test)]
+mod tests;
 
-// The `ensures` clause is the contract: what `echo` returns is `echo_of` of its argument, a definition
-// in `specs/Echo.antt`, which a caller's clause can cite too.
-pub fn echo(x: usize) -> usize
-    ensures { result ≡ echo_of x }
-{
-    x
-}
+pub use catalog::{Catalog, MOST_PLACES};
+pub use log::Log;
+pub use names::{MOST_NAMES, NameTable};
+pub use refused::Refused;

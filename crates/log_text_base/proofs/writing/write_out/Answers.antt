@@ -1,3 +1,4 @@
+-- Writing piece by piece: one more piece.
 use Rattle.std.proofs.Common.{◌≡◌, ◌-◌, length, take, drop, ◌∙◌, arith}
 use Rattle.std.proofs.lemmas.List.{length-drop, take_all}
 use Rattle.log_text_base.proofs.Written.{appends_more}

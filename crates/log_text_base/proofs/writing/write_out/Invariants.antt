@@ -1,3 +1,4 @@
+-- While bytes are written, the first of them were.
 use Rattle.std.proofs.Common.{◌≡◌, ◌≤◌, ◌-◌, length, take}
 use Rattle.std.specs.Io.KnownBytes.{Appends}
 use Rattle.log_text_base.proofs.writing.write_out.Given as goal

@@ -1,0 +1,65 @@
+//! An ordered map as the store of the rows of all tables.
+
+ghost use Rattle.std.specs.Prelude.{◌≡◌};
+ghost use Rattle.model.specs.Rows.{no_rows};
+ghost use Rattle.body.specs.Room.{IsLean};
+ghost use Rattle.body.specs.RowMap.{HasEntry, rows_of};
+
+use crate::filling::{RowSource, RowStore};
+use model::{Key, Row};
+use std::alloc::{AllocError, Global};
+use std::collections::BTreeMap;
+
+/// The rows of all tables, in the order of their keys. A key with no entry has no row; nor has a key whose entry is
+/// `None`, which stands while rows are written.
+#[derive(Drop)]
+pub struct RowMap {
+    entries: BTreeMap<Key, Option<Row>>,
+}
+
+impl RowMap {
+    /// The map in which all rows are absent. It takes no memory.
+    pub fn new(alloc: Global) -> Self
+        ensures rows { rows_of result ≡ no_rows }
+        ensures lean { IsLean (HasEntry result) (rows_of result) }
+    {
+        RowMap {
+            entries: BTreeMap::new(alloc),
+        }
+    }
+}
+
+impl RowSource for RowMap {
+    ghost use Rattle.body.specs.RowMap.{rows_of};
+
+    ghost rows = { rows_of };
+
+    fn row(&self, key: Key) -> Option<Row> {
+        self.entries.get(&key).copied().flatten()
+    }
+}
+
+impl RowStore for RowMap {
+    ghost use Rattle.body.specs.RowMap.{HasEntry};
+
+    ghost has_room = { HasEntry };
+
+    fn reserve_row(&mut self, key: Key) -> Result<(), AllocError> {
+        if !self.entries.contains_key(&key) {
+            self.entries.insert(key, None)?;
+        }
+        Ok(())
+    }
+
+    fn put_row(&mut self, key: Key, row: Option<Row>) {
+        if let Some(entry) = self.entries.get_mut(&key) {
+            *entry = row;
+        }
+    }
+
+    fn release_row(&mut self, key: Key) {
+        if let Some(None) = self.entries.get(&key) {
+            self.entries.remove(&key);
+        }
+    }
+}

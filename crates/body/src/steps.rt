@@ -1,0 +1,300 @@
+//! What each step does.
+
+ghost use Rattle.std.specs.Prelude.{◌≡◌, ◌<◌, ◌≤◌, ◌+◌, [], length, map, pos, IfSome, slice_index_or};
+ghost use Rattle.std.specs.List.{position};
+ghost use Rattle.model.specs.Rows.{Rows};
+ghost use Rattle.model.specs.Body.{is_of, meaning, perform, row_number};
+ghost use Rattle.body.specs.Ending.{ending_of};
+ghost use Rattle.body.specs.Premises.{FitsWindow, IsNarrow, outputs_of};
+ghost use Rattle.body.specs.Shown.{Shows, with_rows};
+ghost use Rattle.body.specs.Work.{effect_of, seen, IsPlace};
+
+use crate::ending::BodyEnd;
+use crate::registers::{add, flag, multiply, read, subtract, write};
+use crate::window::Window;
+use model::{Access, Items, Kind, Reason, Register, Row, RowName, Step, Table};
+
+/// What one step comes to.
+#[derive(Drop)]
+pub(crate) enum StepEnd {
+    GoesOn(u32),
+    Aborts(Reason),
+    Undeclared,
+}
+
+/// The number of a row, as a step gives it.
+fn number(registers: &[i64; 16], row: RowName) -> i64
+    ensures { result ≡ row_number registers.now row }
+{
+    match row {
+        RowName::Number(number) => i64::from(number),
+        RowName::Held(register) => read(registers, register),
+    }
+}
+
+/// Whether the access is to the table's row of this number.
+fn is_of(access: &Access, table: Table, number: i64) -> bool
+    ensures { result ≡ is_of table number access.now }
+{
+    access.key.table == table && i64::from(access.key.row) == number
+}
+
+/// The place of the access to the table's row of this number.
+fn position(accesses: &[Access], table: Table, number: i64) -> Option<usize>
+    ensures { result ≡ position (is_of table number) accesses.now }
+{
+    accesses
+        .iter()
+        .position(|access| is_of(access, table, number))
+}
+
+/// The place of the access that declares this kind for the row that a step names.
+fn place_of(
+    accesses: &[Access],
+    registers: &[i64; 16],
+    kind: Kind,
+    table: Table,
+    row: RowName,
+) -> Option<usize>
+    ensures place { IsPlace accesses.now kind table (row_number registers.now row) result }
+    ensures within { IfSome result (λ place. place < length accesses.now) }
+{
+    match position(accesses, table, number(registers, row)) {
+        Some(place) => {
+            if accesses[place].kinds.contains(kind) {
+                Some(place)
+            } else {
+                None
+            }
+        }
+        None => None,
+    }
+}
+
+/// Whether the row is there.
+fn has(
+    accesses: &[Access],
+    window: &Window,
+    registers: &mut [i64; 16],
+    to: Register,
+    table: Table,
+    row: RowName,
+) -> StepEnd
+    requires { length accesses.now ≤ 16 }
+    ensures { (rows : Rows) → effect_of result (seen accesses.now rows window.now registers.new) ≡ perform accesses.now (Step.Has to table row) (seen accesses.now rows window.now registers.old) }
+{
+    match place_of(accesses, registers, Kind::Read, table, row) {
+        None => StepEnd::Undeclared,
+        Some(place) => {
+            let found = window.row(place);
+            write(registers, to, flag(found.is_some()))
+        }
+    }
+}
+
+/// A column of the row.
+fn load(
+    accesses: &[Access],
+    window: &Window,
+    registers: &mut [i64; 16],
+    to: Register,
+    table: Table,
+    row: RowName,
+    column: u32,
+) -> StepEnd
+    requires { length accesses.now ≤ 16 }
+    ensures { (rows : Rows) → effect_of result (seen accesses.now rows window.now registers.new) ≡ perform accesses.now (Step.Load to table row column) (seen accesses.now rows window.now registers.old) }
+{
+    match place_of(accesses, registers, Kind::Read, table, row) {
+        None => StepEnd::Undeclared,
+        Some(place) => match window.row(place) {
+            None => StepEnd::Aborts(Reason::NoRow),
+            Some(found) => { write(registers, to, found.column(column)) }
+        },
+    }
+}
+
+/// Puts a number into a column of the row.
+fn store(
+    accesses: &[Access],
+    window: &mut Window,
+    registers: &[i64; 16],
+    table: Table,
+    row: RowName,
+    column: u32,
+    from: Register,
+) -> StepEnd
+    requires { length accesses.now ≤ 16 }
+    ensures effect { (rows : Rows) → effect_of result (seen accesses.now rows window.new registers.now) ≡ perform accesses.now (Step.Store table row column from) (seen accesses.now rows window.old registers.now) }
+    ensures outputs { window.new.outputs ≡ window.old.outputs }
+{
+    match place_of(accesses, registers, Kind::Update, table, row) {
+        None => StepEnd::Undeclared,
+        Some(place) => match window.row(place) {
+            None => StepEnd::Aborts(Reason::NoRow),
+            Some(found) => {
+                let mut changed = found;
+                changed.set_column(column, read(registers, from));
+                window.set(place, Some(changed));
+                StepEnd::GoesOn(0)
+            }
+        },
+    }
+}
+
+/// The numbers in these registers.
+fn gathered(registers: &[i64; 16], from: &[Register]) -> Row
+    requires { length from.now ≤ 8 }
+    ensures { result ≡ map (λ register. slice_index_or registers.now register (pos 0)) from.now }
+{
+    let mut row = Row::new();
+    for register in from {
+        row.push(read(registers, *register));
+    }
+    row
+}
+
+/// Puts a row where there is none.
+fn insert(
+    accesses: &[Access],
+    window: &mut Window,
+    registers: &[i64; 16],
+    table: Table,
+    row: RowName,
+    from: &Items<Register>,
+) -> StepEnd
+    requires places { length accesses.now ≤ 16 }
+    requires columns { length from.now ≤ 8 }
+    ensures effect { (rows : Rows) → effect_of result (seen accesses.now rows window.new registers.now) ≡ perform accesses.now (Step.Insert table row from.now) (seen accesses.now rows window.old registers.now) }
+    ensures outputs { window.new.outputs ≡ window.old.outputs }
+{
+    match place_of(accesses, registers, Kind::Insert, table, row) {
+        None => StepEnd::Undeclared,
+        Some(place) => match window.row(place) {
+            None => {
+                window.set(place, Some(gathered(registers, from.as_slice())));
+                StepEnd::GoesOn(0)
+            }
+            Some(_) => StepEnd::Aborts(Reason::RowExists),
+        },
+    }
+}
+
+/// Takes a row away.
+fn delete(
+    accesses: &[Access],
+    window: &mut Window,
+    registers: &[i64; 16],
+    table: Table,
+    row: RowName,
+) -> StepEnd
+    requires { length accesses.now ≤ 16 }
+    ensures effect { (rows : Rows) → effect_of result (seen accesses.now rows window.new registers.now) ≡ perform accesses.now (Step.Delete table row) (seen accesses.now rows window.old registers.now) }
+    ensures outputs { window.new.outputs ≡ window.old.outputs }
+{
+    match place_of(accesses, registers, Kind::Delete, table, row) {
+        None => StepEnd::Undeclared,
+        Some(place) => match window.row(place) {
+            None => StepEnd::Aborts(Reason::NoRow),
+            Some(_) => {
+                window.set(place, None);
+                StepEnd::GoesOn(0)
+            }
+        },
+    }
+}
+
+/// Does one step.
+fn perform(
+    accesses: &[Access],
+    step: &Step,
+    window: &mut Window,
+    registers: &mut [i64; 16],
+) -> StepEnd
+    requires places { length accesses.now ≤ 16 }
+    requires columns { IsNarrow step.now }
+    requires room { length window.old.outputs + outputs_of step.now ≤ 8 }
+    ensures effect { (rows : Rows) → effect_of result (seen accesses.now rows window.new registers.new) ≡ perform accesses.now step.now (seen accesses.now rows window.old registers.old) }
+    ensures outputs { length window.new.outputs ≤ length window.old.outputs + outputs_of step.now }
+{
+    match step {
+        Step::Const { to, value } => write(registers, *to, *value),
+        Step::Add { to, left, right } => add(registers, *to, *left, *right),
+        Step::Sub { to, left, right } => subtract(registers, *to, *left, *right),
+        Step::Mul { to, left, right } => multiply(registers, *to, *left, *right),
+        Step::Less { to, left, right } => {
+            let holds = read(registers, *left) < read(registers, *right);
+            write(registers, *to, flag(holds))
+        }
+        Step::Same { to, left, right } => {
+            let holds = read(registers, *left) == read(registers, *right);
+            write(registers, *to, flag(holds))
+        }
+        Step::Has { to, table, row } => has(accesses, window, registers, *to, *table, *row),
+        Step::Load {
+            to,
+            table,
+            row,
+            column,
+        } => load(accesses, window, registers, *to, *table, *row, *column),
+        Step::Store {
+            table,
+            row,
+            column,
+            from,
+        } => store(accesses, window, registers, *table, *row, *column, *from),
+        Step::Insert { table, row, from } => insert(
+            accesses, window, registers, *table, *row, from,
+        ),
+        Step::Delete { table, row } => delete(accesses, window, registers, *table, *row),
+        Step::Check { of } => {
+            if read(registers, *of) == 0 {
+                StepEnd::Aborts(Reason::Check)
+            } else {
+                StepEnd::GoesOn(0)
+            }
+        }
+        Step::Skip { of, steps } => StepEnd::GoesOn(if read(registers, *of) == 0 {
+            0
+        } else {
+            *steps
+        }),
+        Step::Out { of } => {
+            window.push_output(read(registers, *of));
+            StepEnd::GoesOn(0)
+        }
+    }
+}
+
+/// Does the steps in order.
+pub(crate) fn run_steps(accesses: &[Access], steps: &[Step], window: &mut Window) -> BodyEnd
+    requires fits { FitsWindow accesses.now steps.now }
+    requires fresh { window.old.outputs ≡ [] }
+    ensures { (rows : Rows) → Shows accesses.now window.old rows
+        → meaning steps.now accesses.now rows
+        ≡ ending_of result (with_rows accesses.now window.new.rows rows) window.new.outputs }
+{
+    let mut registers = [0; 16];
+    let mut passed = 0;
+    for (number, step) in steps.iter().enumerate() {
+        if passed > 0 {
+            passed -= 1;
+            continue;
+        }
+        match perform(accesses, step, window, &mut registers) {
+            StepEnd::GoesOn(next) => passed = next,
+            StepEnd::Aborts(reason) => {
+                return BodyEnd::Aborted {
+                    step: number as u64,
+                    reason,
+                };
+            }
+            StepEnd::Undeclared => {
+                return BodyEnd::Undeclared {
+                    step: number as u64,
+                };
+            }
+        }
+    }
+    BodyEnd::Completed
+}

@@ -1,0 +1,59 @@
+//! The rows that a body works on.
+
+ghost use Rattle.std.specs.Prelude.{◌≡◌, ◌<◌, ◌++◌, ◌∷◌, [], length, replicate, slice_index_or, slice_set};
+
+use model::{Outputs, Row, Statement};
+
+/// The row of each access of a statement, or its absence, by the access's place; and the outputs so far.
+#[derive(Clone, Copy)]
+pub struct Window {
+    rows: [Option<Row>; 16],
+    outputs: Outputs,
+}
+
+impl Window {
+    /// The window of a body that hasn't begun: its rows are all absent, and there is no output.
+    pub fn new(_statement: &Statement) -> Self
+        ensures rows { result.rows ≡ replicate 16 None }
+        ensures outputs { result.outputs ≡ [] }
+    {
+        Window {
+            rows: [None; 16],
+            outputs: Outputs::new(),
+        }
+    }
+
+    /// The row of the access at this place, from 0 to 15.
+    pub fn row(&self, access: usize) -> Option<Row>
+        requires { access < 16 }
+        ensures row { result ≡ slice_index_or self.now.rows access None }
+        ensures sixteen { length self.now.rows ≡ 16 }
+    {
+        self.rows[access]
+    }
+
+    /// Puts a row, or its absence, at this place, from 0 to 15.
+    pub fn set(&mut self, access: usize, row: Option<Row>)
+        requires { access < 16 }
+        ensures rows { self.new.rows ≡ slice_set self.old.rows access row }
+        ensures outputs { self.new.outputs ≡ self.old.outputs }
+    {
+        self.rows[access] = row;
+    }
+
+    /// The outputs, in order.
+    pub fn outputs(&self) -> Outputs
+        ensures { result ≡ self.now.outputs }
+    {
+        self.outputs
+    }
+
+    /// Puts an output after the others, of which there are at most seven.
+    pub(crate) fn push_output(&mut self, value: i64)
+        requires { length self.old.outputs < 8 }
+        ensures outputs { self.new.outputs ≡ self.old.outputs ++ value ∷ [] }
+        ensures rows { self.new.rows ≡ self.old.rows }
+    {
+        self.outputs.push(value);
+    }
+}

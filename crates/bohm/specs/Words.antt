@@ -1,0 +1,50 @@
+-- Which words of the command line are a command, and how the program ends: its exit status, and what it prints of a fault.
+use Rattle.std.specs.Prelude.{◌≡◌, ℕ, List, [], Option, None, codes, map, string_bytes, true}
+use Rattle.std.specs.Option.{option_map, option_map_or}
+use Rattle.clap.specs.Words.{App, Text, fault_of, first_of, new_app, new_rule, subcommand_of, with_rule, with_subcommand}
+use denote.Ref.{Bor}
+use Rattle.bohm.specs.declared.words.Command.{Command}
+use Rattle.bohm.specs.declared.words.ProgramFault.{ProgramFault}
+use Rattle.bohm.specs.declared.words.Usage.{Usage}
+use Rattle.bohm.specs.declared.fault.EngineFault.{EngineFault}
+
+-- 0 where help was asked for, 2 for words that are wrong, and 1 for any other fault
+abbrev pub status_of : ProgramFault → ℕ
+status_of (ProgramFault.Usage (Usage.Fault text)) = 2
+status_of (ProgramFault.Usage (Usage.Help text)) = 0
+status_of (ProgramFault.Usage Usage.NoMemory) = 1
+status_of ProgramFault.Open = 1
+status_of (ProgramFault.Engine fault) = 1
+
+-- a fault of the run has one line
+abbrev pub engine_message : EngineFault → List ℕ
+engine_message EngineFault.NoMemory = codes "bohm: out of memory"
+engine_message EngineFault.Read = codes "bohm: cannot read"
+engine_message EngineFault.Write = codes "bohm: cannot write"
+
+-- the text of a fault
+abbrev pub message_of : ProgramFault → List ℕ
+message_of (ProgramFault.Usage (Usage.Fault text)) = string_bytes text
+message_of (ProgramFault.Usage (Usage.Help text)) = string_bytes text
+message_of (ProgramFault.Usage Usage.NoMemory) = codes "bohm: out of memory"
+message_of ProgramFault.Open = codes "bohm: cannot open file"
+message_of (ProgramFault.Engine fault) = engine_message fault
+
+-- the program has one subcommand, `run`, which has to be there, and which may have one word, FILE
+abbrev pub bohm_app : App
+bohm_app =
+    let app = with_subcommand (new_app (codes "bohm")) (with_rule (new_app (codes "run")) (new_rule (codes "FILE"))).top in
+    record app { top = record app.top { subcommand_required = true } }
+
+-- the texts of some words
+abbrev pub texts_of : List (Bor Text) → List Text
+texts_of words = map (λ word. word.now) words
+
+-- the file that the words of a run name, if they name one
+abbrev pub file_given : List Text → Option Text
+file_given words = option_map_or (λ found. first_of (codes "FILE") found.1) (subcommand_of bohm_app words) None
+
+-- the file of a command
+abbrev pub file_of : Command → Option Text
+file_of (Command.Run file) = option_map (λ path. path.now) file
+

@@ -1,0 +1,50 @@
+//! The words of the command line, and the ends of a run.
+
+use crate::fault::EngineFault;
+use crate::words::{Command, ProgramFault, Usage, ending, read_words};
+
+#[test]
+fn reads_the_words_of_a_run(rt: HostRuntime) {
+    let words = ["bohm", "run"];
+    let read = read_words(rt.alloc(), words.as_slice());
+    assert!(rt; matches!(&read, Ok(Command::Run { file: None })));
+    let words = ["bohm", "run", "some.log"];
+    match read_words(rt.alloc(), words.as_slice()) {
+        Ok(Command::Run { file }) => assert!(rt; file == Some("some.log")),
+        Err(_) => assert!(rt; false),
+    }
+}
+
+/// The status with which the program ends on the words, if they are no command.
+fn status(rt: &HostRuntime, words: &[&str]) -> Option<u8> {
+    match read_words(rt.alloc(), words) {
+        Ok(_) => None,
+        Err(usage) => Some(ending(&ProgramFault::Usage(usage)).0),
+    }
+}
+
+#[test]
+fn other_words_are_faults_or_help(rt: HostRuntime) {
+    assert!(rt; status(&rt, &["bohm"]) == Some(2));
+    assert!(rt; status(&rt, &["bohm", "walk"]) == Some(2));
+    assert!(rt; status(&rt, &["bohm", "run", "a", "b"]) == Some(2));
+    assert!(rt; status(&rt, &["bohm", "run", "--workers", "2"]) == Some(2));
+    assert!(rt; status(&rt, &["bohm", "--help"]) == Some(0));
+    assert!(rt; status(&rt, &["bohm", "run", "-h"]) == Some(0));
+    assert!(rt; status(&rt, &["bohm", "run", "a"]) == None);
+}
+
+#[test]
+fn faults_have_their_lines(rt: HostRuntime) {
+    let faults = [
+        (ProgramFault::Usage(Usage::NoMemory), "bohm: out of memory"),
+        (ProgramFault::Open, "bohm: cannot open file"),
+        (ProgramFault::Engine(EngineFault::NoMemory), "bohm: out of memory"),
+        (ProgramFault::Engine(EngineFault::Read), "bohm: cannot read"),
+        (ProgramFault::Engine(EngineFault::Write), "bohm: cannot write"),
+    ];
+    for (fault, wanted) in faults {
+        let (status, text) = ending(&fault);
+        assert!(rt; status == 1 && text == wanted);
+    }
+}

@@ -1,0 +1,111 @@
+//! The words of the command line, and how a run of the program ends.
+
+ghost use Rattle.std.specs.Prelude.{◌≡◌, [], None, codes, option_map, IfOk, IfErr, OnOk};
+ghost use Rattle.std.specs.Option.{option_map_or};
+ghost use Rattle.clap.specs.Words.{app_of, fault_of, first_of, kind_of, subcommand_rows_of};
+ghost use Rattle.bohm.specs.Words.{bohm_app, file_given, file_of, message_of, status_of, texts_of};
+
+use crate::fault::EngineFault;
+use clap::error::ErrorKind;
+use clap::{Arg, ArgMatches, Error};
+use std::alloc::{AllocError, Global};
+
+/// What the program is asked to do.
+#[derive(Clone, Copy, Debug, PartialEq, Eq)]
+pub enum Command<'a> {
+    /// Execute a log and write its report. Without a file the log is what standard input gives.
+    Run { file: Option<&'a str> },
+}
+
+/// Why the words are no command, with the text to print.
+#[derive(Debug, Drop)]
+pub enum Usage {
+    /// The words are wrong.
+    Fault(String),
+    /// The words ask for help.
+    Help(String),
+    /// A growth was refused.
+    NoMemory,
+}
+
+/// Why the program ends before its work is done.
+#[derive(Debug, Drop)]
+pub enum ProgramFault {
+    Usage(Usage),
+    /// The file can't be opened.
+    Open,
+    Engine(EngineFault),
+}
+
+/// The program's own description of its words.
+fn program<'a>(alloc: Global) -> Result<clap::Command<'a>, AllocError>
+    ensures { IfOk result (λ c. app_of c ≡ bohm_app) }
+{
+    let file = Arg::new(alloc, "FILE").help("The log. Without it, standard input is read");
+    let run = clap::Command::new(alloc, "run")
+        .about("Executes a log, and writes its report to standard output")
+        .arg(file)?;
+    let bohm = clap::Command::new(alloc, "bohm")
+        .about("A deterministic transaction executor")
+        .subcommand(run)?;
+    Ok(bohm.subcommand_required(true))
+}
+
+/// The usage fault, or the help, that the words came to.
+fn usage_of(alloc: Global, error: &Error) -> Usage
+    ensures { kind_of error.now ≡ ErrorKind.OutOfMemory → result ≡ Usage.NoMemory }
+{
+    if error.kind() == ErrorKind::OutOfMemory {
+        return Usage::NoMemory;
+    }
+    match format!(in alloc; "{error}") {
+        Ok(text) if error.use_stderr() => Usage::Fault(text),
+        Ok(text) => Usage::Help(text),
+        Err(_) => Usage::NoMemory,
+    }
+}
+
+/// The file that the words of a run name, if they name one.
+fn file_in<'a>(matches: &ArgMatches<'a>) -> Option<&'a str>
+    ensures { option_map (λ path. path.now) result ≡ option_map_or (λ found. first_of (codes "FILE") found.1) (subcommand_rows_of matches.now) None }
+{
+    match matches.subcommand() {
+        Some((_, run)) => run.get_str("FILE"),
+        None => None,
+    }
+}
+
+/// Reads the words of the command line, the program's name first. The words are judged by `clap`: an answered command
+/// is one that it takes, with the file that it finds, and words that it takes fail only where a growth was refused.
+pub fn read_words<'a>(alloc: Global, words: &'a [&'a str]) -> Result<Command<'a>, Usage>
+    ensures taken { OnOk result (fault_of bohm_app (texts_of words.entry.now) ≡ []) }
+    ensures file { IfOk result (λ command. file_of command ≡ file_given (texts_of words.entry.now)) }
+    ensures fault { IfErr result (λ usage. fault_of bohm_app (texts_of words.entry.now) ≡ [] → usage ≡ Usage.NoMemory) }
+{
+    let program = match program(alloc) {
+        Ok(program) => program,
+        Err(_) => return Err(Usage::NoMemory),
+    };
+    let matches = match program.try_get_matches_from(words) {
+        Ok(matches) => matches,
+        Err(error) => return Err(usage_of(alloc, &error)),
+    };
+    let file = file_in(&matches);
+    Ok(Command::Run { file })
+}
+
+/// The exit status of a fault, and the text to print: on standard output where the status is 0, else on standard error.
+pub fn ending(fault: &ProgramFault) -> (u8, &str)
+    ensures status { result.0 ≡ status_of fault.now }
+    ensures text { result.1.now ≡ message_of fault.now }
+{
+    match fault {
+        ProgramFault::Usage(Usage::Fault(text)) => (2, text.as_str()),
+        ProgramFault::Usage(Usage::Help(text)) => (0, text.as_str()),
+        ProgramFault::Usage(Usage::NoMemory) => (1, "bohm: out of memory"),
+        ProgramFault::Open => (1, "bohm: cannot open file"),
+        ProgramFault::Engine(EngineFault::NoMemory) => (1, "bohm: out of memory"),
+        ProgramFault::Engine(EngineFault::Read) => (1, "bohm: cannot read"),
+        ProgramFault::Engine(EngineFault::Write) => (1, "bohm: cannot write"),
+    }
+}

@@ -1,0 +1,16 @@
+pub mod Digits
+pub mod Plain
+pub mod Whole
+pub mod Rows
+pub mod Splits
+pub mod NameWords
+pub mod StepNames
+pub mod Printable
+pub mod Bars
+pub mod OneSpelling
+pub mod Fits
+pub mod FormPrintable
+pub mod Joined
+pub mod AccessLemmas
+pub mod AccessFit
+pub mod Grammar

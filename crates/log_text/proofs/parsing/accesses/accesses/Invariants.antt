@@ -1,0 +1,17 @@
+use Rattle.std.proofs.Common.{◌≡◌, ◌≤◌, vec_len, length, map, [], ◌∷◌, ◌++◌}
+use Rattle.std.specs.List.{AllByRecursion}
+use Rattle.log_text.specs.Access.{access_word, IsAccess}
+use Rattle.log_text.specs.Fault.{OfAccess, OfNext, fault_from}
+use Rattle.log_text.proofs.parsing.accesses.accesses.Given as goal
+
+abbrev pub invariant-accesses : goal.invariant-accesses
+invariant-accesses l = record {
+  same : l.fn.words ≡ map access_word l.found.items ++ l.words;
+  some : 1 ≤ vec_len l.found;
+  room : vec_len l.found ≤ 16;
+  each : AllByRecursion IsAccess l.found.items;
+  fits : fault_from (OfAccess ∷ OfNext 1 ∷ []) l.fn.words ≡ fault_from (OfNext (vec_len l.found) ∷ []) l.words;
+}
+
+abbrev pub decreases-accesses : goal.decreases-accesses
+decreases-accesses l = length l.words

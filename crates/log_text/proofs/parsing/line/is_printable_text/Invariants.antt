@@ -1,0 +1,7 @@
+use Rattle.std.proofs.Common.{◌≡◌, take}
+use Rattle.std.specs.List.{list_all}
+use Rattle.log_text.specs.Fault.{is_printable}
+use Rattle.log_text.proofs.parsing.line.is_printable_text.Given as goal
+
+abbrev pub invariant-loop-byte : goal.invariant-loop-byte
+invariant-loop-byte l = l.printable ≡ list_all is_printable (take l.byte-index l.line)

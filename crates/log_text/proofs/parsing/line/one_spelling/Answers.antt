@@ -1,0 +1,10 @@
+use Rattle.std.proofs.Common.{sym, ◌∙◌}
+use Rattle.log_text.proofs.Grammar.{one_statement, line_is_spelling, no_fault}
+use Rattle.log_text.proofs.parsing.line.one_spelling.Goals as goal
+
+pub returns : goal.returns
+returns c = record {
+  statement = one_statement;
+  line = λ l m s a b. line_is_spelling l s a ∙ sym (line_is_spelling m s b);
+  fault = no_fault;
+}

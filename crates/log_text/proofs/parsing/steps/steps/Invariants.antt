@@ -1,0 +1,19 @@
+use Rattle.std.proofs.Common.{◌≡◌, ◌≤◌, ◌-◌, vec_len, [], ◌∷◌, ◌++◌}
+use Rattle.std.specs.Prelude.{codes}
+use Rattle.std.specs.List.{AllByRecursion, flat_map, sum_by}
+use Rattle.log_text.specs.Statement.{further_step, outs_of, IsStep}
+use Rattle.log_text.specs.Fault.{OfStep, fault_from}
+use Rattle.log_text.proofs.parsing.steps.steps.Given as goal
+
+abbrev pub invariant-steps : goal.invariant-steps
+invariant-steps l = record {
+  same : codes "|" ∷ l.initial.words ≡ flat_map further_step l.found.items ++ codes "|" ∷ l.words;
+  room : vec_len l.found ≤ 64;
+  outputs : l.outs ≡ sum_by outs_of l.found.items;
+  few : l.outs ≤ 8;
+  each : AllByRecursion IsStep l.found.items;
+  fits : fault_from (OfStep 0 0 ∷ []) l.initial.words ≡ fault_from (OfStep (vec_len l.found) l.outs ∷ []) l.words;
+}
+
+abbrev pub decreases-steps : goal.decreases-steps
+decreases-steps l = 64 - vec_len l.found

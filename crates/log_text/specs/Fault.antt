@@ -1,0 +1,122 @@
+-- Which fault a line has: of its words, the first that doesn't fit what is expected there decides.
+use Rattle.std.specs.Prelude.{ℕ, ◌+◌, Bool, true, false, ◌&&◌, ◌||◌, List, [], ◌∷◌, ◌++◌, length, nat_lt, nat_le, ◌==◌, bytes_eq, is_some, if◌then◌else◌, Option, Some, None, codes}
+use Rattle.std.specs.List.{list_all}
+use Rattle.log_text.specs.Words.{words, plain, whole, is_name}
+use Rattle.log_text.specs.Faults.{unless, or_else}
+use Rattle.log_text.specs.Access.{access_fault}
+use Rattle.log_text.specs.declared.fault.LineFault.{LineFault}
+use Rattle.log_text.specs.declared.fault.LineFault.TheVariants.{TooLong, NotAscii, Empty, UnknownWord, BadNumber, BadName, TooManySteps, TooManyAccesses, BadRegister}
+use Rattle.log_text.specs.declared.step_name.StepName.{StepName}
+use Rattle.log_text.specs.declared.step_name.StepName.TheVariants.{Const, Add, Load, Store, Insert, Out}
+
+-- what may stand next in a line
+pub data Expected : Type 0 where
+  OfName : Expected
+  OfPlain : Expected
+  OfWhole : Expected
+  OfRegister : Expected
+  OfRow : Expected
+  -- CREATE or RUN
+  OfForm : Expected
+  -- the first access
+  OfAccess : Expected
+  -- a further access, when there are so many, or a bar or the end
+  OfNext : (accesses : ℕ) → Expected
+  -- a step's word, when there are so many steps and outs
+  OfStep : (steps outs : ℕ) → Expected
+  -- a bar or the end
+  OfBar : (steps outs : ℕ) → Expected
+  -- a further register of an INSERT, when there are so many, or a bar or the end
+  OfMore : (registers steps outs : ℕ) → Expected
+
+abbrev pub is_bar : List ℕ → Bool
+is_bar w = bytes_eq w (codes "|")
+
+-- the step that a word names
+abbrev pub step_name : List ℕ → Option StepName
+step_name w =
+    if bytes_eq w (codes "CONST") then Some Const
+    else if bytes_eq w (codes "ADD") then Some Add
+    else if bytes_eq w (codes "LOAD") then Some Load
+    else if bytes_eq w (codes "STORE") then Some Store
+    else if bytes_eq w (codes "INSERT") then Some Insert
+    else if bytes_eq w (codes "OUT") then Some Out
+    else None
+
+-- a step too many: the 65th, or the ninth OUT
+abbrev pub step_fault : Option StepName → ℕ → ℕ → Option LineFault
+step_fault None steps outs = Some UnknownWord
+step_fault (Some Out) steps outs = unless (nat_lt steps 64 && nat_lt outs 8) TooManySteps
+step_fault (Some _) steps outs = unless (nat_lt steps 64) TooManySteps
+
+-- what follows the word of a step, when there are so many steps and outs before it
+abbrev pub expected_in : Option StepName → ℕ → ℕ → List Expected
+expected_in None steps outs = []
+expected_in (Some Const) steps outs = OfRegister ∷ OfWhole ∷ OfBar (steps + 1) outs ∷ []
+expected_in (Some Add) steps outs = OfRegister ∷ OfRegister ∷ OfRegister ∷ OfBar (steps + 1) outs ∷ []
+expected_in (Some Load) steps outs = OfRegister ∷ OfName ∷ OfRow ∷ OfPlain ∷ OfBar (steps + 1) outs ∷ []
+expected_in (Some Store) steps outs = OfName ∷ OfRow ∷ OfPlain ∷ OfRegister ∷ OfBar (steps + 1) outs ∷ []
+expected_in (Some Insert) steps outs = OfName ∷ OfRow ∷ OfRegister ∷ OfMore 1 (steps + 1) outs ∷ []
+expected_in (Some Out) steps outs = OfRegister ∷ OfBar (steps + 1) (outs + 1) ∷ []
+
+abbrev pub register_fault : Option ℕ → Option LineFault
+register_fault None = Some BadNumber
+register_fault (Some n) = unless (nat_lt n 16) BadRegister
+
+abbrev pub row_fault : List ℕ → Option LineFault
+row_fault [] = Some BadNumber
+row_fault (b ∷ bs) = if b == 114 then register_fault (plain bs) else unless (is_some (plain (b ∷ bs))) BadNumber
+
+-- the fault of a word that doesn't fit what is expected
+abbrev pub misfit : Expected → List ℕ → Option LineFault
+misfit OfName w = unless (is_name w) BadName
+misfit OfPlain w = unless (is_some (plain w)) BadNumber
+misfit OfWhole w = unless (is_some (whole w)) BadNumber
+misfit OfRegister w = register_fault (plain w)
+misfit OfRow w = row_fault w
+misfit OfForm w = unless (bytes_eq w (codes "CREATE") || bytes_eq w (codes "RUN")) UnknownWord
+misfit OfAccess w = access_fault w
+misfit (OfNext accesses) w = if is_bar w then None else if nat_lt accesses 16 then access_fault w else Some TooManyAccesses
+misfit (OfStep steps outs) w = step_fault (step_name w) steps outs
+misfit (OfBar steps outs) w = unless (is_bar w) UnknownWord
+misfit (OfMore registers steps outs) w = if is_bar w then None else if nat_lt registers 8 then register_fault (plain w) else Some UnknownWord
+
+-- what a word that fits adds to what is expected
+abbrev pub expected_behind : Expected → List ℕ → List Expected
+expected_behind OfName w = []
+expected_behind OfPlain w = []
+expected_behind OfWhole w = []
+expected_behind OfRegister w = []
+expected_behind OfRow w = []
+expected_behind OfForm w = if bytes_eq w (codes "CREATE") then OfName ∷ OfPlain ∷ [] else OfAccess ∷ OfNext 1 ∷ []
+expected_behind OfAccess w = []
+expected_behind (OfNext accesses) w = if is_bar w then OfStep 0 0 ∷ [] else OfNext (accesses + 1) ∷ []
+expected_behind (OfStep steps outs) w = expected_in (step_name w) steps outs
+expected_behind (OfBar steps outs) w = OfStep steps outs ∷ []
+expected_behind (OfMore registers steps outs) w = if is_bar w then OfStep steps outs ∷ [] else OfMore (registers + 1) steps outs ∷ []
+
+-- the line may end in place of such a word
+abbrev pub may_end : Expected → Bool
+may_end (OfNext accesses) = true
+may_end (OfBar steps outs) = true
+may_end (OfMore registers steps outs) = true
+may_end p = false
+
+-- from left to right the first word that doesn't fit decides; a missing word counts as the empty one
+abbrev pub fault_from : List Expected → List (List ℕ) → Option LineFault
+fault_from [] [] = None
+fault_from [] (w ∷ ws) = Some UnknownWord
+fault_from (p ∷ ps) [] = if may_end p then None else misfit p []
+fault_from (p ∷ ps) (w ∷ ws) = or_else (misfit p w) (fault_from (expected_behind p w ++ ps) ws)
+
+-- a byte from 32 to 126
+abbrev pub is_printable : ℕ → Bool
+is_printable b = nat_le 32 b && nat_le b 126
+
+-- the fault of a line, if it has one
+abbrev pub line_fault : List ℕ → Option LineFault
+line_fault line =
+    if nat_lt 4096 (length line) then Some TooLong
+    else if length line == 0 then Some Empty
+    else if list_all is_printable line then fault_from (OfName ∷ OfForm ∷ []) (words line)
+    else Some NotAscii

@@ -1,0 +1,92 @@
+-- Statements as a line spells them, and which line reads as which.
+use Rattle.std.specs.Prelude.{◌≡◌, ℕ, ◌<◌, ◌≤◌, ◌^◌, List, [], ◌∷◌, ◌++◌, length, map, codes, IsTrue}
+use Rattle.std.specs.Fmt.{decimal, signed_decimal}
+use Rattle.std.specs.List.{join_with_byte, flat_map, AllByRecursion, sum_by}
+use Rattle.model.specs.declared.statement.RowName.{RowName}
+use Rattle.model.specs.declared.statement.RowName.TheVariants.{Number, Held}
+use Rattle.log_text.specs.Words.{words, is_name, fits_64_bits}
+use Rattle.log_text.specs.Access.{access_word, IsAccess}
+use Rattle.log_text.specs.declared.statement.RawForm.{RawForm}
+use Rattle.log_text.specs.declared.statement.RawForm.TheVariants.{Create, Run}
+use Rattle.log_text.specs.declared.statement.RawStep.{RawStep}
+use Rattle.log_text.specs.declared.statement.RawStep.TheVariants.{Const, Add, Load, Store, Insert, Out}
+
+-- a user, and what the user asks for
+pub record Sentence : Type 0 where
+  pub user : List ℕ
+  pub form : RawForm
+
+-- row = plain | "r" reg
+abbrev pub row_word : RowName → List ℕ
+row_word (Number number) = decimal number
+row_word (Held register) = codes "r" ++ decimal register
+
+-- the words of a step
+abbrev pub step_words : RawStep → List (List ℕ)
+step_words (Const to value) = codes "CONST" ∷ decimal to ∷ signed_decimal value ∷ []
+step_words (Add to left right) = codes "ADD" ∷ decimal to ∷ decimal left ∷ decimal right ∷ []
+step_words (Load to table row column) = codes "LOAD" ∷ decimal to ∷ table ∷ row_word row ∷ decimal column ∷ []
+step_words (Store table row column from) = codes "STORE" ∷ table ∷ row_word row ∷ decimal column ∷ decimal from ∷ []
+step_words (Insert table row from) = codes "INSERT" ∷ table ∷ row_word row ∷ map decimal from
+step_words (Out of) = codes "OUT" ∷ decimal of ∷ []
+
+-- " | " step
+abbrev pub further_step : RawStep → List (List ℕ)
+further_step s = codes "|" ∷ step_words s
+
+-- " CREATE " name " " plain | " RUN " access {" " access} {" | " step}
+abbrev pub form_words : RawForm → List (List ℕ)
+form_words (Create table columns) = codes "CREATE" ∷ table ∷ decimal columns ∷ []
+form_words (Run accesses steps) = codes "RUN" ∷ (map access_word accesses ++ flat_map further_step steps)
+
+-- the words of a statement
+abbrev pub statement_words : Sentence → List (List ℕ)
+statement_words s = s.user ∷ form_words s.form
+
+-- the line of a statement
+abbrev pub spelling : Sentence → List ℕ
+spelling s = join_with_byte 32 (statement_words s)
+
+-- one of the sixteen registers
+abbrev pub IsRegister : ℕ → Type 0
+IsRegister n = n < 16
+
+-- a row's number fits 32 bits
+abbrev pub IsRow : RowName → Type 0
+IsRow (Number number) = number < 2 ^ 32
+IsRow (Held register) = IsRegister register
+
+-- a step's names are names, and its numbers are in their ranges
+abbrev pub IsStep : RawStep → Type 0
+IsStep (Const to value) = IsRegister to × IsTrue (fits_64_bits value)
+IsStep (Add to left right) = IsRegister to × IsRegister left × IsRegister right
+IsStep (Load to table row column) = IsRegister to × IsTrue (is_name table) × IsRow row × (column < 2 ^ 32)
+IsStep (Store table row column from) = IsTrue (is_name table) × IsRow row × (column < 2 ^ 32) × IsRegister from
+IsStep (Insert table row from) = IsTrue (is_name table) × IsRow row × (1 ≤ length from) × (length from ≤ 8) × AllByRecursion IsRegister from
+IsStep (Out of) = IsRegister of
+
+-- how many outputs a step makes
+abbrev pub outs_of : RawStep → ℕ
+outs_of (Const to value) = 0
+outs_of (Add to left right) = 0
+outs_of (Load to table row column) = 0
+outs_of (Store table row column from) = 0
+outs_of (Insert table row from) = 0
+outs_of (Out of) = 1
+
+-- a table with a number of columns below 2^32, or 1 to 16 accesses and at most 64 steps, at most 8 of them OUT
+abbrev pub IsFormInGrammar : RawForm → Type 0
+IsFormInGrammar (Create table columns) = IsTrue (is_name table) × (columns < 2 ^ 32)
+IsFormInGrammar (Run accesses steps) = (1 ≤ length accesses) × (length accesses ≤ 16) × AllByRecursion IsAccess accesses
+    × (length steps ≤ 64) × (sum_by outs_of steps ≤ 8) × AllByRecursion IsStep steps
+
+-- the statement has a line of at most 4,096 bytes
+pub record IsInGrammar (s : Sentence) : Type 0 where
+  pub user : IsTrue (is_name s.user)
+  pub form : IsFormInGrammar s.form
+  pub short : length (spelling s) ≤ 4096
+
+-- the line's words are those of the statement
+pub record Reads (line : List ℕ) (s : Sentence) : Type 0 where
+  pub same : words line ≡ statement_words s
+  pub grammar : IsInGrammar s

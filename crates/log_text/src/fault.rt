@@ -1,0 +1,47 @@
+//! Why a line is no statement.
+
+ghost use Rattle.std.specs.Prelude.{◌≡◌};
+ghost use Rattle.log_text.specs.declared.fault.LineFault.TheVariants.{NoMemory};
+
+use std::alloc::{AllocError, AllocFailed};
+
+/// Why a line is no statement: the first of its faults, its words read from left to right.
+#[derive(Clone, Copy, Debug, PartialEq, Eq)]
+pub enum LineFault {
+    /// More than 4,096 bytes.
+    TooLong = 1,
+    /// A byte outside 32 to 126.
+    NotAscii = 2,
+    /// No byte.
+    Empty = 3,
+    /// Not one of the fixed words that may stand here, no letters of an access, or a word behind the end.
+    UnknownWord = 4,
+    /// Not a number of the form that stands here.
+    BadNumber = 5,
+    /// Not a name.
+    BadName = 6,
+    /// The 65th step, or the ninth OUT.
+    TooManySteps = 7,
+    /// The 17th access.
+    TooManyAccesses = 8,
+    /// A register above 15.
+    BadRegister = 9,
+    /// No fault of the line: memory ran out.
+    NoMemory = 10,
+}
+
+impl From<AllocError> for LineFault {
+    ghost from_gives = { λ _ e. e ≡ NoMemory };
+
+    fn from(_e: AllocError) -> LineFault {
+        LineFault::NoMemory
+    }
+}
+
+impl<T: Drop> From<AllocFailed<T>> for LineFault {
+    ghost from_gives = { λ _ e. e ≡ NoMemory };
+
+    fn from(_e: AllocFailed<T>) -> LineFault {
+        LineFault::NoMemory
+    }
+}

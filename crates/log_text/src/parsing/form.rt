@@ -1,0 +1,71 @@
+//! What a statement asks for.
+ghost use Rattle.std.specs.Prelude.{◌≡◌, ◌∷◌, [], IfOk, IfErr, IsTrue, codes};
+ghost use Rattle.log_text.specs.Words.{is_name};
+ghost use Rattle.log_text.specs.Statement.{form_words, IsFormInGrammar};
+ghost use Rattle.log_text.specs.Faults.{IsFault};
+ghost use Rattle.log_text.specs.Fault.{OfName, OfPlain, OfForm, OfAccess, OfNext, fault_from};
+
+use super::accesses::accesses;
+use super::places::{end, name, number};
+use super::steps::steps;
+use crate::fault::LineFault;
+use crate::name::Name;
+use crate::statement::RawForm;
+use crate::word_list::Words;
+use model::Items;
+use std::alloc::Global;
+
+/// What stands behind CREATE.
+fn create(alloc: Global, words: &mut Words<'_>) -> Result<RawForm, LineFault>
+    ensures ok { IfOk result (λ form. (codes "CREATE" ∷ words.old ≡ form_words form) × IsFormInGrammar form) }
+    ensures fault { IfErr result (λ f. IsFault f (fault_from (OfName ∷ OfPlain ∷ []) words.old)) }
+{
+    let table = name(alloc, words)?;
+    let columns = number(words)?;
+    end(words)?;
+    Ok(RawForm::Create { table, columns })
+}
+
+/// What stands behind RUN.
+fn run(alloc: Global, words: &mut Words<'_>) -> Result<RawForm, LineFault>
+    ensures ok { IfOk result (λ form. (codes "RUN" ∷ words.old ≡ form_words form) × IsFormInGrammar form) }
+    ensures fault { IfErr result (λ f. IsFault f (fault_from (OfAccess ∷ OfNext 1 ∷ []) words.old)) }
+{
+    let (accesses, more) = accesses(alloc, words)?;
+    let accesses = Items::new(accesses);
+    if !more {
+        let steps = Items::empty(alloc);
+        return Ok(RawForm::Run { accesses, steps });
+    }
+    let steps = Items::new(steps(alloc, words)?);
+    Ok(RawForm::Run { accesses, steps })
+}
+
+/// What stands behind the user.
+fn form(alloc: Global, words: &mut Words<'_>) -> Result<RawForm, LineFault>
+    ensures ok { IfOk result (λ form. (words.old ≡ form_words form) × IsFormInGrammar form) }
+    ensures fault { IfErr result (λ f. IsFault f (fault_from (OfForm ∷ []) words.old)) }
+{
+    let Some(word) = words.next() else {
+        return Err(LineFault::UnknownWord);
+    };
+    if word == b"CREATE".as_slice() {
+        let form = create(alloc, words)?;
+        return Ok(form);
+    }
+    if word == b"RUN".as_slice() {
+        let form = run(alloc, words)?;
+        return Ok(form);
+    }
+    Err(LineFault::UnknownWord)
+}
+
+/// The user, and what the user asks for.
+pub(crate) fn parts(alloc: Global, words: &mut Words<'_>) -> Result<(Name, RawForm), LineFault>
+    ensures ok { IfOk result (λ s. (words.old ≡ s.0 ∷ form_words s.1) × IsTrue (is_name s.0) × IsFormInGrammar s.1) }
+    ensures fault { IfErr result (λ f. IsFault f (fault_from (OfName ∷ OfForm ∷ []) words.old)) }
+{
+    let user = name(alloc, words)?;
+    let form = form(alloc, words)?;
+    Ok((user, form))
+}

@@ -1,0 +1,63 @@
+//! A line, and the statement that it reads as.
+ghost use Rattle.std.specs.Prelude.{◌≡◌, ◌≢◌, List, ℕ, None, Some, MatchResult, IfOk, IfErr, OnOk};
+ghost use Rattle.std.specs.List.{list_all};
+ghost use Rattle.log_text.specs.Statement.{Sentence, Reads};
+ghost use Rattle.log_text.specs.Faults.{IsFault};
+ghost use Rattle.log_text.specs.Fault.{is_printable, line_fault};
+
+use super::form::parts;
+use crate::fault::LineFault;
+use crate::statement::RawStatement;
+use crate::word_list::Words;
+use std::alloc::Global;
+
+/// Whether each byte is a printable one of ASCII. It looks at all of them, so that many are tested at once.
+fn is_printable_text(line: &[u8]) -> bool
+    ensures { result ≡ list_all is_printable line.now }
+{
+    let mut printable = true;
+    for byte in line {
+        printable &= *byte >= 32 && *byte <= 126;
+    }
+    printable
+}
+
+/// What `parse_line` answers.
+fn line_statement(alloc: Global, line: &[u8]) -> Result<RawStatement, LineFault>
+    ensures read { IfOk result (λ s. Reads line.now s) }
+    ensures fault { IfErr result (λ f. IsFault f (line_fault line.now)) }
+{
+    if line.len() > 4096 {
+        return Err(LineFault::TooLong);
+    }
+    if line.is_empty() {
+        return Err(LineFault::Empty);
+    }
+    if !is_printable_text(line) {
+        return Err(LineFault::NotAscii);
+    }
+    let (user, form) = parts(alloc, &mut Words::of(line))?;
+    Ok(RawStatement::of(user, form))
+}
+
+/// The statement that a line, without its end of line, reads as, or the line's fault. `NoMemory` comes only where the
+/// allocator refused.
+pub fn parse_line(alloc: Global, line: &[u8]) -> Result<RawStatement, LineFault>
+    // What is answered is what the line reads as.
+    ensures read { IfOk result (λ s. Reads line.now s) }
+    // A line that reads as a statement is answered by it, unless memory runs out.
+    ensures only { (s : Sentence) → Reads line.now s → MatchResult result (λ found. found ≡ s) (λ f. f ≡ LineFault.NoMemory) }
+    // Only a line with no fault is read.
+    ensures sound { OnOk result (line_fault line.now ≡ None) }
+    // Any other fault is the first of the line's.
+    ensures fault { IfErr result (λ f. f ≢ LineFault.NoMemory → line_fault line.now ≡ Some f) }
+{
+    line_statement(alloc, line)
+}
+
+/// No line reads as two statements, no two lines as one, and none with a fault as any.
+pub fn one_spelling()
+    ensures statement { (line : List ℕ) (s t : Sentence) → Reads line s → Reads line t → s ≡ t }
+    ensures line { (l m : List ℕ) (s : Sentence) → Reads l s → Reads m s → l ≡ m }
+    ensures fault { (line : List ℕ) (s : Sentence) → Reads line s → line_fault line ≡ None }
+{}

@@ -1,0 +1,118 @@
+//! What stands in one place of a line: a name, a number, a register, a row, a bar.
+ghost use Rattle.std.specs.Prelude.{MatchBool, ◌≡◌, ◌∷◌, ◌<◌, ◌^◌, [], Some, None, List, ℕ, IfOk, IfErr, IsTrue, OnOk, codes};
+ghost use Rattle.std.specs.Fmt.{decimal, signed_decimal};
+ghost use Rattle.log_text.specs.Words.{is_name, plain, whole, fits_64_bits, first_word};
+ghost use Rattle.log_text.specs.Statement.{row_word, IsRow};
+ghost use Rattle.log_text.specs.Faults.{IsFault};
+ghost use Rattle.log_text.specs.Fault.{OfName, OfPlain, OfWhole, OfRegister, OfRow, OfBar, misfit, fault_from};
+
+use crate::fault::LineFault;
+use crate::name::Name;
+use crate::number::{plain_value, whole_value};
+use crate::word_list::Words;
+use model::{Register, RowName};
+use std::alloc::Global;
+
+/// Takes a name.
+pub(crate) fn name(alloc: Global, words: &mut Words<'_>) -> Result<Name, LineFault>
+    ensures ok { IfOk result (λ n. (words.old ≡ n ∷ words.new) × IsTrue (is_name n)) }
+    ensures fault { IfErr result (λ f. IsFault f (misfit OfName (first_word words.old))) }
+{
+    match words.next_name() {
+        Some(word) => Ok(Name::of(alloc, word)?),
+        None => Err(LineFault::BadName),
+    }
+}
+
+/// Takes a plain number.
+#[tactic(auto, using(crate::proofs::Plain::plain_some, crate::proofs::Plain::plain_of_decimal, crate::proofs::Plain::plain_empty))]
+pub(crate) fn number(words: &mut Words<'_>) -> Result<u32, LineFault>
+    ensures ok { IfOk result (λ n. (words.old ≡ decimal n ∷ words.new) × (n < 2 ^ 32) × (plain (decimal n) ≡ Some n)) }
+    ensures fault { IfErr result (λ f. misfit OfPlain (first_word words.old) ≡ Some f) }
+{
+    match words.next() {
+        Some(word) => plain_value(word).ok_or(LineFault::BadNumber),
+        None => Err(LineFault::BadNumber),
+    }
+}
+
+/// Takes a whole number.
+#[tactic(auto, using(crate::proofs::Whole::whole_some, crate::proofs::Whole::whole_of_decimal, crate::proofs::Whole::whole_missing))]
+pub(crate) fn whole_number(words: &mut Words<'_>) -> Result<i64, LineFault>
+    ensures ok { IfOk result (λ z. (words.old ≡ signed_decimal z ∷ words.new) × IsTrue (fits_64_bits z) × (whole (signed_decimal z) ≡ Some z)) }
+    ensures fault { IfErr result (λ f. misfit OfWhole (first_word words.old) ≡ Some f) }
+{
+    match words.next() {
+        Some(word) => whole_value(word).ok_or(LineFault::BadNumber),
+        None => Err(LineFault::BadNumber),
+    }
+}
+
+/// The register that a word spells.
+#[tactic(auto, using(crate::proofs::Plain::plain_some))]
+pub(crate) fn register_of(word: &[u8]) -> Result<Register, LineFault>
+    ensures ok { IfOk result (λ n. (word.now ≡ decimal n) × (n < 16)) }
+    ensures fault { IfErr result (λ f. misfit OfRegister word.now ≡ Some f) }
+    ensures fits { OnOk result (misfit OfRegister word.now ≡ None) }
+{
+    let Some(number) = plain_value(word) else {
+        return Err(LineFault::BadNumber);
+    };
+    if number > 15 {
+        return Err(LineFault::BadRegister);
+    }
+    Ok(Register::new(number as u8))
+}
+
+/// Takes a register.
+#[tactic(auto, using(crate::proofs::Plain::plain_empty))]
+pub(crate) fn register(words: &mut Words<'_>) -> Result<Register, LineFault>
+    ensures ok { IfOk result (λ n. (words.old ≡ decimal n ∷ words.new) × (n < 16) × (misfit OfRegister (decimal n) ≡ None)) }
+    ensures fault { IfErr result (λ f. misfit OfRegister (first_word words.old) ≡ Some f) }
+{
+    match words.next() {
+        Some(word) => register_of(word),
+        None => Err(LineFault::BadNumber),
+    }
+}
+
+/// Takes a row.
+#[tactic(auto, using(crate::proofs::Plain::plain_empty, crate::proofs::Plain::plain_some, crate::proofs::Rows::row_fits))]
+pub(crate) fn row(words: &mut Words<'_>) -> Result<RowName, LineFault>
+    ensures ok { IfOk result (λ r. (words.old ≡ row_word r ∷ words.new) × IsRow r × (misfit OfRow (row_word r) ≡ None)) }
+    ensures fault { IfErr result (λ f. misfit OfRow (first_word words.old) ≡ Some f) }
+{
+    let Some(word) = words.next() else {
+        return Err(LineFault::BadNumber);
+    };
+    if let Some((b'r', register)) = word.split_first() {
+        return Ok(RowName::Held(register_of(register)?));
+    }
+    let Some(number) = plain_value(word) else {
+        return Err(LineFault::BadNumber);
+    };
+    Ok(RowName::Number(number))
+}
+
+/// Takes a bar, or finds the end.
+pub(crate) fn bar_or_end(words: &mut Words<'_>) -> Result<bool, LineFault>
+    ensures ok { IfOk result (λ more. MatchBool more (words.old ≡ codes "|" ∷ words.new) (words.old ≡ [])) }
+    ensures fault { IfErr result (λ f. (steps outs : ℕ) → fault_from (OfBar steps outs ∷ []) words.old ≡ Some f) }
+{
+    match words.next() {
+        None => Ok(false),
+        Some(word) if word == b"|".as_slice() => Ok(true),
+        Some(_) => Err(LineFault::UnknownWord),
+    }
+}
+
+/// Nothing may follow.
+pub(crate) fn end(words: &mut Words<'_>) -> Result<(), LineFault>
+    ensures ok { OnOk result (words.old ≡ []) }
+    ensures fault { IfErr result (λ f. fault_from [] words.old ≡ Some f) }
+{
+    match words.next() {
+        Some(_) => Err(LineFault::UnknownWord),
+        None => Ok(()),
+    }
+}

@@ -1,0 +1,166 @@
+//! Statements printed as the lines that they were read from.
+ghost use Rattle.std.specs.Prelude.{◌≡◌, ◌++◌, ◌<◌, IfOk, OnOk, List, ℕ, string_bytes, codes, map};
+ghost use Rattle.std.specs.Fmt.{decimal};
+ghost use Rattle.std.specs.List.{flat_map};
+ghost use Rattle.log_text.specs.Access.{letters, letter_if, access_word};
+ghost use Rattle.log_text.specs.Statement.{spelling, further_step, row_word, Reads};
+ghost use Rattle.log_text.specs.Parsing.{spaced};
+
+use crate::access::RawAccess;
+use crate::name::Name;
+use crate::statement::{RawForm, RawStatement, RawStep};
+use model::{Kinds, Register, RowName};
+use std::alloc::{AllocError, Global};
+
+/// Appends the row, as a step gives it.
+fn push_row(text: &mut String, row: RowName) -> Result<(), AllocError>
+    ensures { OnOk result (string_bytes text.new ≡ string_bytes text.old ++ row_word row) }
+{
+    match row {
+        RowName::Number(number) => {
+            write!(text, "{number}")?;
+        }
+        RowName::Held(register) => {
+            write!(text, "r{}", register.index())?;
+        }
+    }
+    Ok(())
+}
+
+/// Appends a space and each of the registers.
+fn push_registers(text: &mut String, registers: &[Register]) -> Result<(), AllocError>
+    ensures { OnOk result (string_bytes text.new ≡ string_bytes text.old ++ spaced (map decimal registers.now)) }
+{
+    for register in registers {
+        write!(text, " {}", register.index())?;
+    }
+    Ok(())
+}
+
+/// Appends a bar and the step.
+fn push_step(text: &mut String, step: &RawStep) -> Result<(), AllocError>
+    ensures { OnOk result (string_bytes text.new ≡ string_bytes text.old ++ spaced (further_step step.now)) }
+{
+    match step {
+        RawStep::Const { to, value } => {
+            write!(text, " | CONST {} {value}", to.index())?;
+        }
+        RawStep::Add { to, left, right } => {
+            write!(
+                text,
+                " | ADD {} {} {}",
+                to.index(),
+                left.index(),
+                right.index()
+            )?;
+        }
+        RawStep::Load {
+            to,
+            table,
+            row,
+            column,
+        } => {
+            write!(text, " | LOAD {} {table} ", to.index())?;
+            push_row(text, *row)?;
+            write!(text, " {column}")?;
+        }
+        RawStep::Store {
+            table,
+            row,
+            column,
+            from,
+        } => {
+            write!(text, " | STORE {table} ")?;
+            push_row(text, *row)?;
+            write!(text, " {column} {}", from.index())?;
+        }
+        RawStep::Insert { table, row, from } => {
+            write!(text, " | INSERT {table} ")?;
+            push_row(text, *row)?;
+            push_registers(text, from.as_slice())?;
+        }
+        RawStep::Out { of } => {
+            write!(text, " | OUT {}", of.index())?;
+        }
+    }
+    Ok(())
+}
+
+/// Appends the letter, if it is wanted.
+fn push_letter(text: &mut String, wanted: bool, letter: char) -> Result<(), AllocError>
+    requires { letter < 128 }
+    ensures { OnOk result (string_bytes text.new ≡ string_bytes text.old ++ letter_if wanted letter) }
+{
+    if wanted {
+        text.push(letter)?;
+    }
+    Ok(())
+}
+
+/// Appends the letters of the kinds.
+fn push_letters(text: &mut String, kinds: Kinds) -> Result<(), AllocError>
+    ensures { OnOk result (string_bytes text.new ≡ string_bytes text.old ++ letters kinds) }
+{
+    push_letter(text, kinds.read, 'R')?;
+    push_letter(text, kinds.insert, 'I')?;
+    push_letter(text, kinds.update, 'U')?;
+    push_letter(text, kinds.delete, 'D')?;
+    Ok(())
+}
+
+/// Appends a space and each of the accesses.
+fn push_accesses(text: &mut String, accesses: &[RawAccess]) -> Result<(), AllocError>
+    ensures { OnOk result (string_bytes text.new ≡ string_bytes text.old ++ spaced (map access_word accesses.now)) }
+{
+    for access in accesses {
+        write!(text, " {}:{}:", access.table, access.row)?;
+        push_letters(text, access.kinds)?;
+    }
+    Ok(())
+}
+
+/// Appends a bar and each of the steps.
+fn push_steps(text: &mut String, steps: &[RawStep]) -> Result<(), AllocError>
+    ensures { OnOk result (string_bytes text.new ≡ string_bytes text.old ++ spaced (flat_map further_step steps.now)) }
+{
+    for step in steps {
+        push_step(text, step)?;
+    }
+    Ok(())
+}
+
+/// The line of a RUN.
+fn run_text(
+    alloc: Global,
+    user: &str,
+    accesses: &[RawAccess],
+    steps: &[RawStep],
+) -> Result<String, AllocError>
+    ensures { IfOk result (λ text. string_bytes text ≡ user.now ++ codes " RUN" ++ spaced (map access_word accesses.now) ++ spaced (flat_map further_step steps.now)) }
+{
+    let mut text = format!(in alloc; "{user} RUN")?;
+    push_accesses(&mut text, accesses)?;
+    push_steps(&mut text, steps)?;
+    Ok(text)
+}
+
+/// The one line that reads as the statement, without an end of line. It fails only where the allocator refused.
+#[tactic(auto, using(crate::proofs::Grammar::line_is_spelling, crate::proofs::Joined::run_spelling))]
+pub fn print_statement(alloc: Global, statement: &RawStatement) -> Result<Vec<u8>, AllocError>
+    // The line is the statement's words, joined by single spaces.
+    ensures text { IfOk result (λ text. text.items ≡ spelling statement.now) }
+    // A line that reads as the statement is that line, byte for byte.
+    ensures back { IfOk result (λ text. (line : List ℕ) → Reads line statement.now → text.items ≡ line) }
+{
+    let user = statement.user();
+    match statement.form() {
+        RawForm::Create { table, columns } => {
+            let text = format!(in alloc; "{user} CREATE {table} {columns}")?;
+            Ok(text.into_bytes())
+        }
+        RawForm::Run { accesses, steps } => {
+            let text = run_text(alloc, user, accesses.as_slice(), steps.as_slice())?;
+            Ok(text.into_bytes())
+        }
+    }
+}

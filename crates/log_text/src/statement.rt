@@ -1,0 +1,111 @@
+//! Statements with names as text, as a line spells them.
+
+use crate::access::RawAccess;
+use crate::name::Name;
+use model::{Items, Register, RowName};
+use std::marker::Model;
+
+/// One step of a body, with its table's name.
+#[derive(Drop)]
+pub enum RawStep {
+    Const {
+        to: Register,
+        value: i64,
+    },
+    Add {
+        to: Register,
+        left: Register,
+        right: Register,
+    },
+    Load {
+        to: Register,
+        table: Name,
+        row: RowName,
+        column: u32,
+    },
+    Store {
+        table: Name,
+        row: RowName,
+        column: u32,
+        from: Register,
+    },
+    /// A row of one to eight numbers.
+    Insert {
+        table: Name,
+        row: RowName,
+        from: Items<Register>,
+    },
+    Out {
+        of: Register,
+    },
+}
+
+/// What a statement asks for.
+#[derive(Drop)]
+pub enum RawForm {
+    /// A table with so many columns, which the line may give as any number of 32 bits.
+    Create {
+        table: Name,
+        columns: u32,
+    },
+    /// One to 16 accesses, and at most 64 steps, at most 8 of them `Out`.
+    Run {
+        accesses: Items<RawAccess>,
+        steps: Items<RawStep>,
+    },
+}
+
+/// A statement as a line spells it. `parse_line` alone makes one, so it keeps to the limits of the grammar.
+#[derive(Drop)]
+pub struct RawStatement {
+    user: Name,
+    form: RawForm,
+}
+
+impl Model for RawStatement {
+    ghost use Rattle.log_text.specs.Statement.{Sentence, IsInGrammar};
+
+    ghost Value = { Sentence };
+
+    ghost view = { λ s. record { user = s.user; form = s.form } };
+
+    ghost invariant = { λ s. IsInGrammar record { user = s.user; form = s.form } };
+}
+
+impl RawStatement {
+    ghost use Rattle.std.specs.Prelude.{◌≡◌};
+    ghost use Rattle.log_text.specs.Statement.{IsInGrammar};
+
+    /// The name of the user who makes it.
+    pub fn user(&self) -> &str
+        ensures value { result.now ≡ self.now.user }
+        ensures grammar { IsInGrammar self.now }
+    {
+        self.user.as_str()
+    }
+
+    /// What it asks for.
+    pub fn form(&self) -> &RawForm
+        ensures value { result.now ≡ self.now.form }
+        ensures grammar { IsInGrammar self.now }
+    {
+        &self.form
+    }
+
+    /// The user's name and what it asks for. It takes no memory.
+    pub fn into_parts(self) -> (Name, RawForm)
+        ensures user { result.0 ≡ self.user }
+        ensures form { result.1 ≡ self.form }
+        ensures grammar { IsInGrammar self }
+    {
+        (self.user, self.form)
+    }
+
+    /// The statement of these parts.
+    pub(crate) fn of(user: Name, form: RawForm) -> RawStatement
+        requires { IsInGrammar record { user = user; form = form } }
+        ensures { result ≡ record { user = user; form = form } }
+    {
+        RawStatement { user, form }
+    }
+}

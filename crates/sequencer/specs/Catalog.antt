@@ -1,0 +1,68 @@
+-- What a log knows of names after its first statements, and how a statement's names become numbers.
+use Rattle.std.specs.Prelude.{ℕ, ◌+◌, Option, None, List, [], ◌∷◌, ◌++◌, length, map}
+use Rattle.model.specs.declared.row.Key.{Key}
+use Rattle.model.specs.declared.statement.Access.{Access}
+use Rattle.model.specs.declared.statement.Step.{Step}
+use Rattle.model.specs.declared.statement.Form.{Form}
+use Rattle.model.specs.declared.statement.Statement.{Statement}
+use Rattle.log_text.specs.Statement.{Sentence}
+use Rattle.log_text.specs.declared.access.RawAccess.{RawAccess}
+use Rattle.log_text.specs.declared.statement.RawForm.{RawForm}
+use Rattle.log_text.specs.declared.statement.RawStep.{RawStep}
+use Rattle.sequencer.specs.Names.{number_of, with_name}
+
+-- the names of the users and of the tables, each list by number; the owner and the number of columns of each table; and
+-- how many statements were accepted
+pub record Names : Type 0 where
+  pub users : List (List ℕ)
+  pub tables : List (List ℕ)
+  pub owners : List ℕ
+  pub columns : List ℕ
+  pub places : ℕ
+
+-- before the first statement nothing is named
+abbrev pub no_names : Names
+no_names = record { users = []; tables = []; owners = []; columns = []; places = 0 }
+
+-- an access with its table by number
+abbrev pub numbered_access : Names → RawAccess → Access
+numbered_access names access =
+    record { key = record { table = number_of names.tables access.table; row = access.row }; kinds = access.kinds }
+
+-- a step with its table by number
+abbrev pub numbered_step : Names → RawStep → Step
+numbered_step names (RawStep.Const to value) = Step.Const to value
+numbered_step names (RawStep.Add to left right) = Step.Add to left right
+numbered_step names (RawStep.Load to table row column) = Step.Load to (number_of names.tables table) row column
+numbered_step names (RawStep.Store table row column from) = Step.Store (number_of names.tables table) row column from
+numbered_step names (RawStep.Insert table row from) = Step.Insert (number_of names.tables table) row from
+numbered_step names (RawStep.Out of) = Step.Out of
+
+-- what a statement asks for, with its tables by number
+abbrev pub numbered_form : Names → RawForm → Form
+numbered_form names (RawForm.Create table columns) = Form.Create (number_of names.tables table) columns
+numbered_form names (RawForm.Run accesses steps) =
+    Form.Run (map (numbered_access names) accesses) (map (numbered_step names) steps) None
+
+-- a statement with its names by number; a name that it is the first to name gets the next one
+abbrev pub numbered : Names → Sentence → Statement
+numbered names sentence =
+    record { user = number_of names.users sentence.user; form = numbered_form names sentence.form }
+
+-- the names after an accepted statement of this user's form
+abbrev pub with_form : Names → ℕ → RawForm → Names
+with_form names user (RawForm.Create table columns) =
+    record names {
+      tables = names.tables ++ table ∷ [];
+      owners = names.owners ++ user ∷ [];
+      columns = names.columns ++ columns ∷ [];
+    }
+with_form names user (RawForm.Run accesses steps) = names
+
+-- the names after an accepted statement: its user is named, and a CREATE names its table
+abbrev pub with_statement : Names → Sentence → Names
+with_statement names sentence =
+    record (with_form names (number_of names.users sentence.user) sentence.form) {
+      users = with_name names.users sentence.user;
+      places = names.places + 1;
+    }

@@ -1,0 +1,99 @@
+-- Which statement a log refuses, and why: the first test that it doesn't pass.
+use Rattle.std.specs.Prelude.{◌≡◌, ◌≢◌, ℕ, ◌==◌, ◌&&◌, ◌||◌, Bool, not, Result, MatchResult, Option, Some, None, List, [], ◌∷◌, ◌++◌, length, bytes_eq, nat_lt, nat_le, if◌then◌else◌, slice_index_or}
+use Rattle.std.specs.List.{list_any}
+use Rattle.log_text.specs.Statement.{Sentence}
+use Rattle.log_text.specs.declared.access.RawAccess.{RawAccess}
+use Rattle.log_text.specs.declared.statement.RawForm.{RawForm}
+use Rattle.log_text.specs.declared.statement.RawStep.{RawStep}
+use Rattle.sequencer.specs.Names.{is_known, number_of}
+use Rattle.sequencer.specs.Catalog.{Names}
+use Rattle.sequencer.specs.declared.refused.Refused.{Refused}
+use Rattle.sequencer.specs.declared.refused.Refused.TheVariants.{UnknownTable, TableExists, BadColumns, DuplicateAccess, BadColumnNumber, LogFull, TooManyNames, NoMemory}
+
+-- a test that isn't passed refuses, and then a later one isn't asked
+abbrev pub unless : Bool → Refused → Option Refused
+unless passes refused = if passes then None else Some refused
+
+abbrev pub or_else : Option Refused → Option Refused → Option Refused
+or_else None later = later
+or_else (Some refused) later = Some refused
+
+-- whether the two accesses are to one row
+abbrev pub same_row : RawAccess → RawAccess → Bool
+same_row access other = (access.row == other.row) && bytes_eq access.table other.table
+
+-- an access is to a table that is known, and to another row than the accesses before it
+abbrev pub access_refusal : Names → List RawAccess → RawAccess → Option Refused
+access_refusal names earlier access =
+    or_else (unless (is_known names.tables access.table) UnknownTable)
+    (unless (not (list_any (same_row access) earlier)) DuplicateAccess)
+
+-- the accesses from left to right, behind those before them
+abbrev pub accesses_refusal : Names → List RawAccess → List RawAccess → Option Refused
+accesses_refusal names earlier [] = None
+accesses_refusal names earlier (access ∷ accesses) =
+    or_else (access_refusal names earlier access) (accesses_refusal names (earlier ++ access ∷ []) accesses)
+
+-- how many columns the table of this name has
+abbrev pub columns_of : Names → List ℕ → ℕ
+columns_of names table = slice_index_or names.columns (number_of names.tables table) 0
+
+-- a column of a table that is known
+abbrev pub column_refusal : Names → List ℕ → ℕ → Option Refused
+column_refusal names table column =
+    or_else (unless (is_known names.tables table) UnknownTable) (unless (nat_lt column (columns_of names table)) BadColumnNumber)
+
+-- as many numbers for a new row as its table, which is known, has columns
+abbrev pub width_refusal : Names → List ℕ → ℕ → Option Refused
+width_refusal names table width =
+    or_else (unless (is_known names.tables table) UnknownTable) (unless (width == columns_of names table) BadColumns)
+
+-- a step names a known table, a column that the table has, and as many registers for a new row as it has columns
+abbrev pub step_refusal : Names → RawStep → Option Refused
+step_refusal names (RawStep.Const to value) = None
+step_refusal names (RawStep.Add to left right) = None
+step_refusal names (RawStep.Load to table row column) = column_refusal names table column
+step_refusal names (RawStep.Store table row column from) = column_refusal names table column
+step_refusal names (RawStep.Insert table row from) = width_refusal names table (length from)
+step_refusal names (RawStep.Out of) = None
+
+-- the steps from left to right
+abbrev pub steps_refusal : Names → List RawStep → Option Refused
+steps_refusal names [] = None
+steps_refusal names (step ∷ steps) = or_else (step_refusal names step) (steps_refusal names steps)
+
+-- a new table has a new name, and one to eight columns
+abbrev pub create_refusal : Names → List ℕ → ℕ → Option Refused
+create_refusal names table columns =
+    or_else (unless (not (is_known names.tables table)) TableExists) (unless (nat_le 1 columns && nat_le columns 8) BadColumns)
+
+-- the accesses of a RUN come before its steps
+abbrev pub form_refusal : Names → RawForm → Option Refused
+form_refusal names (RawForm.Create table columns) = create_refusal names table columns
+form_refusal names (RawForm.Run accesses steps) =
+    or_else (accesses_refusal names [] accesses) (steps_refusal names steps)
+
+-- a new name, where there are 65,536 already
+abbrev pub name_refusal : List (List ℕ) → List ℕ → Option Refused
+name_refusal names name = unless (nat_lt (length names) 65536 || is_known names name) TooManyNames
+
+-- a new table, where there are 65,536 already
+abbrev pub table_refusal : Names → RawForm → Option Refused
+table_refusal names (RawForm.Create table columns) = name_refusal names.tables table
+table_refusal names (RawForm.Run accesses steps) = None
+
+-- the first test of a statement that isn't passed, if there is one
+abbrev pub refusal : Names → Sentence → Option Refused
+refusal names sentence =
+    or_else (unless (nat_lt names.places 4294967295) LogFull)
+    (or_else (form_refusal names sentence.form)
+    (or_else (name_refusal names.users sentence.user) (table_refusal names sentence.form)))
+
+-- want of memory comes only where no test refuses, and any other answer is the first test that isn't passed
+abbrev pub IsRefusal : Refused → Option Refused → Type 0
+IsRefusal NoMemory found = found ≡ None
+IsRefusal refused found = found ≡ Some refused
+
+-- a test answers the refusal, which is never want of memory, or nothing where there is none
+abbrev pub IsAnswer : {X : Type 0} → Result X Refused → Option Refused → Type 0
+IsAnswer result found = MatchResult result (λ _. found ≡ None) (λ refused. (found ≡ Some refused) × (refused ≢ NoMemory))

@@ -1,0 +1,94 @@
+//! What a log knows of names, and how it takes a statement.
+
+use crate::names::NameTable;
+use model::{Table, User};
+use std::alloc::Global;
+use std::marker::Model;
+
+/// The users and tables that the accepted statements name, and how many statements were accepted.
+///
+/// It holds names and what is known of tables, and no statement, so its memory does not grow with the log.
+#[derive(Drop)]
+pub struct Catalog {
+    pub(crate) users: NameTable,
+    pub(crate) tables: NameTable,
+    pub(crate) owners: Vec<User>,
+    pub(crate) columns: Vec<u8>,
+    pub(crate) places: u64,
+    pub(crate) alloc: Global,
+}
+
+/// How many places a log can have.
+pub const MOST_PLACES: u64 = 4_294_967_295;
+
+impl Model for Catalog {
+    ghost use Rattle.sequencer.specs.Catalog.{Names};
+
+    ghost Value = { Names };
+
+    ghost use Rattle.sequencer.specs.Known.{names_of, IsConsistent};
+
+    ghost view = { names_of };
+
+    ghost invariant = { IsConsistent };
+}
+
+impl Catalog {
+    ghost use Rattle.std.specs.Prelude.{◌≡◌, ◌<◌, ◌≤◌, length, slice_get, Some};
+    ghost use Rattle.sequencer.specs.Names.{known_number};
+    ghost use Rattle.sequencer.specs.Catalog.{no_names};
+
+    /// No name and no place yet. It takes no memory.
+    pub fn new(alloc: Global) -> Self
+        ensures { result ≡ no_names }
+    {
+        Catalog {
+            users: NameTable::new(alloc),
+            tables: NameTable::new(alloc),
+            owners: Vec::new(alloc),
+            columns: Vec::new(alloc),
+            places: 0,
+            alloc,
+        }
+    }
+
+    /// How many statements were accepted, which is the place of the next one.
+    pub fn places(&self) -> u64
+        ensures count { result ≡ self.now.places }
+        ensures most { self.now.places ≤ 4294967295 }
+    {
+        self.places
+    }
+
+    /// The users' names.
+    pub fn users(&self) -> &NameTable
+        ensures { result.now ≡ self.now.users }
+    {
+        &self.users
+    }
+
+    /// The tables' names.
+    pub fn tables(&self) -> &NameTable
+        ensures names { result.now ≡ self.now.tables }
+        ensures owners { length self.now.owners ≡ length self.now.tables }
+        ensures columns { length self.now.columns ≡ length self.now.tables }
+    {
+        &self.tables
+    }
+
+    /// The user who created a table of this catalog.
+    pub fn owner(&self, table: Table) -> User
+        requires { table < length self.now.tables }
+        ensures { slice_get self.now.owners table ≡ Some result }
+    {
+        self.owners[table.0 as usize]
+    }
+
+    /// How many columns a table of this catalog has.
+    pub fn columns(&self, table: Table) -> u8
+        requires { table < length self.now.tables }
+        ensures { slice_get self.now.columns table ≡ Some result }
+    {
+        self.columns[table.0 as usize]
+    }
+}

@@ -1,0 +1,140 @@
+//! The log: the accepted statements in their order.
+
+use crate::catalog::Catalog;
+use crate::refused::Refused;
+use log_text::RawStatement;
+use model::{Place, Statement, Table, User};
+use std::alloc::Global;
+use std::marker::Model;
+
+/// The accepted statements, in order, and the names that they name. A statement's index is its place.
+#[derive(Drop)]
+pub struct Log {
+    catalog: Catalog,
+    statements: Vec<Statement>,
+}
+
+impl Model for Log {
+    ghost use Rattle.std.specs.Prelude.{◌≡◌, length};
+    ghost use Rattle.sequencer.specs.Log.{Accepted};
+
+    ghost Value = { Accepted };
+
+    ghost view = { λ log. record { names = log.catalog; statements = log.statements.items } };
+
+    ghost invariant = { λ log. log.catalog.places ≡ length log.statements.items };
+}
+
+impl Log {
+    ghost use Rattle.std.specs.Prelude.{◌≡◌, ◌<◌, ◌≤◌, None, Some, length, slice_get, IfOk, IfErr, OnOk, OnErr};
+    ghost use Rattle.sequencer.specs.Names.{known_number};
+    ghost use Rattle.sequencer.specs.Refusal.{IsRefusal, refusal};
+    ghost use Rattle.sequencer.specs.Log.{empty_log, with_accepted};
+
+    /// The log without statements. It takes no memory.
+    pub fn new(alloc: Global) -> Self
+        ensures { result ≡ empty_log }
+    {
+        Log {
+            catalog: Catalog::new(alloc),
+            statements: Vec::new(alloc),
+        }
+    }
+
+    /// Takes a statement as the next place, which was the length, or answers the first test that it doesn't pass.
+    /// After a refusal the log is as it was.
+    pub fn push(&mut self, statement: RawStatement) -> Result<Place, Refused>
+        ensures place { IfOk result (λ place. place ≡ length self.old.statements) }
+        ensures accepted { OnOk result (self.new ≡ with_accepted self.old statement) }
+        ensures passes { OnOk result (refusal self.old.names statement ≡ None) }
+        ensures refused { IfErr result (λ r. IsRefusal r (refusal self.old.names statement)) }
+        ensures err { OnErr result (self.new ≡ self.old) }
+    {
+        if self.statements.reserve(1).is_err() {
+            return Err(self.refused(&statement));
+        }
+        let place = self.catalog.places();
+        match self.catalog.admit(statement) {
+            Ok(statement) => {
+                self.statements.push(statement).unwrap();
+                Ok(place)
+            }
+            Err(refused) => Err(refused),
+        }
+    }
+
+    /// The refusal of a statement for which there is no memory.
+    #[tactic(auto, using(crate::proofs::RefusalLemmas::refusal_of_test))]
+    fn refused(&self, statement: &RawStatement) -> Refused
+        ensures { IsRefusal result (refusal self.now.names statement.now) }
+    {
+        match self.catalog.test(statement) {
+            Ok(()) => Refused::NoMemory,
+            Err(refused) => refused,
+        }
+    }
+
+    /// How many statements were accepted.
+    pub fn len(&self) -> Place
+        ensures count { result ≡ length self.now.statements }
+        ensures most { length self.now.statements ≤ 4294967295 }
+    {
+        self.catalog.places()
+    }
+
+    /// The accepted statements, in order.
+    pub fn statements(&self) -> &[Statement]
+        ensures { result.now ≡ self.now.statements }
+    {
+        self.statements.as_slice()
+    }
+
+    /// What the log knows of names: a user or a table is of this log where its number is below their count.
+    pub fn catalog(&self) -> &Catalog
+        ensures { result.now ≡ self.now.names }
+    {
+        &self.catalog
+    }
+
+    /// The user who created a table of this log.
+    pub fn owner(&self, table: Table) -> User
+        requires { table < length self.now.names.tables }
+        ensures { slice_get self.now.names.owners table ≡ Some result }
+    {
+        self.catalog.owner(table)
+    }
+
+    /// How many columns a table of this log has.
+    pub fn columns(&self, table: Table) -> u8
+        requires { table < length self.now.names.tables }
+        ensures { slice_get self.now.names.columns table ≡ Some result }
+    {
+        self.catalog.columns(table)
+    }
+
+    /// The name of a user of this log.
+    pub fn user_name(&self, user: User) -> &str
+        requires { user < length self.now.names.users }
+        ensures { slice_get self.now.names.users user ≡ Some result.now }
+    {
+        self.catalog.users().name(user.0)
+    }
+
+    /// The name of a table of this log.
+    pub fn table_name(&self, table: Table) -> &str
+        requires { table < length self.now.names.tables }
+        ensures { slice_get self.now.names.tables table ≡ Some result.now }
+    {
+        self.catalog.tables().name(table.0)
+    }
+
+    /// The table of this name, if an accepted statement created it.
+    pub fn find_table(&self, name: &str) -> Option<Table>
+        ensures { result ≡ known_number self.now.names.tables name.now }
+    {
+        match self.catalog.tables().find(name) {
+            Some(number) => Some(Table(number)),
+            None => None,
+        }
+    }
+}

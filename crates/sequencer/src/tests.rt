@@ -1,0 +1,173 @@
+//! Worked examples: a log of a few lines, and each call of the names and of the catalog. They go on where memory is
+//! refused once, and look then whether all is as it was.
+
+use crate::{Catalog, Log, NameTable, Refused};
+use log_text::{LineFault, RawStatement, parse_line};
+use model::{Form, Key, Place, Statement, Table, User};
+use std::alloc::Global;
+use std::process::Abort;
+use std::test::Fail;
+
+/// The statement that a line spells.
+fn parsed(alloc: Global, line: &str) -> Result<RawStatement, LineFault> {
+    match parse_line(alloc, line.as_bytes()) {
+        Err(LineFault::NoMemory) => parse_line(alloc, line.as_bytes()),
+        result => result,
+    }
+}
+
+/// How many users, tables and places a catalog has.
+fn counts(catalog: &Catalog) -> (usize, usize, Place) {
+    (
+        catalog.users().len(),
+        catalog.tables().len(),
+        catalog.places(),
+    )
+}
+
+/// The log answers this to the line. After a refusal it is as it was.
+fn expect_answer(
+    rt: &impl Abort,
+    alloc: Global,
+    log: &mut Log,
+    line: &str,
+    want: Result<Place, Refused>,
+) -> Result<(), Fail> {
+    let before = counts(log.catalog());
+    let mut answer = log.push(parsed(alloc, line)?);
+    if answer == Err(Refused::NoMemory) {
+        assert_eq!(rt; counts(log.catalog()), before);
+        answer = log.push(parsed(alloc, line)?);
+    }
+    assert_eq!(rt; answer, want, "at {line}");
+    if answer.is_err() {
+        assert_eq!(rt; counts(log.catalog()), before);
+    }
+    assert_eq!(rt; log.statements().len() as u64, log.len());
+    Ok(())
+}
+
+/// The catalog takes the line. After a refusal it is as it was.
+fn expect_admitted(
+    rt: &impl Abort,
+    alloc: Global,
+    catalog: &mut Catalog,
+    line: &str,
+) -> Result<Statement, Fail> {
+    let before = counts(catalog);
+    let statement = parsed(alloc, line)?;
+    assert_eq!(rt; catalog.test(&statement), Ok(()));
+    match catalog.admit(statement) {
+        Err(Refused::NoMemory) => {
+            assert_eq!(rt; counts(catalog), before);
+            Ok(catalog.admit(parsed(alloc, line)?)?)
+        }
+        result => Ok(result?),
+    }
+}
+
+/// The log that takes two of these lines.
+fn small_log(rt: &impl Abort, alloc: Global) -> Result<Log, Fail> {
+    let cases = [
+        ("alice CREATE t 0", Err(Refused::BadColumns)),
+        ("alice CREATE t 2", Ok(0)),
+        ("bob CREATE t 1", Err(Refused::TableExists)),
+        ("alice RUN t:1:R t:1:U", Err(Refused::DuplicateAccess)),
+        (
+            "alice RUN t:1:R | LOAD 0 t 1 2",
+            Err(Refused::BadColumnNumber),
+        ),
+        ("alice RUN t:1:I | INSERT t 1 0", Err(Refused::BadColumns)),
+        ("alice RUN u:1:R", Err(Refused::UnknownTable)),
+        (
+            "alice RUN t:1:R | STORE u 1 0 0",
+            Err(Refused::UnknownTable),
+        ),
+        ("alice CREATE u 9", Err(Refused::BadColumns)),
+        ("carol RUN t:1:R", Ok(1)),
+        // The first access that is refused decides, and accesses come before steps.
+        ("dave RUN t:1:R t:1:U u:1:R", Err(Refused::DuplicateAccess)),
+        ("dave RUN t:1:R u:1:R t:1:U", Err(Refused::UnknownTable)),
+        (
+            "dave RUN t:1:R t:1:U | STORE u 1 0 0",
+            Err(Refused::DuplicateAccess),
+        ),
+    ];
+    let mut log = Log::new(alloc);
+    for (line, want) in cases {
+        expect_answer(rt, alloc, &mut log, line, want)?;
+    }
+    Ok(log)
+}
+
+#[test]
+fn a_log_names_users_and_tables(rt: HostRuntime) -> Result<(), Fail> {
+    let log = small_log(&rt, rt.alloc())?;
+    assert_eq!(rt; log.find_table("u"), None);
+    let table = log.find_table("t").ok_or("no table t")?;
+    assert_eq!(rt; table, Table(0));
+    assert_eq!(rt; log.table_name(table), "t");
+    assert_eq!(rt; log.owner(table), User(0));
+    assert_eq!(rt; log.columns(table), 2);
+    assert_eq!(rt; log.catalog().users().len(), 2);
+    assert_eq!(rt; log.user_name(User(0)), "alice");
+    assert_eq!(rt; log.user_name(User(1)), "carol");
+    Ok(())
+}
+
+#[test]
+fn a_log_keeps_its_statements(rt: HostRuntime) -> Result<(), Fail> {
+    let log = small_log(&rt, rt.alloc())?;
+    assert_eq!(rt; log.len(), 2);
+    let [_, statement] = log.statements() else {
+        panic!(rt; "not two statements");
+    };
+    assert_eq!(rt; statement.user, User(1));
+    let Form::Run { accesses, .. } = &statement.form else {
+        panic!(rt; "no RUN");
+    };
+    let [access] = accesses.as_slice() else {
+        panic!(rt; "not one access");
+    };
+    let key = Key {
+        table: Table(0),
+        row: 1,
+    };
+    assert_eq!(rt; access.key, key);
+    assert!(rt; access.kinds.read);
+    Ok(())
+}
+
+#[test]
+fn a_catalog_numbers_names(rt: HostRuntime) -> Result<(), Fail> {
+    let mut catalog = Catalog::new(rt.alloc());
+    for line in ["alice CREATE t 8", "bob CREATE u 1", "alice RUN u:1:R"] {
+        expect_admitted(&rt, rt.alloc(), &mut catalog, line)?;
+    }
+    assert_eq!(rt; catalog.users().len(), 2);
+    assert_eq!(rt; catalog.tables().len(), 2);
+    assert_eq!(rt; catalog.places(), 3);
+    assert_eq!(rt; catalog.owner(Table(1)), User(1));
+    assert_eq!(rt; catalog.columns(Table(1)), 1);
+    Ok(())
+}
+
+/// The name of a user or a table.
+fn text(alloc: Global, name: &str) -> Result<String, Fail> {
+    Ok(String::from_str(alloc, name)?)
+}
+
+#[test]
+fn names_keep_their_numbers(rt: HostRuntime) -> Result<(), Fail> {
+    let mut names = NameTable::new(rt.alloc());
+    for (name, want) in [("ann", (0, true)), ("bea", (1, true)), ("ann", (0, false))] {
+        assert!(rt; names.len() < 3);
+        assert_eq!(rt; names.enter(text(rt.alloc(), name)?)?, want);
+    }
+    assert_eq!(rt; names.len(), 2);
+    assert_eq!(rt; names.name(1), "bea");
+    assert_eq!(rt; names.find("bea"), Some(1));
+    names.forget_last();
+    assert_eq!(rt; names.find("bea"), None);
+    Ok(())
+}
