@@ -73,8 +73,10 @@ begun_front total (Some xs) (Some ys) o n number names rows pending less r e =
     let later = readings total (lines_of ys) in
     let rest : List ℕ = report_from (log_of no_names (earlier ++ later.0)) (names_after no_names (earlier ++ later.0)).tables number names later.0 in (
       report_of (earlier ++ later.0),
-      ((earlier ++ later.0, (so.reads later.0 later.1, refl)),
-      (rest, (front, r.1.1.0, ap (λ (w : List ℕ). front ++ (w ++ rest)) e ∙ sym (append_assoc front pending rest) ∙ so.text later.0))),
+      (
+        (earlier ++ later.0, (so.reads later.0 later.1, refl)),
+        (rest, (front, r.1.1.0, ap (λ (w : List ℕ). front ++ (w ++ rest)) e ∙ sym (append_assoc front pending rest) ∙ so.text later.0)),
+      ),
     )
 
 -- a piece of what was pending is written
@@ -116,10 +118,13 @@ front_written (Some xs) o n m pending b a =
     let first : List ℕ = take a.0 pending in
     let last : List ℕ = drop a.0 pending in (
       text,
-      (b.1.0, appends_front o m (front ++ first) (last ++ rest) text (appends_then o n m front first b.1.1.1.1 a.1)
-      (append_assoc front first (last ++ rest)
-      ∙ ap (λ (w : List ℕ). front ++ w) (sym (append_assoc first last rest) ∙ ap (λ (w : List ℕ). w ++ rest) (take-append-drop a.0 pending))
-      ∙ b.1.1.1.2)),
+      (
+        b.1.0,
+        appends_front o m (front ++ first) (last ++ rest) text (appends_then o n m front first b.1.1.1.1 a.1)
+            (append_assoc front first (last ++ rest)
+            ∙ ap (λ (w : List ℕ). front ++ w) (sym (append_assoc first last rest) ∙ ap (λ (w : List ℕ). w ++ rest) (take-append-drop a.0 pending))
+            ∙ b.1.1.1.2),
+      ),
     )
 
 pub all_written : (i o n m k : Option (List ℕ)) (pending : List ℕ)

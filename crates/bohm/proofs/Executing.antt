@@ -32,7 +32,6 @@ missing_step owners user xs i x low is =
 
 module _ (owners : List ℕ) (place : ℕ) (rows : Rows) (statement : Statement) (accesses : List Access) (steps : List Step) (deed : Option DeedForm)
     (form : statement.form ≡ Form.Run accesses steps deed) (no_deed : deed ≡ None) where
-
   plain : statement.form ≡ Form.Run accesses steps None
   plain = form ∙ ap (Form.Run accesses steps) no_deed
 

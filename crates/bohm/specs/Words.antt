@@ -47,4 +47,3 @@ file_given words = option_map_or (λ found. first_of (codes "FILE") found.1) (su
 -- the file of a command
 abbrev pub file_of : Command → Option Text
 file_of (Command.Run file) = option_map (λ path. path.now) file
-

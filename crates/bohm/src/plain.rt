@@ -22,7 +22,6 @@ use sequencer::{Catalog, Refused};
 use std::alloc::{AllocError, Global};
 use std::io::{Read, Write};
 
-
 /// Executes a statement at its place, and puts its line behind the text.
 fn put_accepted(
     catalog: &Catalog,
@@ -86,11 +85,9 @@ fn put_line(
     line: &[u8],
     text: &mut Vec<u8>,
 ) -> Result<(), EngineFault>
-    ensures ok {
-        OnOk result ((reading : Reading) × (ReadsAs line.now reading
+    ensures ok { OnOk result ((reading : Reading) × (ReadsAs line.now reading
         × (Advances catalog.old (rows_of rows.old) number reading text.old.items (rows_of rows.new) text.new.items
-        × (catalog.new ≡ names_with catalog.old reading))))
-    }
+        × (catalog.new ≡ names_with catalog.old reading)))) }
     ensures err { IfErr result (λ f. f ≡ EngineFault.NoMemory) }
 {
     match parse_line(alloc, line) {
@@ -132,7 +129,14 @@ fn report_lines<R: Read, W: Write>(
     let mut number = 1;
     'lines: while lines.next_line(reader)? {
         text.clear();
-        put_line(alloc, &mut catalog, &mut rows, number, lines.line(), &mut text)?;
+        put_line(
+            alloc,
+            &mut catalog,
+            &mut rows,
+            number,
+            lines.line(),
+            &mut text,
+        )?;
         pending.extend_from_slice(&text)?;
         number += 1;
         write_much(writer, pending)?;

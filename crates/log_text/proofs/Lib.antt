@@ -14,3 +14,6 @@ pub mod Joined
 pub mod AccessLemmas
 pub mod AccessFit
 pub mod Grammar
+pub mod TotalWords
+pub mod TotalSteps
+pub mod Total

@@ -3,6 +3,7 @@
 
 mod access;
 mod fault;
+mod laws;
 mod name;
 mod number;
 mod parsing;
@@ -15,6 +16,10 @@ mod word_list;
 
 pub use access::RawAccess;
 pub use fault::LineFault;
+pub use laws::every_line_reads;
+pub use log_text_base::{
+    Counted, LineReader, ReadFault, WriteFault, flush, write_much, write_out, write_pending,
+};
 pub use name::Name;
 pub use parsing::{one_spelling, parse_line};
 pub use printing::print_statement;

@@ -92,7 +92,8 @@ impl Catalog {
     }
 
     /// Takes a statement as the next place of the log: its users and tables are numbered, the names that it is the
-    /// first to name are entered, and a CREATE makes its table known. After a refusal nothing has changed.
+    /// first to name are entered, and a CREATE makes its table known. The first test that it doesn't pass refuses it, as
+    /// in `test`; one that passes is refused only for want of memory. After a refusal nothing has changed.
     #[tactic(auto, using(crate::proofs::RefusalLemmas::refusal_of_test))]
     pub fn admit(&mut self, statement: RawStatement) -> Result<Statement, Refused>
         ensures ok { IfOk result (λ s. s ≡ numbered self.old statement) }

@@ -1,4 +1,4 @@
-//! What a log knows of names, and how it takes a statement.
+//! What a log knows of names.
 
 use crate::names::NameTable;
 use model::{Table, User};
@@ -38,7 +38,7 @@ impl Catalog {
     ghost use Rattle.sequencer.specs.Names.{known_number};
     ghost use Rattle.sequencer.specs.Catalog.{no_names};
 
-    /// No name and no place yet. It takes no memory.
+    /// The catalog without names and places. It takes no memory.
     pub fn new(alloc: Global) -> Self
         ensures { result ≡ no_names }
     {
@@ -60,14 +60,14 @@ impl Catalog {
         self.places
     }
 
-    /// The users' names.
+    /// The users' names. A user's number is its name's.
     pub fn users(&self) -> &NameTable
         ensures { result.now ≡ self.now.users }
     {
         &self.users
     }
 
-    /// The tables' names.
+    /// The tables' names. A table's number is its name's.
     pub fn tables(&self) -> &NameTable
         ensures names { result.now ≡ self.now.tables }
         ensures owners { length self.now.owners ≡ length self.now.tables }

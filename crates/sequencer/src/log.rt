@@ -41,8 +41,8 @@ impl Log {
         }
     }
 
-    /// Takes a statement as the next place, which was the length, or answers the first test that it doesn't pass.
-    /// After a refusal the log is as it was.
+    /// Takes a statement as the next place, which is the length until then. The first test that it doesn't pass refuses
+    /// it; one that passes is refused only for want of memory. After a refusal the log is as it was.
     pub fn push(&mut self, statement: RawStatement) -> Result<Place, Refused>
         ensures place { IfOk result (λ place. place ≡ length self.old.statements) }
         ensures accepted { OnOk result (self.new ≡ with_accepted self.old statement) }
@@ -74,7 +74,7 @@ impl Log {
         }
     }
 
-    /// How many statements were accepted.
+    /// How many statements were accepted, which is the place of the next one.
     pub fn len(&self) -> Place
         ensures count { result ≡ length self.now.statements }
         ensures most { length self.now.statements ≤ 4294967295 }

@@ -27,7 +27,7 @@ impl NameTable {
     ghost use Rattle.std.specs.Prelude.{◌≡◌, ◌<◌, ◌≤◌, ◌-◌, [], length, take, slice_get, string_bytes, Some, IfOk, OnErr, not, is_some};
     ghost use Rattle.sequencer.specs.Names.{is_known, known_number, number_of, with_name};
 
-    /// No name yet. It takes no memory.
+    /// The table without names. It takes no memory.
     pub fn new(alloc: Global) -> Self
         ensures { result ≡ [] }
     {
@@ -45,7 +45,7 @@ impl NameTable {
         most.len()
     }
 
-    /// The number of a name that is there.
+    /// The number of a name, if it is there.
     pub fn find(&self, name: &str) -> Option<u32>
         ensures number { result ≡ known_number self.now name.now }
         ensures known { is_some result ≡ is_known self.now name.now }
@@ -63,7 +63,7 @@ impl NameTable {
     }
 
     /// The number of a name that is there already or is entered last. It says too whether it is new.
-    /// On `Err` nothing has changed.
+    /// On `Err` memory was refused, and nothing has changed.
     pub fn enter(&mut self, name: String) -> Result<(u32, bool), AllocError>
         requires { length self.old < 65536 }
         ensures number { IfOk result (λ r. r.0 ≡ number_of self.old (string_bytes name)) }
@@ -75,7 +75,7 @@ impl NameTable {
         Ok((index as u32, is_new))
     }
 
-    /// Takes the last name out.
+    /// Takes the last name out, if there is one.
     pub fn forget_last(&mut self)
         ensures { self.new ≡ take (length self.old - 1) self.old }
     {

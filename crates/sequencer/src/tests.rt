@@ -1,5 +1,5 @@
-//! Worked examples: a log of a few lines, and each call of the names and of the catalog. They go on where memory is
-//! refused once, and look then whether all is as it was.
+//! Worked examples: a log of a few lines, and each call of the names and of the catalog. Those of the log and
+//! the catalog go on where memory is refused once, and look then whether all is as it was.
 
 use crate::{Catalog, Log, NameTable, Refused};
 use log_text::{LineFault, RawStatement, parse_line};

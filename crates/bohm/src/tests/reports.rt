@@ -67,7 +67,8 @@ fn long_lines_are_refused(rt: HostRuntime) -> Result<(), Fail> {
     log.extend_from_slice(letters(rt.alloc(), 4097)?.as_slice())?;
     log.extend_from_slice(b"\nalice CREATE t 1\nalice GRA")?;
     let found = report(rt.alloc(), log.as_slice()).expect(&rt, "memory");
-    let wanted = "line 1 refused bad-name\nline 2 refused too-long\n0 created\nline 4 refused unknown-word\n";
+    let wanted =
+        "line 1 refused bad-name\nline 2 refused too-long\n0 created\nline 4 refused unknown-word\n";
     assert!(rt; found.as_slice() == wanted.as_bytes());
     let long = letters(rt.alloc(), 1_000_000)?;
     let found = report(rt.alloc(), long.as_slice()).expect(&rt, "memory");
@@ -87,7 +88,14 @@ fn a_reader_may_fail_at_any_read(rt: HostRuntime) {
         let mut writer = Counted::new(Vec::new(rt.alloc()));
         let ended = plain_text(rt.alloc(), &mut reader, &mut writer);
         let is_whole = reads as usize > log.len();
-        assert!(rt; ended == if is_whole { Ok(()) } else { Err(EngineFault::Read) });
+        assert!(rt;
+            ended
+                == if is_whole {
+                    Ok(())
+                } else {
+                    Err(EngineFault::Read)
+                }
+        );
         assert!(rt; reader.errors == if is_whole { 0 } else { 1 });
         assert!(rt; wanted.as_bytes().starts_with(writer.inner.as_slice()));
         assert!(rt; !is_whole || writer.inner.len() == wanted.len());
@@ -107,7 +115,14 @@ fn a_writer_may_fail_at_any_write(rt: HostRuntime) {
         });
         let ended = plain_text(rt.alloc(), &mut reader, &mut writer);
         let is_whole = writes as usize >= wanted.len();
-        assert!(rt; ended == if is_whole { Ok(()) } else { Err(EngineFault::Write) });
+        assert!(rt;
+            ended
+                == if is_whole {
+                    Ok(())
+                } else {
+                    Err(EngineFault::Write)
+                }
+        );
         assert!(rt; writer.errors == if is_whole { 0 } else { 1 });
         assert!(rt; wanted.as_bytes().starts_with(writer.inner.taken.as_slice()));
         assert!(rt; !is_whole || writer.inner.taken.len() == wanted.len());

@@ -39,9 +39,15 @@ fn faults_have_their_lines(rt: HostRuntime) {
     let faults = [
         (ProgramFault::Usage(Usage::NoMemory), "bohm: out of memory"),
         (ProgramFault::Open, "bohm: cannot open file"),
-        (ProgramFault::Engine(EngineFault::NoMemory), "bohm: out of memory"),
+        (
+            ProgramFault::Engine(EngineFault::NoMemory),
+            "bohm: out of memory",
+        ),
         (ProgramFault::Engine(EngineFault::Read), "bohm: cannot read"),
-        (ProgramFault::Engine(EngineFault::Write), "bohm: cannot write"),
+        (
+            ProgramFault::Engine(EngineFault::Write),
+            "bohm: cannot write",
+        ),
     ];
     for (fault, wanted) in faults {
         let (status, text) = ending(&fault);

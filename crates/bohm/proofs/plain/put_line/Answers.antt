@@ -6,14 +6,18 @@ use Rattle.bohm.proofs.plain.put_line.Goals as goal
 pub returns-in_ok-put_statement-in-Ok-clause-ok : goal.returns-in_ok-put_statement-in-Ok-clause-ok
 returns-in_ok-put_statement-in-Ok-clause-ok c = (
   read c.in-Ok.statement,
-  (λ whole is. kept_reading c.args.line.now whole c.in-Ok.statement c.in-Ok.ensures.read c.in-Ok.ensures.sound is,
-  (c.in_ok-put_statement-in-Ok.ensures.ok, c.in_ok-put_statement-in-Ok.ensures.names)),
+  (
+    λ whole is. kept_reading c.args.line.now whole c.in-Ok.statement c.in-Ok.ensures.read c.in-Ok.ensures.sound is,
+    (c.in_ok-put_statement-in-Ok.ensures.ok, c.in_ok-put_statement-in-Ok.ensures.names),
+  ),
 )
 
 pub returns-in_ok-put_fault-in-Err-clause-ok : goal.returns-in_ok-put_fault-in-Err-clause-ok
 returns-in_ok-put_fault-in-Err-clause-ok c =
     let same = c.in_ok-fault-in-Err.ensures.ok in (
       faulty c.in_ok-fault-in-Err.fault,
-      (λ whole is. kept_faulty c.args.line.now whole c.in_ok-fault-in-Err.fault (c.in-Err.ensures.fault same.1 ∙ ap Some (sym same.0)) is,
-      ((refl, c.in_ok-put_fault-in-Err.ensures), refl)),
+      (
+        λ whole is. kept_faulty c.args.line.now whole c.in_ok-fault-in-Err.fault (c.in-Err.ensures.fault same.1 ∙ ap Some (sym same.0)) is,
+        ((refl, c.in_ok-put_fault-in-Err.ensures), refl),
+      ),
     )

@@ -1,0 +1,222 @@
+-- Words without a fault are those of steps.
+use Rattle.std.proofs.Common.{◌≡◌, ℕ, suc, zero, ◌+◌, ◌<◌, ◌≤◌, ◌^◌, false, ltb, cond, ◌&&◌, ℤ, List, [], ◌∷◌, ◌++◌, length, map, Option, Some, None, refl, ap, sym, ◌∙◌, inl, inr, arith}
+use Rattle.std.specs.Prelude.{codes, decimal, IsTrue}
+use Rattle.std.specs.Fmt.{signed_decimal}
+use Rattle.std.specs.List.{AllByRecursion, flat_map, sum_by}
+use Rattle.std.proofs.lemmas.List.Sums.{sum_by-cons}
+use Rattle.std.proofs.lemmas.Bool.{cases_Bool, cond-true, cond-false, ltb-true, and_parts}
+use Rattle.std.proofs.lemmas.Slice.Eq.{bytes_eq-Decides}
+use Rattle.log_text.specs.Words.{plain, is_name, fits_64_bits}
+use Rattle.log_text.specs.Access.{access_word, IsAccess}
+use Rattle.log_text.specs.Faults.{unless, or_else}
+use Rattle.log_text.specs.Fault.{Expected, OfName, OfPlain, OfWhole, OfRegister, OfRow, OfAccess, OfStep, OfBar, OfMore, fault_from, misfit, expected_behind, may_end, is_bar, step_name, step_fault, expected_in, register_fault}
+use Rattle.log_text.specs.Statement.{row_word, IsRegister, IsRow, IsStep, step_words, further_step, outs_of}
+use Rattle.log_text.specs.declared.fault.LineFault.TheVariants.{UnknownWord, BadNumber, BadName, TooManySteps}
+use Rattle.log_text.specs.declared.access.RawAccess.{RawAccess}
+use Rattle.log_text.specs.declared.statement.RawStep.{RawStep}
+use Rattle.log_text.specs.declared.step_name.StepName.{StepName}
+use Rattle.log_text.specs.declared.step_name.StepName.TheVariants as name
+use Rattle.log_text.specs.declared.statement.RawStep.TheVariants as step
+use Rattle.model.specs.declared.statement.RowName.{RowName}
+use Rattle.log_text.proofs.Plain.{plain_empty}
+use Rattle.log_text.proofs.Whole.{whole_missing}
+use Rattle.log_text.proofs.StepNames.{named_word}
+use Rattle.log_text.proofs.TotalWords.{Spells, both_none, unless_none, plain_spells, whole_spells, register_spells, row_spells, access_spells}
+
+-- the first word spells a value of this kind, and the others have no fault
+pub record Next (A : Type 0) (word_of : A → List ℕ) (Is : A → Type 0) (ps : List Expected) (ws : List (List ℕ)) : Type 0 where
+  pub value : A
+  pub rest : List (List ℕ)
+  pub same : ws ≡ word_of value ∷ rest
+  pub good : Is value
+  pub goes : fault_from ps rest ≡ None
+
+next : {A : Type 0} (word_of : A → List ℕ) (Is : A → Type 0) (p : Expected) (ps : List Expected) (ws : List (List ℕ)) →
+    may_end p ≡ false → ((w : List ℕ) → expected_behind p w ≡ []) → (misfit p [] ≡ None → ⊥) → ((w : List ℕ) → misfit p w ≡ None → Spells A word_of Is w) →
+    fault_from (p ∷ ps) ws ≡ None → Next A word_of Is ps ws
+next word_of Is p ps [] stays adds some spells e = absurd (some (sym (cond-false (may_end p) None (misfit p []) stays) ∙ e))
+next word_of Is p ps (w ∷ ws) stays adds some spells e =
+    let b = both_none (misfit p w) (fault_from (expected_behind p w ++ ps) ws) e in
+    let s = spells w b.0 in
+    record { value = s.value; rest = ws; same = ap (λ v. v ∷ ws) s.same; good = s.good; goes = ap (λ qs. fault_from (qs ++ ps) ws) (sym (adds w)) ∙ b.1 }
+
+pub name_next : (ps : List Expected) (ws : List (List ℕ)) → fault_from (OfName ∷ ps) ws ≡ None → Next (List ℕ) (λ w. w) (λ w. IsTrue (is_name w)) ps ws
+name_next ps ws e =
+    next (λ w. w) (λ w. IsTrue (is_name w)) OfName ps ws refl (λ w. refl) (λ f. cc) (λ w f. record { value = w; same = refl; good = unless_none (is_name w) BadName f }) e
+
+pub plain_next : (ps : List Expected) (ws : List (List ℕ)) → fault_from (OfPlain ∷ ps) ws ≡ None → Next ℕ decimal (λ n. n < 2 ^ 32) ps ws
+plain_next ps ws e =
+    next decimal (λ n. n < 2 ^ 32) OfPlain ps ws refl (λ w. refl) (λ f. let g = rw plain_empty at f in cc) (λ w f. plain_spells w (unless_none _ BadNumber f)) e
+
+pub whole_next : (ps : List Expected) (ws : List (List ℕ)) → fault_from (OfWhole ∷ ps) ws ≡ None → Next ℤ signed_decimal (λ z. IsTrue (fits_64_bits z)) ps ws
+whole_next ps ws e =
+    next signed_decimal (λ z. IsTrue (fits_64_bits z)) OfWhole ps ws refl (λ w. refl) (λ f. cc whole_missing) (λ w f. whole_spells w (unless_none _ BadNumber f)) e
+
+pub register_next : (ps : List Expected) (ws : List (List ℕ)) → fault_from (OfRegister ∷ ps) ws ≡ None → Next ℕ decimal IsRegister ps ws
+register_next ps ws e =
+    next decimal IsRegister OfRegister ps ws refl (λ w. refl) (λ f. let g = rw plain_empty at f in cc) register_spells e
+
+pub row_next : (ps : List Expected) (ws : List (List ℕ)) → fault_from (OfRow ∷ ps) ws ≡ None → Next RowName row_word IsRow ps ws
+row_next ps ws e = next row_word IsRow OfRow ps ws refl (λ w. refl) (λ f. cc) row_spells e
+
+pub access_next : (ps : List Expected) (ws : List (List ℕ)) → fault_from (OfAccess ∷ ps) ws ≡ None → Next RawAccess access_word IsAccess ps ws
+access_next ps ws e = next access_word IsAccess OfAccess ps ws refl (λ w. refl) (λ f. cc) access_spells e
+
+-- the words are those of further steps, when there are so many steps and outs before them
+pub record Further (n o : ℕ) (ws : List (List ℕ)) : Type 0 where
+  pub steps : List RawStep
+  pub same : ws ≡ flat_map further_step steps
+  pub room : n + length steps ≤ 64
+  pub few : o + sum_by outs_of steps ≤ 8
+  pub each : AllByRecursion IsStep steps
+
+-- words of at most this number are those of further steps, if they have no fault
+abbrev Reader : ℕ → Type 0
+Reader fuel = (n o : ℕ) (ws : List (List ℕ)) → length ws ≤ fuel → n ≤ 64 → o ≤ 8 → fault_from (OfBar n o ∷ []) ws ≡ None → Further n o ws
+
+-- the words begin with registers, and go on with further steps
+record Registers (k n o : ℕ) (ws : List (List ℕ)) : Type 0 where
+  registers : List ℕ
+  left : List (List ℕ)
+  further : Further n o left
+  same : ws ≡ map decimal registers ++ left
+  room : k + length registers ≤ 8
+  each : AllByRecursion IsRegister registers
+
+registers_from : (ws : List (List ℕ)) (fuel k n o : ℕ) → Reader fuel → length ws ≤ fuel → k ≤ 8 → n ≤ 64 → o ≤ 8 → fault_from (OfMore k n o ∷ []) ws ≡ None → Registers k n o ws
+registers_from [] fuel k n o read low room steps few e = record { registers = []; left = []; further = read n o [] low steps few refl; same = refl; room = omega arith; each = tt }
+registers_from (w ∷ ws) fuel k n o read low room steps few e = elim (cases_Bool (is_bar w)) [
+  | inl bar ↦
+      let f : fault_from (OfBar n o ∷ []) (w ∷ ws) ≡ None = rw bar (rw bar at e) in
+      record { registers = []; left = w ∷ ws; further = read n o (w ∷ ws) low steps few f; same = refl; room = omega arith; each = tt }
+  | inr word ↦
+      let f : or_else (cond (ltb k 8) (register_fault (plain w)) (Some UnknownWord)) (fault_from (OfMore (k + 1) n o ∷ []) ws) ≡ None = rw word at e in
+      let b = both_none (cond (ltb k 8) (register_fault (plain w)) (Some UnknownWord)) (fault_from (OfMore (k + 1) n o ∷ []) ws) f in
+      elim (cases_Bool (ltb k 8)) [
+        | inl more ↦
+            let r = register_spells w (sym (cond-true (ltb k 8) (register_fault (plain w)) (Some UnknownWord) more) ∙ b.0) in
+            let below = ltb-true k 8 more in
+            let t = registers_from ws fuel (k + 1) n o read (omega arith) (omega arith) steps few b.1 in
+            record {
+              registers = r.value ∷ t.registers;
+              left = t.left;
+              further = t.further;
+              same = ap (λ v. v ∷ ws) r.same ∙ ap (λ v. decimal r.value ∷ v) t.same;
+              room = omega (arith, t.room);
+              each = (r.good, t.each);
+            }
+        | inr full ↦ absurd (let g = sym (cond-false (ltb k 8) (register_fault (plain w)) (Some UnknownWord) full) ∙ b.0 in cc)
+      ]
+]
+
+-- the words begin with a step, and go on with further steps
+record Step (n o : ℕ) (ws : List (List ℕ)) : Type 0 where
+  step : RawStep
+  left : List (List ℕ)
+  outs : ℕ
+  outs_are : outs ≡ o + outs_of step
+  further : Further (n + 1) outs left
+  same : ws ≡ step_words step ++ left
+  is : IsStep step
+
+-- what the name of a step says of the words behind it
+step_from : (fuel n o : ℕ) (w : List ℕ) (ws : List (List ℕ)) (s : Option StepName) → Reader fuel → length ws ≤ fuel → step_name w ≡ s → step_fault s n o ≡ None → fault_from (expected_in s n o ++ []) ws ≡ None → n ≤ 64 → o ≤ 8 → Step n o (w ∷ ws)
+step_from fuel n o w ws None read low is fits e steps few = absurd cc
+step_from fuel n o w ws (Some name.Const) read low is fits e steps few =
+    let below = ltb-true n 64 (unless_none (ltb n 64) TooManySteps fits) in
+    let a = register_next (OfWhole ∷ OfBar (n + 1) o ∷ []) ws e in
+    let b = whole_next (OfBar (n + 1) o ∷ []) a.rest a.goes in
+    let t = read (n + 1) o b.rest (omega (arith, low, ap length a.same, ap length b.same)) (omega arith) few b.goes in
+    let word = (named_word w name.Const is).0 in
+    let first = a.same in
+    let second = b.same in
+    record { step = step.Const a.value b.value; left = b.rest; outs = o; outs_are = omega arith; further = t; same = cc; is = (a.good, b.good) }
+step_from fuel n o w ws (Some name.Add) read low is fits e steps few =
+    let below = ltb-true n 64 (unless_none (ltb n 64) TooManySteps fits) in
+    let a = register_next (OfRegister ∷ OfRegister ∷ OfBar (n + 1) o ∷ []) ws e in
+    let b = register_next (OfRegister ∷ OfBar (n + 1) o ∷ []) a.rest a.goes in
+    let c = register_next (OfBar (n + 1) o ∷ []) b.rest b.goes in
+    let t = read (n + 1) o c.rest (omega (arith, low, ap length a.same, ap length b.same, ap length c.same)) (omega arith) few c.goes in
+    let word = (named_word w name.Add is).0 in
+    let first = a.same in
+    let second = b.same in
+    let third = c.same in
+    record { step = step.Add a.value b.value c.value; left = c.rest; outs = o; outs_are = omega arith; further = t; same = cc; is = (a.good, b.good, c.good) }
+step_from fuel n o w ws (Some name.Load) read low is fits e steps few =
+    let below = ltb-true n 64 (unless_none (ltb n 64) TooManySteps fits) in
+    let a = register_next (OfName ∷ OfRow ∷ OfPlain ∷ OfBar (n + 1) o ∷ []) ws e in
+    let b = name_next (OfRow ∷ OfPlain ∷ OfBar (n + 1) o ∷ []) a.rest a.goes in
+    let c = row_next (OfPlain ∷ OfBar (n + 1) o ∷ []) b.rest b.goes in
+    let d = plain_next (OfBar (n + 1) o ∷ []) c.rest c.goes in
+    let t = read (n + 1) o d.rest (omega (arith, low, ap length a.same, ap length b.same, ap length c.same, ap length d.same)) (omega arith) few d.goes in
+    let word = (named_word w name.Load is).0 in
+    let first = a.same in
+    let second = b.same in
+    let third = c.same in
+    let fourth = d.same in
+    record { step = step.Load a.value b.value c.value d.value; left = d.rest; outs = o; outs_are = omega arith; further = t; same = cc; is = (a.good, b.good, c.good, d.good) }
+step_from fuel n o w ws (Some name.Store) read low is fits e steps few =
+    let below = ltb-true n 64 (unless_none (ltb n 64) TooManySteps fits) in
+    let a = name_next (OfRow ∷ OfPlain ∷ OfRegister ∷ OfBar (n + 1) o ∷ []) ws e in
+    let b = row_next (OfPlain ∷ OfRegister ∷ OfBar (n + 1) o ∷ []) a.rest a.goes in
+    let c = plain_next (OfRegister ∷ OfBar (n + 1) o ∷ []) b.rest b.goes in
+    let d = register_next (OfBar (n + 1) o ∷ []) c.rest c.goes in
+    let t = read (n + 1) o d.rest (omega (arith, low, ap length a.same, ap length b.same, ap length c.same, ap length d.same)) (omega arith) few d.goes in
+    let word = (named_word w name.Store is).0 in
+    let first = a.same in
+    let second = b.same in
+    let third = c.same in
+    let fourth = d.same in
+    record { step = step.Store a.value b.value c.value d.value; left = d.rest; outs = o; outs_are = omega arith; further = t; same = cc; is = (a.good, b.good, c.good, d.good) }
+step_from fuel n o w ws (Some name.Insert) read low is fits e steps few =
+    let below = ltb-true n 64 (unless_none (ltb n 64) TooManySteps fits) in
+    let a = name_next (OfRow ∷ OfRegister ∷ OfMore 1 (n + 1) o ∷ []) ws e in
+    let b = row_next (OfRegister ∷ OfMore 1 (n + 1) o ∷ []) a.rest a.goes in
+    let c = register_next (OfMore 1 (n + 1) o ∷ []) b.rest b.goes in
+    let r = registers_from c.rest fuel 1 (n + 1) o read (omega (arith, low, ap length a.same, ap length b.same, ap length c.same)) (omega arith) (omega arith) few c.goes in
+    let word = (named_word w name.Insert is).0 in
+    let first = a.same in
+    let second = b.same in
+    let third = c.same in
+    let fourth = r.same in
+    record {
+      step = step.Insert a.value b.value (c.value ∷ r.registers);
+      left = r.left;
+      outs = o;
+      outs_are = omega arith;
+      further = r.further;
+      same = cc;
+      is = (a.good, b.good, omega arith, omega (arith, r.room), (c.good, r.each));
+    }
+step_from fuel n o w ws (Some name.Out) read low is fits e steps few =
+    let both = and_parts (ltb n 64) (ltb o 8) (unless_none (ltb n 64 && ltb o 8) TooManySteps fits) in
+    let below = ltb-true n 64 both.0 in
+    let rare = ltb-true o 8 both.1 in
+    let a = register_next (OfBar (n + 1) (o + 1) ∷ []) ws e in
+    let t = read (n + 1) (o + 1) a.rest (omega (arith, low, ap length a.same)) (omega arith) (omega arith) a.goes in
+    let word = (named_word w name.Out is).0 in
+    let first = a.same in
+    record { step = step.Out a.value; left = a.rest; outs = o + 1; outs_are = omega arith; further = t; same = cc; is = a.good }
+
+step_at : (fuel n o : ℕ) (ws : List (List ℕ)) → Reader fuel → length ws ≤ fuel → n ≤ 64 → o ≤ 8 → fault_from (OfStep n o ∷ []) ws ≡ None → Step n o ws
+step_at fuel n o [] read low steps few e = absurd cc
+step_at fuel n o (w ∷ ws) read low steps few e =
+    let b = both_none (step_fault (step_name w) n o) (fault_from (expected_in (step_name w) n o ++ []) ws) e in
+    step_from fuel n o w ws (step_name w) read (omega arith) refl b.0 b.1 steps few
+
+-- words without a fault, where a bar or the end may stand, are those of further steps
+pub further_from : (fuel : ℕ) → Reader fuel
+further_from fuel n o [] low steps few e = record { steps = []; same = refl; room = omega arith; few = omega arith; each = tt }
+further_from zero n o (w ∷ ws) low steps few e = absurd (omega arith)
+further_from (suc fuel) n o (w ∷ ws) low steps few e =
+    let b = both_none (unless (is_bar w) UnknownWord) (fault_from (OfStep n o ∷ []) ws) e in
+    let bar : w ≡ codes "|" = (bytes_eq-Decides w (codes "|")).0 (unless_none (is_bar w) UnknownWord b.0) in
+    let s = step_at fuel n o ws (further_from fuel) (omega arith) steps few b.1 in
+    let t = s.further in
+    record {
+      steps = s.step ∷ t.steps;
+      same = ap (λ v. v ∷ ws) bar ∙ ap (λ v. codes "|" ∷ v) (s.same ∙ ap (λ v. step_words s.step ++ v) t.same);
+      room = omega (arith, t.room);
+      few = omega (arith, t.few, s.outs_are, sum_by-cons outs_of s.step t.steps);
+      each = (s.is, t.each);
+    }
