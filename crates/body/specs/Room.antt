@@ -27,6 +27,13 @@ IsLeanBelow HasRoom rows count accesses =
     (place : ℕ) (access : Access) → place < count → access ≡ slice_index_or accesses place access
     → HasRoom access.key.table access.key.row → IsSome (rows access.key.table access.key.row)
 
+-- at the keys of the first accesses whose row is absent in the list there is room only for rows that are there
+abbrev pub IsLeanWhereAbsent : (ℕ → ℕ → Type 0) → Rows → ℕ → List Access → List (Option (List ℤ)) → Type 0
+IsLeanWhereAbsent HasRoom rows count accesses contents =
+    (place : ℕ) (access : Access) → place < count → access ≡ slice_index_or accesses place access
+    → slice_index_or contents place None ≡ None
+    → HasRoom access.key.table access.key.row → IsSome (rows access.key.table access.key.row)
+
 -- the key is that of none of the first accesses
 abbrev pub IsElsewhere : ℕ → List Access → ℕ → ℕ → Type 0
 IsElsewhere count accesses table row =

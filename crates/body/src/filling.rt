@@ -11,7 +11,7 @@ ghost use Rattle.model.specs.Versions.{accesses_of};
 ghost use Rattle.body.specs.Ending.{ending_of};
 ghost use Rattle.body.specs.Premises.{IsRunnable};
 ghost use Rattle.body.specs.Shown.{Shows, with_rows};
-ghost use Rattle.body.specs.Room.{HasRoomFrom, IsLean, IsLeanBelow, MakesRoomBelow};
+ghost use Rattle.body.specs.Room.{HasRoomFrom, IsLean, IsLeanBelow, IsLeanWhereAbsent, MakesRoomBelow};
 
 use crate::ending::BodyEnd;
 use crate::run;
@@ -129,6 +129,21 @@ fn release_rows<S: RowStore>(accesses: &[Access], store: &mut S)
     }
 }
 
+/// Gives up the room at the key of each access whose row the window doesn't have. Once the rows of the window are put, no
+/// room is left that no row needs.
+fn release_absent<S: RowStore>(accesses: &[Access], window: &Window, store: &mut S)
+    requires { length accesses.now ≤ 16 }
+    ensures rows { S.rows store.new ≡ S.rows store.old }
+    ensures lean { IsLeanWhereAbsent (S.has_room store.new) (S.rows store.new) (length accesses.now) accesses.now window.now.rows }
+    ensures no_more { (table row : ℕ) → S.has_room store.new table row → S.has_room store.old table row }
+{
+    for (place, Access { key, .. }) in accesses.iter().enumerate() {
+        if window.row(place).is_none() {
+            store.release_row(*key);
+        }
+    }
+}
+
 /// Puts the rows of the window at the keys of the statement's accesses. Where memory is refused, all rows of the store
 /// are as they were. If two accesses name one key, the row of the first counts. A store that had room only for rows that
 /// are there has so afterwards, whatever happened.
@@ -146,8 +161,10 @@ pub fn write_back<S: RowStore>(
     let reserved = reserve_rows(accesses, window, store);
     if reserved.is_ok() {
         put_rows(accesses, window, store);
+        release_absent(accesses, window, store);
+    } else {
+        release_rows(accesses, store);
     }
-    release_rows(accesses, store);
     reserved
 }
 

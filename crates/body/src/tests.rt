@@ -43,6 +43,9 @@ const READ_ONLY: Access = Access {
     },
 };
 
+/// How a body ends whose seventh step touches what isn't declared.
+const UNDECLARED: BodyEnd = BodyEnd::Undeclared { step: 6 };
+
 fn statement(alloc: Global, steps: Vec<Step>) -> Result<Statement, AllocError>
     requires columns { All IsNarrow steps.items }
     requires outputs { sum_by outputs_of steps.items ≤ 8 }
@@ -223,108 +226,101 @@ fn end_after_insert(alloc: Global, store: &mut RowMap, step: Step) -> Result<Bod
 }
 
 #[test]
-fn bodies_are_aborted(rt: HostRuntime) -> Result<(), Fail> {
+fn results_that_do_not_fit_abort_a_body(rt: HostRuntime) -> Result<(), Fail> {
     let alloc = rt.alloc();
-    let (to, table) = (Register::new(9), TABLE);
+    let to = Register::new(9);
     let (one, minus_one) = (Register::new(0), Register::new(1));
-    let (greatest, least, zero) = (Register::new(2), Register::new(3), Register::new(5));
+    let (greatest, least) = (Register::new(2), Register::new(3));
     let mut store = RowMap::new(alloc);
-    let end = end_after_insert(
-        alloc,
-        &mut store,
-        Step::Add {
-            to,
-            left: greatest,
-            right: one,
-        },
-    )?;
-    assert_eq!(rt; end, aborted(Reason::Overflow), "the greatest and 1");
-    let end = end_after_insert(
-        alloc,
-        &mut store,
-        Step::Sub {
-            to,
-            left: least,
-            right: one,
-        },
-    )?;
-    assert_eq!(rt; end, aborted(Reason::Overflow), "the least without 1");
-    let end = end_after_insert(
-        alloc,
-        &mut store,
-        Step::Mul {
-            to,
-            left: least,
-            right: minus_one,
-        },
-    )?;
-    assert_eq!(rt; end, aborted(Reason::Overflow), "the least times -1");
-    let end = end_after_insert(alloc, &mut store, Step::Check { of: zero })?;
-    assert_eq!(rt; end, aborted(Reason::Check));
-    let end = end_after_insert(
-        alloc,
-        &mut store,
-        Step::Load {
-            to,
-            table,
-            row: RowName::Number(2),
-            column: 0,
-        },
-    )?;
-    assert_eq!(rt; end, aborted(Reason::NoRow));
-    let none = Items::empty(alloc);
-    let end = end_after_insert(
-        alloc,
-        &mut store,
-        Step::Insert {
-            table,
-            row: RowName::Number(1),
-            from: none,
-        },
-    )?;
-    assert_eq!(rt; end, aborted(Reason::RowExists));
+    let step = Step::Add {
+        to,
+        left: greatest,
+        right: one,
+    };
+    let end = end_after_insert(alloc, &mut store, step)?;
+    assert_eq!(rt; end, aborted(6, Reason::Overflow), "the greatest and 1");
+    let step = Step::Sub {
+        to,
+        left: least,
+        right: one,
+    };
+    let end = end_after_insert(alloc, &mut store, step)?;
+    assert_eq!(rt; end, aborted(6, Reason::Overflow), "the least without 1");
+    let step = Step::Mul {
+        to,
+        left: least,
+        right: minus_one,
+    };
+    let end = end_after_insert(alloc, &mut store, step)?;
+    assert_eq!(rt; end, aborted(6, Reason::Overflow), "the least times -1");
     assert!(rt;
         store.row(OPEN.key).is_none(),
         "an aborted body changes no row"
     );
+    Ok(())
+}
+
+#[test]
+fn checks_and_rows_abort_a_body(rt: HostRuntime) -> Result<(), Fail> {
+    let alloc = rt.alloc();
+    let (to, of, table) = (Register::new(9), Register::new(5), TABLE);
+    let mut store = RowMap::new(alloc);
+    let end = end_after_insert(alloc, &mut store, Step::Check { of })?;
+    assert_eq!(rt; end, aborted(6, Reason::Check));
+    let loading = Step::Load {
+        to,
+        table,
+        row: RowName::Number(2),
+        column: 0,
+    };
+    let end = end_after_insert(alloc, &mut store, loading)?;
+    assert_eq!(rt; end, aborted(6, Reason::NoRow));
+    let inserting = Step::Insert {
+        table,
+        row: RowName::Number(1),
+        from: Items::empty(alloc),
+    };
+    let end = end_after_insert(alloc, &mut store, inserting)?;
+    assert_eq!(rt; end, aborted(6, Reason::RowExists));
+    assert!(rt;
+        store.row(OPEN.key).is_none(),
+        "an aborted body changes no row"
+    );
+    Ok(())
+}
+
+#[test]
+fn changes_of_an_absent_row_abort_a_body(rt: HostRuntime) -> Result<(), Fail> {
+    let alloc = rt.alloc();
+    let (from, of) = (Register::new(9), Register::new(5));
+    let table = TABLE;
+    let mut store = RowMap::new(alloc);
     let storing = vec![in alloc;
         Step::Store {
             table,
             row: RowName::Number(1),
             column: 0,
-            from: to
+            from
         },
     ]?;
     let (end, outputs) = end_on(alloc, &mut store, storing)?;
-    assert_eq!(rt;
-        end,
-        BodyEnd::Aborted {
-            step: 0,
-            reason: Reason::NoRow
-        }
-    );
+    assert_eq!(rt; end, aborted(0, Reason::NoRow));
     assert_eq!(rt; outputs.len(), 0);
     let deleting = vec![in alloc;
-        Step::Out { of: zero },
+        Step::Out { of },
         Step::Delete {
             table,
             row: RowName::Number(1)
         },
     ]?;
     let (end, outputs) = end_on(alloc, &mut store, deleting)?;
-    assert_eq!(rt;
-        end,
-        BodyEnd::Aborted {
-            step: 1,
-            reason: Reason::NoRow
-        }
-    );
+    assert_eq!(rt; end, aborted(1, Reason::NoRow));
     assert_eq!(rt; outputs.len(), 0, "an aborted body has no output");
     Ok(())
 }
 
-fn aborted(reason: Reason) -> BodyEnd {
-    BodyEnd::Aborted { step: 6, reason }
+fn aborted(step: u64, reason: Reason) -> BodyEnd {
+    BodyEnd::Aborted { step, reason }
 }
 
 #[test]
@@ -380,81 +376,57 @@ fn results_that_fit_abort_nothing(rt: HostRuntime) -> Result<(), Fail> {
     Ok(())
 }
 
+/// How a body ends that inserts row 1, and then looks for a row.
+fn end_of_search(
+    alloc: Global,
+    store: &mut RowMap,
+    table: Table,
+    row: RowName,
+) -> Result<BodyEnd, AllocError> {
+    let to = Register::new(9);
+    end_after_insert(alloc, store, Step::Has { to, table, row })
+}
+
 #[test]
-fn undeclared_touches_end_a_body(rt: HostRuntime) -> Result<(), Fail> {
+fn undeclared_rows_end_a_body(rt: HostRuntime) -> Result<(), Fail> {
     let alloc = rt.alloc();
-    let undeclared = BodyEnd::Undeclared { step: 6 };
-    let (to, table) = (Register::new(9), TABLE);
     let (minus_one, wide) = (Register::new(1), Register::new(4));
     let mut store = RowMap::new(alloc);
-    let end = end_after_insert(
-        alloc,
-        &mut store,
-        Step::Has {
-            to,
-            table,
-            row: RowName::Number(3),
-        },
-    )?;
-    assert_eq!(rt; end, undeclared, "another row");
-    let end = end_after_insert(
-        alloc,
-        &mut store,
-        Step::Has {
-            to,
-            table: Table(1),
-            row: RowName::Number(1),
-        },
-    )?;
-    assert_eq!(rt; end, undeclared, "another table");
-    let end = end_after_insert(
-        alloc,
-        &mut store,
-        Step::Has {
-            to,
-            table,
-            row: RowName::Held(minus_one),
-        },
-    )?;
-    assert_eq!(rt; end, undeclared, "a negative number");
-    let end = end_after_insert(
-        alloc,
-        &mut store,
-        Step::Has {
-            to,
-            table,
-            row: RowName::Held(wide),
-        },
-    )?;
-    assert_eq!(rt; end, undeclared, "a number above 4294967295");
-    let end = end_after_insert(
-        alloc,
-        &mut store,
-        Step::Store {
-            table,
-            row: RowName::Number(2),
-            column: 0,
-            from: to,
-        },
-    )?;
-    assert_eq!(rt;
-        end,
-        undeclared,
-        "what is declared is judged before what is there"
+    let end = end_of_search(alloc, &mut store, TABLE, RowName::Number(3))?;
+    assert_eq!(rt; end, UNDECLARED, "another row");
+    let end = end_of_search(alloc, &mut store, Table(1), RowName::Number(1))?;
+    assert_eq!(rt; end, UNDECLARED, "another table");
+    let end = end_of_search(alloc, &mut store, TABLE, RowName::Held(minus_one))?;
+    assert_eq!(rt; end, UNDECLARED, "a negative number");
+    let end = end_of_search(alloc, &mut store, TABLE, RowName::Held(wide))?;
+    assert_eq!(rt; end, UNDECLARED, "a number above 4294967295");
+    assert!(rt;
+        store.row(OPEN.key).is_none(),
+        "an undeclared body changes no row"
     );
-    let end = end_after_insert(
-        alloc,
-        &mut store,
-        Step::Delete {
-            table,
-            row: RowName::Number(2),
-        },
-    )?;
-    assert_eq!(rt;
-        end,
-        undeclared,
-        "what is declared is judged before what is there"
-    );
+    Ok(())
+}
+
+/// The row isn't there, but what is declared is judged before what is there.
+#[test]
+fn undeclared_kinds_end_a_body(rt: HostRuntime) -> Result<(), Fail> {
+    let alloc = rt.alloc();
+    let (from, table) = (Register::new(9), TABLE);
+    let mut store = RowMap::new(alloc);
+    let storing = Step::Store {
+        table,
+        row: RowName::Number(2),
+        column: 0,
+        from,
+    };
+    let end = end_after_insert(alloc, &mut store, storing)?;
+    assert_eq!(rt; end, UNDECLARED, "a change of a row that is absent");
+    let deleting = Step::Delete {
+        table,
+        row: RowName::Number(2),
+    };
+    let end = end_after_insert(alloc, &mut store, deleting)?;
+    assert_eq!(rt; end, UNDECLARED, "a deletion of a row that is absent");
     assert!(rt;
         store.row(OPEN.key).is_none(),
         "an undeclared body changes no row"

@@ -1,14 +1,12 @@
 //! Accesses as a line spells them.
-ghost use Rattle.std.specs.Prelude.{◌≡◌, ◌++◌, ◌∷◌, List, ℕ, None, true, false, MatchOption, IfOk, IfErr, OnOk};
+ghost use Rattle.std.specs.Prelude.{◌≡◌, ◌++◌, ◌∷◌, List, ℕ, None, Some, true, false, MatchOption, IfOk, IfErr, OnOk};
 ghost use Rattle.log_text.specs.Access.{letter_if, letters, access_word, IsAccess, is_in_order, is_letters, before_colon, after_colon, access_fault};
-ghost use Rattle.log_text.specs.Faults.{IsFault};
 
 use crate::fault::LineFault;
 use crate::name::{Name, has_name_form};
 use crate::number::plain_value;
 use crate::word_list::place_from;
 use model::{Kinds, RowNumber};
-use std::alloc::Global;
 
 /// A row that a statement declares, with its table's name.
 #[derive(Drop)]
@@ -69,10 +67,10 @@ fn kinds_of(word: &[u8]) -> Option<Kinds>
 }
 
 /// The access that a word spells.
-pub(crate) fn access_of(alloc: Global, word: &[u8]) -> Result<RawAccess, LineFault>
+pub(crate) fn access_of(word: &[u8]) -> Result<RawAccess, LineFault>
     ensures ok { IfOk result (λ a. (word.now ≡ access_word a) × IsAccess a) }
     ensures fits { OnOk result (access_fault word.now ≡ None) }
-    ensures fault { IfErr result (λ f. IsFault f (access_fault word.now)) }
+    ensures fault { IfErr result (λ f. access_fault word.now ≡ Some f) }
 {
     let (table, others) = cut(word);
     let (row, letters) = cut(others);
@@ -85,6 +83,6 @@ pub(crate) fn access_of(alloc: Global, word: &[u8]) -> Result<RawAccess, LineFau
     let Some(kinds) = kinds_of(letters) else {
         return Err(LineFault::UnknownWord);
     };
-    let table = Name::of(alloc, table)?;
+    let table = Name::of(table);
     Ok(RawAccess { table, row, kinds })
 }

@@ -1,57 +1,54 @@
 //! Names of users and tables.
 
-use std::alloc::{AllocError, Global};
 use std::fmt;
 use std::marker::Model;
 
 /// The name of a user or a table: a to z, then up to 31 of a to z, 0 to 9 and underscore.
+///
+/// It is kept in the value itself, so that it takes no memory.
 #[derive(Drop)]
 pub struct Name {
-    text: String,
+    len: u8,
+    bytes: [u8; 32],
 }
 
 impl Model for Name {
-    ghost use Rattle.std.specs.Prelude.{List, ℕ, string_bytes, IsTrue};
-    ghost use Rattle.log_text.specs.Words.{is_name};
+    ghost use Rattle.std.specs.Prelude.{List, ℕ, take};
+    ghost use Rattle.log_text.specs.Words.{IsNameIn};
 
     ghost Value = { List ℕ };
 
-    ghost view = { λ n. string_bytes n.text };
+    ghost view = { λ n. take n.len n.bytes };
 
-    ghost invariant = { λ n. IsTrue (is_name (string_bytes n.text)) };
+    ghost invariant = { λ n. IsNameIn n.len n.bytes };
 }
 
 impl Name {
-    ghost use Rattle.std.specs.Prelude.{◌≡◌, string_bytes, IfOk, IsTrue};
+    ghost use Rattle.std.specs.Prelude.{◌≡◌, IsTrue};
     ghost use Rattle.log_text.specs.Words.{is_name};
 
     /// Its text.
+    #[tactic(auto, using(crate::proofs::Printable::utf8_name))]
     pub fn as_str(&self) -> &str
         ensures text { result.now ≡ self.now }
         ensures name { IsTrue (is_name self.now) }
     {
-        self.text.as_str()
-    }
-
-    /// The text itself. It takes no memory.
-    pub fn into_string(self) -> String
-        ensures text { string_bytes result ≡ self }
-        ensures name { IsTrue (is_name self) }
-    {
-        let Name { text } = self;
-        text
+        let bytes = &self.bytes[..self.len as usize];
+        // SAFETY: the bytes of a name are ASCII.
+        unsafe { str::from_utf8_unchecked(bytes) }
     }
 
     /// The name that a word is.
-    #[tactic(auto, using(crate::proofs::Printable::utf8_name))]
-    pub(crate) fn of(alloc: Global, word: &[u8]) -> Result<Name, AllocError>
+    pub(crate) fn of(word: &[u8]) -> Name
         requires { IsTrue (is_name word.now) }
-        ensures { IfOk result (λ n. n ≡ word.now) }
+        ensures { result ≡ word.now }
     {
-        let bytes = Vec::from_slice(alloc, word)?;
-        // SAFETY: the bytes of a name are ASCII.
-        let text = unsafe { String::from_utf8_unchecked(bytes) };
-        Ok(Name { text })
+        let mut bytes = [0; 32];
+        bytes[..word.len()].copy_from_slice(word);
+        Name {
+            len: word.len() as u8,
+            bytes,
+        }
     }
 }
 

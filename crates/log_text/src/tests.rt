@@ -183,7 +183,6 @@ fn gives_the_parts(rt: HostRuntime) -> Result<(), Fail> {
     assert!(rt; matches!(statement.form(), RawForm::Run { .. }));
     let (user, form) = statement.into_parts();
     assert_eq!(rt; user.as_str(), "alice");
-    assert_eq!(rt; user.into_string().as_str(), "alice");
     let RawForm::Run { accesses, steps } = form else {
         panic!(rt; "no RUN of one CONST");
     };

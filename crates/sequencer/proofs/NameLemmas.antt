@@ -1,5 +1,5 @@
 -- Names that are looked up among the keys of a set.
-use Rattle.std.proofs.Common.{◌≡◌, ℕ, ◌+◌, Bool, true, false, not, cond, List, [], ◌∷◌, ◌++◌, length, map, Option, Some, None, refl, ap, sym, ◌∙◌}
+use Rattle.std.proofs.Common.{◌≡◌, ℕ, ◌+◌, Bool, true, false, not, cond, List, [], ◌∷◌, ◌++◌, length, map, Some, None, refl, ap, sym, ◌∙◌}
 use Rattle.std.specs.Prelude.{bytes_eq, position, nat_lt, ◌||◌}
 use Rattle.std.specs.List.{list_any, prefix_len, position_or_len}
 use Rattle.std.proofs.lemmas.List.{length-map, map-append}

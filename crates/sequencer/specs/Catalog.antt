@@ -1,6 +1,5 @@
 -- What a log knows of names after its first statements, and how a statement's names become numbers.
-use Rattle.std.specs.Prelude.{ℕ, ◌+◌, Option, None, List, [], ◌∷◌, ◌++◌, length, map}
-use Rattle.model.specs.declared.row.Key.{Key}
+use Rattle.std.specs.Prelude.{ℕ, ◌+◌, None, List, [], ◌∷◌, ◌++◌, map}
 use Rattle.model.specs.declared.statement.Access.{Access}
 use Rattle.model.specs.declared.statement.Step.{Step}
 use Rattle.model.specs.declared.statement.Form.{Form}

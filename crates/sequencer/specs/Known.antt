@@ -1,7 +1,10 @@
--- What a catalog shows.
-use Rattle.std.specs.Prelude.{◌≡◌, ℕ, ◌≤◌, length}
+-- What a catalog shows, and room for a statement.
+use Rattle.std.specs.Prelude.{◌≡◌, ◌≤◌, [], length, vec_capacity}
+use Rattle.log_text.specs.declared.statement.RawForm.{RawForm}
+use Rattle.log_text.specs.declared.statement.RawForm.TheVariants.{Create, Run}
 use Rattle.sequencer.specs.Catalog.{Names}
 use Rattle.sequencer.specs.declared.catalog.Catalog.TheInside.{Inside}
+use Rattle.sequencer.specs.declared.numbering.Room.{Room}
 
 -- the names that a catalog holds
 abbrev pub names_of : Inside → Names
@@ -18,3 +21,9 @@ pub record IsConsistent (inside : Inside) : Type 0 where
   pub owners : length inside.owners.items ≡ length inside.tables
   pub columns : length inside.columns.items ≡ length inside.tables
   pub places : inside.places ≤ 4294967295
+
+-- the room is empty, and each access and step of the statement finds a place in it
+abbrev pub HasRoom : Room → RawForm → Type 0
+HasRoom room (Create table columns) = Unit {0}
+HasRoom room (Run accesses steps) =
+    (room.accesses.items ≡ []) × (room.steps.items ≡ []) × (length accesses ≤ vec_capacity room.accesses) × (length steps ≤ vec_capacity room.steps)

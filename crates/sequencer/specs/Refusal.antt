@@ -97,3 +97,8 @@ IsRefusal refused found = found ≡ Some refused
 -- a test answers the refusal, which is never want of memory, or nothing where there is none
 abbrev pub IsAnswer : {X : Type 0} → Result X Refused → Option Refused → Type 0
 IsAnswer result found = MatchResult result (λ _. found ≡ None) (λ refused. (found ≡ Some refused) × (refused ≢ NoMemory))
+
+-- a test that has a value besides answers it where nothing is refused
+abbrev pub IsAnswerOf : {X : Type 0} → Result X Refused → Option Refused → X → Type 0
+IsAnswerOf result found value =
+    MatchResult result (λ x. (found ≡ None) × (x ≡ value)) (λ refused. (found ≡ Some refused) × (refused ≢ NoMemory))

@@ -51,7 +51,7 @@ impl Log {
         ensures err { OnErr result (self.new ≡ self.old) }
     {
         if self.statements.reserve(1).is_err() {
-            return Err(self.refused(&statement));
+            return Err(self.catalog.refused(&statement));
         }
         let place = self.catalog.places();
         match self.catalog.admit(statement) {
@@ -60,17 +60,6 @@ impl Log {
                 Ok(place)
             }
             Err(refused) => Err(refused),
-        }
-    }
-
-    /// The refusal of a statement for which there is no memory.
-    #[tactic(auto, using(crate::proofs::RefusalLemmas::refusal_of_test))]
-    fn refused(&self, statement: &RawStatement) -> Refused
-        ensures { IsRefusal result (refusal self.now.names statement.now) }
-    {
-        match self.catalog.test(statement) {
-            Ok(()) => Refused::NoMemory,
-            Err(refused) => refused,
         }
     }
 

@@ -1,5 +1,6 @@
 //! Names in the order in which they came, each found by its hash.
 
+use crate::refused::Refused;
 use indexmap::IndexSet;
 use std::alloc::{AllocError, Global};
 use std::marker::Model;
@@ -8,6 +9,7 @@ use std::marker::Model;
 #[derive(Drop)]
 pub struct NameTable {
     names: IndexSet<String>,
+    alloc: Global,
 }
 
 /// How many users, and how many tables, a log can have.
@@ -24,8 +26,9 @@ impl Model for NameTable {
 }
 
 impl NameTable {
-    ghost use Rattle.std.specs.Prelude.{◌≡◌, ◌<◌, ◌≤◌, ◌-◌, [], length, take, slice_get, string_bytes, Some, IfOk, OnErr, not, is_some};
+    ghost use Rattle.std.specs.Prelude.{◌≡◌, ◌<◌, ◌≤◌, ◌-◌, [], length, take, slice_get, Some, None, IfOk, IfErr, OnOk, OnErr, not, is_some, false};
     ghost use Rattle.sequencer.specs.Names.{is_known, known_number, number_of, with_name};
+    ghost use Rattle.sequencer.specs.Refusal.{IsRefusal, name_refusal};
 
     /// The table without names. It takes no memory.
     pub fn new(alloc: Global) -> Self
@@ -33,6 +36,7 @@ impl NameTable {
     {
         NameTable {
             names: IndexSet::new(alloc),
+            alloc,
         }
     }
 
@@ -41,8 +45,7 @@ impl NameTable {
         ensures count { result ≡ length self.now }
         ensures most { length self.now ≤ 65536 }
     {
-        let most = &self.names;
-        most.len()
+        self.names.len()
     }
 
     /// The number of a name, if it is there.
@@ -62,17 +65,37 @@ impl NameTable {
         self.names.get_index(number as usize).unwrap().as_str()
     }
 
-    /// The number of a name that is there already or is entered last. It says too whether it is new.
-    /// On `Err` memory was refused, and nothing has changed.
-    pub fn enter(&mut self, name: String) -> Result<(u32, bool), AllocError>
-        requires { length self.old < 65536 }
-        ensures number { IfOk result (λ r. r.0 ≡ number_of self.old (string_bytes name)) }
-        ensures is_new { IfOk result (λ r. r.1 ≡ not (is_known self.old (string_bytes name))) }
-        ensures entered { IfOk result (λ r. self.new ≡ with_name self.old (string_bytes name)) }
+    /// Enters a name that isn't there last, and answers its number. On `Err` memory was refused, and nothing has changed.
+    pub(crate) fn add(&mut self, name: &str) -> Result<u32, AllocError>
+        requires room { length self.old < 65536 }
+        requires is_new { is_known self.old name.now ≡ false }
+        ensures number { IfOk result (λ number. number ≡ number_of self.old name.now) }
+        ensures added { OnOk result (self.new ≡ with_name self.old name.now) }
         ensures err { OnErr result (self.new ≡ self.old) }
     {
-        let (index, is_new) = self.names.insert_full(name)?;
-        Ok((index as u32, is_new))
+        let name = String::from_str(self.alloc, name)?;
+        let (index, _) = self.names.insert_full(name)?;
+        Ok(index as u32)
+    }
+
+    /// The number of a name that is there already or is entered last. It says too whether it is new. A new name is
+    /// refused where there are 65,536, or for want of memory; then nothing has changed.
+    pub fn enter(&mut self, name: &str) -> Result<(u32, bool), Refused>
+        ensures number { IfOk result (λ r. r.0 ≡ number_of self.old name.now) }
+        ensures is_new { IfOk result (λ r. r.1 ≡ not (is_known self.old name.now)) }
+        ensures entered { OnOk result (self.new ≡ with_name self.old name.now) }
+        ensures passes { OnOk result (name_refusal self.old name.now ≡ None) }
+        ensures refused { IfErr result (λ r. IsRefusal r (name_refusal self.old name.now)) }
+        ensures err { OnErr result (self.new ≡ self.old) }
+    {
+        if let Some(number) = self.find(name) {
+            return Ok((number, false));
+        }
+        if self.len() >= MOST_NAMES {
+            return Err(Refused::TooManyNames);
+        }
+        let number = self.add(name)?;
+        Ok((number, true))
     }
 
     /// Takes the last name out, if there is one.

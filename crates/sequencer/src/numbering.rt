@@ -1,62 +1,81 @@
-//! Names become numbers.
+//! Names become numbers, where they pass the tests.
 
-ghost use Rattle.std.specs.Prelude.{◌≡◌, ◌<◌, ◌≤◌, ◌++◌, ◌∷◌, None, Some, true, [], length, map, IfOk, vec_len, vec_capacity};
-ghost use Rattle.sequencer.specs.Names.{is_known, number_of};
+ghost use Rattle.std.specs.Prelude.{◌≡◌, ◌≤◌, [], length, map, IfOk, vec_capacity};
 ghost use Rattle.sequencer.specs.Catalog.{numbered_access, numbered_step};
-ghost use Rattle.sequencer.specs.Refusal.{accesses_refusal, step_refusal, steps_refusal};
+ghost use Rattle.sequencer.specs.Refusal.{IsAnswerOf, access_refusal, accesses_refusal, step_refusal, steps_refusal};
+ghost use Rattle.sequencer.specs.Known.{HasRoom};
 
 use crate::catalog::Catalog;
-use log_text::{Name, RawAccess, RawStep};
-use model::{Access, Items, Key, Step, Table};
-use std::alloc::AllocError;
+use crate::refused::Refused;
+use crate::testing::is_repeated;
+use log_text::{RawAccess, RawForm, RawStep};
+use model::{Access, Items, Key, Step};
+use std::alloc::{AllocError, Global};
+
+/// Where the accesses and the steps of a statement go, with their tables by number.
+#[derive(Drop)]
+pub(crate) struct Room {
+    pub(crate) accesses: Vec<Access>,
+    pub(crate) steps: Vec<Step>,
+}
+
+/// Room for each access and each step of a statement. On `Err` memory was refused.
+pub(crate) fn room_for(alloc: Global, form: &RawForm) -> Result<Room, AllocError>
+    ensures { IfOk result (λ room. HasRoom room form.now) }
+{
+    let (accesses, steps) = match form {
+        RawForm::Create { .. } => (0, 0),
+        RawForm::Run { accesses, steps } => (accesses.as_slice().len(), steps.as_slice().len()),
+    };
+    Ok(Room {
+        accesses: Vec::with_capacity(alloc, accesses)?,
+        steps: Vec::with_capacity(alloc, steps)?,
+    })
+}
 
 impl Catalog {
-    /// The table of a known name.
-    fn table_number(&self, name: &Name) -> Table
-        requires { is_known self.now.tables name.now ≡ true }
-        ensures { result ≡ number_of self.now.tables name.now }
+    /// The access with its table by number. It has to be to a known table, and to another row than those before it.
+    pub(crate) fn numbered_access(
+        &self,
+        earlier: &[RawAccess],
+        access: &RawAccess,
+    ) -> Result<Access, Refused>
+        ensures { IsAnswerOf result (access_refusal self.now earlier.now access.now) (numbered_access self.now access.now) }
     {
-        match self.tables().find(name.as_str()) {
-            Some(number) => Table(number),
-            None => unreachable!(),
+        let table = self.known_table(&access.table)?;
+        if is_repeated(access, earlier) {
+            return Err(Refused::DuplicateAccess);
         }
-    }
-
-    /// The access with its table by number.
-    fn numbered_access(&self, access: &RawAccess) -> Access
-        requires { is_known self.now.tables access.now.table ≡ true }
-        ensures { result ≡ numbered_access self.now access.now }
-    {
-        Access {
+        Ok(Access {
             key: Key {
-                table: self.table_number(&access.table),
+                table,
                 row: access.row,
             },
             kinds: access.kinds,
-        }
+        })
     }
 
-    /// The accesses with their tables by number. On `Err` memory was refused.
+    /// The accesses with their tables by number, from left to right. They go where room was made.
     pub(crate) fn numbered_accesses(
         &self,
         accesses: &[RawAccess],
-    ) -> Result<Items<Access>, AllocError>
-        requires { accesses_refusal self.now [] accesses.now ≡ None }
-        ensures { IfOk result (λ found. found ≡ map (numbered_access self.now) accesses.now) }
+        mut found: Vec<Access>,
+    ) -> Result<Items<Access>, Refused>
+        requires empty { found.items ≡ [] }
+        requires room { length accesses.now ≤ vec_capacity found }
+        ensures { IsAnswerOf result (accesses_refusal self.now [] accesses.now) (map (numbered_access self.now) accesses.now) }
     {
-        let mut found = Vec::with_capacity(self.alloc, accesses.len())?;
-        for access in accesses {
-            found.push(self.numbered_access(access))?;
+        for (index, access) in accesses.iter().enumerate() {
+            found.push_reserved(self.numbered_access(&accesses[..index], access)?);
         }
         Ok(Items::new(found))
     }
 
-    /// The step with its table by number.
-    fn numbered_step(&self, step: RawStep) -> Step
-        requires { step_refusal self.now step ≡ None }
-        ensures { result ≡ numbered_step self.now step }
+    /// The step with its table by number. It has to fit the table.
+    fn numbered_step(&self, step: RawStep) -> Result<Step, Refused>
+        ensures { IsAnswerOf result (step_refusal self.now step) (numbered_step self.now step) }
     {
-        match step {
+        Ok(match step {
             RawStep::Const { to, value } => Step::Const { to, value },
             RawStep::Add { to, left, right } => Step::Add { to, left, right },
             RawStep::Load {
@@ -66,7 +85,7 @@ impl Catalog {
                 column,
             } => Step::Load {
                 to,
-                table: self.table_number(&table),
+                table: self.table_with_column(&table, column)?,
                 row,
                 column,
             },
@@ -76,28 +95,32 @@ impl Catalog {
                 column,
                 from,
             } => Step::Store {
-                table: self.table_number(&table),
+                table: self.table_with_column(&table, column)?,
                 row,
                 column,
                 from,
             },
             RawStep::Insert { table, row, from } => Step::Insert {
-                table: self.table_number(&table),
+                table: self.table_of_width(&table, from.as_slice().len())?,
                 row,
                 from,
             },
             RawStep::Out { of } => Step::Out { of },
-        }
+        })
     }
 
-    /// The steps with their tables by number. On `Err` memory was refused.
-    pub(crate) fn numbered_steps(&self, steps: Items<RawStep>) -> Result<Items<Step>, AllocError>
-        requires { steps_refusal self.now steps ≡ None }
-        ensures { IfOk result (λ found. found ≡ map (numbered_step self.now) steps) }
+    /// The steps with their tables by number, from left to right. They go where room was made.
+    pub(crate) fn numbered_steps(
+        &self,
+        steps: Items<RawStep>,
+        mut found: Vec<Step>,
+    ) -> Result<Items<Step>, Refused>
+        requires empty { found.items ≡ [] }
+        requires room { length steps ≤ vec_capacity found }
+        ensures { IsAnswerOf result (steps_refusal self.now steps) (map (numbered_step self.now) steps) }
     {
-        let mut found = Vec::with_capacity(self.alloc, steps.as_slice().len())?;
         for step in steps.into_vec() {
-            found.push(self.numbered_step(step))?;
+            found.push_reserved(self.numbered_step(step)?);
         }
         Ok(Items::new(found))
     }

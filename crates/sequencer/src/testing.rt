@@ -1,9 +1,9 @@
 //! The tests that a statement has to pass, in their order.
 
-ghost use Rattle.std.specs.Prelude.{◌≡◌, ◌<◌, MatchResult, None, Some, true, false, [], length};
+ghost use Rattle.std.specs.Prelude.{◌≡◌, ◌<◌, [], length, IfOk};
 ghost use Rattle.std.specs.List.{list_any};
 ghost use Rattle.sequencer.specs.Names.{is_known, number_of};
-ghost use Rattle.sequencer.specs.Refusal.{IsAnswer, access_refusal, accesses_refusal, column_refusal, create_refusal, form_refusal, name_refusal, refusal, same_row, step_refusal, steps_refusal, table_refusal, width_refusal};
+ghost use Rattle.sequencer.specs.Refusal.{IsAnswer, IsAnswerOf, IsRefusal, accesses_refusal, column_refusal, create_refusal, form_refusal, name_refusal, refusal, same_row, step_refusal, steps_refusal, table_refusal, unless, width_refusal};
 
 use crate::catalog::{Catalog, MOST_PLACES};
 use crate::names::{MOST_NAMES, NameTable};
@@ -19,14 +19,14 @@ fn is_same_row(access: &RawAccess, other: &RawAccess) -> bool
 }
 
 /// Whether the access is to the row of an earlier one.
-fn is_repeated(access: &RawAccess, earlier: &[RawAccess]) -> bool
+pub(crate) fn is_repeated(access: &RawAccess, earlier: &[RawAccess]) -> bool
     ensures { result ≡ list_any (same_row access.now) earlier.now }
 {
     earlier.iter().any(|other| is_same_row(access, other))
 }
 
 /// A new name has to find room.
-fn test_name(names: &NameTable, name: &str) -> Result<(), Refused>
+pub(crate) fn test_name(names: &NameTable, name: &str) -> Result<(), Refused>
     ensures { IsAnswer result (name_refusal names.now name.now) }
 {
     if names.len() < MOST_NAMES || names.find(name).is_some() {
@@ -37,10 +37,9 @@ fn test_name(names: &NameTable, name: &str) -> Result<(), Refused>
 
 impl Catalog {
     /// The table of a name that has to be known.
-    fn known_table(&self, name: &Name) -> Result<Table, Refused>
-        ensures { MatchResult result
-            (λ t. (is_known self.now.tables name.now ≡ true) × (t ≡ number_of self.now.tables name.now) × (t < length self.now.tables))
-            (λ r. (is_known self.now.tables name.now ≡ false) × (r ≡ Refused.UnknownTable)) }
+    pub(crate) fn known_table(&self, name: &Name) -> Result<Table, Refused>
+        ensures answer { IsAnswerOf result (unless (is_known self.now.tables name.now) Refused.UnknownTable) (number_of self.now.tables name.now) }
+        ensures known { IfOk result (λ t. t < length self.now.tables) }
     {
         match self.tables().find(name.as_str()) {
             Some(number) => Ok(Table(number)),
@@ -48,45 +47,34 @@ impl Catalog {
         }
     }
 
-    /// An access has to be to a known table, and to another row than those before it.
-    fn test_access(&self, earlier: &[RawAccess], access: &RawAccess) -> Result<(), Refused>
-        ensures { IsAnswer result (access_refusal self.now earlier.now access.now) }
-    {
-        self.known_table(&access.table)?;
-        if is_repeated(access, earlier) {
-            return Err(Refused::DuplicateAccess);
-        }
-        Ok(())
-    }
-
     /// The accesses, from left to right.
     fn test_accesses(&self, accesses: &[RawAccess]) -> Result<(), Refused>
         ensures { IsAnswer result (accesses_refusal self.now [] accesses.now) }
     {
         for (index, access) in accesses.iter().enumerate() {
-            self.test_access(&accesses[..index], access)?;
+            self.numbered_access(&accesses[..index], access)?;
         }
         Ok(())
     }
 
-    /// A column has to be one of a known table.
-    fn test_column(&self, table: &Name, column: u32) -> Result<(), Refused>
-        ensures { IsAnswer result (column_refusal self.now table.now column) }
+    /// The table of a column. It has to be a column of a known table.
+    pub(crate) fn table_with_column(&self, table: &Name, column: u32) -> Result<Table, Refused>
+        ensures { IsAnswerOf result (column_refusal self.now table.now column) (number_of self.now.tables table.now) }
     {
         let table = self.known_table(table)?;
         if column < u32::from(self.columns(table)) {
-            return Ok(());
+            return Ok(table);
         }
         Err(Refused::BadColumnNumber)
     }
 
-    /// A new row has to have as many numbers as its table has columns.
-    fn test_width(&self, table: &Name, width: usize) -> Result<(), Refused>
-        ensures { IsAnswer result (width_refusal self.now table.now width) }
+    /// The table of a new row. The row has to have as many numbers as its table has columns.
+    pub(crate) fn table_of_width(&self, table: &Name, width: usize) -> Result<Table, Refused>
+        ensures { IsAnswerOf result (width_refusal self.now table.now width) (number_of self.now.tables table.now) }
     {
         let table = self.known_table(table)?;
         if width == usize::from(self.columns(table)) {
-            return Ok(());
+            return Ok(table);
         }
         Err(Refused::BadColumns)
     }
@@ -98,9 +86,13 @@ impl Catalog {
         match step {
             RawStep::Const { .. } | RawStep::Add { .. } | RawStep::Out { .. } => Ok(()),
             RawStep::Load { table, column, .. } | RawStep::Store { table, column, .. } => {
-                self.test_column(table, *column)
+                self.table_with_column(table, *column)?;
+                Ok(())
             }
-            RawStep::Insert { table, from, .. } => self.test_width(table, from.as_slice().len()),
+            RawStep::Insert { table, from, .. } => {
+                self.table_of_width(table, from.as_slice().len())?;
+                Ok(())
+            }
         }
     }
 
@@ -115,7 +107,7 @@ impl Catalog {
     }
 
     /// A new table has to have a new name and one to eight columns.
-    fn test_create(&self, table: &Name, columns: u32) -> Result<(), Refused>
+    pub(crate) fn test_create(&self, table: &Name, columns: u32) -> Result<(), Refused>
         ensures { IsAnswer result (create_refusal self.now table.now columns) }
     {
         if self.tables().find(table.as_str()).is_some() {
@@ -160,5 +152,16 @@ impl Catalog {
         self.test_form(statement.form())?;
         test_name(self.users(), statement.user())?;
         self.test_table_name(statement.form())
+    }
+
+    /// The refusal of a statement for which there is no memory.
+    #[tactic(auto, using(crate::proofs::RefusalLemmas::refusal_of_test))]
+    pub(crate) fn refused(&self, statement: &RawStatement) -> Refused
+        ensures { IsRefusal result (refusal self.now statement.now) }
+    {
+        match self.test(statement) {
+            Ok(()) => Refused::NoMemory,
+            Err(refused) => refused,
+        }
     }
 }

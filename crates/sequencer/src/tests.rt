@@ -152,17 +152,12 @@ fn a_catalog_numbers_names(rt: HostRuntime) -> Result<(), Fail> {
     Ok(())
 }
 
-/// The name of a user or a table.
-fn text(alloc: Global, name: &str) -> Result<String, Fail> {
-    Ok(String::from_str(alloc, name)?)
-}
-
 #[test]
 fn names_keep_their_numbers(rt: HostRuntime) -> Result<(), Fail> {
     let mut names = NameTable::new(rt.alloc());
     for (name, want) in [("ann", (0, true)), ("bea", (1, true)), ("ann", (0, false))] {
         assert!(rt; names.len() < 3);
-        assert_eq!(rt; names.enter(text(rt.alloc(), name)?)?, want);
+        assert_eq!(rt; names.enter(name)?, want);
     }
     assert_eq!(rt; names.len(), 2);
     assert_eq!(rt; names.name(1), "bea");

@@ -13,14 +13,14 @@ use crate::word_list::Words;
 use std::alloc::Global;
 
 /// Takes the first access.
-fn access(alloc: Global, words: &mut Words<'_>) -> Result<RawAccess, LineFault>
+fn access(words: &mut Words<'_>) -> Result<RawAccess, LineFault>
     ensures ok { IfOk result (λ a. (words.old ≡ access_word a ∷ words.new) × IsAccess a × (misfit OfAccess (access_word a) ≡ None)) }
-    ensures fault { IfErr result (λ f. IsFault f (misfit OfAccess (first_word words.old))) }
+    ensures fault { IfErr result (λ f. misfit OfAccess (first_word words.old) ≡ Some f) }
 {
     let Some(word) = words.next() else {
         return Err(LineFault::BadName);
     };
-    let access = access_of(alloc, word)?;
+    let access = access_of(word)?;
     Ok(access)
 }
 
@@ -34,7 +34,7 @@ pub(crate) fn accesses(
     ensures fits { IfOk result (λ r. fault_from (OfAccess ∷ OfNext 1 ∷ []) words.old ≡ fault_behind r.1 0 0 words.new) }
     ensures fault { IfErr result (λ f. IsFault f (fault_from (OfAccess ∷ OfNext 1 ∷ []) words.old)) }
 {
-    let first = access(alloc, words)?;
+    let first = access(words)?;
     let mut found = Vec::new(alloc);
     found.push(first)?;
     'accesses: loop {
@@ -47,7 +47,7 @@ pub(crate) fn accesses(
         if found.len() >= 16 {
             return Err(LineFault::TooManyAccesses);
         }
-        let access = access_of(alloc, word)?;
+        let access = access_of(word)?;
         found.push(access)?;
     }
 }

@@ -1,5 +1,5 @@
 //! What a statement asks for.
-ghost use Rattle.std.specs.Prelude.{◌≡◌, ◌∷◌, [], IfOk, IfErr, IsTrue, codes};
+ghost use Rattle.std.specs.Prelude.{◌≡◌, ◌∷◌, [], Some, IfOk, IfErr, IsTrue, codes};
 ghost use Rattle.log_text.specs.Words.{is_name};
 ghost use Rattle.log_text.specs.Statement.{form_words, IsFormInGrammar};
 ghost use Rattle.log_text.specs.Faults.{IsFault};
@@ -16,11 +16,11 @@ use model::Items;
 use std::alloc::Global;
 
 /// What stands behind CREATE.
-fn create(alloc: Global, words: &mut Words<'_>) -> Result<RawForm, LineFault>
+fn create(words: &mut Words<'_>) -> Result<RawForm, LineFault>
     ensures ok { IfOk result (λ form. (codes "CREATE" ∷ words.old ≡ form_words form) × IsFormInGrammar form) }
-    ensures fault { IfErr result (λ f. IsFault f (fault_from (OfName ∷ OfPlain ∷ []) words.old)) }
+    ensures fault { IfErr result (λ f. fault_from (OfName ∷ OfPlain ∷ []) words.old ≡ Some f) }
 {
-    let table = name(alloc, words)?;
+    let table = name(words)?;
     let columns = number(words)?;
     end(words)?;
     Ok(RawForm::Create { table, columns })
@@ -50,7 +50,7 @@ fn form(alloc: Global, words: &mut Words<'_>) -> Result<RawForm, LineFault>
         return Err(LineFault::UnknownWord);
     };
     if word == b"CREATE".as_slice() {
-        let form = create(alloc, words)?;
+        let form = create(words)?;
         return Ok(form);
     }
     if word == b"RUN".as_slice() {
@@ -65,7 +65,7 @@ pub(crate) fn parts(alloc: Global, words: &mut Words<'_>) -> Result<(Name, RawFo
     ensures ok { IfOk result (λ s. (words.old ≡ s.0 ∷ form_words s.1) × IsTrue (is_name s.0) × IsFormInGrammar s.1) }
     ensures fault { IfErr result (λ f. IsFault f (fault_from (OfName ∷ OfForm ∷ []) words.old)) }
 {
-    let user = name(alloc, words)?;
+    let user = name(words)?;
     let form = form(alloc, words)?;
     Ok((user, form))
 }

@@ -3,7 +3,6 @@ ghost use Rattle.std.specs.Prelude.{MatchBool, ◌≡◌, ◌∷◌, ◌<◌, �
 ghost use Rattle.std.specs.Fmt.{decimal, signed_decimal};
 ghost use Rattle.log_text.specs.Words.{is_name, plain, whole, fits_64_bits, first_word};
 ghost use Rattle.log_text.specs.Statement.{row_word, IsRow};
-ghost use Rattle.log_text.specs.Faults.{IsFault};
 ghost use Rattle.log_text.specs.Fault.{OfName, OfPlain, OfWhole, OfRegister, OfRow, OfBar, misfit, fault_from};
 
 use crate::fault::LineFault;
@@ -11,15 +10,14 @@ use crate::name::Name;
 use crate::number::{plain_value, whole_value};
 use crate::word_list::Words;
 use model::{Register, RowName};
-use std::alloc::Global;
 
 /// Takes a name.
-pub(crate) fn name(alloc: Global, words: &mut Words<'_>) -> Result<Name, LineFault>
+pub(crate) fn name(words: &mut Words<'_>) -> Result<Name, LineFault>
     ensures ok { IfOk result (λ n. (words.old ≡ n ∷ words.new) × IsTrue (is_name n)) }
-    ensures fault { IfErr result (λ f. IsFault f (misfit OfName (first_word words.old))) }
+    ensures fault { IfErr result (λ f. misfit OfName (first_word words.old) ≡ Some f) }
 {
     match words.next_name() {
-        Some(word) => Ok(Name::of(alloc, word)?),
+        Some(word) => Ok(Name::of(word)),
         None => Err(LineFault::BadName),
     }
 }

@@ -44,25 +44,25 @@ fn add(words: &mut Words<'_>) -> Result<(RawStep, bool), LineFault>
 }
 
 /// Takes a table's name, a row and a column.
-fn cell(alloc: Global, words: &mut Words<'_>) -> Result<(Name, RowName, u32), LineFault>
+fn cell(words: &mut Words<'_>) -> Result<(Name, RowName, u32), LineFault>
     ensures ok { IfOk result (λ r. (words.old ≡ r.0 ∷ row_word r.1 ∷ decimal r.2 ∷ words.new) × IsTrue (is_name r.0) × IsRow r.1 × (r.2 < 2 ^ 32)) }
     ensures fits { IfOk result (λ r. (others : List Expected) → fault_from (OfName ∷ OfRow ∷ OfPlain ∷ others) words.old ≡ fault_from others words.new) }
-    ensures fault { IfErr result (λ f. (others : List Expected) → IsFault f (fault_from (OfName ∷ OfRow ∷ OfPlain ∷ others) words.old)) }
+    ensures fault { IfErr result (λ f. (others : List Expected) → fault_from (OfName ∷ OfRow ∷ OfPlain ∷ others) words.old ≡ Some f) }
 {
-    let table = name(alloc, words)?;
+    let table = name(words)?;
     let row = row(words)?;
     let column = number(words)?;
     Ok((table, row, column))
 }
 
 /// What stands behind LOAD, up to the next step or the end.
-fn load(alloc: Global, words: &mut Words<'_>) -> Result<(RawStep, bool), LineFault>
+fn load(words: &mut Words<'_>) -> Result<(RawStep, bool), LineFault>
     ensures ok { IfOk result (λ r. Goes (step_word Load ∷ words.old) r.0 r.1 words.new × IsStep r.0 × (outs_of r.0 ≡ 0)) }
     ensures fits { IfOk result (λ r. (steps outs : ℕ) → fault_from (expected_in (Some Load) steps outs) words.old ≡ fault_behind r.1 (steps + 1) outs words.new) }
-    ensures fault { IfErr result (λ f. (steps outs : ℕ) → IsFault f (fault_from (expected_in (Some Load) steps outs) words.old)) }
+    ensures fault { IfErr result (λ f. (steps outs : ℕ) → fault_from (expected_in (Some Load) steps outs) words.old ≡ Some f) }
 {
     let to = register(words)?;
-    let (table, row, column) = cell(alloc, words)?;
+    let (table, row, column) = cell(words)?;
     let more = bar_or_end(words)?;
     let step = RawStep::Load {
         to,
@@ -74,12 +74,12 @@ fn load(alloc: Global, words: &mut Words<'_>) -> Result<(RawStep, bool), LineFau
 }
 
 /// What stands behind STORE, up to the next step or the end.
-fn store(alloc: Global, words: &mut Words<'_>) -> Result<(RawStep, bool), LineFault>
+fn store(words: &mut Words<'_>) -> Result<(RawStep, bool), LineFault>
     ensures ok { IfOk result (λ r. Goes (step_word Store ∷ words.old) r.0 r.1 words.new × IsStep r.0 × (outs_of r.0 ≡ 0)) }
     ensures fits { IfOk result (λ r. (steps outs : ℕ) → fault_from (expected_in (Some Store) steps outs) words.old ≡ fault_behind r.1 (steps + 1) outs words.new) }
-    ensures fault { IfErr result (λ f. (steps outs : ℕ) → IsFault f (fault_from (expected_in (Some Store) steps outs) words.old)) }
+    ensures fault { IfErr result (λ f. (steps outs : ℕ) → fault_from (expected_in (Some Store) steps outs) words.old ≡ Some f) }
 {
-    let (table, row, column) = cell(alloc, words)?;
+    let (table, row, column) = cell(words)?;
     let from = register(words)?;
     let more = bar_or_end(words)?;
     let step = RawStep::Store {
@@ -126,7 +126,7 @@ fn insert(alloc: Global, words: &mut Words<'_>) -> Result<(RawStep, bool), LineF
     ensures fits { IfOk result (λ r. (steps outs : ℕ) → fault_from (expected_in (Some Insert) steps outs) words.old ≡ fault_behind r.1 (steps + 1) outs words.new) }
     ensures fault { IfErr result (λ f. (steps outs : ℕ) → IsFault f (fault_from (expected_in (Some Insert) steps outs) words.old)) }
 {
-    let table = name(alloc, words)?;
+    let table = name(words)?;
     let row = row(words)?;
     let first = register(words)?;
     let mut from = Vec::with_capacity(alloc, 8)?;
@@ -194,11 +194,11 @@ fn step(
             return Ok((step, more));
         }
         StepName::Load => {
-            let (step, more) = load(alloc, words)?;
+            let (step, more) = load(words)?;
             return Ok((step, more));
         }
         StepName::Store => {
-            let (step, more) = store(alloc, words)?;
+            let (step, more) = store(words)?;
             return Ok((step, more));
         }
         StepName::Insert => {

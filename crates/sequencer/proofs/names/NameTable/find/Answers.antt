@@ -1,4 +1,4 @@
-use Rattle.std.proofs.Common.{string_bytes, ◌∙◌, sym, ap, Option, None, Some, List, ℕ}
+use Rattle.std.proofs.Common.{string_bytes, ◌∙◌, sym, ap, List, ℕ}
 use Rattle.std.specs.Prelude.{is_some}
 use Rattle.sequencer.specs.Names.{is_known, known_number}
 use Rattle.sequencer.proofs.NameLemmas.{known_number-map, is_known-map}

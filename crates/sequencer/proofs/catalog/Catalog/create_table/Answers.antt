@@ -1,6 +1,6 @@
-use Rattle.std.proofs.Common.{arith, length-append}
+use Rattle.std.proofs.Common.{arith}
 use Rattle.std.proofs.lemmas.Grind.{common_steps}
-use Rattle.sequencer.proofs.catalog.Catalog.admit_create.Goals as goal
+use Rattle.sequencer.proofs.catalog.Catalog.create_table.Goals as goal
 
 pub invariant_of-self-2 : goal.invariant_of-self-2
 invariant_of-self-2 c =
