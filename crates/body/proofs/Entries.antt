@@ -7,8 +7,8 @@ use Rattle.std.specs.Ordering.{is_eq, nat_cmp, ordering_then}
 use Rattle.std.specs.declared.cmp.Ordering.{Ordering}
 use Rattle.std.specs.declared.cmp.Ordering.TheVariants.{Less, Equal, Greater}
 use Rattle.std.proofs.lemmas.Bool.Decides.{nat_tests}
-use Rattle.model.specs.Rows.{with_row}
-use Rattle.model.specs.declared.row.Key.{Key}
+use Rattle.model_base.specs.Rows.{with_row}
+use Rattle.model_base.specs.declared.row.Key.{Key}
 use Rattle.body.specs.declared.row_map.RowMap.{RowMap}
 use Rattle.body.specs.RowMap.{key_cmp, entry_of, rows_of, HasEntry}
 use Rattle.body.specs.Room.{same_key}

@@ -2,18 +2,18 @@
 use Rattle.std.proofs.Common.{◌≡◌, ℕ, zero, suc, ◌+◌, ℤ, pos, ◌+ℤ◌, ◌-ℤ◌, ◌*ℤ◌, Bool, true, false, Option, Some, None, List, [], ◌∷◌, length, map, take, refl, sym, ◌∙◌, ap, arith, cond, subst}
 use Rattle.std.specs.List.{find}
 use Rattle.std.specs.Option.{is_some}
-use Rattle.model.specs.declared.deed.Kind.{Kind}
-use Rattle.model.specs.declared.deed.Kind.TheVariants.{Read, Update, Insert, Delete}
-use Rattle.model.specs.declared.outcome.Reason.TheVariants.{Overflow, Check as CheckReason}
-use Rattle.model.specs.declared.statement.Access.{Access}
-use Rattle.model.specs.declared.statement.Form.{Form}
-use Rattle.model.specs.declared.statement.Step.{Step}
-use Rattle.model.specs.Outcomes.{body}
-use Rattle.model.specs.Versions.{accesses_of}
-use Rattle.model.specs.declared.statement.Step.TheVariants.{Const, Add, Sub, Mul, Less, Same, Has, Load, Store, Insert as InsertStep, Delete as DeleteStep, Check, Skip, Out}
-use Rattle.model.specs.Rows.{Rows, with_row}
-use Rattle.model.specs.Privileges.{has_kind}
-use Rattle.model.specs.Body.{Machine, Effect, goes_on, aborts, is_undeclared, Ending, completed, aborted, undeclared, of_kind, declared, is_of, is_zero, fits, put, flag, read_register, touch_declared, load_column, store_column, insert_row, delete_row, perform, after_step, run_steps, row_number}
+use Rattle.model_base.specs.declared.deed.Kind.{Kind}
+use Rattle.model_base.specs.declared.deed.Kind.TheVariants.{Read, Update, Insert, Delete}
+use Rattle.model_base.specs.declared.outcome.Reason.TheVariants.{Overflow, Check as CheckReason}
+use Rattle.model_base.specs.declared.statement.Access.{Access}
+use Rattle.model_base.specs.declared.statement.Form.{Form}
+use Rattle.model_base.specs.declared.statement.Step.{Step}
+use Rattle.model_base.specs.Outcomes.{body}
+use Rattle.model_base.specs.Versions.{accesses_of}
+use Rattle.model_base.specs.declared.statement.Step.TheVariants.{Const, Add, Sub, Mul, Less, Same, Has, Load, Store, Insert as InsertStep, Delete as DeleteStep, Check, Skip, Out}
+use Rattle.model_base.specs.Rows.{Rows, with_row}
+use Rattle.model_base.specs.Privileges.{has_kind}
+use Rattle.model_base.specs.Body.{Machine, Effect, goes_on, aborts, is_undeclared, Ending, completed, aborted, undeclared, of_kind, declared, is_of, is_zero, fits, put, flag, read_register, touch_declared, load_column, store_column, insert_row, delete_row, perform, after_step, run_steps, row_number}
 use Rattle.body.specs.Shown.{with_rows}
 use Rattle.body.specs.Laws.{IsOther, LeavesOthers, ShowsRows, KeepsOthers}
 use Rattle.body.specs.Room.{same_key}

@@ -5,9 +5,9 @@ use Rattle.std.specs.List.{find}
 use Rattle.std.specs.Option.{is_some}
 use Rattle.std.proofs.lemmas.List.{get_or_past}
 use Rattle.std.proofs.lemmas.Option.{none-some}
-use Rattle.model.specs.declared.statement.Access.{Access}
-use Rattle.model.specs.Rows.{Rows}
-use Rattle.model.specs.Body.{is_of}
+use Rattle.model_base.specs.declared.statement.Access.{Access}
+use Rattle.model_base.specs.Rows.{Rows}
+use Rattle.model_base.specs.Body.{is_of}
 use Rattle.body.specs.Laws.{IsOther}
 use Rattle.body.specs.Room.{same_key, IsLean, IsLeanWhereAbsent, IsElsewhere, MakesRoomBelow}
 use Rattle.body.specs.Shown.{with_rows}

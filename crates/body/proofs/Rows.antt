@@ -4,9 +4,9 @@ use mathlib.Core.Path.{fun_ext}
 use Rattle.std.specs.Ordering.{int_eq}
 use Rattle.std.proofs.lemmas.Bool.{cases_Bool}
 use Rattle.std.proofs.lemmas.Bool.Decides.{nat_tests, Decides-int_eq}
-use Rattle.model.specs.declared.statement.Access.{Access}
-use Rattle.model.specs.Rows.{Rows, with_row}
-use Rattle.model.specs.Body.{is_of}
+use Rattle.model_base.specs.declared.statement.Access.{Access}
+use Rattle.model_base.specs.Rows.{Rows, with_row}
+use Rattle.model_base.specs.Body.{is_of}
 use Rattle.body.specs.Shown.{with_rows}
 use Rattle.body.specs.Work.{IsFirst}
 use Rattle.body.specs.Room.{same_key}

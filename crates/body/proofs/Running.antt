@@ -1,10 +1,10 @@
 -- A run begins on the rows that the window shows, goes through the steps and ends.
 use Rattle.std.proofs.Common.{◌≡◌, ℕ, zero, suc, ◌+◌, ◌<◌, ◌≤◌, ℤ, pos, List, [], ◌∷◌, length, drop, get_or, refl, sym, ◌∙◌, ap, arith, add-one, drop-cons}
 use Rattle.std.specs.Prelude.{replicate}
-use Rattle.model.specs.declared.statement.Access.{Access}
-use Rattle.model.specs.declared.statement.Step.{Step}
-use Rattle.model.specs.Rows.{Rows}
-use Rattle.model.specs.Body.{Machine, Effect, completed, after_step, perform, run_steps, meaning}
+use Rattle.model_base.specs.declared.statement.Access.{Access}
+use Rattle.model_base.specs.declared.statement.Step.{Step}
+use Rattle.model_base.specs.Rows.{Rows}
+use Rattle.model_base.specs.Body.{Machine, Effect, completed, after_step, perform, run_steps, meaning}
 use Rattle.body.specs.declared.window.Window.{Window}
 use Rattle.body.specs.Shown.{Shows}
 use Rattle.body.specs.Work.{seen}

@@ -4,11 +4,11 @@ use Rattle.std.specs.List.{find, position, position_from}
 use Rattle.std.proofs.Common.{subst}
 use Rattle.std.proofs.lemmas.List.Quantifiers.{position-Some}
 use Rattle.std.proofs.lemmas.Iterator.Adapters.{position_from-zero}
-use Rattle.model.specs.declared.deed.Kind.{Kind}
-use Rattle.model.specs.declared.statement.Access.{Access}
-use Rattle.model.specs.Rows.{Rows, with_row}
-use Rattle.model.specs.Privileges.{has_kind}
-use Rattle.model.specs.Body.{Machine, Effect, goes_on, is_undeclared, declared, is_of, touch_declared}
+use Rattle.model_base.specs.declared.deed.Kind.{Kind}
+use Rattle.model_base.specs.declared.statement.Access.{Access}
+use Rattle.model_base.specs.Rows.{Rows, with_row}
+use Rattle.model_base.specs.Privileges.{has_kind}
+use Rattle.model_base.specs.Body.{Machine, Effect, goes_on, is_undeclared, declared, is_of, touch_declared}
 use Rattle.body.specs.Shown.{with_rows}
 use Rattle.body.specs.Work.{IsFirst, IsPlace}
 use Rattle.body.proofs.Rows.{by_cases, with_rows-at, with_rows-set}

@@ -1,8 +1,8 @@
 -- How a body ended, as its meaning says it.
 use Rattle.std.specs.Prelude.{◌≡◌, ℤ, List}
-use Rattle.model.specs.Rows.{Rows}
-use Rattle.model.specs.Body.{Ending, completed, aborted, undeclared}
-use Rattle.model.specs.declared.statement.Form.{Form}
+use Rattle.model_base.specs.Rows.{Rows}
+use Rattle.model_base.specs.Body.{Ending, completed, aborted, undeclared}
+use Rattle.model_base.specs.declared.statement.Form.{Form}
 use Rattle.body.specs.declared.ending.BodyEnd.{BodyEnd}
 use Rattle.body.specs.declared.window.Window.{Window}
 

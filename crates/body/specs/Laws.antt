@@ -1,12 +1,12 @@
 -- What a body leaves alone, and what its window shows afterwards.
 use Rattle.std.specs.Prelude.{◌≡◌, ℕ, ℤ, pos, ◌≤◌, Option, None, List, [], ◌∷◌, length, map, take}
 use Rattle.std.specs.List.{find}
-use Rattle.model.specs.declared.statement.Access.{Access}
-use Rattle.model.specs.declared.statement.Form.{Form}
-use Rattle.model.specs.Rows.{Rows}
-use Rattle.model.specs.Body.{completed, is_of}
-use Rattle.model.specs.Outcomes.{body}
-use Rattle.model.specs.Versions.{accesses_of}
+use Rattle.model_base.specs.declared.statement.Access.{Access}
+use Rattle.model_base.specs.declared.statement.Form.{Form}
+use Rattle.model_base.specs.Rows.{Rows}
+use Rattle.model_base.specs.Body.{completed, is_of}
+use Rattle.model_base.specs.Outcomes.{body}
+use Rattle.model_base.specs.Versions.{accesses_of}
 use Rattle.body.specs.Shown.{with_rows}
 
 -- no access is to the row

@@ -1,10 +1,10 @@
 -- Which bodies a window can hold.
 use Rattle.std.specs.Prelude.{ℕ, ◌≤◌, List, length, All}
 use Rattle.std.specs.List.{sum_by}
-use Rattle.model.specs.declared.statement.Access.{Access}
-use Rattle.model.specs.declared.statement.Form.{Form}
-use Rattle.model.specs.declared.statement.Statement.{Statement}
-use Rattle.model.specs.declared.statement.Step.{Step}
+use Rattle.model_base.specs.declared.statement.Access.{Access}
+use Rattle.model_base.specs.declared.statement.Form.{Form}
+use Rattle.model_base.specs.declared.statement.Statement.{Statement}
+use Rattle.model_base.specs.declared.statement.Step.{Step}
 
 -- how many outputs the step makes at most
 abbrev pub outputs_of : Step → ℕ

@@ -1,7 +1,7 @@
 -- Where a store of rows has room: at a key that has room, a row can be put without taking memory.
 use Rattle.std.specs.Prelude.{◌≡◌, ◌==◌, ◌&&◌, ◌<◌, ℕ, ℤ, Bool, false, Option, None, List, length, slice_index_or, IsSome}
-use Rattle.model.specs.Rows.{Rows}
-use Rattle.model.specs.declared.statement.Access.{Access}
+use Rattle.model_base.specs.Rows.{Rows}
+use Rattle.model_base.specs.declared.statement.Access.{Access}
 
 -- whether two keys are one
 abbrev pub same_key : ℕ → ℕ → ℕ → ℕ → Bool

@@ -3,8 +3,8 @@ use Rattle.std.specs.Prelude.{ℕ, ℤ, Option, None, List, IsSome, unwrap_or}
 use Rattle.std.specs.BTreeMap.{get}
 use Rattle.std.specs.Ordering.{nat_cmp, ordering_then}
 use Rattle.std.specs.declared.cmp.Ordering.{Ordering}
-use Rattle.model.specs.Rows.{Rows}
-use Rattle.model.specs.declared.row.Key.{Key}
+use Rattle.model_base.specs.Rows.{Rows}
+use Rattle.model_base.specs.declared.row.Key.{Key}
 use Rattle.body.specs.declared.row_map.RowMap.{RowMap}
 
 -- the order of keys: by table, and in a table by the row's number

@@ -1,7 +1,7 @@
 -- The rows of a window, as a part of a map of all rows.
 use Rattle.std.specs.Prelude.{◌≡◌, ℤ, Option, List, [], ◌∷◌, length, map, take}
-use Rattle.model.specs.declared.statement.Access.{Access}
-use Rattle.model.specs.Rows.{Rows, with_row}
+use Rattle.model_base.specs.declared.statement.Access.{Access}
+use Rattle.model_base.specs.Rows.{Rows, with_row}
 use Rattle.body.specs.declared.window.Window.{Window}
 
 -- the window has, at the place of each access, the row that the map has at its key

@@ -1,9 +1,9 @@
 -- What a body works on, for each map of the rows that the window does not hold.
 use Rattle.std.specs.Prelude.{◌≡◌, ℕ, ℤ, Bool, true, false, Option, Some, None, List, [], ◌∷◌, zero, suc}
-use Rattle.model.specs.declared.deed.Kind.{Kind}
-use Rattle.model.specs.declared.statement.Access.{Access}
-use Rattle.model.specs.Rows.{Rows}
-use Rattle.model.specs.Body.{Machine, Effect, goes_on, aborts, is_undeclared, declared, is_of}
+use Rattle.model_base.specs.declared.deed.Kind.{Kind}
+use Rattle.model_base.specs.declared.statement.Access.{Access}
+use Rattle.model_base.specs.Rows.{Rows}
+use Rattle.model_base.specs.Body.{Machine, Effect, goes_on, aborts, is_undeclared, declared, is_of}
 use Rattle.body.specs.declared.steps.StepEnd.{StepEnd}
 use Rattle.body.specs.declared.steps.StepEnd.TheVariants.{GoesOn, Aborts, Undeclared}
 use Rattle.body.specs.declared.window.Window.{Window}

@@ -1,6 +1,6 @@
 //! How a body ends.
 
-use model::Reason;
+use model_base::Reason;
 
 /// How a body ends. Steps are counted from 0.
 #[derive(Clone, Copy, PartialEq, Eq, Debug)]

@@ -6,8 +6,8 @@
 //! were only looked for, or that were deleted.
 
 ghost use Rattle.std.specs.Prelude.{◌≡◌, ◌≢◌, ◌≤◌, ℕ, [], length, OnErr, OnOk, IfOk};
-ghost use Rattle.model.specs.Outcomes.{body};
-ghost use Rattle.model.specs.Versions.{accesses_of};
+ghost use Rattle.model_base.specs.Outcomes.{body};
+ghost use Rattle.model_base.specs.Versions.{accesses_of};
 ghost use Rattle.body.specs.Ending.{ending_of};
 ghost use Rattle.body.specs.Premises.{IsRunnable};
 ghost use Rattle.body.specs.Shown.{Shows, with_rows};
@@ -16,13 +16,13 @@ ghost use Rattle.body.specs.Room.{HasRoomFrom, IsLean, IsLeanBelow, IsLeanWhereA
 use crate::ending::BodyEnd;
 use crate::run;
 use crate::window::Window;
-use model::{Access, Form, Key, Outputs, Row, Statement};
+use model_base::{Access, Form, Key, Outputs, Row, Statement};
 use std::alloc::AllocError;
 
 /// What holds the rows of all tables.
 pub trait RowSource {
     ghost use Rattle.std.specs.Prelude.{◌≡◌};
-    ghost use Rattle.model.specs.Rows.{Rows};
+    ghost use Rattle.model_base.specs.Rows.{Rows};
 
     ghost rows: { Self → Rows };
 
@@ -34,7 +34,7 @@ pub trait RowSource {
 /// What holds the rows of all tables, and takes new ones.
 pub trait RowStore: RowSource {
     ghost use Rattle.std.specs.Prelude.{◌≡◌, ℕ, false, IsSome, OnOk};
-    ghost use Rattle.model.specs.Rows.{with_row};
+    ghost use Rattle.model_base.specs.Rows.{with_row};
     ghost use Rattle.body.specs.Room.{same_key};
 
     ghost has_room: { Self → ℕ → ℕ → Type 0 };

@@ -2,9 +2,9 @@
 #![tactic(auto)]
 
 ghost use Rattle.std.specs.Prelude.{◌≡◌, []};
-ghost use Rattle.model.specs.Outcomes.{body};
-ghost use Rattle.model.specs.Rows.{Rows};
-ghost use Rattle.model.specs.Versions.{accesses_of};
+ghost use Rattle.model_base.specs.Outcomes.{body};
+ghost use Rattle.model_base.specs.Rows.{Rows};
+ghost use Rattle.model_base.specs.Versions.{accesses_of};
 ghost use Rattle.body.specs.Ending.{LeavesIdle, ending_of};
 ghost use Rattle.body.specs.Premises.{IsRunnable};
 ghost use Rattle.body.specs.Shown.{Shows, with_rows};
@@ -22,7 +22,7 @@ mod window;
 pub use ending::BodyEnd;
 pub use filling::{RowSource, RowStore, accesses, filled, run_on, write_back};
 pub use laws::{keeps_others, leaves_others, shows_rows};
-use model::{Form, Statement};
+use model_base::{Form, Statement};
 pub use row_map::RowMap;
 use steps::run_steps;
 pub use window::Window;

@@ -1,11 +1,11 @@
 //! What the steps that only use registers do.
 
 ghost use Rattle.std.specs.Prelude.{◌≡◌, ◌+ℤ◌, ◌-ℤ◌, ◌*ℤ◌, pos, slice_index_or};
-ghost use Rattle.model.specs.Body.{Machine, flag, put, put_fitting};
+ghost use Rattle.model_base.specs.Body.{Machine, flag, put, put_fitting};
 ghost use Rattle.body.specs.Work.{effect_of};
 
 use crate::steps::StepEnd;
-use model::{Reason, Register};
+use model_base::{Reason, Register};
 
 /// The number in a register.
 pub(crate) fn read(registers: &[i64; 16], register: Register) -> i64

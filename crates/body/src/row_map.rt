@@ -1,12 +1,12 @@
 //! An ordered map as the store of the rows of all tables.
 
 ghost use Rattle.std.specs.Prelude.{◌≡◌};
-ghost use Rattle.model.specs.Rows.{no_rows};
+ghost use Rattle.model_base.specs.Rows.{no_rows};
 ghost use Rattle.body.specs.Room.{IsLean};
 ghost use Rattle.body.specs.RowMap.{HasEntry, rows_of};
 
 use crate::filling::{RowSource, RowStore};
-use model::{Key, Row};
+use model_base::{Key, Row};
 use std::alloc::{AllocError, Global};
 use std::collections::BTreeMap;
 

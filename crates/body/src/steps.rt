@@ -2,8 +2,8 @@
 
 ghost use Rattle.std.specs.Prelude.{◌≡◌, ◌<◌, ◌≤◌, ◌+◌, [], length, map, pos, IfSome, slice_index_or};
 ghost use Rattle.std.specs.List.{position};
-ghost use Rattle.model.specs.Rows.{Rows};
-ghost use Rattle.model.specs.Body.{is_of, meaning, perform, row_number};
+ghost use Rattle.model_base.specs.Rows.{Rows};
+ghost use Rattle.model_base.specs.Body.{is_of, meaning, perform, row_number};
 ghost use Rattle.body.specs.Ending.{ending_of};
 ghost use Rattle.body.specs.Premises.{FitsWindow, IsNarrow, outputs_of};
 ghost use Rattle.body.specs.Shown.{Shows, with_rows};
@@ -12,7 +12,7 @@ ghost use Rattle.body.specs.Work.{effect_of, seen, IsPlace};
 use crate::ending::BodyEnd;
 use crate::registers::{add, flag, multiply, read, subtract, write};
 use crate::window::Window;
-use model::{Access, Items, Kind, Reason, Register, Row, RowName, Step, Table};
+use model_base::{Access, Items, Kind, Reason, Register, Row, RowName, Step, Table};
 
 /// What one step comes to.
 #[derive(Drop)]

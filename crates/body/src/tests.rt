@@ -8,7 +8,7 @@ use crate::{
     BodyEnd, RowMap, RowSource, RowStore, Window, accesses, filled, keeps_others, leaves_others,
     run, run_on, shows_rows, write_back,
 };
-use model::{
+use model_base::{
     Access, Form, Items, Key, Kinds, Outputs, Reason, Register, Row, RowName, Statement, Step,
     Table, User,
 };

@@ -2,7 +2,7 @@
 
 ghost use Rattle.std.specs.Prelude.{◌≡◌, ◌<◌, ◌++◌, ◌∷◌, [], length, replicate, slice_index_or, slice_set};
 
-use model::{Outputs, Row, Statement};
+use model_base::{Outputs, Row, Statement};
 
 /// The row of each access of a statement, or its absence, by the access's place; and the outputs so far.
 #[derive(Clone, Copy)]

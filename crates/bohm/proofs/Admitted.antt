@@ -1,24 +1,22 @@
 -- What a statement that the log takes is: it fits a window, and its tables are known.
-use Rattle.std.proofs.Common.{◌≡◌, ℕ, suc, ◌+◌, ◌<◌, ◌≤◌, Bool, true, false, not, cond, List, [], ◌∷◌, ◌++◌, length, map, Option, Some, None, refl, ap, sym, ◌∙◌, subst, arith}
-use Rattle.std.specs.Prelude.{bytes_eq, ◌||◌, All}
-use Rattle.std.specs.List.{list_any, position_or_len, prefix_len, sum_by, AllByRecursion}
+use Rattle.std.proofs.Common.{◌≡◌, ℕ, suc, ◌+◌, ◌<◌, Bool, true, false, not, cond, List, [], ◌∷◌, ◌++◌, length, map, Option, Some, None, refl, ap, sym, ◌∙◌, subst, arith}
+use Rattle.std.specs.Prelude.{bytes_eq, ◌||◌}
+use Rattle.std.specs.List.{list_any, sum_by, AllByRecursion}
 use Rattle.std.proofs.lemmas.List.{length-map}
 use Rattle.std.proofs.lemmas.List.Elements.{All-from_recursion}
 use Rattle.std.proofs.lemmas.List.Sums.{sum_by-cons}
-use Rattle.model.specs.declared.statement.Access.{Access}
-use Rattle.model.specs.declared.statement.Form.{Form}
-use Rattle.model.specs.declared.statement.Step.{Step}
-use Rattle.body.specs.Premises.{FitsWindow, IsNarrow, IsRunnable, outputs_of}
+use Rattle.model_base.specs.declared.statement.Access.{Access}
+use Rattle.body.specs.Premises.{IsNarrow, IsRunnable, outputs_of}
 use Rattle.log_text.specs.Statement.{Sentence, IsInGrammar, IsStep, outs_of}
 use Rattle.log_text.specs.declared.access.RawAccess.{RawAccess}
 use Rattle.log_text.specs.declared.statement.RawForm.{RawForm}
 use Rattle.log_text.specs.declared.statement.RawStep.{RawStep}
 use Rattle.sequencer.specs.Names.{is_known, number_of}
-use Rattle.sequencer.specs.Catalog.{Names, numbered, numbered_access, numbered_form, numbered_step, with_statement}
-use Rattle.sequencer.specs.Refusal.{access_refusal, accesses_refusal, form_refusal, or_else, refusal, unless}
+use Rattle.sequencer.specs.Catalog.{Names, numbered, numbered_access, numbered_step, with_statement}
+use Rattle.sequencer.specs.Refusal.{access_refusal, accesses_refusal, or_else, refusal, unless}
 use Rattle.sequencer.specs.declared.refused.Refused.{Refused}
-use Rattle.model.specs.declared.statement.Statement.{Statement}
-use Rattle.model.specs.Rows.{Rows}
+use Rattle.model_base.specs.declared.statement.Statement.{Statement}
+use Rattle.model_base.specs.Rows.{Rows}
 use Rattle.bohm.specs.Run.{IsWithin}
 use Rattle.bohm.specs.Progress.{AdvancesIf, Reports}
 

@@ -1,18 +1,14 @@
 -- The report so far, as the writer holds it.
-use Rattle.std.proofs.Common.{◌≡◌, ℕ, ◌+◌, ◌<◌, List, [], ◌∷◌, ◌++◌, length, take, drop, Option, Some, None, refl, ap, sym, ◌∙◌, subst, arith, append_assoc}
-use Rattle.std.specs.Prelude.{IfSome, ⊤}
+use Rattle.std.proofs.Common.{◌≡◌, ℕ, ◌+◌, List, [], ◌∷◌, ◌++◌, take, drop, Option, Some, None, refl, ap, sym, ◌∙◌, subst, append_assoc}
+use Rattle.std.specs.Prelude.{IfSome}
 use Rattle.std.specs.Io.KnownBytes.{Appends, Keeps, IsAtEnd, prepend_known}
-use Rattle.std.proofs.Math.Seq.{take-append_seam}
 use Rattle.std.proofs.lemmas.List.{append-nil, take-append-drop}
-use Rattle.model.specs.Rows.{Rows, no_rows}
-use Rattle.model.specs.declared.statement.Statement.{Statement}
-use Rattle.model.specs.Outcomes.{World, empty_world}
-use Rattle.log_text_base.specs.Lines.{lines_of, first_line, other_lines}
+use Rattle.model_base.specs.Rows.{Rows, no_rows}
+use Rattle.log_text_base.specs.Lines.{lines_of, first_line}
 use Rattle.log_text_base.specs.Known.{AppendsFront, HasBegun, MovesOut, TookLine, HadSome}
 use Rattle.log_text_base.proofs.Written.{appends_none, appends_then, appends_kept, appends_front, front_kept}
 use Rattle.sequencer.specs.Catalog.{Names, no_names}
-use Rattle.bohm.specs.Run.{without_deeds}
-use Rattle.bohm.specs.Report.{AreReadings, IsReading, IsReport, Reading, log_of, names_after, names_with, report_from, report_of}
+use Rattle.bohm.specs.Report.{AreReadings, IsReport, Reading, log_of, names_after, names_with, report_from, report_of}
 use Rattle.bohm.specs.Progress.{Advances, IsSoFar, Reported, ReadsAs}
 use Rattle.bohm.proofs.Reporting.{so_far}
 use Rattle.bohm.proofs.Readings.{IsTotal, readings}

@@ -1,22 +1,20 @@
 -- What a statement without a deed comes to where no deed was made.
-use Rattle.std.proofs.Common.{◌≡◌, ◌≢◌, ℕ, suc, ◌+◌, ◌<◌, List, [], ◌∷◌, ◌++◌, length, get_or, drop, Option, Some, None, refl, ap, sym, ◌∙◌, subst, add-one, drop-cons}
+use Rattle.std.proofs.Common.{◌≡◌, ◌≢◌, ℕ, suc, ◌+◌, ◌<◌, List, length, get_or, drop, Option, Some, None, refl, ap, sym, ◌∙◌, add-one, drop-cons}
 use Rattle.std.specs.Prelude.{ℤ}
 use Rattle.std.specs.List.{find, flat_map}
 use Rattle.std.specs.Option.{option_or}
 use Rattle.std.proofs.lemmas.List.{append-nil}
 use Rattle.std.proofs.lemmas.List.Folds.{find-append}
-use Rattle.model.specs.declared.deed.Need.{Need}
-use Rattle.model.specs.declared.deed.Deed.{Deed}
-use Rattle.model.specs.declared.deed.Cause.TheVariants.{Never}
-use Rattle.model.specs.declared.statement.Access.{Access}
-use Rattle.model.specs.declared.statement.DeedForm.{DeedForm}
-use Rattle.model.specs.declared.statement.Form.{Form}
-use Rattle.model.specs.declared.statement.Statement.{Statement}
-use Rattle.model.specs.declared.statement.Step.{Step}
-use Rattle.model.specs.declared.outcome.Outcome.{Outcome}
-use Rattle.model.specs.Rows.{Rows}
-use Rattle.model.specs.Body.{Ending}
-use Rattle.model.specs.Outcomes.{World, at_place, body, changed, deed_of, ended, judged, missing, needs_of_access, step_form}
+use Rattle.model_base.specs.declared.deed.Need.{Need}
+use Rattle.model_base.specs.declared.deed.Cause.TheVariants.{Never}
+use Rattle.model_base.specs.declared.statement.Access.{Access}
+use Rattle.model_base.specs.declared.statement.DeedForm.{DeedForm}
+use Rattle.model_base.specs.declared.statement.Form.{Form}
+use Rattle.model_base.specs.declared.statement.Statement.{Statement}
+use Rattle.model_base.specs.declared.statement.Step.{Step}
+use Rattle.model_base.specs.declared.outcome.Outcome.{Outcome}
+use Rattle.model_base.specs.Rows.{Rows}
+use Rattle.model_base.specs.Outcomes.{World, at_place, body, changed, deed_of, ended, judged, needs_of_access, step_form}
 use Rattle.body.specs.Ending.{ending_of}
 use Rattle.body.specs.declared.ending.BodyEnd.{BodyEnd}
 use Rattle.bohm.specs.Run.{lacks, missing_in, without_deeds}

@@ -1,14 +1,14 @@
 -- Who holds what where no deed was made, and the first need that isn't held.
-use Rattle.std.proofs.Common.{◌≡◌, ℕ, zero, suc, Bool, true, false, not, cond, List, [], ◌∷◌, ◌++◌, map, Option, Some, None, refl, ap, sym, ◌∙◌}
+use Rattle.std.proofs.Common.{◌≡◌, ℕ, zero, suc, Bool, true, false, not, cond, List, [], ◌∷◌, ◌++◌, map, Option, Some, None, refl, ap, ◌∙◌}
 use Rattle.std.specs.Prelude.{slice_get, ◌==◌, ◌||◌}
 use Rattle.std.specs.List.{find, flat_map}
 use Rattle.std.specs.Option.{option_map, option_map_or, option_or}
 use Rattle.std.proofs.lemmas.List.Folds.{find-append}
-use Rattle.model.specs.declared.deed.Kind.{Kind}
-use Rattle.model.specs.declared.deed.Need.{Need}
-use Rattle.model.specs.declared.statement.Access.{Access}
-use Rattle.model.specs.Privileges.{has, owns, holds}
-use Rattle.model.specs.Outcomes.{need_of, needs_of_access, kinds_in}
+use Rattle.model_base.specs.declared.deed.Kind.{Kind}
+use Rattle.model_base.specs.declared.deed.Need.{Need}
+use Rattle.model_base.specs.declared.statement.Access.{Access}
+use Rattle.model_base.specs.Privileges.{has, owns}
+use Rattle.model_base.specs.Outcomes.{need_of, needs_of_access, kinds_in}
 use Rattle.bohm.specs.Run.{lacks}
 
 or_false : (b : Bool) → (b || false) ≡ b

@@ -5,3 +5,4 @@ pub mod Logs
 pub mod Reporting
 pub mod Readings
 pub mod Beginnings
+pub mod Telling

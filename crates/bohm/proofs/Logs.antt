@@ -1,15 +1,12 @@
 -- Logs and names, line after line.
-use Rattle.std.proofs.Common.{◌≡◌, ℕ, zero, suc, ◌+◌, ◌<◌, List, [], ◌∷◌, ◌++◌, length, take, get_or, Option, Some, None, refl, ap, sym, ◌∙◌, append_assoc, add_assoc, arith, length-append}
+use Rattle.std.proofs.Common.{◌≡◌, ℕ, suc, ◌+◌, List, [], ◌∷◌, ◌++◌, length, Option, Some, None, refl, ap, sym, ◌∙◌, append_assoc, arith, length-append}
 use Rattle.std.specs.Prelude.{slice_get}
-use Rattle.std.specs.List.{flat_map}
 use Rattle.std.proofs.lemmas.List.{append-nil}
 use Rattle.std.proofs.lemmas.Grind.{flat_map-append}
-use Rattle.model.specs.declared.statement.Statement.{Statement}
-use Rattle.model.specs.Outcomes.{World, at_place, creator, owners, world_after}
-use Rattle.log_text.specs.Statement.{Sentence}
+use Rattle.model_base.specs.declared.statement.Statement.{Statement}
+use Rattle.model_base.specs.Outcomes.{World, at_place, creator, owners, world_after}
 use Rattle.log_text.specs.declared.statement.RawForm.{RawForm}
-use Rattle.sequencer.specs.Names.{number_of}
-use Rattle.sequencer.specs.Catalog.{Names, numbered, with_form, with_statement}
+use Rattle.sequencer.specs.Catalog.{Names}
 use Rattle.sequencer.specs.Refusal.{refusal}
 use Rattle.sequencer.specs.declared.refused.Refused.{Refused}
 use Rattle.bohm.specs.Report.{Reading, read, faulty, accepted, log_of, names_after, names_if, names_with, statement_if}

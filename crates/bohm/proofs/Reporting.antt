@@ -1,22 +1,18 @@
 -- One more line of the report.
-use Rattle.std.proofs.Common.{◌≡◌, ◌≢◌, ℕ, zero, suc, ◌+◌, ◌<◌, ◌≤◌, false, List, [], ◌∷◌, ◌++◌, length, take, drop, get_or, Option, Some, None, refl, ap, sym, ◌∙◌, subst, inl, inr, arith, append_assoc}
-use Rattle.std.specs.Prelude.{IfSome, slice_get, unwrap_or, if◌then◌else◌, codes, ⊤}
+use Rattle.std.proofs.Common.{◌≡◌, ℕ, ◌+◌, ◌<◌, List, [], ◌∷◌, ◌++◌, length, take, get_or, Option, Some, None, refl, ap, sym, ◌∙◌, subst, inl, inr, arith, append_assoc}
+use Rattle.std.specs.Prelude.{slice_get, unwrap_or, if◌then◌else◌, codes}
 use Rattle.std.specs.Option.{option_map}
 use Rattle.std.specs.Fmt.{decimal}
-use Rattle.std.specs.Io.KnownBytes.{Appends, Keeps, IsAtEnd, prepend_known}
 use Rattle.std.proofs.Math.Seq.{take-append_seam}
-use Rattle.std.proofs.lemmas.List.{append-nil, take_all, length-take-le, take-append-drop}
+use Rattle.std.proofs.lemmas.List.{append-nil, take_all, length-take-le}
 use Rattle.std.proofs.lemmas.Bool.{cases_lt, cond-true, lt-ltb}
 use Rattle.std.proofs.lemmas.Option.{slice_get-get_or}
-use Rattle.model.specs.Rows.{Rows}
-use Rattle.model.specs.declared.deed.Need.{Need}
-use Rattle.model.specs.declared.outcome.Outcome.{Outcome}
-use Rattle.model.specs.declared.statement.Form.{Form}
-use Rattle.model.specs.declared.statement.Statement.{Statement}
-use Rattle.model.specs.Outcomes.{World, at_place, empty_world, outcome, owners, world_after, world_before}
+use Rattle.model_base.specs.Rows.{Rows}
+use Rattle.model_base.specs.declared.outcome.Outcome.{Outcome}
+use Rattle.model_base.specs.declared.statement.Form.{Form}
+use Rattle.model_base.specs.declared.statement.Statement.{Statement}
+use Rattle.model_base.specs.Outcomes.{World, at_place, empty_world, outcome, owners, world_after, world_before}
 use Rattle.log_text_base.specs.Lines.{lines_of, first_line, other_lines}
-use Rattle.log_text_base.specs.Known.{AppendsFront, HasBegun, MovesOut, TookLine, HadSome}
-use Rattle.log_text_base.proofs.Written.{appends_then, appends_kept, appends_front}
 use Rattle.log_text_base.proofs.LinesLaws.{lines_first}
 use Rattle.log_text.specs.Statement.{Sentence, Reads}
 use Rattle.log_text.specs.Fault.{line_fault}
@@ -24,10 +20,10 @@ use Rattle.log_text.specs.declared.fault.LineFault.{LineFault}
 use Rattle.sequencer.specs.Catalog.{Names, no_names, numbered, with_statement}
 use Rattle.sequencer.specs.Refusal.{refusal}
 use Rattle.sequencer.specs.declared.refused.Refused.{Refused}
-use Rattle.bohm.specs.Run.{Executes, IsNamed, without_deeds}
+use Rattle.bohm.specs.Run.{IsNamed, without_deeds}
 use Rattle.bohm.specs.Text.{cause_text, fault_word, kind_word, outcome_text, refused_text, refused_word, table_name}
-use Rattle.bohm.specs.Report.{AreReadings, IsReading, IsReport, Reading, read, faulty, accepted, line_text, log_of, names_after, names_if, names_with, place_text, report_from, report_of, statement_if, text_if, text_of}
-use Rattle.bohm.specs.Progress.{Advances, AdvancesIf, IsSoFar, Refuses, Reported, Reports}
+use Rattle.bohm.specs.Report.{AreReadings, IsReading, Reading, read, faulty, accepted, line_text, log_of, names_after, names_if, names_with, place_text, report_from, report_of, statement_if, text_if, text_of}
+use Rattle.bohm.specs.Progress.{Advances, AdvancesIf, IsSoFar, Refuses, Reports}
 use Rattle.bohm.proofs.Holding.{slice_get_longer}
 use Rattle.bohm.proofs.Logs.{Longer, log_of-append, names_after-append, owners_after, places_after, slice_get_at, tables_after, world_after-append}
 

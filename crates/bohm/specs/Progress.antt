@@ -2,10 +2,10 @@
 use Rattle.std.specs.Prelude.{◌≡◌, ℕ, ◌++◌, ⊤, Option, Some, None, List, length, take}
 use Rattle.std.specs.Io.KnownBytes.{Appends}
 use Rattle.log_text_base.specs.Lines.{lines_of}
-use Rattle.model.specs.Outcomes.{empty_world, owners, world_after}
-use Rattle.model.specs.declared.statement.Statement.{Statement}
-use Rattle.model.specs.declared.outcome.Outcome.{Outcome}
-use Rattle.model.specs.Rows.{Rows}
+use Rattle.model_base.specs.Outcomes.{empty_world, owners, world_after}
+use Rattle.model_base.specs.declared.statement.Statement.{Statement}
+use Rattle.model_base.specs.declared.outcome.Outcome.{Outcome}
+use Rattle.model_base.specs.Rows.{Rows}
 use Rattle.log_text.specs.Statement.{Sentence}
 use Rattle.sequencer.specs.Catalog.{Names, no_names, numbered, with_statement}
 use Rattle.sequencer.specs.Refusal.{refusal}

@@ -1,8 +1,8 @@
 -- The report of a text: one line for each of its lines, by the outcomes of the log that its accepted lines make.
 use Rattle.std.specs.Prelude.{◌≡◌, ℕ, ◌+◌, Option, Some, None, List, [], ◌∷◌, ◌++◌, slice_get}
-use Rattle.model.specs.declared.statement.Statement.{Statement}
-use Rattle.model.specs.declared.outcome.Outcome.{Outcome}
-use Rattle.model.specs.Outcomes.{outcome}
+use Rattle.model_base.specs.declared.statement.Statement.{Statement}
+use Rattle.model_base.specs.declared.outcome.Outcome.{Outcome}
+use Rattle.model_base.specs.Outcomes.{outcome}
 use Rattle.log_text_base.specs.Lines.{lines_of}
 use Rattle.log_text.specs.Statement.{Sentence, Reads}
 use Rattle.log_text.specs.Fault.{line_fault}

@@ -1,14 +1,14 @@
 -- What an execution without grants needs and keeps: an owner holds each privilege on its tables, nobody else any.
 use Rattle.std.specs.Prelude.{◌≡◌, ◌<◌, ℕ, Bool, not, Option, None, List, [], ◌++◌, All}
 use Rattle.std.specs.List.{find, flat_map}
-use Rattle.model.specs.declared.deed.Need.{Need}
-use Rattle.model.specs.declared.statement.Access.{Access}
-use Rattle.model.specs.declared.statement.Form.{Form}
-use Rattle.model.specs.declared.statement.Statement.{Statement}
-use Rattle.model.specs.declared.outcome.Outcome.{Outcome}
-use Rattle.model.specs.Rows.{Rows}
-use Rattle.model.specs.Privileges.{holds}
-use Rattle.model.specs.Outcomes.{World, at_place, needs_of_access}
+use Rattle.model_base.specs.declared.deed.Need.{Need}
+use Rattle.model_base.specs.declared.statement.Access.{Access}
+use Rattle.model_base.specs.declared.statement.Form.{Form}
+use Rattle.model_base.specs.declared.statement.Statement.{Statement}
+use Rattle.model_base.specs.declared.outcome.Outcome.{Outcome}
+use Rattle.model_base.specs.Rows.{Rows}
+use Rattle.model_base.specs.Privileges.{holds}
+use Rattle.model_base.specs.Outcomes.{World, at_place, needs_of_access}
 
 -- an outcome names no table but the first so many
 abbrev pub IsNamed : ℕ → Outcome → Type 0

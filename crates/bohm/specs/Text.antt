@@ -1,17 +1,17 @@
 -- How the report spells what becomes of a line.
-use Rattle.std.specs.Prelude.{ℕ, ℤ, Bool, true, false, Option, Some, None, List, [], ◌∷◌, ◌++◌, codes, unwrap_or, slice_get, if◌then◌else◌}
+use Rattle.std.specs.Prelude.{ℕ, ℤ, List, [], ◌∷◌, ◌++◌, codes, unwrap_or, slice_get, if◌then◌else◌}
 use Rattle.std.specs.Fmt.{decimal, signed_decimal}
 use Rattle.std.specs.List.{flat_map}
-use Rattle.model.specs.declared.deed.Kind.{Kind}
-use Rattle.model.specs.declared.deed.Kind.TheVariants.{Read, Insert, Update, Delete}
-use Rattle.model.specs.declared.deed.Cause.{Cause}
-use Rattle.model.specs.declared.deed.Cause.TheVariants.{Never, Taken}
-use Rattle.model.specs.declared.deed.Need.{Need}
-use Rattle.model.specs.declared.statement.Form.{Form}
-use Rattle.model.specs.declared.outcome.Reason.{Reason}
-use Rattle.model.specs.declared.outcome.Reason.TheVariants.{NoRow, RowExists, Overflow, Check}
-use Rattle.model.specs.declared.outcome.DeedDone.{DeedDone}
-use Rattle.model.specs.declared.outcome.Outcome.{Outcome}
+use Rattle.model_base.specs.declared.deed.Kind.{Kind}
+use Rattle.model_base.specs.declared.deed.Kind.TheVariants.{Read, Insert, Update, Delete}
+use Rattle.model_base.specs.declared.deed.Cause.{Cause}
+use Rattle.model_base.specs.declared.deed.Cause.TheVariants.{Never, Taken}
+use Rattle.model_base.specs.declared.deed.Need.{Need}
+use Rattle.model_base.specs.declared.statement.Form.{Form}
+use Rattle.model_base.specs.declared.outcome.Reason.{Reason}
+use Rattle.model_base.specs.declared.outcome.Reason.TheVariants.{NoRow, RowExists, Overflow, Check}
+use Rattle.model_base.specs.declared.outcome.DeedDone.{DeedDone}
+use Rattle.model_base.specs.declared.outcome.Outcome.{Outcome}
 use Rattle.log_text.specs.declared.fault.LineFault.{LineFault}
 use Rattle.sequencer.specs.declared.refused.Refused.{Refused}
 

@@ -1,12 +1,23 @@
 -- Which words of the command line are a command, and how the program ends: its exit status, and what it prints of a fault.
-use Rattle.std.specs.Prelude.{◌≡◌, ℕ, List, [], Option, None, codes, map, string_bytes, true}
+use Rattle.std.specs.Prelude.{◌≡◌, ◌≢◌, ◌⊎◌, ℕ, List, Option, None, codes, map, string_bytes, true}
 use Rattle.std.specs.Option.{option_map, option_map_or}
-use Rattle.clap.specs.Words.{App, Text, fault_of, first_of, new_app, new_rule, subcommand_of, with_rule, with_subcommand}
+use Rattle.clap.specs.Words.{App, IsAmong, Kinds, Text, first_of, new_app, new_rule, subcommand_of, with_rule, with_subcommand}
+use Rattle.clap.specs.declared.error.kind.ErrorKind.{ErrorKind}
 use denote.Ref.{Bor}
 use Rattle.bohm.specs.declared.words.Command.{Command}
 use Rattle.bohm.specs.declared.words.ProgramFault.{ProgramFault}
 use Rattle.bohm.specs.declared.words.Usage.{Usage}
 use Rattle.bohm.specs.declared.fault.EngineFault.{EngineFault}
+
+-- whether an error of this kind is told so: help and the version as help, any other as a fault of the words
+abbrev pub Tells : Usage → ErrorKind → Type 0
+Tells (Usage.Help text) kind = (kind ≡ ErrorKind.DisplayHelp) ⊎ (kind ≡ ErrorKind.DisplayVersion)
+Tells (Usage.Fault text) kind = (kind ≢ ErrorKind.DisplayHelp) × (kind ≢ ErrorKind.DisplayVersion)
+Tells Usage.NoMemory kind = Unit {0}
+
+-- want of memory, or one of these kinds of error, told so
+abbrev pub TellsOneOf : Kinds → Usage → Type 0
+TellsOneOf kinds usage = (usage ≡ Usage.NoMemory) ⊎ ((kind : ErrorKind) × (IsAmong kind kinds × Tells usage kind))
 
 -- 0 where help was asked for, 2 for words that are wrong, and 1 for any other fault
 abbrev pub status_of : ProgramFault → ℕ

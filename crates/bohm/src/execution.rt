@@ -3,15 +3,17 @@
 
 ghost use Rattle.std.specs.Prelude.{◌≡◌, ◌<◌, ◌++◌, ℕ, List, None, IfOk, IfSome, OnErr, length, slice_get};
 ghost use Rattle.std.specs.List.{find};
-ghost use Rattle.model.specs.Rows.{Rows};
-ghost use Rattle.model.specs.Outcomes.{World, ended, kinds_in, needs_of_access};
+ghost use Rattle.model_base.specs.Rows.{Rows};
+ghost use Rattle.model_base.specs.Outcomes.{World, ended, kinds_in, needs_of_access};
 ghost use Rattle.body.specs.Ending.{ending_of};
 ghost use Rattle.body.specs.Premises.{IsRunnable};
 ghost use Rattle.body.specs.RowMap.{rows_of};
 ghost use Rattle.bohm.specs.Run.{AreWithin, Executes, IsNamed, IsWithin, lacks, missing_in};
 
 use body::{BodyEnd, RowMap, run_on};
-use model::{Access, Cause, DeedDone, Form, Kind, Kinds, Need, Outcome, Outputs, Statement, User};
+use model_base::{
+    Access, Cause, DeedDone, Form, Kind, Kinds, Need, Outcome, Outputs, Statement, User,
+};
 use sequencer::Catalog;
 use std::alloc::AllocError;
 

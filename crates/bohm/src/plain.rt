@@ -17,7 +17,7 @@ use crate::text::{put_fault, put_outcome, put_refused};
 use body::RowMap;
 use log_text::{LineFault, RawStatement, parse_line};
 use log_text_base::{Counted, LineReader, flush, write_much, write_out};
-use model::{Place, Statement};
+use model_base::{Place, Statement};
 use sequencer::{Catalog, Refused};
 use std::alloc::{AllocError, Global};
 use std::io::{Read, Write};

@@ -7,7 +7,7 @@ ghost use Rattle.bohm.specs.Text.{cause_text, deed_text, done_text, ending_text,
 
 use itoa::Buffer;
 use log_text::LineFault;
-use model::{Cause, DeedDone, Form, Kind, Need, Outcome, Place, Reason};
+use model_base::{Cause, DeedDone, Form, Kind, Need, Outcome, Place, Reason};
 use sequencer::{NameTable, Refused};
 use std::alloc::AllocError;
 

@@ -3,7 +3,7 @@
 ghost use Rattle.std.specs.Prelude.{◌≡◌, [], None, codes, option_map, IfOk, IfErr, OnOk};
 ghost use Rattle.std.specs.Option.{option_map_or};
 ghost use Rattle.clap.specs.Words.{app_of, fault_of, first_of, kind_of, subcommand_rows_of};
-ghost use Rattle.bohm.specs.Words.{bohm_app, file_given, file_of, message_of, status_of, texts_of};
+ghost use Rattle.bohm.specs.Words.{Tells, TellsOneOf, bohm_app, file_given, file_of, message_of, status_of, texts_of};
 
 use crate::fault::EngineFault;
 use clap::error::ErrorKind;
@@ -53,7 +53,8 @@ fn program<'a>(alloc: Global) -> Result<clap::Command<'a>, AllocError>
 
 /// The usage fault, or the help, that the words came to.
 fn usage_of(alloc: Global, error: &Error) -> Usage
-    ensures { kind_of error.now ≡ ErrorKind.OutOfMemory → result ≡ Usage.NoMemory }
+    ensures memory { kind_of error.now ≡ ErrorKind.OutOfMemory → result ≡ Usage.NoMemory }
+    ensures told { Tells result (kind_of error.now) }
 {
     if error.kind() == ErrorKind::OutOfMemory {
         return Usage::NoMemory;
@@ -76,11 +77,13 @@ fn file_in<'a>(matches: &ArgMatches<'a>) -> Option<&'a str>
 }
 
 /// Reads the words of the command line, the program's name first. The words are judged by `clap`: an answered command
-/// is one that it takes, with the file that it finds, and words that it takes fail only where a growth was refused.
+/// is one that it takes, with the file that it finds, and words that it takes fail only where a growth was refused. Help
+/// is answered only where the words ask for it, and a fault only where they are wrong.
 pub fn read_words<'a>(alloc: Global, words: &'a [&'a str]) -> Result<Command<'a>, Usage>
     ensures taken { OnOk result (fault_of bohm_app (texts_of words.entry.now) ≡ []) }
     ensures file { IfOk result (λ command. file_of command ≡ file_given (texts_of words.entry.now)) }
     ensures fault { IfErr result (λ usage. fault_of bohm_app (texts_of words.entry.now) ≡ [] → usage ≡ Usage.NoMemory) }
+    ensures told { IfErr result (TellsOneOf (fault_of bohm_app (texts_of words.entry.now))) }
 {
     let program = match program(alloc) {
         Ok(program) => program,

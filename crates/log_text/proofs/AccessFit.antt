@@ -12,7 +12,7 @@ use Rattle.std.proofs.lemmas.Bool.Decides.{nat_tests}
 use Rattle.log_text.specs.Words.{plain, is_name, is_name_byte, is_letter}
 use Rattle.log_text.proofs.Plain.{plain_of_decimal}
 use Rattle.log_text.specs.Access.{letter_if, is_in_order, is_letters, before_colon, after_colon, access_fault, access_word, letters, IsAccess}
-use Rattle.model.specs.declared.deed.Kinds.{Kinds}
+use Rattle.model_base.specs.declared.deed.Kinds.{Kinds}
 use Rattle.log_text.specs.declared.access.RawAccess.{RawAccess}
 
 -- where the first colon stands

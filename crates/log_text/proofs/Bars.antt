@@ -10,8 +10,8 @@ use Rattle.log_text.specs.Words.{is_name, is_letter, is_name_byte}
 use Rattle.log_text.specs.Fault.{is_bar}
 use Rattle.log_text.specs.Access.{access_word, IsAccess, letters}
 use Rattle.log_text.specs.declared.access.RawAccess.{RawAccess}
-use Rattle.model.specs.declared.statement.RowName.{RowName}
-use Rattle.model.specs.declared.statement.RowName.TheVariants.{Number, Held}
+use Rattle.model_base.specs.declared.statement.RowName.{RowName}
+use Rattle.model_base.specs.declared.statement.RowName.TheVariants.{Number, Held}
 use Rattle.log_text.specs.Statement.{row_word, IsRow}
 
 -- the first byte of a number is a digit

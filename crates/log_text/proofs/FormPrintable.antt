@@ -2,8 +2,8 @@
 use Rattle.std.proofs.Common.{◌≡◌, ℕ, Bool, true, false, List, [], ◌∷◌, ◌++◌, map, refl, arith}
 use Rattle.std.specs.Prelude.{decimal, codes}
 use Rattle.std.specs.List.{AllByRecursion, flat_map, list_all}
-use Rattle.model.specs.declared.statement.RowName.{RowName}
-use Rattle.model.specs.declared.statement.RowName.TheVariants.{Number, Held}
+use Rattle.model_base.specs.declared.statement.RowName.{RowName}
+use Rattle.model_base.specs.declared.statement.RowName.TheVariants.{Number, Held}
 use Rattle.log_text.specs.declared.statement.RawStep.{RawStep}
 use Rattle.log_text.specs.declared.statement.RawStep.TheVariants.{Const, Add, Load, Store, Insert, Out}
 use Rattle.log_text.specs.declared.statement.RawForm.{RawForm}
@@ -11,7 +11,7 @@ use Rattle.log_text.specs.declared.statement.RawForm.TheVariants.{Create, Run}
 use Rattle.log_text.specs.Access.{access_word, letters, letter_if, IsAccess}
 use Rattle.log_text.specs.Statement.{further_step, step_words, row_word, form_words, IsFormInGrammar, IsStep, IsRow, IsRegister}
 use Rattle.log_text.specs.Fault.{is_printable}
-use Rattle.model.specs.declared.deed.Kinds.{Kinds}
+use Rattle.model_base.specs.declared.deed.Kinds.{Kinds}
 use Rattle.log_text.specs.declared.access.RawAccess.{RawAccess}
 use Rattle.std.proofs.lemmas.Bool.{and_from}
 use Rattle.log_text.proofs.Printable.{IsPrintable, printable_name, printable_decimal, printable_signed, printable_append}

@@ -4,8 +4,8 @@ use Rattle.std.specs.Prelude.{decimal}
 use Rattle.std.proofs.lemmas.Str.Parse.{digit_at}
 use Rattle.std.proofs.lemmas.Fmt.{decimal_is_IsNumeral}
 use Rattle.std.proofs.lemmas.Bool.{ne_eqb, lt-ltb}
-use Rattle.model.specs.declared.statement.RowName.{RowName}
-use Rattle.model.specs.declared.statement.RowName.TheVariants.{Number, Held}
+use Rattle.model_base.specs.declared.statement.RowName.{RowName}
+use Rattle.model_base.specs.declared.statement.RowName.TheVariants.{Number, Held}
 use Rattle.log_text.specs.Statement.{row_word, IsRow}
 use Rattle.log_text.specs.Fault.{misfit, OfRow, register_fault, row_fault}
 use Rattle.log_text.specs.Words.{plain}

@@ -17,7 +17,7 @@ use Rattle.log_text.specs.declared.statement.RawStep.{RawStep}
 use Rattle.log_text.specs.declared.step_name.StepName.{StepName}
 use Rattle.log_text.specs.declared.step_name.StepName.TheVariants as name
 use Rattle.log_text.specs.declared.statement.RawStep.TheVariants as step
-use Rattle.model.specs.declared.statement.RowName.{RowName}
+use Rattle.model_base.specs.declared.statement.RowName.{RowName}
 use Rattle.log_text.proofs.Plain.{plain_empty}
 use Rattle.log_text.proofs.Whole.{whole_missing}
 use Rattle.log_text.proofs.StepNames.{named_word}

@@ -12,9 +12,9 @@ use Rattle.log_text.specs.Statement.{row_word, IsRegister, IsRow}
 use Rattle.log_text.specs.declared.fault.LineFault.{LineFault}
 use Rattle.log_text.specs.declared.fault.LineFault.TheVariants.{UnknownWord, BadNumber, BadName, BadRegister}
 use Rattle.log_text.specs.declared.access.RawAccess.{RawAccess}
-use Rattle.model.specs.declared.deed.Kinds.{Kinds}
-use Rattle.model.specs.declared.statement.RowName.{RowName}
-use Rattle.model.specs.declared.statement.RowName.TheVariants.{Number, Held}
+use Rattle.model_base.specs.declared.deed.Kinds.{Kinds}
+use Rattle.model_base.specs.declared.statement.RowName.{RowName}
+use Rattle.model_base.specs.declared.statement.RowName.TheVariants.{Number, Held}
 use Rattle.log_text.proofs.Plain.{plain_some}
 use Rattle.log_text.proofs.Whole.{whole_some}
 use Rattle.log_text.proofs.AccessLemmas.{order_nil, access_is}

@@ -1,7 +1,7 @@
 -- Access words: name ":" plain ":" letters, with one to four of the letters R I U D, each at most once, in this order.
 use Rattle.std.specs.Prelude.{◌≢◌, ℕ, ◌<◌, ◌^◌, Bool, true, false, not, ◌&&◌, List, [], ◌∷◌, ◌++◌, length, ◌==◌, is_some, if◌then◌else◌, Option, codes, decimal, IsTrue}
 use Rattle.std.specs.List.{before_first, after_first}
-use Rattle.model.specs.declared.deed.Kinds.{Kinds}
+use Rattle.model_base.specs.declared.deed.Kinds.{Kinds}
 use Rattle.log_text.specs.Words.{plain, is_name}
 use Rattle.log_text.specs.Faults.{unless, or_else}
 use Rattle.log_text.specs.declared.fault.LineFault.{LineFault}

@@ -2,8 +2,8 @@
 use Rattle.std.specs.Prelude.{◌≡◌, ℕ, ◌<◌, ◌≤◌, ◌^◌, List, [], ◌∷◌, ◌++◌, length, map, codes, IsTrue}
 use Rattle.std.specs.Fmt.{decimal, signed_decimal}
 use Rattle.std.specs.List.{join_with_byte, flat_map, AllByRecursion, sum_by}
-use Rattle.model.specs.declared.statement.RowName.{RowName}
-use Rattle.model.specs.declared.statement.RowName.TheVariants.{Number, Held}
+use Rattle.model_base.specs.declared.statement.RowName.{RowName}
+use Rattle.model_base.specs.declared.statement.RowName.TheVariants.{Number, Held}
 use Rattle.log_text.specs.Words.{words, is_name, fits_64_bits}
 use Rattle.log_text.specs.Access.{access_word, IsAccess}
 use Rattle.log_text.specs.declared.statement.RawForm.{RawForm}

@@ -6,7 +6,7 @@ use crate::fault::LineFault;
 use crate::name::{Name, has_name_form};
 use crate::number::plain_value;
 use crate::word_list::place_from;
-use model::{Kinds, RowNumber};
+use model_base::{Kinds, RowNumber};
 
 /// A row that a statement declares, with its table's name.
 #[derive(Drop)]

@@ -9,7 +9,7 @@ ghost use Rattle.log_text.specs.Parsing.{spaced};
 use crate::access::RawAccess;
 use crate::name::Name;
 use crate::statement::{RawForm, RawStatement, RawStep};
-use model::{Kinds, Register, RowName};
+use model_base::{Kinds, Register, RowName};
 use std::alloc::{AllocError, Global};
 
 /// Appends the row, as a step gives it.

@@ -2,7 +2,7 @@
 
 use crate::access::RawAccess;
 use crate::name::Name;
-use model::{Items, Register, RowName};
+use model_base::{Items, Register, RowName};
 use std::marker::Model;
 
 /// One step of a body, with its table's name.

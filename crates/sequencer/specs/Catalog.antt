@@ -1,9 +1,9 @@
 -- What a log knows of names after its first statements, and how a statement's names become numbers.
 use Rattle.std.specs.Prelude.{ℕ, ◌+◌, None, List, [], ◌∷◌, ◌++◌, map}
-use Rattle.model.specs.declared.statement.Access.{Access}
-use Rattle.model.specs.declared.statement.Step.{Step}
-use Rattle.model.specs.declared.statement.Form.{Form}
-use Rattle.model.specs.declared.statement.Statement.{Statement}
+use Rattle.model_base.specs.declared.statement.Access.{Access}
+use Rattle.model_base.specs.declared.statement.Step.{Step}
+use Rattle.model_base.specs.declared.statement.Form.{Form}
+use Rattle.model_base.specs.declared.statement.Statement.{Statement}
 use Rattle.log_text.specs.Statement.{Sentence}
 use Rattle.log_text.specs.declared.access.RawAccess.{RawAccess}
 use Rattle.log_text.specs.declared.statement.RawForm.{RawForm}

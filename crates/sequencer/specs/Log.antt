@@ -1,6 +1,6 @@
 -- The log: its statements in order, with the names that they name.
 use Rattle.std.specs.Prelude.{List, [], ◌∷◌, ◌++◌}
-use Rattle.model.specs.declared.statement.Statement.{Statement}
+use Rattle.model_base.specs.declared.statement.Statement.{Statement}
 use Rattle.log_text.specs.Statement.{Sentence}
 use Rattle.sequencer.specs.Catalog.{Names, no_names, numbered, with_statement}
 

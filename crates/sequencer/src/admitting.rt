@@ -10,7 +10,7 @@ use crate::numbering::{Room, room_for};
 use crate::refused::Refused;
 use crate::testing::test_name;
 use log_text::{Name, RawAccess, RawForm, RawStatement, RawStep};
-use model::{Form, Items, Statement, Table, User};
+use model_base::{Form, Items, Statement, Table, User};
 
 impl Catalog {
     /// Takes a RUN, as `admit`, where a place is left. Its accesses and steps go where room was made.

@@ -1,7 +1,7 @@
 //! What a log knows of names.
 
 use crate::names::NameTable;
-use model::{Table, User};
+use model_base::{Table, User};
 use std::alloc::Global;
 use std::marker::Model;
 

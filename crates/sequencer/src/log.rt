@@ -3,7 +3,7 @@
 use crate::catalog::Catalog;
 use crate::refused::Refused;
 use log_text::RawStatement;
-use model::{Place, Statement, Table, User};
+use model_base::{Place, Statement, Table, User};
 use std::alloc::Global;
 use std::marker::Model;
 

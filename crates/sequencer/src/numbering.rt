@@ -9,7 +9,7 @@ use crate::catalog::Catalog;
 use crate::refused::Refused;
 use crate::testing::is_repeated;
 use log_text::{RawAccess, RawForm, RawStep};
-use model::{Access, Items, Key, Step};
+use model_base::{Access, Items, Key, Step};
 use std::alloc::{AllocError, Global};
 
 /// Where the accesses and the steps of a statement go, with their tables by number.

@@ -9,7 +9,7 @@ use crate::catalog::{Catalog, MOST_PLACES};
 use crate::names::{MOST_NAMES, NameTable};
 use crate::refused::Refused;
 use log_text::{Name, RawAccess, RawForm, RawStatement, RawStep};
-use model::Table;
+use model_base::Table;
 
 /// Whether the two accesses are to one row.
 fn is_same_row(access: &RawAccess, other: &RawAccess) -> bool

@@ -3,7 +3,7 @@
 
 use crate::{Catalog, Log, NameTable, Refused};
 use log_text::{LineFault, RawStatement, parse_line};
-use model::{Form, Key, Place, Statement, Table, User};
+use model_base::{Form, Key, Place, Statement, Table, User};
 use std::alloc::Global;
 use std::process::Abort;
 use std::test::Fail;

@@ -12,7 +12,7 @@ use crate::fault::LineFault;
 use crate::name::Name;
 use crate::statement::RawForm;
 use crate::word_list::Words;
-use model::Items;
+use model_base::Items;
 use std::alloc::Global;
 
 /// What stands behind CREATE.

@@ -9,7 +9,7 @@ use crate::fault::LineFault;
 use crate::name::Name;
 use crate::number::{plain_value, whole_value};
 use crate::word_list::Words;
-use model::{Register, RowName};
+use model_base::{Register, RowName};
 
 /// Takes a name.
 pub(crate) fn name(words: &mut Words<'_>) -> Result<Name, LineFault>

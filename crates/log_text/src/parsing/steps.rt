@@ -15,7 +15,7 @@ use crate::name::Name;
 use crate::statement::RawStep;
 use crate::step_name::StepName;
 use crate::word_list::Words;
-use model::{Items, Register, RowName};
+use model_base::{Items, Register, RowName};
 use std::alloc::Global;
 
 /// What stands behind CONST, up to the next step or the end.

@@ -1,7 +1,7 @@
 use Rattle.std.proofs.Common.{◌<◌, length, Some, None, arith, refl, sym, ◌∙◌, ap, List, ℤ}
-use Rattle.model.specs.declared.deed.Kind.TheVariants.{Insert}
-use Rattle.model.specs.Rows.{with_row}
-use Rattle.model.specs.Body.{row_number, insert_row, goes_on}
+use Rattle.model_base.specs.declared.deed.Kind.TheVariants.{Insert}
+use Rattle.model_base.specs.Rows.{with_row}
+use Rattle.model_base.specs.Body.{row_number, insert_row, goes_on}
 use Rattle.body.specs.Shown.{with_rows}
 use Rattle.body.specs.Work.{seen}
 use Rattle.body.proofs.Touching.{touch_any, touch_write}

@@ -1,8 +1,8 @@
 use Rattle.std.proofs.Common.{w64, sym, ◌∙◌, ap}
 use Rattle.std.proofs.lemmas.Int.{to_z-of_z}
-use Rattle.model.specs.declared.statement.Access.{Access}
-use Rattle.model.specs.Privileges.{has_kind}
-use Rattle.model.specs.Body.{row_number}
+use Rattle.model_base.specs.declared.statement.Access.{Access}
+use Rattle.model_base.specs.Privileges.{has_kind}
+use Rattle.model_base.specs.Body.{row_number}
 use Rattle.body.proofs.Touching.{place_found, place_unkind, place_none}
 use Rattle.body.proofs.steps.place_of.Goals as goal
 

@@ -1,5 +1,5 @@
 use Rattle.std.proofs.Common.{◌≡◌, ◌≤◌, ◌<◌, length, arith, sym, ◌∙◌}
-use Rattle.model.specs.Body.{aborts, is_undeclared}
+use Rattle.model_base.specs.Body.{aborts, is_undeclared}
 use Rattle.body.specs.Work.{seen}
 use Rattle.body.proofs.Running.{begins, completes, goes}
 use Rattle.body.proofs.steps.run_steps.Goals as goal

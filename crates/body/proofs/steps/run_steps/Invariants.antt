@@ -1,7 +1,7 @@
 use Rattle.std.proofs.Common.{◌≡◌, ◌≤◌, ◌+◌, drop, length}
 use Rattle.std.specs.List.{sum_by}
-use Rattle.model.specs.Rows.{Rows}
-use Rattle.model.specs.Body.{run_steps}
+use Rattle.model_base.specs.Rows.{Rows}
+use Rattle.model_base.specs.Body.{run_steps}
 use Rattle.body.specs.Premises.{outputs_of}
 use Rattle.body.specs.Work.{seen}
 use Rattle.body.proofs.steps.run_steps.Given as goal

@@ -1,8 +1,8 @@
 use Rattle.std.proofs.Common.{◌<◌, length, w64, Some, None, arith, refl, sym, ◌∙◌, ap, set, List, ℤ}
 use Rattle.std.proofs.lemmas.Int.{to_z-of_z}
-use Rattle.model.specs.declared.deed.Kind.TheVariants.{Update}
-use Rattle.model.specs.Rows.{with_row}
-use Rattle.model.specs.Body.{row_number, store_column, goes_on}
+use Rattle.model_base.specs.declared.deed.Kind.TheVariants.{Update}
+use Rattle.model_base.specs.Rows.{with_row}
+use Rattle.model_base.specs.Body.{row_number, store_column, goes_on}
 use Rattle.body.specs.Shown.{with_rows}
 use Rattle.body.specs.Work.{seen}
 use Rattle.body.proofs.Touching.{touch_any, touch_write}

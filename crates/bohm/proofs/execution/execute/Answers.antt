@@ -1,6 +1,5 @@
-use Rattle.std.proofs.Common.{◌≡◌, ◌++◌, List, ℕ, None, Some, sym, ap, ◌∙◌, length}
-use Rattle.model.specs.declared.statement.Access.{Access}
-use Rattle.bohm.specs.Run.{IsNamed, missing_in, without_deeds}
+use Rattle.std.proofs.Common.{◌++◌, sym, ap, ◌∙◌, length}
+use Rattle.bohm.specs.Run.{missing_in, without_deeds}
 use Rattle.body.specs.RowMap.{rows_of}
 use Rattle.bohm.proofs.Executing.{denied, ran}
 use Rattle.bohm.proofs.execution.execute.Goals as goal

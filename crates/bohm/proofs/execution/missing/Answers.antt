@@ -1,7 +1,7 @@
-use Rattle.std.proofs.Common.{◌≡◌, ℕ, ◌+◌, ◌<◌, drop, ◌++◌, Option, Some, None, get_or, length, sym, ap, ◌∙◌, subst}
+use Rattle.std.proofs.Common.{ℕ, ◌+◌, ◌<◌, drop, ◌++◌, Option, get_or, length, sym, ap, ◌∙◌, subst}
 use Rattle.std.specs.Option.{option_or}
-use Rattle.model.specs.declared.deed.Need.{Need}
-use Rattle.model.specs.declared.statement.Access.{Access}
+use Rattle.model_base.specs.declared.deed.Need.{Need}
+use Rattle.model_base.specs.declared.statement.Access.{Access}
 use Rattle.bohm.specs.Run.{missing_in}
 use Rattle.bohm.proofs.Executing.{missing_step}
 use Rattle.bohm.proofs.execution.missing.Goals as goal

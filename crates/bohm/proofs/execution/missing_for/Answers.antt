@@ -1,7 +1,7 @@
-use Rattle.std.proofs.Common.{◌≡◌, Bool, cond, not, None, sym, ap, ◌∙◌}
+use Rattle.std.proofs.Common.{Bool, cond, not, None, sym, ap, ◌∙◌}
 use Rattle.std.specs.Prelude.{slice_get}
 use Rattle.std.specs.Option.{option_map}
-use Rattle.model.specs.Outcomes.{need_of, kinds_in}
+use Rattle.model_base.specs.Outcomes.{need_of, kinds_in}
 use Rattle.bohm.proofs.Holding.{find-needs}
 use Rattle.bohm.proofs.execution.missing_for.Goals as goal
 

@@ -1,6 +1,5 @@
-use Rattle.std.proofs.Common.{subst, sym, length}
+use Rattle.std.proofs.Common.{subst, sym}
 use Rattle.body.specs.Premises.{IsRunnable}
-use Rattle.bohm.specs.Run.{IsWithin}
 use Rattle.body.specs.RowMap.{rows_of}
 use Rattle.bohm.proofs.Admitted.{advanced, runnable, within}
 use Rattle.bohm.proofs.plain.put_statement.Goals as goal

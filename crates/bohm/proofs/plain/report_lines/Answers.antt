@@ -1,4 +1,4 @@
-use Rattle.std.proofs.Common.{◌≡◌, ℕ, List, [], refl, sym, ap, ◌∙◌, subst, arith, rules, ◌++◌}
+use Rattle.std.proofs.Common.{ℕ, List, refl, ap, ◌∙◌, arith, rules, ◌++◌}
 use Rattle.log_text_base.specs.Ahead.{found_line}
 use Rattle.bohm.proofs.Beginnings.{report_start, report_step, report_written, begun_front, begun_piece, begun_start, ended_all}
 use Rattle.log_text.proofs.Total.{total}

@@ -1,9 +1,10 @@
-use Rattle.std.proofs.Common.{◌≡◌, List, ℕ, Option, None, true, refl, map, ap, ap₂, sym, ◌∙◌}
+use Rattle.std.proofs.Common.{subst, ◌≡◌, List, Option, None, true, refl, ap, ◌∙◌}
 use Rattle.std.specs.Prelude.{codes}
 use Rattle.std.specs.Option.{option_map_or}
-use Rattle.clap.specs.Words.{App, Row, Text, first_of, is_simple, subcommand_of}
+use Rattle.clap.specs.Words.{App, HasKind, Row, Text, fault_of, first_of, is_simple, is_simple_and_free, subcommand_of}
 use Rattle.clap.proofs.OnLiterals.{clap_on_literals}
 use Rattle.bohm.specs.Words.{bohm_app, texts_of}
+use Rattle.bohm.proofs.Telling.{told}
 use Rattle.bohm.proofs.words.read_words.Goals as goal
 
 simple : is_simple bohm_app ≡ true
@@ -16,3 +17,15 @@ returns-clause-file c =
     c.file_in-file.ensures
     ∙ ap (λ (o : Option (Text × List Row)). option_map_or (λ p. first_of (codes "FILE") p.1) o None)
     (found ∙ ap (λ (a : App). subcommand_of a (texts_of c.args.words.now)) c.in-Ok.ensures)
+
+simple_and_free : is_simple_and_free bohm_app ≡ true
+unfolding clap_on_literals
+simple_and_free = refl
+
+pub returns-in-Err-try_get_matches_from-clause-told : goal.returns-in-Err-try_get_matches_from-clause-told
+returns-in-Err-try_get_matches_from-clause-told c =
+    let error = c.in-Err-try_get_matches_from.error in
+    let has = c.in-Err-try_get_matches_from.ensures.kinds (ap is_simple_and_free c.in-Ok.ensures ∙ simple_and_free) in
+    told (fault_of bohm_app (texts_of c.args.words.now)) error c.usage_of.result
+    (subst (λ (a : App). HasKind (fault_of a (texts_of c.args.words.now)) error) c.in-Ok.ensures has)
+    c.usage_of.ensures.memory c.usage_of.ensures.told

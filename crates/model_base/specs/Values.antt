@@ -3,7 +3,7 @@
 use Rattle.std.specs.Prelude.{◌≡◌, ◌-◌, ◌≤◌, ◌++◌, ℤ, pos, List, length, take, replicate}
 use Rattle.std.proofs.Common.{arith, refl}
 use Rattle.std.proofs.lemmas.List.{length-take-le}
-use Rattle.model.specs.declared.row.Values.TheInside.{Inside}
+use Rattle.model_base.specs.declared.row.Values.TheInside.{Inside}
 
 -- the numbers that are seen
 abbrev pub values_of : Inside → List ℤ

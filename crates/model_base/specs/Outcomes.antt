@@ -4,23 +4,23 @@
 use Rattle.std.specs.Prelude.{ℕ, ◌+◌, ◌&&◌, not, true, false, Option, Some, None, List, [], ◌∷◌, ◌++◌, length, take, map, slice_get, if◌then◌else◌}
 use Rattle.std.specs.List.{flat_map, find}
 use Rattle.std.specs.Option.{option_map_or, option_map}
-use Rattle.model.specs.declared.deed.Kind.{Kind}
-use Rattle.model.specs.declared.deed.Kind.TheVariants.{Read, Insert, Update, Delete}
-use Rattle.model.specs.declared.deed.Kinds.{Kinds}
-use Rattle.model.specs.declared.deed.Need.{Need}
-use Rattle.model.specs.declared.deed.Cause.{Cause}
-use Rattle.model.specs.declared.deed.Cause.TheVariants.{Never, Taken}
-use Rattle.model.specs.declared.deed.Deed.{Deed}
-use Rattle.model.specs.declared.deed.Deed.TheVariants.{Granting, Revoking}
-use Rattle.model.specs.declared.statement.Access.{Access}
-use Rattle.model.specs.declared.statement.DeedForm.{DeedForm}
-use Rattle.model.specs.declared.statement.Form.{Form}
-use Rattle.model.specs.declared.statement.Statement.{Statement}
-use Rattle.model.specs.declared.outcome.DeedDone.{DeedDone}
-use Rattle.model.specs.declared.outcome.Outcome.{Outcome}
-use Rattle.model.specs.Rows.{Rows, no_rows}
-use Rattle.model.specs.Privileges.{has_kind, holds, ended_by, place_of}
-use Rattle.model.specs.Body.{Ending, completed, aborted, undeclared, meaning}
+use Rattle.model_base.specs.declared.deed.Kind.{Kind}
+use Rattle.model_base.specs.declared.deed.Kind.TheVariants.{Read, Insert, Update, Delete}
+use Rattle.model_base.specs.declared.deed.Kinds.{Kinds}
+use Rattle.model_base.specs.declared.deed.Need.{Need}
+use Rattle.model_base.specs.declared.deed.Cause.{Cause}
+use Rattle.model_base.specs.declared.deed.Cause.TheVariants.{Never, Taken}
+use Rattle.model_base.specs.declared.deed.Deed.{Deed}
+use Rattle.model_base.specs.declared.deed.Deed.TheVariants.{Granting, Revoking}
+use Rattle.model_base.specs.declared.statement.Access.{Access}
+use Rattle.model_base.specs.declared.statement.DeedForm.{DeedForm}
+use Rattle.model_base.specs.declared.statement.Form.{Form}
+use Rattle.model_base.specs.declared.statement.Statement.{Statement}
+use Rattle.model_base.specs.declared.outcome.DeedDone.{DeedDone}
+use Rattle.model_base.specs.declared.outcome.Outcome.{Outcome}
+use Rattle.model_base.specs.Rows.{Rows, no_rows}
+use Rattle.model_base.specs.Privileges.{has_kind, holds, ended_by, place_of}
+use Rattle.model_base.specs.Body.{Ending, completed, aborted, undeclared, meaning}
 
 -- the user who creates a table by the statement
 abbrev pub creator : ℕ → Form → List ℕ

@@ -6,14 +6,14 @@ use Rattle.std.specs.Prelude.{◌==◌, ◌<◌, ◌&&◌, ◌||◌, not, ℕ, B
 use Rattle.std.specs.Prelude.{All}
 use Rattle.std.specs.List.{list_any}
 use Rattle.std.specs.Option.{option_map_or}
-use Rattle.model.specs.declared.deed.Kind.{Kind}
-use Rattle.model.specs.declared.deed.Kind.TheVariants.{Read, Insert, Update, Delete}
-use Rattle.model.specs.declared.deed.Kinds.{Kinds}
-use Rattle.model.specs.declared.deed.Grant.{Grant}
-use Rattle.model.specs.declared.deed.Revocation.{Revocation}
-use Rattle.model.specs.declared.deed.Need.{Need}
-use Rattle.model.specs.declared.deed.Deed.{Deed}
-use Rattle.model.specs.declared.deed.Deed.TheVariants.{Granting, Revoking}
+use Rattle.model_base.specs.declared.deed.Kind.{Kind}
+use Rattle.model_base.specs.declared.deed.Kind.TheVariants.{Read, Insert, Update, Delete}
+use Rattle.model_base.specs.declared.deed.Kinds.{Kinds}
+use Rattle.model_base.specs.declared.deed.Grant.{Grant}
+use Rattle.model_base.specs.declared.deed.Revocation.{Revocation}
+use Rattle.model_base.specs.declared.deed.Need.{Need}
+use Rattle.model_base.specs.declared.deed.Deed.{Deed}
+use Rattle.model_base.specs.declared.deed.Deed.TheVariants.{Granting, Revoking}
 
 -- whether the kind is among these
 abbrev pub has_kind : Kinds → Kind → Bool

@@ -28,7 +28,7 @@ impl Model for Values {
 
     ghost Value = { List ℤ };
 
-    ghost use Rattle.model.specs.Values.{values_of, IsPadded, padded, padded-undoes};
+    ghost use Rattle.model_base.specs.Values.{values_of, IsPadded, padded, padded-undoes};
 
     ghost view = { values_of };
 

@@ -3,16 +3,16 @@
 use Rattle.std.specs.Prelude.{◌==◌, ◌&&◌, ℕ, zero, suc, ◌+◌, ◌^◌, Bool, false, Option, Some, None, List, [], ◌∷◌, ◌++◌, map, replicate, slice_index_or, slice_set, if◌then◌else◌, nat_lt, is_some, ℤ, pos, negsuc, ◌+ℤ◌, ◌-ℤ◌, ◌*ℤ◌, int_lt}
 use Rattle.std.specs.List.{find}
 use Rattle.std.specs.Ordering.{int_eq}
-use Rattle.model.specs.Rows.{Rows, with_row}
-use Rattle.model.specs.Privileges.{has_kind}
-use Rattle.model.specs.declared.deed.Kind.{Kind}
-use Rattle.model.specs.declared.deed.Kind.TheVariants.{Read, Insert, Update, Delete}
-use Rattle.model.specs.declared.statement.Access.{Access}
-use Rattle.model.specs.declared.statement.RowName.{RowName}
-use Rattle.model.specs.declared.statement.RowName.TheVariants.{Number, Held}
-use Rattle.model.specs.declared.statement.Step.{Step}
-use Rattle.model.specs.declared.outcome.Reason.{Reason}
-use Rattle.model.specs.declared.outcome.Reason.TheVariants.{NoRow, RowExists, Overflow, Check}
+use Rattle.model_base.specs.Rows.{Rows, with_row}
+use Rattle.model_base.specs.Privileges.{has_kind}
+use Rattle.model_base.specs.declared.deed.Kind.{Kind}
+use Rattle.model_base.specs.declared.deed.Kind.TheVariants.{Read, Insert, Update, Delete}
+use Rattle.model_base.specs.declared.statement.Access.{Access}
+use Rattle.model_base.specs.declared.statement.RowName.{RowName}
+use Rattle.model_base.specs.declared.statement.RowName.TheVariants.{Number, Held}
+use Rattle.model_base.specs.declared.statement.Step.{Step}
+use Rattle.model_base.specs.declared.outcome.Reason.{Reason}
+use Rattle.model_base.specs.declared.outcome.Reason.TheVariants.{NoRow, RowExists, Overflow, Check}
 
 -- what a body works on
 pub record Machine : Type 0 where

@@ -25,7 +25,7 @@ pub struct Kinds {
 
 impl Kinds {
     ghost use Rattle.std.specs.Prelude.{◌≡◌};
-    ghost use Rattle.model.specs.Privileges.{has_kind};
+    ghost use Rattle.model_base.specs.Privileges.{has_kind};
 
     /// Whether the kind is one of these.
     pub fn contains(&self, kind: Kind) -> bool

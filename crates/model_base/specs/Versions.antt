@@ -3,10 +3,10 @@
 -- before it is this project's own rule.
 use Rattle.std.specs.Prelude.{ℕ, ◌+◌, ◌||◌, Bool, Option, List, [], ℤ, map, filter, slice_get}
 use Rattle.std.specs.Option.{option_map_or}
-use Rattle.model.specs.declared.statement.Access.{Access}
-use Rattle.model.specs.declared.statement.Form.{Form}
-use Rattle.model.specs.declared.statement.Statement.{Statement}
-use Rattle.model.specs.Outcomes.{rows_before}
+use Rattle.model_base.specs.declared.statement.Access.{Access}
+use Rattle.model_base.specs.declared.statement.Form.{Form}
+use Rattle.model_base.specs.declared.statement.Statement.{Statement}
+use Rattle.model_base.specs.Outcomes.{rows_before}
 
 -- whether the access declares a kind that changes rows
 abbrev pub is_writing : Access → Bool
