@@ -1,5 +1,5 @@
 -- Which words of the command line are a command, and how the program ends: its exit status, and what it prints of a fault.
-use Rattle.std.specs.Prelude.{◌≡◌, ◌≢◌, ◌⊎◌, ℕ, List, Option, None, codes, map, string_bytes, true}
+use Rattle.std.specs.Prelude.{◌≡◌, ◌≢◌, ◌⊎◌, ℕ, List, Option, None, codes, map, string_bytes, true, IsSome}
 use Rattle.std.specs.Option.{option_map, option_map_or}
 use Rattle.clap.specs.Words.{App, IsAmong, Kinds, Text, first_of, new_app, new_rule, subcommand_of, with_rule, with_subcommand}
 use Rattle.clap.specs.declared.error.kind.ErrorKind.{ErrorKind}
@@ -18,6 +18,12 @@ Tells Usage.NoMemory kind = Unit {0}
 -- want of memory, or one of these kinds of error, told so
 abbrev pub TellsOneOf : Kinds → Usage → Type 0
 TellsOneOf kinds usage = (usage ≡ Usage.NoMemory) ⊎ ((kind : ErrorKind) × (IsAmong kind kinds × Tells usage kind))
+
+-- whether the run of a log may end so: only a file that was named can't be opened, and no words are judged any more
+abbrev pub EndsRun : {A : Type 0} → Option A → ProgramFault → Type 0
+EndsRun file (ProgramFault.Engine fault) = Unit {0}
+EndsRun file ProgramFault.Open = IsSome file
+EndsRun file (ProgramFault.Usage usage) = ⊥
 
 -- 0 where help was asked for, 2 for words that are wrong, and 1 for any other fault
 abbrev pub status_of : ProgramFault → ℕ

@@ -1,0 +1,8 @@
+-- What the state of a run stands for.
+use Rattle.model_base.specs.Outcomes.{World}
+use Rattle.body.specs.RowMap.{rows_of}
+use Rattle.model.specs.declared.state.State.{State}
+
+-- what stands before a place, as the state has it
+abbrev pub world_of : State → World
+world_of state = record { rows = rows_of state.rows; deeds = state.deeds.items }

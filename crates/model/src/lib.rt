@@ -1,0 +1,45 @@
+//! The slow serial run of a log: each place in turn, by replaying all that came before it.
+//!
+//! It follows the definitions of `model_base` one by one, so that it can be read beside them. What is held is found by
+//! making all deeds anew, and what took a privilege away by making each beginning of the deeds anew. The types of a log
+//! and of its outcomes are passed on.
+#![tactic(auto)]
+
+ghost use Rattle.std.specs.Prelude.{◌≡◌, ℕ, All, IfOk, slice_get};
+ghost use Rattle.model_base.specs.Outcomes.{outcome};
+ghost use Rattle.body.specs.Premises.{IsRunnable};
+
+mod deeds;
+mod needs;
+mod replay;
+mod state;
+#[cfg(test)]
+mod tests;
+
+pub use model_base::{
+    Access, Cause, Deed, DeedDone, DeedForm, Form, Grant, Items, Key, Kind, Kinds, Need, Outcome,
+    Outputs, Place, Reason, Register, Revocation, Row, RowName, RowNumber, Statement, Step, Table,
+    User, Values,
+};
+use replay::owners;
+use state::State;
+use std::alloc::{AllocError, Global};
+
+/// The outcome of each place of a log, found by following the definition: plain and slow.
+///
+/// What is held before a statement is found by making all deeds before it anew, which takes up to D² steps for D deeds.
+/// Where a statement is denied, that is done for each beginning of those deeds too, which takes up to D³. So N statements
+/// take up to N·D² steps and D³ for each denied one, and the bodies what `body::run_on` takes for them.
+pub fn serial(alloc: Global, statements: &[Statement]) -> Result<Vec<Outcome>, AllocError>
+    requires { All IsRunnable statements.now }
+    ensures { IfOk result (λ outcomes. (place : ℕ) → slice_get outcomes.items place ≡ outcome statements.now place) }
+{
+    let owners = owners(alloc, statements)?;
+    let mut state = State::new(alloc);
+    let mut outcomes = Vec::new(alloc);
+    for (place, statement) in statements.iter().enumerate() {
+        let outcome = state.execute(alloc, &owners, place as Place, statement)?;
+        outcomes.push(outcome)?;
+    }
+    Ok(outcomes)
+}
