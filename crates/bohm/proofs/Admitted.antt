@@ -49,17 +49,33 @@ steps-narrow : (names : Names) (steps : List RawStep) → AllByRecursion IsStep 
 steps-narrow names [] h = tt
 steps-narrow names (RawStep.Const to value ∷ steps) h = (tt, steps-narrow names steps h.1)
 steps-narrow names (RawStep.Add to left right ∷ steps) h = (tt, steps-narrow names steps h.1)
+steps-narrow names (RawStep.Sub to left right ∷ steps) h = (tt, steps-narrow names steps h.1)
+steps-narrow names (RawStep.Mul to left right ∷ steps) h = (tt, steps-narrow names steps h.1)
+steps-narrow names (RawStep.Less to left right ∷ steps) h = (tt, steps-narrow names steps h.1)
+steps-narrow names (RawStep.Same to left right ∷ steps) h = (tt, steps-narrow names steps h.1)
+steps-narrow names (RawStep.Has to table row ∷ steps) h = (tt, steps-narrow names steps h.1)
 steps-narrow names (RawStep.Load to table row column ∷ steps) h = (tt, steps-narrow names steps h.1)
 steps-narrow names (RawStep.Store table row column from ∷ steps) h = (tt, steps-narrow names steps h.1)
 steps-narrow names (RawStep.Insert table row from ∷ steps) h = (h.0.3, steps-narrow names steps h.1)
+steps-narrow names (RawStep.Delete table row ∷ steps) h = (tt, steps-narrow names steps h.1)
+steps-narrow names (RawStep.Check of ∷ steps) h = (tt, steps-narrow names steps h.1)
+steps-narrow names (RawStep.Skip of count ∷ steps) h = (tt, steps-narrow names steps h.1)
 steps-narrow names (RawStep.Out of ∷ steps) h = (tt, steps-narrow names steps h.1)
 
 step-outputs : (names : Names) (step : RawStep) → outputs_of (numbered_step names step) ≡ outs_of step
 step-outputs names (RawStep.Const to value) = refl
 step-outputs names (RawStep.Add to left right) = refl
+step-outputs names (RawStep.Sub to left right) = refl
+step-outputs names (RawStep.Mul to left right) = refl
+step-outputs names (RawStep.Less to left right) = refl
+step-outputs names (RawStep.Same to left right) = refl
+step-outputs names (RawStep.Has to table row) = refl
 step-outputs names (RawStep.Load to table row column) = refl
 step-outputs names (RawStep.Store table row column from) = refl
 step-outputs names (RawStep.Insert table row from) = refl
+step-outputs names (RawStep.Delete table row) = refl
+step-outputs names (RawStep.Check of) = refl
+step-outputs names (RawStep.Skip of steps) = refl
 step-outputs names (RawStep.Out of) = refl
 
 steps-outputs : (names : Names) (steps : List RawStep) → sum_by outputs_of (map (numbered_step names) steps) ≡ sum_by outs_of steps

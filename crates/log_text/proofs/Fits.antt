@@ -6,7 +6,7 @@ use Rattle.std.proofs.lemmas.List.Sums.{sum_by-cons}
 use Rattle.std.proofs.lemmas.Bool.{lt-ltb}
 use Rattle.log_text.specs.Words.{plain}
 use Rattle.log_text.specs.declared.statement.RawStep.{RawStep}
-use Rattle.log_text.specs.declared.statement.RawStep.TheVariants.{Const, Add, Load, Store, Insert, Out}
+use Rattle.log_text.specs.declared.statement.RawStep.TheVariants.{Const, Add, Sub, Mul, Less, Same, Has, Load, Store, Insert, Delete, Check, Skip, Out}
 use Rattle.log_text.specs.declared.statement.RawForm.{RawForm}
 use Rattle.log_text.specs.declared.statement.RawForm.TheVariants.{Create, Run}
 use Rattle.log_text.specs.Access.{access_fault, access_word, IsAccess}
@@ -57,6 +57,11 @@ step_fits : (s : RawStep) (ss : List RawStep) (n o : ℕ) → n < 64 → o + out
     fault_from (OfStep n o ∷ []) (step_words s ++ tails ss) ≡ fault_from (OfBar (n + 1) (o + outs_of s) ∷ []) (tails ss)
 step_fits (Const to value) ss n o low few h = rw (lt-ltb n 64 low, register_fits to h.0, whole_of_decimal value h.1, add-zero) refl
 step_fits (Add to left right) ss n o low few h = rw (lt-ltb n 64 low, register_fits to h.0, register_fits left h.1, register_fits right h.2, add-zero) refl
+step_fits (Sub to left right) ss n o low few h = rw (lt-ltb n 64 low, register_fits to h.0, register_fits left h.1, register_fits right h.2, add-zero) refl
+step_fits (Mul to left right) ss n o low few h = rw (lt-ltb n 64 low, register_fits to h.0, register_fits left h.1, register_fits right h.2, add-zero) refl
+step_fits (Less to left right) ss n o low few h = rw (lt-ltb n 64 low, register_fits to h.0, register_fits left h.1, register_fits right h.2, add-zero) refl
+step_fits (Same to left right) ss n o low few h = rw (lt-ltb n 64 low, register_fits to h.0, register_fits left h.1, register_fits right h.2, add-zero) refl
+step_fits (Has to table row) ss n o low few h = rw (lt-ltb n 64 low, register_fits to h.0, h.1, row_fits row h.2, add-zero) refl
 step_fits (Load to table row column) ss n o low few h =
     rw (lt-ltb n 64 low, register_fits to h.0, h.1, row_fits row h.2, plain_of_decimal column h.3, add-zero) refl
 step_fits (Store table row column from) ss n o low few h =
@@ -66,6 +71,9 @@ step_fits (Insert t r (x ∷ xs)) ss n o low few h =
     let p : fault_from (OfStep n o ∷ []) (step_words (Insert t r (x ∷ xs)) ++ tails ss) ≡ fault_from (OfMore 1 (n + 1) o ∷ []) (map decimal xs ++ tails ss) =
     rw (lt-ltb n 64 low, h.0, row_fits r h.1, register_fits x h.4.0) refl in
     p ∙ registers_fit xs 1 (n + 1) o ss (omega (arith, h.3)) h.4.1 ∙ ap (λ k. fault_from (OfBar (n + 1) k ∷ []) (tails ss)) (sym (add-zero o))
+step_fits (Delete table row) ss n o low few h = rw (lt-ltb n 64 low, h.0, row_fits row h.1, add-zero) refl
+step_fits (Check of) ss n o low few h = rw (lt-ltb n 64 low, register_fits of h, add-zero) refl
+step_fits (Skip of steps) ss n o low few h = rw (lt-ltb n 64 low, register_fits of h.0, plain_of_decimal steps h.1, add-zero) refl
 step_fits (Out of) ss n o low few h = rw (lt-ltb n 64 low, lt-ltb o 8 (omega arith), register_fits of h) refl
 
 steps_fit : (ss : List RawStep) (n o : ℕ) → n + length ss ≤ 64 → o + sum_by outs_of ss ≤ 8 → AllByRecursion IsStep ss → fault_from (OfBar n o ∷ []) (tails ss) ≡ None

@@ -5,7 +5,7 @@ use Rattle.std.specs.List.{AllByRecursion, flat_map, list_all}
 use Rattle.model_base.specs.declared.statement.RowName.{RowName}
 use Rattle.model_base.specs.declared.statement.RowName.TheVariants.{Number, Held}
 use Rattle.log_text.specs.declared.statement.RawStep.{RawStep}
-use Rattle.log_text.specs.declared.statement.RawStep.TheVariants.{Const, Add, Load, Store, Insert, Out}
+use Rattle.log_text.specs.declared.statement.RawStep.TheVariants.{Const, Add, Sub, Mul, Less, Same, Has, Load, Store, Insert, Delete, Check, Skip, Out}
 use Rattle.log_text.specs.declared.statement.RawForm.{RawForm}
 use Rattle.log_text.specs.declared.statement.RawForm.TheVariants.{Create, Run}
 use Rattle.log_text.specs.Access.{access_word, letters, letter_if, IsAccess}
@@ -56,9 +56,17 @@ row (Held n) h = printable_append (codes "r") (decimal n) refl (register n h)
 step : (s : RawStep) → IsStep s → AllByRecursion IsPrintable (step_words s)
 step (Const to value) h = (refl, (register to h.0, (printable_signed value h.1, tt)))
 step (Add to left right) h = (refl, (register to h.0, (register left h.1, (register right h.2, tt))))
+step (Sub to left right) h = (refl, (register to h.0, (register left h.1, (register right h.2, tt))))
+step (Mul to left right) h = (refl, (register to h.0, (register left h.1, (register right h.2, tt))))
+step (Less to left right) h = (refl, (register to h.0, (register left h.1, (register right h.2, tt))))
+step (Same to left right) h = (refl, (register to h.0, (register left h.1, (register right h.2, tt))))
+step (Has to table r) h = (refl, (register to h.0, (printable_name table h.1, (row r h.2, tt))))
 step (Load to table r column) h = (refl, (register to h.0, (printable_name table h.1, (row r h.2, (printable_decimal column (omega (arith, h.3)), tt)))))
 step (Store table r column from) h = (refl, (printable_name table h.0, (row r h.1, (printable_decimal column (omega (arith, h.2)), (register from h.3, tt)))))
 step (Insert table r from) h = (refl, (printable_name table h.0, (row r h.1, registers from h.4)))
+step (Delete table r) h = (refl, (printable_name table h.0, (row r h.1, tt)))
+step (Check of) h = (refl, (register of h, tt))
+step (Skip of steps) h = (refl, (register of h.0, (printable_decimal steps (omega (arith, h.1)), tt)))
 step (Out of) h = (refl, (register of h, tt))
 
 steps : (ss : List RawStep) → AllByRecursion IsStep ss → AllByRecursion IsPrintable (flat_map further_step ss)

@@ -9,7 +9,7 @@ use Rattle.log_text.specs.Words.{first_word}
 use Rattle.log_text.specs.Access.{access_word, IsAccess}
 use Rattle.log_text.specs.declared.access.RawAccess.{RawAccess}
 use Rattle.log_text.specs.declared.statement.RawStep.{RawStep}
-use Rattle.log_text.specs.declared.statement.RawStep.TheVariants.{Const, Add, Load, Store, Insert, Out}
+use Rattle.log_text.specs.declared.statement.RawStep.TheVariants.{Const, Add, Sub, Mul, Less, Same, Has, Load, Store, Insert, Delete, Check, Skip, Out}
 use Rattle.log_text.specs.declared.statement.RawForm.{RawForm}
 use Rattle.log_text.specs.declared.statement.RawForm.TheVariants.{Create, Run}
 use Rattle.log_text.specs.Statement.{further_step, step_words, row_word, form_words, IsFormInGrammar, IsStep, IsRegister}
@@ -52,9 +52,17 @@ one_registers (x ∷ xs) (y ∷ ys) ss ts h k e =
 head_name : (s : RawStep) (ss : List RawStep) → step_name (first_word (step_words s ++ tails ss)) ≡ step_name (first_word (step_words s))
 head_name (Const to value) ss = refl
 head_name (Add to left right) ss = refl
+head_name (Sub to left right) ss = refl
+head_name (Mul to left right) ss = refl
+head_name (Less to left right) ss = refl
+head_name (Same to left right) ss = refl
+head_name (Has to table row) ss = refl
 head_name (Load to table row column) ss = refl
 head_name (Store table row column from) ss = refl
 head_name (Insert table row from) ss = refl
+head_name (Delete table row) ss = refl
+head_name (Check of) ss = refl
+head_name (Skip of steps) ss = refl
 head_name (Out of) ss = refl
 
 -- equal words name the same kind of step
@@ -84,6 +92,50 @@ one_step (Add d a b) (Add x y z) ss ts h k e =
     let f3 = same_register b z h.2 k.2 e3 in
     (cc, cc)
 one_step (Add d a b) t ss ts h k e = absurd (let f = same_name (Add d a b) t ss ts e in cc)
+one_step (Sub d a b) (Sub x y z) ss ts h k e =
+    let e1 : decimal d ≡ decimal x = cc in
+    let e2 : decimal a ≡ decimal y = cc in
+    let e3 : decimal b ≡ decimal z = cc in
+    let f1 = same_register d x h.0 k.0 e1 in
+    let f2 = same_register a y h.1 k.1 e2 in
+    let f3 = same_register b z h.2 k.2 e3 in
+    (cc, cc)
+one_step (Sub d a b) t ss ts h k e = absurd (let f = same_name (Sub d a b) t ss ts e in cc)
+one_step (Mul d a b) (Mul x y z) ss ts h k e =
+    let e1 : decimal d ≡ decimal x = cc in
+    let e2 : decimal a ≡ decimal y = cc in
+    let e3 : decimal b ≡ decimal z = cc in
+    let f1 = same_register d x h.0 k.0 e1 in
+    let f2 = same_register a y h.1 k.1 e2 in
+    let f3 = same_register b z h.2 k.2 e3 in
+    (cc, cc)
+one_step (Mul d a b) t ss ts h k e = absurd (let f = same_name (Mul d a b) t ss ts e in cc)
+one_step (Less d a b) (Less x y z) ss ts h k e =
+    let e1 : decimal d ≡ decimal x = cc in
+    let e2 : decimal a ≡ decimal y = cc in
+    let e3 : decimal b ≡ decimal z = cc in
+    let f1 = same_register d x h.0 k.0 e1 in
+    let f2 = same_register a y h.1 k.1 e2 in
+    let f3 = same_register b z h.2 k.2 e3 in
+    (cc, cc)
+one_step (Less d a b) t ss ts h k e = absurd (let f = same_name (Less d a b) t ss ts e in cc)
+one_step (Same d a b) (Same x y z) ss ts h k e =
+    let e1 : decimal d ≡ decimal x = cc in
+    let e2 : decimal a ≡ decimal y = cc in
+    let e3 : decimal b ≡ decimal z = cc in
+    let f1 = same_register d x h.0 k.0 e1 in
+    let f2 = same_register a y h.1 k.1 e2 in
+    let f3 = same_register b z h.2 k.2 e3 in
+    (cc, cc)
+one_step (Same d a b) t ss ts h k e = absurd (let f = same_name (Same d a b) t ss ts e in cc)
+one_step (Has d t r) (Has x u q) ss ts h k e =
+    let e1 : decimal d ≡ decimal x = cc in
+    let e2 : t ≡ u = cc in
+    let e3 : row_word r ≡ row_word q = cc in
+    let f1 = same_register d x h.0 k.0 e1 in
+    let f3 = one_row r q h.2 k.2 e3 in
+    (cc, cc)
+one_step (Has d t r) u ss ts h k e = absurd (let f = same_name (Has d t r) u ss ts e in cc)
 one_step (Load d t r c) (Load x u q y) ss ts h k e =
     let e1 : decimal d ≡ decimal x = cc in
     let e2 : t ≡ u = cc in
@@ -112,6 +164,24 @@ one_step (Insert t r xs) (Insert u q ys) ss ts h k e =
     let p = one_registers xs ys ss ts h.4 k.4 rest in
     (cc, p.1)
 one_step (Insert t r xs) u ss ts h k e = absurd (let f = same_name (Insert t r xs) u ss ts e in cc)
+one_step (Delete t r) (Delete u q) ss ts h k e =
+    let e1 : t ≡ u = cc in
+    let e2 : row_word r ≡ row_word q = cc in
+    let f2 = one_row r q h.1 k.1 e2 in
+    (cc, cc)
+one_step (Delete t r) u ss ts h k e = absurd (let f = same_name (Delete t r) u ss ts e in cc)
+one_step (Check x) (Check y) ss ts h k e =
+    let e1 : decimal x ≡ decimal y = cc in
+    let f1 = same_register x y h k e1 in
+    (cc, cc)
+one_step (Check x) t ss ts h k e = absurd (let f = same_name (Check x) t ss ts e in cc)
+one_step (Skip x m) (Skip y n) ss ts h k e =
+    let e1 : decimal x ≡ decimal y = cc in
+    let e2 : decimal m ≡ decimal n = cc in
+    let f1 = same_register x y h.0 k.0 e1 in
+    let f2 = same_number m n h.1 k.1 e2 in
+    (cc, cc)
+one_step (Skip x m) t ss ts h k e = absurd (let f = same_name (Skip x m) t ss ts e in cc)
 one_step (Out x) (Out y) ss ts h k e =
     let e1 : decimal x ≡ decimal y = cc in
     let f1 = same_register x y h k e1 in

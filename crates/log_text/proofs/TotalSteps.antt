@@ -142,6 +142,61 @@ step_from fuel n o w ws (Some name.Add) read low is fits e steps few =
     let second = b.same in
     let third = c.same in
     record { step = step.Add a.value b.value c.value; left = c.rest; outs = o; outs_are = omega arith; further = t; same = cc; is = (a.good, b.good, c.good) }
+step_from fuel n o w ws (Some name.Sub) read low is fits e steps few =
+    let below = ltb-true n 64 (unless_none (ltb n 64) TooManySteps fits) in
+    let a = register_next (OfRegister ∷ OfRegister ∷ OfBar (n + 1) o ∷ []) ws e in
+    let b = register_next (OfRegister ∷ OfBar (n + 1) o ∷ []) a.rest a.goes in
+    let c = register_next (OfBar (n + 1) o ∷ []) b.rest b.goes in
+    let t = read (n + 1) o c.rest (omega (arith, low, ap length a.same, ap length b.same, ap length c.same)) (omega arith) few c.goes in
+    let word = (named_word w name.Sub is).0 in
+    let first = a.same in
+    let second = b.same in
+    let third = c.same in
+    record { step = step.Sub a.value b.value c.value; left = c.rest; outs = o; outs_are = omega arith; further = t; same = cc; is = (a.good, b.good, c.good) }
+step_from fuel n o w ws (Some name.Mul) read low is fits e steps few =
+    let below = ltb-true n 64 (unless_none (ltb n 64) TooManySteps fits) in
+    let a = register_next (OfRegister ∷ OfRegister ∷ OfBar (n + 1) o ∷ []) ws e in
+    let b = register_next (OfRegister ∷ OfBar (n + 1) o ∷ []) a.rest a.goes in
+    let c = register_next (OfBar (n + 1) o ∷ []) b.rest b.goes in
+    let t = read (n + 1) o c.rest (omega (arith, low, ap length a.same, ap length b.same, ap length c.same)) (omega arith) few c.goes in
+    let word = (named_word w name.Mul is).0 in
+    let first = a.same in
+    let second = b.same in
+    let third = c.same in
+    record { step = step.Mul a.value b.value c.value; left = c.rest; outs = o; outs_are = omega arith; further = t; same = cc; is = (a.good, b.good, c.good) }
+step_from fuel n o w ws (Some name.Less) read low is fits e steps few =
+    let below = ltb-true n 64 (unless_none (ltb n 64) TooManySteps fits) in
+    let a = register_next (OfRegister ∷ OfRegister ∷ OfBar (n + 1) o ∷ []) ws e in
+    let b = register_next (OfRegister ∷ OfBar (n + 1) o ∷ []) a.rest a.goes in
+    let c = register_next (OfBar (n + 1) o ∷ []) b.rest b.goes in
+    let t = read (n + 1) o c.rest (omega (arith, low, ap length a.same, ap length b.same, ap length c.same)) (omega arith) few c.goes in
+    let word = (named_word w name.Less is).0 in
+    let first = a.same in
+    let second = b.same in
+    let third = c.same in
+    record { step = step.Less a.value b.value c.value; left = c.rest; outs = o; outs_are = omega arith; further = t; same = cc; is = (a.good, b.good, c.good) }
+step_from fuel n o w ws (Some name.Same) read low is fits e steps few =
+    let below = ltb-true n 64 (unless_none (ltb n 64) TooManySteps fits) in
+    let a = register_next (OfRegister ∷ OfRegister ∷ OfBar (n + 1) o ∷ []) ws e in
+    let b = register_next (OfRegister ∷ OfBar (n + 1) o ∷ []) a.rest a.goes in
+    let c = register_next (OfBar (n + 1) o ∷ []) b.rest b.goes in
+    let t = read (n + 1) o c.rest (omega (arith, low, ap length a.same, ap length b.same, ap length c.same)) (omega arith) few c.goes in
+    let word = (named_word w name.Same is).0 in
+    let first = a.same in
+    let second = b.same in
+    let third = c.same in
+    record { step = step.Same a.value b.value c.value; left = c.rest; outs = o; outs_are = omega arith; further = t; same = cc; is = (a.good, b.good, c.good) }
+step_from fuel n o w ws (Some name.Has) read low is fits e steps few =
+    let below = ltb-true n 64 (unless_none (ltb n 64) TooManySteps fits) in
+    let a = register_next (OfName ∷ OfRow ∷ OfBar (n + 1) o ∷ []) ws e in
+    let b = name_next (OfRow ∷ OfBar (n + 1) o ∷ []) a.rest a.goes in
+    let c = row_next (OfBar (n + 1) o ∷ []) b.rest b.goes in
+    let t = read (n + 1) o c.rest (omega (arith, low, ap length a.same, ap length b.same, ap length c.same)) (omega arith) few c.goes in
+    let word = (named_word w name.Has is).0 in
+    let first = a.same in
+    let second = b.same in
+    let third = c.same in
+    record { step = step.Has a.value b.value c.value; left = c.rest; outs = o; outs_are = omega arith; further = t; same = cc; is = (a.good, b.good, c.good) }
 step_from fuel n o w ws (Some name.Load) read low is fits e steps few =
     let below = ltb-true n 64 (unless_none (ltb n 64) TooManySteps fits) in
     let a = register_next (OfName ∷ OfRow ∷ OfPlain ∷ OfBar (n + 1) o ∷ []) ws e in
@@ -188,6 +243,31 @@ step_from fuel n o w ws (Some name.Insert) read low is fits e steps few =
       same = cc;
       is = (a.good, b.good, omega arith, omega (arith, r.room), (c.good, r.each));
     }
+step_from fuel n o w ws (Some name.Delete) read low is fits e steps few =
+    let below = ltb-true n 64 (unless_none (ltb n 64) TooManySteps fits) in
+    let a = name_next (OfRow ∷ OfBar (n + 1) o ∷ []) ws e in
+    let b = row_next (OfBar (n + 1) o ∷ []) a.rest a.goes in
+    let t = read (n + 1) o b.rest (omega (arith, low, ap length a.same, ap length b.same)) (omega arith) few b.goes in
+    let word = (named_word w name.Delete is).0 in
+    let first = a.same in
+    let second = b.same in
+    record { step = step.Delete a.value b.value; left = b.rest; outs = o; outs_are = omega arith; further = t; same = cc; is = (a.good, b.good) }
+step_from fuel n o w ws (Some name.Check) read low is fits e steps few =
+    let below = ltb-true n 64 (unless_none (ltb n 64) TooManySteps fits) in
+    let a = register_next (OfBar (n + 1) o ∷ []) ws e in
+    let t = read (n + 1) o a.rest (omega (arith, low, ap length a.same)) (omega arith) few a.goes in
+    let word = (named_word w name.Check is).0 in
+    let first = a.same in
+    record { step = step.Check a.value; left = a.rest; outs = o; outs_are = omega arith; further = t; same = cc; is = a.good }
+step_from fuel n o w ws (Some name.Skip) read low is fits e steps few =
+    let below = ltb-true n 64 (unless_none (ltb n 64) TooManySteps fits) in
+    let a = register_next (OfPlain ∷ OfBar (n + 1) o ∷ []) ws e in
+    let b = plain_next (OfBar (n + 1) o ∷ []) a.rest a.goes in
+    let t = read (n + 1) o b.rest (omega (arith, low, ap length a.same, ap length b.same)) (omega arith) few b.goes in
+    let word = (named_word w name.Skip is).0 in
+    let first = a.same in
+    let second = b.same in
+    record { step = step.Skip a.value b.value; left = b.rest; outs = o; outs_are = omega arith; further = t; same = cc; is = (a.good, b.good) }
 step_from fuel n o w ws (Some name.Out) read low is fits e steps few =
     let both = and_parts (ltb n 64) (ltb o 8) (unless_none (ltb n 64 && ltb o 8) TooManySteps fits) in
     let below = ltb-true n 64 both.0 in

@@ -7,7 +7,7 @@ use Rattle.log_text.specs.Access.{access_fault}
 use Rattle.log_text.specs.declared.fault.LineFault.{LineFault}
 use Rattle.log_text.specs.declared.fault.LineFault.TheVariants.{TooLong, NotAscii, Empty, UnknownWord, BadNumber, BadName, TooManySteps, TooManyAccesses, BadRegister}
 use Rattle.log_text.specs.declared.step_name.StepName.{StepName}
-use Rattle.log_text.specs.declared.step_name.StepName.TheVariants.{Const, Add, Load, Store, Insert, Out}
+use Rattle.log_text.specs.declared.step_name.StepName.TheVariants.{Const, Add, Sub, Mul, Less, Same, Has, Load, Store, Insert, Delete, Check, Skip, Out}
 
 -- what may stand next in a line
 pub data Expected : Type 0 where
@@ -37,9 +37,17 @@ abbrev pub step_name : List ℕ → Option StepName
 step_name w =
     if bytes_eq w (codes "CONST") then Some Const
     else if bytes_eq w (codes "ADD") then Some Add
+    else if bytes_eq w (codes "SUB") then Some Sub
+    else if bytes_eq w (codes "MUL") then Some Mul
+    else if bytes_eq w (codes "LESS") then Some Less
+    else if bytes_eq w (codes "SAME") then Some Same
+    else if bytes_eq w (codes "HAS") then Some Has
     else if bytes_eq w (codes "LOAD") then Some Load
     else if bytes_eq w (codes "STORE") then Some Store
     else if bytes_eq w (codes "INSERT") then Some Insert
+    else if bytes_eq w (codes "DELETE") then Some Delete
+    else if bytes_eq w (codes "CHECK") then Some Check
+    else if bytes_eq w (codes "SKIP") then Some Skip
     else if bytes_eq w (codes "OUT") then Some Out
     else None
 
@@ -54,9 +62,17 @@ abbrev pub expected_in : Option StepName → ℕ → ℕ → List Expected
 expected_in None steps outs = []
 expected_in (Some Const) steps outs = OfRegister ∷ OfWhole ∷ OfBar (steps + 1) outs ∷ []
 expected_in (Some Add) steps outs = OfRegister ∷ OfRegister ∷ OfRegister ∷ OfBar (steps + 1) outs ∷ []
+expected_in (Some Sub) steps outs = OfRegister ∷ OfRegister ∷ OfRegister ∷ OfBar (steps + 1) outs ∷ []
+expected_in (Some Mul) steps outs = OfRegister ∷ OfRegister ∷ OfRegister ∷ OfBar (steps + 1) outs ∷ []
+expected_in (Some Less) steps outs = OfRegister ∷ OfRegister ∷ OfRegister ∷ OfBar (steps + 1) outs ∷ []
+expected_in (Some Same) steps outs = OfRegister ∷ OfRegister ∷ OfRegister ∷ OfBar (steps + 1) outs ∷ []
+expected_in (Some Has) steps outs = OfRegister ∷ OfName ∷ OfRow ∷ OfBar (steps + 1) outs ∷ []
 expected_in (Some Load) steps outs = OfRegister ∷ OfName ∷ OfRow ∷ OfPlain ∷ OfBar (steps + 1) outs ∷ []
 expected_in (Some Store) steps outs = OfName ∷ OfRow ∷ OfPlain ∷ OfRegister ∷ OfBar (steps + 1) outs ∷ []
 expected_in (Some Insert) steps outs = OfName ∷ OfRow ∷ OfRegister ∷ OfMore 1 (steps + 1) outs ∷ []
+expected_in (Some Delete) steps outs = OfName ∷ OfRow ∷ OfBar (steps + 1) outs ∷ []
+expected_in (Some Check) steps outs = OfRegister ∷ OfBar (steps + 1) outs ∷ []
+expected_in (Some Skip) steps outs = OfRegister ∷ OfPlain ∷ OfBar (steps + 1) outs ∷ []
 expected_in (Some Out) steps outs = OfRegister ∷ OfBar (steps + 1) (outs + 1) ∷ []
 
 abbrev pub register_fault : Option ℕ → Option LineFault

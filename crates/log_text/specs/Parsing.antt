@@ -7,15 +7,23 @@ use Rattle.log_text.specs.Fault.{OfStep, fault_from}
 use Rattle.log_text.specs.declared.fault.LineFault.{LineFault}
 use Rattle.log_text.specs.declared.statement.RawStep.{RawStep}
 use Rattle.log_text.specs.declared.step_name.StepName.{StepName}
-use Rattle.log_text.specs.declared.step_name.StepName.TheVariants.{Const, Add, Load, Store, Insert, Out}
+use Rattle.log_text.specs.declared.step_name.StepName.TheVariants.{Const, Add, Sub, Mul, Less, Same, Has, Load, Store, Insert, Delete, Check, Skip, Out}
 
 -- the word that names a step
 abbrev pub step_word : StepName → List ℕ
 step_word Const = codes "CONST"
 step_word Add = codes "ADD"
+step_word Sub = codes "SUB"
+step_word Mul = codes "MUL"
+step_word Less = codes "LESS"
+step_word Same = codes "SAME"
+step_word Has = codes "HAS"
 step_word Load = codes "LOAD"
 step_word Store = codes "STORE"
 step_word Insert = codes "INSERT"
+step_word Delete = codes "DELETE"
+step_word Check = codes "CHECK"
+step_word Skip = codes "SKIP"
 step_word Out = codes "OUT"
 
 -- the words begin with a step, and then come a bar and what is left, or nothing

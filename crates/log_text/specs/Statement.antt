@@ -9,7 +9,7 @@ use Rattle.log_text.specs.Access.{access_word, IsAccess}
 use Rattle.log_text.specs.declared.statement.RawForm.{RawForm}
 use Rattle.log_text.specs.declared.statement.RawForm.TheVariants.{Create, Run}
 use Rattle.log_text.specs.declared.statement.RawStep.{RawStep}
-use Rattle.log_text.specs.declared.statement.RawStep.TheVariants.{Const, Add, Load, Store, Insert, Out}
+use Rattle.log_text.specs.declared.statement.RawStep.TheVariants.{Const, Add, Sub, Mul, Less, Same, Has, Load, Store, Insert, Delete, Check, Skip, Out}
 
 -- a user, and what the user asks for
 pub record Sentence : Type 0 where
@@ -25,9 +25,17 @@ row_word (Held register) = codes "r" ++ decimal register
 abbrev pub step_words : RawStep → List (List ℕ)
 step_words (Const to value) = codes "CONST" ∷ decimal to ∷ signed_decimal value ∷ []
 step_words (Add to left right) = codes "ADD" ∷ decimal to ∷ decimal left ∷ decimal right ∷ []
+step_words (Sub to left right) = codes "SUB" ∷ decimal to ∷ decimal left ∷ decimal right ∷ []
+step_words (Mul to left right) = codes "MUL" ∷ decimal to ∷ decimal left ∷ decimal right ∷ []
+step_words (Less to left right) = codes "LESS" ∷ decimal to ∷ decimal left ∷ decimal right ∷ []
+step_words (Same to left right) = codes "SAME" ∷ decimal to ∷ decimal left ∷ decimal right ∷ []
+step_words (Has to table row) = codes "HAS" ∷ decimal to ∷ table ∷ row_word row ∷ []
 step_words (Load to table row column) = codes "LOAD" ∷ decimal to ∷ table ∷ row_word row ∷ decimal column ∷ []
 step_words (Store table row column from) = codes "STORE" ∷ table ∷ row_word row ∷ decimal column ∷ decimal from ∷ []
 step_words (Insert table row from) = codes "INSERT" ∷ table ∷ row_word row ∷ map decimal from
+step_words (Delete table row) = codes "DELETE" ∷ table ∷ row_word row ∷ []
+step_words (Check of) = codes "CHECK" ∷ decimal of ∷ []
+step_words (Skip of steps) = codes "SKIP" ∷ decimal of ∷ decimal steps ∷ []
 step_words (Out of) = codes "OUT" ∷ decimal of ∷ []
 
 -- " | " step
@@ -60,19 +68,23 @@ IsRow (Held register) = IsRegister register
 abbrev pub IsStep : RawStep → Type 0
 IsStep (Const to value) = IsRegister to × IsTrue (fits_64_bits value)
 IsStep (Add to left right) = IsRegister to × IsRegister left × IsRegister right
+IsStep (Sub to left right) = IsRegister to × IsRegister left × IsRegister right
+IsStep (Mul to left right) = IsRegister to × IsRegister left × IsRegister right
+IsStep (Less to left right) = IsRegister to × IsRegister left × IsRegister right
+IsStep (Same to left right) = IsRegister to × IsRegister left × IsRegister right
+IsStep (Has to table row) = IsRegister to × IsTrue (is_name table) × IsRow row
 IsStep (Load to table row column) = IsRegister to × IsTrue (is_name table) × IsRow row × (column < 2 ^ 32)
 IsStep (Store table row column from) = IsTrue (is_name table) × IsRow row × (column < 2 ^ 32) × IsRegister from
 IsStep (Insert table row from) = IsTrue (is_name table) × IsRow row × (1 ≤ length from) × (length from ≤ 8) × AllByRecursion IsRegister from
+IsStep (Delete table row) = IsTrue (is_name table) × IsRow row
+IsStep (Check of) = IsRegister of
+IsStep (Skip of steps) = IsRegister of × (steps < 2 ^ 32)
 IsStep (Out of) = IsRegister of
 
 -- how many outputs a step makes
 abbrev pub outs_of : RawStep → ℕ
-outs_of (Const to value) = 0
-outs_of (Add to left right) = 0
-outs_of (Load to table row column) = 0
-outs_of (Store table row column from) = 0
-outs_of (Insert table row from) = 0
 outs_of (Out of) = 1
+outs_of _ = 0
 
 -- a table with a number of columns below 2^32, or 1 to 16 accesses and at most 64 steps, at most 8 of them OUT
 abbrev pub IsFormInGrammar : RawForm → Type 0

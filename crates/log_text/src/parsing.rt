@@ -1,9 +1,11 @@
 //! Lines read as statements.
 
 mod accesses;
+mod computing;
 mod form;
 mod line;
 mod places;
 mod steps;
+mod touching;
 
 pub use line::{one_spelling, parse_line};

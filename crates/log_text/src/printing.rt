@@ -1,10 +1,11 @@
 //! Statements printed as the lines that they were read from.
-ghost use Rattle.std.specs.Prelude.{◌≡◌, ◌++◌, ◌<◌, IfOk, OnOk, List, ℕ, string_bytes, codes, map};
+ghost use Rattle.std.specs.Prelude.{◌≡◌, ◌++◌, ◌∷◌, [], ◌<◌, IfOk, OnOk, List, ℕ, string_bytes, codes, map};
 ghost use Rattle.std.specs.Fmt.{decimal};
 ghost use Rattle.std.specs.List.{flat_map};
 ghost use Rattle.log_text.specs.Access.{letters, letter_if, access_word};
 ghost use Rattle.log_text.specs.Statement.{spelling, further_step, row_word, Reads};
 ghost use Rattle.log_text.specs.Parsing.{spaced};
+ghost use Rattle.log_text.specs.declared.statement.RawStep.{RawStep};
 
 use crate::access::RawAccess;
 use crate::name::Name;
@@ -37,53 +38,140 @@ fn push_registers(text: &mut String, registers: &[Register]) -> Result<(), Alloc
     Ok(())
 }
 
+/// Appends a bar and a CONST.
+fn push_constant(text: &mut String, to: Register, value: i64) -> Result<(), AllocError>
+    ensures { OnOk result (string_bytes text.new ≡ string_bytes text.old ++ spaced (further_step (RawStep.Const to value))) }
+{
+    write!(text, " | CONST {} {value}", to.index())?;
+    Ok(())
+}
+
+/// Appends a bar, and a step that puts what it computes of two registers into a third.
+fn push_operation(
+    text: &mut String,
+    word: &str,
+    to: Register,
+    left: Register,
+    right: Register,
+) -> Result<(), AllocError>
+    ensures { OnOk result (string_bytes text.new ≡ string_bytes text.old ++ spaced (codes "|" ∷ word.now ∷ decimal to ∷ decimal left ∷ decimal right ∷ [])) }
+{
+    let (to, left, right) = (to.index(), left.index(), right.index());
+    write!(text, " | {word} {to} {left} {right}")?;
+    Ok(())
+}
+
+/// Appends a bar and a HAS.
+fn push_has(text: &mut String, to: Register, table: &Name, row: RowName) -> Result<(), AllocError>
+    ensures { OnOk result (string_bytes text.new ≡ string_bytes text.old ++ spaced (further_step (RawStep.Has to table.now row))) }
+{
+    write!(text, " | HAS {} {table} ", to.index())?;
+    push_row(text, row)?;
+    Ok(())
+}
+
+/// Appends a bar and a LOAD.
+fn push_load(
+    text: &mut String,
+    to: Register,
+    table: &Name,
+    row: RowName,
+    column: u32,
+) -> Result<(), AllocError>
+    ensures { OnOk result (string_bytes text.new ≡ string_bytes text.old ++ spaced (further_step (RawStep.Load to table.now row column))) }
+{
+    write!(text, " | LOAD {} {table} ", to.index())?;
+    push_row(text, row)?;
+    write!(text, " {column}")?;
+    Ok(())
+}
+
+/// Appends a bar and a STORE.
+fn push_store(
+    text: &mut String,
+    table: &Name,
+    row: RowName,
+    column: u32,
+    from: Register,
+) -> Result<(), AllocError>
+    ensures { OnOk result (string_bytes text.new ≡ string_bytes text.old ++ spaced (further_step (RawStep.Store table.now row column from))) }
+{
+    write!(text, " | STORE {table} ")?;
+    push_row(text, row)?;
+    write!(text, " {column} {}", from.index())?;
+    Ok(())
+}
+
+/// Appends a bar and an INSERT.
+fn push_insert(
+    text: &mut String,
+    table: &Name,
+    row: RowName,
+    from: &[Register],
+) -> Result<(), AllocError>
+    ensures { OnOk result (string_bytes text.new ≡ string_bytes text.old ++ spaced (codes "|" ∷ codes "INSERT" ∷ table.now ∷ row_word row ∷ map decimal from.now)) }
+{
+    write!(text, " | INSERT {table} ")?;
+    push_row(text, row)?;
+    push_registers(text, from)?;
+    Ok(())
+}
+
+/// Appends a bar and a DELETE.
+fn push_delete(text: &mut String, table: &Name, row: RowName) -> Result<(), AllocError>
+    ensures { OnOk result (string_bytes text.new ≡ string_bytes text.old ++ spaced (further_step (RawStep.Delete table.now row))) }
+{
+    write!(text, " | DELETE {table} ")?;
+    push_row(text, row)?;
+    Ok(())
+}
+
+/// Appends a bar, and a step of one register.
+fn push_use(text: &mut String, word: &str, of: Register) -> Result<(), AllocError>
+    ensures { OnOk result (string_bytes text.new ≡ string_bytes text.old ++ spaced (codes "|" ∷ word.now ∷ decimal of ∷ [])) }
+{
+    write!(text, " | {word} {}", of.index())?;
+    Ok(())
+}
+
+/// Appends a bar and a SKIP.
+fn push_skip(text: &mut String, of: Register, steps: u32) -> Result<(), AllocError>
+    ensures { OnOk result (string_bytes text.new ≡ string_bytes text.old ++ spaced (further_step (RawStep.Skip of steps))) }
+{
+    write!(text, " | SKIP {} {steps}", of.index())?;
+    Ok(())
+}
+
 /// Appends a bar and the step.
 fn push_step(text: &mut String, step: &RawStep) -> Result<(), AllocError>
     ensures { OnOk result (string_bytes text.new ≡ string_bytes text.old ++ spaced (further_step step.now)) }
 {
     match step {
-        RawStep::Const { to, value } => {
-            write!(text, " | CONST {} {value}", to.index())?;
-        }
-        RawStep::Add { to, left, right } => {
-            write!(
-                text,
-                " | ADD {} {} {}",
-                to.index(),
-                left.index(),
-                right.index()
-            )?;
-        }
+        RawStep::Const { to, value } => push_constant(text, *to, *value),
+        RawStep::Add { to, left, right } => push_operation(text, "ADD", *to, *left, *right),
+        RawStep::Sub { to, left, right } => push_operation(text, "SUB", *to, *left, *right),
+        RawStep::Mul { to, left, right } => push_operation(text, "MUL", *to, *left, *right),
+        RawStep::Less { to, left, right } => push_operation(text, "LESS", *to, *left, *right),
+        RawStep::Same { to, left, right } => push_operation(text, "SAME", *to, *left, *right),
+        RawStep::Has { to, table, row } => push_has(text, *to, table, *row),
         RawStep::Load {
             to,
             table,
             row,
             column,
-        } => {
-            write!(text, " | LOAD {} {table} ", to.index())?;
-            push_row(text, *row)?;
-            write!(text, " {column}")?;
-        }
+        } => push_load(text, *to, table, *row, *column),
         RawStep::Store {
             table,
             row,
             column,
             from,
-        } => {
-            write!(text, " | STORE {table} ")?;
-            push_row(text, *row)?;
-            write!(text, " {column} {}", from.index())?;
-        }
-        RawStep::Insert { table, row, from } => {
-            write!(text, " | INSERT {table} ")?;
-            push_row(text, *row)?;
-            push_registers(text, from.as_slice())?;
-        }
-        RawStep::Out { of } => {
-            write!(text, " | OUT {}", of.index())?;
-        }
+        } => push_store(text, table, *row, *column, *from),
+        RawStep::Insert { table, row, from } => push_insert(text, table, *row, from.as_slice()),
+        RawStep::Delete { table, row } => push_delete(text, table, *row),
+        RawStep::Check { of } => push_use(text, "CHECK", *of),
+        RawStep::Skip { of, steps } => push_skip(text, *of, *steps),
+        RawStep::Out { of } => push_use(text, "OUT", *of),
     }
-    Ok(())
 }
 
 /// Appends the letter, if it is wanted.

@@ -17,6 +17,31 @@ pub enum RawStep {
         left: Register,
         right: Register,
     },
+    Sub {
+        to: Register,
+        left: Register,
+        right: Register,
+    },
+    Mul {
+        to: Register,
+        left: Register,
+        right: Register,
+    },
+    Less {
+        to: Register,
+        left: Register,
+        right: Register,
+    },
+    Same {
+        to: Register,
+        left: Register,
+        right: Register,
+    },
+    Has {
+        to: Register,
+        table: Name,
+        row: RowName,
+    },
     Load {
         to: Register,
         table: Name,
@@ -34,6 +59,17 @@ pub enum RawStep {
         table: Name,
         row: RowName,
         from: Items<Register>,
+    },
+    Delete {
+        table: Name,
+        row: RowName,
+    },
+    Check {
+        of: Register,
+    },
+    Skip {
+        of: Register,
+        steps: u32,
     },
     Out {
         of: Register,

@@ -6,9 +6,17 @@ ghost use Rattle.std.specs.Prelude.{◌≡◌};
 pub(crate) enum StepName {
     Const,
     Add,
+    Sub,
+    Mul,
+    Less,
+    Same,
+    Has,
     Load,
     Store,
     Insert,
+    Delete,
+    Check,
+    Skip,
     Out,
 }
 
@@ -16,27 +24,26 @@ impl StepName {
     ghost use Rattle.log_text.specs.Fault.{step_name};
 
     /// The step that a word names.
+    #[tactic(auto, using(crate::proofs::StepNames::named_insert, crate::proofs::StepNames::named_delete))]
     pub(crate) fn of(word: &[u8]) -> Option<StepName>
         ensures { result ≡ step_name word.now }
     {
-        if word == b"CONST".as_slice() {
-            return Some(StepName::Const);
+        match word {
+            b"CONST" => Some(StepName::Const),
+            b"ADD" => Some(StepName::Add),
+            b"SUB" => Some(StepName::Sub),
+            b"MUL" => Some(StepName::Mul),
+            b"LESS" => Some(StepName::Less),
+            b"SAME" => Some(StepName::Same),
+            b"HAS" => Some(StepName::Has),
+            b"LOAD" => Some(StepName::Load),
+            b"STORE" => Some(StepName::Store),
+            b"INSERT" => Some(StepName::Insert),
+            b"DELETE" => Some(StepName::Delete),
+            b"CHECK" => Some(StepName::Check),
+            b"SKIP" => Some(StepName::Skip),
+            b"OUT" => Some(StepName::Out),
+            _ => None,
         }
-        if word == b"ADD".as_slice() {
-            return Some(StepName::Add);
-        }
-        if word == b"LOAD".as_slice() {
-            return Some(StepName::Load);
-        }
-        if word == b"STORE".as_slice() {
-            return Some(StepName::Store);
-        }
-        if word == b"INSERT".as_slice() {
-            return Some(StepName::Insert);
-        }
-        if word == b"OUT".as_slice() {
-            return Some(StepName::Out);
-        }
-        None
     }
 }

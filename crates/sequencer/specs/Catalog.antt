@@ -32,9 +32,17 @@ numbered_access names access =
 abbrev pub numbered_step : Names → RawStep → Step
 numbered_step names (RawStep.Const to value) = Step.Const to value
 numbered_step names (RawStep.Add to left right) = Step.Add to left right
+numbered_step names (RawStep.Sub to left right) = Step.Sub to left right
+numbered_step names (RawStep.Mul to left right) = Step.Mul to left right
+numbered_step names (RawStep.Less to left right) = Step.Less to left right
+numbered_step names (RawStep.Same to left right) = Step.Same to left right
+numbered_step names (RawStep.Has to table row) = Step.Has to (number_of names.tables table) row
 numbered_step names (RawStep.Load to table row column) = Step.Load to (number_of names.tables table) row column
 numbered_step names (RawStep.Store table row column from) = Step.Store (number_of names.tables table) row column from
 numbered_step names (RawStep.Insert table row from) = Step.Insert (number_of names.tables table) row from
+numbered_step names (RawStep.Delete table row) = Step.Delete (number_of names.tables table) row
+numbered_step names (RawStep.Check of) = Step.Check of
+numbered_step names (RawStep.Skip of steps) = Step.Skip of steps
 numbered_step names (RawStep.Out of) = Step.Out of
 
 -- what a statement asks for, with its tables by number

@@ -8,7 +8,7 @@ use Rattle.log_text.specs.declared.statement.RawStep.{RawStep}
 use Rattle.sequencer.specs.Names.{is_known, number_of}
 use Rattle.sequencer.specs.Catalog.{Names}
 use Rattle.sequencer.specs.declared.refused.Refused.{Refused}
-use Rattle.sequencer.specs.declared.refused.Refused.TheVariants.{UnknownTable, TableExists, BadColumns, DuplicateAccess, BadColumnNumber, LogFull, TooManyNames, NoMemory}
+use Rattle.sequencer.specs.declared.refused.Refused.TheVariants.{UnknownTable, TableExists, BadColumns, DuplicateAccess, BadColumnNumber, SkipPastEnd, LogFull, TooManyNames, NoMemory}
 
 -- a test that isn't passed refuses, and then a later one isn't asked
 abbrev pub unless : Bool → Refused → Option Refused
@@ -48,19 +48,32 @@ abbrev pub width_refusal : Names → List ℕ → ℕ → Option Refused
 width_refusal names table width =
     or_else (unless (is_known names.tables table) UnknownTable) (unless (width == columns_of names table) BadColumns)
 
--- a step names a known table, a column that the table has, and as many registers for a new row as it has columns
-abbrev pub step_refusal : Names → RawStep → Option Refused
-step_refusal names (RawStep.Const to value) = None
-step_refusal names (RawStep.Add to left right) = None
-step_refusal names (RawStep.Load to table row column) = column_refusal names table column
-step_refusal names (RawStep.Store table row column from) = column_refusal names table column
-step_refusal names (RawStep.Insert table row from) = width_refusal names table (length from)
-step_refusal names (RawStep.Out of) = None
+-- the table of this name, which is known
+abbrev pub known_refusal : Names → List ℕ → Option Refused
+known_refusal names table = unless (is_known names.tables table) UnknownTable
+
+-- a step behind which there are so many names a known table, a column that the table has, and as many registers for a new
+-- row as it has columns; and it passes over no more steps than there are
+abbrev pub step_refusal : Names → ℕ → RawStep → Option Refused
+step_refusal names later (RawStep.Has to table row) = known_refusal names table
+step_refusal names later (RawStep.Load to table row column) = column_refusal names table column
+step_refusal names later (RawStep.Store table row column from) = column_refusal names table column
+step_refusal names later (RawStep.Insert table row from) = width_refusal names table (length from)
+step_refusal names later (RawStep.Delete table row) = known_refusal names table
+step_refusal names later (RawStep.Skip of steps) = unless (nat_le steps later) SkipPastEnd
+step_refusal names later (RawStep.Const to value) = None
+step_refusal names later (RawStep.Add to left right) = None
+step_refusal names later (RawStep.Sub to left right) = None
+step_refusal names later (RawStep.Mul to left right) = None
+step_refusal names later (RawStep.Less to left right) = None
+step_refusal names later (RawStep.Same to left right) = None
+step_refusal names later (RawStep.Check of) = None
+step_refusal names later (RawStep.Out of) = None
 
 -- the steps from left to right
 abbrev pub steps_refusal : Names → List RawStep → Option Refused
 steps_refusal names [] = None
-steps_refusal names (step ∷ steps) = or_else (step_refusal names step) (steps_refusal names steps)
+steps_refusal names (step ∷ steps) = or_else (step_refusal names (length steps) step) (steps_refusal names steps)
 
 -- a new table has a new name, and one to eight columns
 abbrev pub create_refusal : Names → List ℕ → ℕ → Option Refused

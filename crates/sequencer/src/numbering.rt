@@ -2,14 +2,16 @@
 
 ghost use Rattle.std.specs.Prelude.{◌≡◌, ◌≤◌, [], length, map, IfOk, vec_capacity};
 ghost use Rattle.sequencer.specs.Catalog.{numbered_access, numbered_step};
-ghost use Rattle.sequencer.specs.Refusal.{IsAnswerOf, access_refusal, accesses_refusal, step_refusal, steps_refusal};
+ghost use Rattle.sequencer.specs.Names.{number_of};
+ghost use Rattle.sequencer.specs.Refusal.{IsAnswerOf, access_refusal, accesses_refusal, column_refusal, step_refusal, steps_refusal};
+ghost use Rattle.model_base.specs.declared.statement.Step.{Step};
 ghost use Rattle.sequencer.specs.Known.{HasRoom};
 
 use crate::catalog::Catalog;
 use crate::refused::Refused;
-use crate::testing::is_repeated;
-use log_text::{RawAccess, RawForm, RawStep};
-use model_base::{Access, Items, Key, Step};
+use crate::testing::{is_repeated, test_skip};
+use log_text::{Name, RawAccess, RawForm, RawStep};
+use model_base::{Access, Items, Key, Register, RowName, Step};
 use std::alloc::{AllocError, Global};
 
 /// Where the accesses and the steps of a statement go, with their tables by number.
@@ -71,40 +73,85 @@ impl Catalog {
         Ok(Items::new(found))
     }
 
-    /// The step with its table by number. It has to fit the table.
-    fn numbered_step(&self, step: RawStep) -> Result<Step, Refused>
-        ensures { IsAnswerOf result (step_refusal self.now step) (numbered_step self.now step) }
+    /// A LOAD with its table by number. The table has to be known, and to have the column.
+    fn numbered_load(
+        &self,
+        to: Register,
+        table: &Name,
+        row: RowName,
+        column: u32,
+    ) -> Result<Step, Refused>
+        ensures { IsAnswerOf result (column_refusal self.now table.now column) (Step.Load to (number_of self.now.tables table.now) row column) }
+    {
+        let table = self.table_with_column(table, column)?;
+        Ok(Step::Load {
+            to,
+            table,
+            row,
+            column,
+        })
+    }
+
+    /// A STORE with its table by number. The table has to be known, and to have the column.
+    fn numbered_store(
+        &self,
+        table: &Name,
+        row: RowName,
+        column: u32,
+        from: Register,
+    ) -> Result<Step, Refused>
+        ensures { IsAnswerOf result (column_refusal self.now table.now column) (Step.Store (number_of self.now.tables table.now) row column from) }
+    {
+        let table = self.table_with_column(table, column)?;
+        Ok(Step::Store {
+            table,
+            row,
+            column,
+            from,
+        })
+    }
+
+    /// The step with its table by number, where so many steps come later. It has to fit the table, and to pass over no
+    /// more steps than there are.
+    fn numbered_step(&self, later: usize, step: RawStep) -> Result<Step, Refused>
+        ensures { IsAnswerOf result (step_refusal self.now later step) (numbered_step self.now step) }
     {
         Ok(match step {
             RawStep::Const { to, value } => Step::Const { to, value },
             RawStep::Add { to, left, right } => Step::Add { to, left, right },
+            RawStep::Sub { to, left, right } => Step::Sub { to, left, right },
+            RawStep::Mul { to, left, right } => Step::Mul { to, left, right },
+            RawStep::Less { to, left, right } => Step::Less { to, left, right },
+            RawStep::Same { to, left, right } => Step::Same { to, left, right },
+            RawStep::Has { to, table, row } => {
+                let table = self.known_table(&table)?;
+                Step::Has { to, table, row }
+            }
             RawStep::Load {
                 to,
                 table,
                 row,
                 column,
-            } => Step::Load {
-                to,
-                table: self.table_with_column(&table, column)?,
-                row,
-                column,
-            },
+            } => self.numbered_load(to, &table, row, column)?,
             RawStep::Store {
                 table,
                 row,
                 column,
                 from,
-            } => Step::Store {
-                table: self.table_with_column(&table, column)?,
-                row,
-                column,
-                from,
-            },
-            RawStep::Insert { table, row, from } => Step::Insert {
-                table: self.table_of_width(&table, from.as_slice().len())?,
-                row,
-                from,
-            },
+            } => self.numbered_store(&table, row, column, from)?,
+            RawStep::Insert { table, row, from } => {
+                let table = self.table_of_width(&table, from.as_slice().len())?;
+                Step::Insert { table, row, from }
+            }
+            RawStep::Delete { table, row } => {
+                let table = self.known_table(&table)?;
+                Step::Delete { table, row }
+            }
+            RawStep::Check { of } => Step::Check { of },
+            RawStep::Skip { of, steps } => {
+                test_skip(steps, later)?;
+                Step::Skip { of, steps }
+            }
             RawStep::Out { of } => Step::Out { of },
         })
     }
@@ -119,8 +166,10 @@ impl Catalog {
         requires room { length steps ≤ vec_capacity found }
         ensures { IsAnswerOf result (steps_refusal self.now steps) (map (numbered_step self.now) steps) }
     {
+        let mut later = steps.as_slice().len();
         for step in steps.into_vec() {
-            found.push_reserved(self.numbered_step(step)?);
+            later -= 1;
+            found.push_reserved(self.numbered_step(later, step)?);
         }
         Ok(Items::new(found))
     }

@@ -1,6 +1,6 @@
 //! The tests that a statement has to pass, in their order.
 
-ghost use Rattle.std.specs.Prelude.{◌≡◌, ◌<◌, [], length, IfOk};
+ghost use Rattle.std.specs.Prelude.{◌≡◌, ◌<◌, [], length, nat_le, IfOk};
 ghost use Rattle.std.specs.List.{list_any};
 ghost use Rattle.sequencer.specs.Names.{is_known, number_of};
 ghost use Rattle.sequencer.specs.Refusal.{IsAnswer, IsAnswerOf, IsRefusal, accesses_refusal, column_refusal, create_refusal, form_refusal, name_refusal, refusal, same_row, step_refusal, steps_refusal, table_refusal, unless, width_refusal};
@@ -33,6 +33,16 @@ pub(crate) fn test_name(names: &NameTable, name: &str) -> Result<(), Refused>
         return Ok(());
     }
     Err(Refused::TooManyNames)
+}
+
+/// A SKIP has to pass over no more steps than there are behind it.
+pub(crate) fn test_skip(steps: u32, later: usize) -> Result<(), Refused>
+    ensures { IsAnswer result (unless (nat_le steps later) Refused.SkipPastEnd) }
+{
+    if steps as usize <= later {
+        return Ok(());
+    }
+    Err(Refused::SkipPastEnd)
 }
 
 impl Catalog {
@@ -79,12 +89,16 @@ impl Catalog {
         Err(Refused::BadColumns)
     }
 
-    /// A step has to fit the table that it names.
-    fn test_step(&self, step: &RawStep) -> Result<(), Refused>
-        ensures { IsAnswer result (step_refusal self.now step.now) }
+    /// A step, behind which there are so many, has to fit the table that it names, and to pass over no more steps than
+    /// there are.
+    fn test_step(&self, later: usize, step: &RawStep) -> Result<(), Refused>
+        ensures { IsAnswer result (step_refusal self.now later step.now) }
     {
         match step {
-            RawStep::Const { .. } | RawStep::Add { .. } | RawStep::Out { .. } => Ok(()),
+            RawStep::Has { table, .. } | RawStep::Delete { table, .. } => {
+                self.known_table(table)?;
+                Ok(())
+            }
             RawStep::Load { table, column, .. } | RawStep::Store { table, column, .. } => {
                 self.table_with_column(table, *column)?;
                 Ok(())
@@ -93,6 +107,8 @@ impl Catalog {
                 self.table_of_width(table, from.as_slice().len())?;
                 Ok(())
             }
+            RawStep::Skip { steps, .. } => test_skip(*steps, later),
+            _ => Ok(()),
         }
     }
 
@@ -100,8 +116,8 @@ impl Catalog {
     fn test_steps(&self, steps: &[RawStep]) -> Result<(), Refused>
         ensures { IsAnswer result (steps_refusal self.now steps.now) }
     {
-        for step in steps {
-            self.test_step(step)?;
+        for (index, step) in steps.iter().enumerate() {
+            self.test_step(steps.len() - index - 1, step)?;
         }
         Ok(())
     }

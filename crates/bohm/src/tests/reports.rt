@@ -19,7 +19,7 @@ const FIRST: (&str, &str) = (
 
 const REFUSED: (&str, &str) = (
     "alice CREATE t 0\nalice CREATE t 2\nbob CREATE t 1\nalice RUN t:1:R t:1:U\nalice RUN t:1:R | LOAD 0 t 1 2\nalice RUN t:1:I | INSERT t 1 0\nalice RUN t:1:R | SKIP 0 1\nalice GRANT READ u bob\nalice RUN t:1:RI | OUT 16\n\nalice  CREATE u 1\nAlice CREATE u 1\nalice RUN t:01:R\nalice RUN t:1:UR\nalice GRANT READ t bob option\nalice RUN t:1:R\n",
-    "line 1 refused bad-columns\n0 created\nline 3 refused table-exists\nline 4 refused duplicate-access\nline 5 refused bad-column-number\nline 6 refused bad-columns\nline 7 refused unknown-word\nline 8 refused unknown-word\nline 9 refused bad-register\nline 10 refused empty\nline 11 refused unknown-word\nline 12 refused bad-name\nline 13 refused bad-number\nline 14 refused unknown-word\nline 15 refused unknown-word\n1 done\n",
+    "line 1 refused bad-columns\n0 created\nline 3 refused table-exists\nline 4 refused duplicate-access\nline 5 refused bad-column-number\nline 6 refused bad-columns\nline 7 refused skip-past-end\nline 8 refused unknown-word\nline 9 refused bad-register\nline 10 refused empty\nline 11 refused unknown-word\nline 12 refused bad-name\nline 13 refused bad-number\nline 14 refused unknown-word\nline 15 refused unknown-word\n1 done\n",
 );
 
 const BROKEN: (&str, &str) = (
@@ -30,6 +30,11 @@ const BROKEN: (&str, &str) = (
 const ABORTED: (&str, &str) = (
     "alice CREATE t 1\nalice RUN t:1:R | LOAD 0 t 1 0\nalice RUN t:1:I | CONST 0 9223372036854775807 | INSERT t 1 0\nalice RUN t:1:I | INSERT t 1 0\nalice RUN t:1:RU | LOAD 0 t 1 0 | CONST 1 1 | STORE t 1 0 1 | ADD 0 0 1\nalice RUN t:1:R | LOAD 0 t 1 0 | OUT 0 | OUT 1\n",
     "0 created\n1 aborted 0 no-row\n2 done\n3 aborted 0 row-exists\n4 aborted 3 overflow\n5 done 9223372036854775807 0\n",
+);
+
+const STEPS: (&str, &str) = (
+    "alice CREATE t 2\nbob RUN t:1:RU | LOAD 0 t 1 0\nalice RUN t:4294967295:I t:0:I | CONST 0 4294967295 | CONST 1 -1 | INSERT t r0 0 1 | INSERT t 0 1 1\nalice RUN t:4294967295:RD | CONST 0 4294967295 | LOAD 1 t r0 1 | DELETE t r0 | HAS 2 t r0 | OUT 1 | OUT 2 | SKIP 3 1 | SKIP 1 1 | OUT 0\nalice RUN t:0:I | INSERT t 0 0 0\nalice RUN t:0:R | CONST 0 -1 | HAS 1 t r0\nalice RUN t:1:R | CONST 0 3 | CONST 1 4 | SUB 2 0 1 | MUL 3 0 1 | LESS 4 0 1 | SAME 5 0 1 | OUT 2 | OUT 3 | OUT 4 | OUT 5 | CHECK 5\n",
+    "0 created\n1 denied READ t never\n2 done\n3 done -1 0\n4 aborted 0 row-exists\n5 undeclared 1\n6 aborted 10 check\n",
 );
 
 const EMPTY: (&str, &str) = ("", "");
@@ -44,7 +49,7 @@ fn report(alloc: Global, log: &[u8]) -> Result<Vec<u8>, EngineFault> {
 
 #[test]
 fn logs_have_their_reports(rt: HostRuntime) {
-    for (log, wanted) in [UNDECLARED, FIRST, REFUSED, BROKEN, ABORTED, EMPTY] {
+    for (log, wanted) in [UNDECLARED, FIRST, REFUSED, BROKEN, ABORTED, STEPS, EMPTY] {
         let found = report(rt.alloc(), log.as_bytes());
         let bytes = found.expect(&rt, "memory");
         assert!(rt; bytes.as_slice() == wanted.as_bytes(), "of {log}");

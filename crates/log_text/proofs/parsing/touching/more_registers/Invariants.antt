@@ -3,7 +3,7 @@ use Rattle.std.specs.Prelude.{decimal}
 use Rattle.std.specs.List.{AllByRecursion}
 use Rattle.log_text.specs.Statement.{IsRegister}
 use Rattle.log_text.specs.Fault.{OfMore, fault_from}
-use Rattle.log_text.proofs.parsing.steps.more_registers.Given as goal
+use Rattle.log_text.proofs.parsing.touching.more_registers.Given as goal
 
 abbrev pub invariant-registers : goal.invariant-registers
 invariant-registers l = record {

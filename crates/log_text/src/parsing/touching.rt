@@ -1,0 +1,140 @@
+//! The steps that touch a row.
+ghost use Rattle.std.specs.Prelude.{MatchBool, ◌≡◌, ◌∷◌, ◌++◌, ◌+◌, ◌≤◌, ◌<◌, [], vec_len, Some, List, ℕ, IfOk, IfErr, IsTrue, ◌^◌, codes, map};
+ghost use Rattle.std.specs.Fmt.{decimal};
+ghost use Rattle.std.specs.List.{AllByRecursion};
+ghost use Rattle.log_text.specs.Words.{is_name};
+ghost use Rattle.log_text.specs.Statement.{row_word, IsStep, IsRow, IsRegister, outs_of};
+ghost use Rattle.log_text.specs.Faults.{IsFault};
+ghost use Rattle.log_text.specs.Fault.{Expected, OfName, OfRow, OfPlain, OfMore, expected_in, fault_from};
+ghost use Rattle.log_text.specs.Parsing.{Goes, fault_behind, step_word};
+ghost use Rattle.log_text.specs.declared.step_name.StepName.TheVariants.{Has, Load, Store, Insert, Delete};
+
+use super::places::{bar_or_end, name, number, register, register_of, row};
+use crate::fault::LineFault;
+use crate::name::Name;
+use crate::statement::RawStep;
+use crate::word_list::Words;
+use model_base::{Items, Register, RowName};
+use std::alloc::Global;
+
+/// What stands behind HAS, up to the next step or the end.
+pub(super) fn has(words: &mut Words<'_>) -> Result<(RawStep, bool), LineFault>
+    ensures ok { IfOk result (λ r. Goes (step_word Has ∷ words.old) r.0 r.1 words.new × IsStep r.0 × (outs_of r.0 ≡ 0)) }
+    ensures fits { IfOk result (λ r. (steps outs : ℕ) → fault_from (expected_in (Some Has) steps outs) words.old ≡ fault_behind r.1 (steps + 1) outs words.new) }
+    ensures fault { IfErr result (λ f. (steps outs : ℕ) → fault_from (expected_in (Some Has) steps outs) words.old ≡ Some f) }
+{
+    let to = register(words)?;
+    let table = name(words)?;
+    let row = row(words)?;
+    let more = bar_or_end(words)?;
+    Ok((RawStep::Has { to, table, row }, more))
+}
+
+/// Takes a table's name, a row and a column.
+fn cell(words: &mut Words<'_>) -> Result<(Name, RowName, u32), LineFault>
+    ensures ok { IfOk result (λ r. (words.old ≡ r.0 ∷ row_word r.1 ∷ decimal r.2 ∷ words.new) × IsTrue (is_name r.0) × IsRow r.1 × (r.2 < 2 ^ 32)) }
+    ensures fits { IfOk result (λ r. (others : List Expected) → fault_from (OfName ∷ OfRow ∷ OfPlain ∷ others) words.old ≡ fault_from others words.new) }
+    ensures fault { IfErr result (λ f. (others : List Expected) → fault_from (OfName ∷ OfRow ∷ OfPlain ∷ others) words.old ≡ Some f) }
+{
+    let table = name(words)?;
+    let row = row(words)?;
+    let column = number(words)?;
+    Ok((table, row, column))
+}
+
+/// What stands behind LOAD, up to the next step or the end.
+pub(super) fn load(words: &mut Words<'_>) -> Result<(RawStep, bool), LineFault>
+    ensures ok { IfOk result (λ r. Goes (step_word Load ∷ words.old) r.0 r.1 words.new × IsStep r.0 × (outs_of r.0 ≡ 0)) }
+    ensures fits { IfOk result (λ r. (steps outs : ℕ) → fault_from (expected_in (Some Load) steps outs) words.old ≡ fault_behind r.1 (steps + 1) outs words.new) }
+    ensures fault { IfErr result (λ f. (steps outs : ℕ) → fault_from (expected_in (Some Load) steps outs) words.old ≡ Some f) }
+{
+    let to = register(words)?;
+    let (table, row, column) = cell(words)?;
+    let more = bar_or_end(words)?;
+    let step = RawStep::Load {
+        to,
+        table,
+        row,
+        column,
+    };
+    Ok((step, more))
+}
+
+/// What stands behind STORE, up to the next step or the end.
+pub(super) fn store(words: &mut Words<'_>) -> Result<(RawStep, bool), LineFault>
+    ensures ok { IfOk result (λ r. Goes (step_word Store ∷ words.old) r.0 r.1 words.new × IsStep r.0 × (outs_of r.0 ≡ 0)) }
+    ensures fits { IfOk result (λ r. (steps outs : ℕ) → fault_from (expected_in (Some Store) steps outs) words.old ≡ fault_behind r.1 (steps + 1) outs words.new) }
+    ensures fault { IfErr result (λ f. (steps outs : ℕ) → fault_from (expected_in (Some Store) steps outs) words.old ≡ Some f) }
+{
+    let (table, row, column) = cell(words)?;
+    let from = register(words)?;
+    let more = bar_or_end(words)?;
+    let step = RawStep::Store {
+        table,
+        row,
+        column,
+        from,
+    };
+    Ok((step, more))
+}
+
+/// The further registers of an INSERT, up to the next step or the end.
+fn more_registers(words: &mut Words<'_>, registers: &mut Vec<Register>) -> Result<bool, LineFault>
+    requires some { 1 ≤ vec_len registers.old }
+    requires room { vec_len registers.old ≤ 8 }
+    requires each { AllByRecursion IsRegister registers.old.items }
+    ensures ok { IfOk result (λ more. MatchBool more
+        (map decimal registers.old.items ++ words.old ≡ map decimal registers.new.items ++ codes "|" ∷ words.new)
+        (map decimal registers.old.items ++ words.old ≡ map decimal registers.new.items)) }
+    ensures each { AllByRecursion IsRegister registers.new.items }
+    ensures some { 1 ≤ vec_len registers.new }
+    ensures room { vec_len registers.new ≤ 8 }
+    ensures fits { IfOk result (λ more. (steps outs : ℕ) → fault_from (OfMore (vec_len registers.old) steps outs ∷ []) words.old ≡ fault_behind more steps outs words.new) }
+    ensures fault { IfErr result (λ f. (steps outs : ℕ) → IsFault f (fault_from (OfMore (vec_len registers.old) steps outs ∷ []) words.old)) }
+{
+    'registers: loop {
+        let Some(word) = words.next() else {
+            return Ok(false);
+        };
+        if word == b"|".as_slice() {
+            return Ok(true);
+        }
+        if registers.len() >= 8 {
+            return Err(LineFault::UnknownWord);
+        }
+        let register = register_of(word)?;
+        registers.push(register)?;
+    }
+}
+
+/// What stands behind INSERT, up to the next step or the end.
+pub(super) fn insert(alloc: Global, words: &mut Words<'_>) -> Result<(RawStep, bool), LineFault>
+    ensures ok { IfOk result (λ r. Goes (step_word Insert ∷ words.old) r.0 r.1 words.new × IsStep r.0 × (outs_of r.0 ≡ 0)) }
+    ensures fits { IfOk result (λ r. (steps outs : ℕ) → fault_from (expected_in (Some Insert) steps outs) words.old ≡ fault_behind r.1 (steps + 1) outs words.new) }
+    ensures fault { IfErr result (λ f. (steps outs : ℕ) → IsFault f (fault_from (expected_in (Some Insert) steps outs) words.old)) }
+{
+    let table = name(words)?;
+    let row = row(words)?;
+    let first = register(words)?;
+    let mut from = Vec::with_capacity(alloc, 8)?;
+    from.push(first)?;
+    let more = more_registers(words, &mut from)?;
+    let step = RawStep::Insert {
+        table,
+        row,
+        from: Items::new(from),
+    };
+    Ok((step, more))
+}
+
+/// What stands behind DELETE, up to the next step or the end.
+pub(super) fn delete(words: &mut Words<'_>) -> Result<(RawStep, bool), LineFault>
+    ensures ok { IfOk result (λ r. Goes (step_word Delete ∷ words.old) r.0 r.1 words.new × IsStep r.0 × (outs_of r.0 ≡ 0)) }
+    ensures fits { IfOk result (λ r. (steps outs : ℕ) → fault_from (expected_in (Some Delete) steps outs) words.old ≡ fault_behind r.1 (steps + 1) outs words.new) }
+    ensures fault { IfErr result (λ f. (steps outs : ℕ) → fault_from (expected_in (Some Delete) steps outs) words.old ≡ Some f) }
+{
+    let table = name(words)?;
+    let row = row(words)?;
+    let more = bar_or_end(words)?;
+    Ok((RawStep::Delete { table, row }, more))
+}
