@@ -1,5 +1,5 @@
 -- The words of a form are printable.
-use Rattle.std.proofs.Common.{◌≡◌, ℕ, Bool, true, false, List, [], ◌∷◌, ◌++◌, map, refl, arith}
+use Rattle.std.proofs.Common.{◌≡◌, ℕ, Bool, true, false, List, [], ◌∷◌, ◌++◌, map, Option, Some, None, refl, arith}
 use Rattle.std.specs.Prelude.{decimal, codes}
 use Rattle.std.specs.List.{AllByRecursion, flat_map, list_all}
 use Rattle.model_base.specs.declared.statement.RowName.{RowName}
@@ -7,9 +7,13 @@ use Rattle.model_base.specs.declared.statement.RowName.TheVariants.{Number, Held
 use Rattle.log_text.specs.declared.statement.RawStep.{RawStep}
 use Rattle.log_text.specs.declared.statement.RawStep.TheVariants.{Const, Add, Sub, Mul, Less, Same, Has, Load, Store, Insert, Delete, Check, Skip, Out}
 use Rattle.log_text.specs.declared.statement.RawForm.{RawForm}
-use Rattle.log_text.specs.declared.statement.RawForm.TheVariants.{Create, Run}
+use Rattle.log_text.specs.declared.statement.RawForm.TheVariants.{Create, Run, Deed}
+use Rattle.log_text.specs.declared.statement.RawDeed.{RawDeed}
+use Rattle.log_text.specs.declared.statement.RawDeed.TheVariants.{Grant, Revoke}
+use Rattle.model_base.specs.declared.deed.Kind.{Kind}
+use Rattle.model_base.specs.declared.deed.Kind.TheVariants as kind
 use Rattle.log_text.specs.Access.{access_word, letters, letter_if, IsAccess}
-use Rattle.log_text.specs.Statement.{further_step, step_words, row_word, form_words, IsFormInGrammar, IsStep, IsRow, IsRegister}
+use Rattle.log_text.specs.Statement.{body_words, deed_words, kind_word, last_deed, further_step, step_words, row_word, form_words, IsDeed, IsFormInGrammar, IsLastDeed, IsStep, IsRow, IsRegister}
 use Rattle.log_text.specs.Fault.{is_printable}
 use Rattle.model_base.specs.declared.deed.Kinds.{Kinds}
 use Rattle.log_text.specs.declared.access.RawAccess.{RawAccess}
@@ -73,6 +77,23 @@ steps : (ss : List RawStep) → AllByRecursion IsStep ss → AllByRecursion IsPr
 steps [] h = tt
 steps (s ∷ ss) h = (refl, both (step_words s) (flat_map further_step ss) (step s h.0) (steps ss h.1))
 
+kind_printable : (k : Kind) → IsPrintable (kind_word k)
+kind_printable kind.Read = refl
+kind_printable kind.Insert = refl
+kind_printable kind.Update = refl
+kind_printable kind.Delete = refl
+
+deed : (d : RawDeed) → IsDeed d → AllByRecursion IsPrintable (deed_words d)
+deed (Grant k t g true) h = (refl, (kind_printable k, (printable_name t h.0, (printable_name g h.1, (refl, tt)))))
+deed (Grant k t g false) h = (refl, (kind_printable k, (printable_name t h.0, (printable_name g h.1, tt))))
+deed (Revoke k t g) h = (refl, (kind_printable k, (printable_name t h.0, (printable_name g h.1, tt))))
+
+ending : (d : Option RawDeed) → IsLastDeed d → AllByRecursion IsPrintable (last_deed d)
+ending None h = tt
+ending (Some d) h = (refl, deed d h)
+
 pub form_printable : (f : RawForm) → IsFormInGrammar f → AllByRecursion IsPrintable (form_words f)
 form_printable (Create t n) h = (refl, (printable_name t h.0, (printable_decimal n (omega (arith, h)), tt)))
-form_printable (Run xs ss) h = (refl, both (map access_word xs) (flat_map further_step ss) (accesses xs h.2) (steps ss h.5))
+form_printable (Run xs ss d) h =
+    (refl, both (map access_word xs) (body_words ss d) (accesses xs h.2) (both (flat_map further_step ss) (last_deed d) (steps ss h.5) (ending d h.6)))
+form_printable (Deed d) h = deed d h

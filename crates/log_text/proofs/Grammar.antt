@@ -7,7 +7,8 @@ use Rattle.std.proofs.lemmas.Bool.{le-ltb, cond-true, cond-false, ne_eqb}
 use Rattle.log_text.specs.Words.{words, is_name}
 use Rattle.log_text.specs.Statement.{Sentence, form_words, statement_words, spelling, IsFormInGrammar, IsInGrammar, Reads}
 use Rattle.log_text.specs.declared.statement.RawForm.{RawForm}
-use Rattle.log_text.specs.declared.statement.RawForm.TheVariants.{Create, Run}
+use Rattle.log_text.specs.declared.statement.RawForm.TheVariants.{Create, Run, Deed}
+use Rattle.log_text.specs.declared.statement.RawDeed.TheVariants.{Grant, Revoke}
 use Rattle.log_text.specs.Fault.{line_fault, fault_from, is_printable, OfName, OfForm}
 use Rattle.log_text.specs.Faults.{IsFault}
 use Rattle.log_text.specs.declared.fault.LineFault.{LineFault}
@@ -56,7 +57,9 @@ printable_line line s r =
 
 two_words : (f : RawForm) (w : List ℕ) → ([] ∷ []) ≡ w ∷ form_words f → ⊥
 two_words (Create t n) w e = cc
-two_words (Run xs ss) w e = cc
+two_words (Run xs ss d) w e = cc
+two_words (Deed (Grant k t g o)) w e = cc
+two_words (Deed (Revoke k t g)) w e = cc
 
 not_empty : (line : List ℕ) (s : Sentence) → Reads line s → length line ≡ 0 → ⊥
 not_empty [] s r e = two_words s.form s.user r.same

@@ -5,6 +5,8 @@ pub mod Rows
 pub mod Splits
 pub mod NameWords
 pub mod StepNames
+pub mod KindWords
+pub mod Tails
 pub mod Printable
 pub mod Bars
 pub mod OneSpelling

@@ -5,7 +5,7 @@ use Rattle.std.proofs.lemmas.Slice.Eq.{bytes_eq-Decides, text_from_reads}
 use Rattle.std.proofs.lemmas.Bool.{lt-ltb}
 use Rattle.std.proofs.lemmas.List.{append-nil}
 use Rattle.log_text.specs.Faults.{or_else}
-use Rattle.log_text.specs.Fault.{OfStep, expected_in, fault_from, step_fault, step_name}
+use Rattle.log_text.specs.Fault.{OfStep, expected_in, fault_from, is_deed, step_fault, step_name}
 use Rattle.log_text.specs.Parsing.{fault_behind, step_word}
 use Rattle.log_text.specs.declared.step_name.StepName.{StepName}
 use Rattle.log_text.specs.declared.step_name.StepName.TheVariants.{Const, Add, Sub, Mul, Less, Same, Has, Load, Store, Insert, Delete, Check, Skip, Out}
@@ -103,6 +103,27 @@ no_step_fault Delete n o low few = rw (lt-ltb n 64 low) refl
 no_step_fault Check n o low few = rw (lt-ltb n 64 low) refl
 no_step_fault Skip n o low few = rw (lt-ltb n 64 low) refl
 
+-- the word of a step begins no deed
+pub no_deed : (s : StepName) → is_deed (step_word s) ≡ false
+no_deed Const = refl
+no_deed Add = refl
+no_deed Sub = refl
+no_deed Mul = refl
+no_deed Less = refl
+no_deed Same = refl
+no_deed Has = refl
+no_deed Load = refl
+no_deed Store = refl
+no_deed Insert = refl
+no_deed Delete = refl
+no_deed Check = refl
+no_deed Skip = refl
+no_deed Out = refl
+
+-- where a step stands
+pub at_step : (w : List ℕ) (ws : List (List ℕ)) (n o : ℕ) → is_deed w ≡ false → fault_from (OfStep n o ∷ []) (w ∷ ws) ≡ or_else (step_fault (step_name w) n o) (fault_from (expected_in (step_name w) n o ++ []) ws)
+at_step w ws n o e = rw e refl
+
 -- a step's word, and what is behind it
 pub goes_on : (old mid left : List (List ℕ)) (s : StepName) (n o outs : ℕ) (more : Bool)
     → old ≡ step_word s ∷ mid → step_name (step_word s) ≡ Some s → step_fault (Some s) n o ≡ None → outs ≡ 0
@@ -111,6 +132,7 @@ pub goes_on : (old mid left : List (List ℕ)) (s : StepName) (n o outs : ℕ) (
 goes_on old mid left s n o outs more is named fits none rest =
     let same : o ≡ o + outs = omega (arith, none) in
     ap (fault_from (OfStep n o ∷ [])) is
+    ∙ at_step (step_word s) mid n o (no_deed s)
     ∙ ap (λ t. or_else (step_fault t n o) (fault_from (expected_in t n o ++ []) mid)) named
     ∙ ap (λ f. or_else f (fault_from (expected_in (Some s) n o ++ []) mid)) fits
     ∙ ap (λ ps. fault_from ps mid) (append-nil (expected_in (Some s) n o))

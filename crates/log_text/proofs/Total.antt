@@ -2,20 +2,20 @@
 use Rattle.std.proofs.Common.{◌≡◌, ℕ, ◌+◌, ◌≤◌, true, ltb, eqb, cond, ◌||◌, List, [], ◌∷◌, ◌++◌, length, map, Some, None, refl, ap, sym, ◌∙◌, inl, inr, arith}
 use Rattle.std.specs.Prelude.{codes, bytes_eq}
 use Rattle.std.specs.List.{AllByRecursion, list_all}
-use Rattle.std.proofs.lemmas.Bool.{cases_Bool, cond-true, cond-false, ltb-true, ltb-false, or_cases}
+use Rattle.std.proofs.lemmas.Bool.{cases_Bool, cond-true, cond-false, ltb-true, ltb-false}
 use Rattle.std.proofs.lemmas.Slice.Eq.{bytes_eq-Decides}
 use Rattle.log_text.specs.Words.{words}
 use Rattle.log_text.specs.Access.{access_word, access_fault, IsAccess}
 use Rattle.log_text.specs.Faults.{unless, or_else}
-use Rattle.log_text.specs.Fault.{OfName, OfPlain, OfForm, OfAccess, OfNext, OfBar, fault_from, line_fault, expected_behind, is_bar, is_printable}
+use Rattle.log_text.specs.Fault.{OfName, OfPlain, OfForm, OfAccess, OfNext, OfBar, fault_from, line_fault, expected_behind, is_bar, is_deed, is_printable}
 use Rattle.log_text.specs.Statement.{Sentence, Reads, form_words, IsFormInGrammar}
 use Rattle.log_text.specs.declared.fault.LineFault.TheVariants.{TooLong, NotAscii, Empty, UnknownWord, TooManyAccesses}
 use Rattle.log_text.specs.declared.access.RawAccess.{RawAccess}
 use Rattle.log_text.specs.declared.statement.RawForm.{RawForm}
-use Rattle.log_text.specs.declared.statement.RawForm.TheVariants.{Create, Run}
+use Rattle.log_text.specs.declared.statement.RawForm.TheVariants.{Create, Run, Deed}
 use Rattle.log_text.proofs.Grammar.{reads}
 use Rattle.log_text.proofs.TotalWords.{both_none, unless_none, access_spells}
-use Rattle.log_text.proofs.TotalSteps.{Further, further_from, name_next, plain_next, access_next}
+use Rattle.log_text.proofs.TotalSteps.{Further, deed_from, ended, further_from, name_next, plain_next, access_next}
 
 -- the words begin with further accesses, when there are so many, and go on with the steps
 record Accesses (k : ℕ) (ws : List (List ℕ)) : Type 0 where
@@ -58,10 +58,6 @@ record Form (ws : List (List ℕ)) : Type 0 where
   same : ws ≡ form_words form
   grammar : IsFormInGrammar form
 
-ended : (ws : List (List ℕ)) → fault_from [] ws ≡ None → ws ≡ []
-ended [] e = refl
-ended (w ∷ ws) e = absurd cc
-
 create_from : (w : List ℕ) (ws : List (List ℕ)) → w ≡ codes "CREATE" → fault_from (OfName ∷ OfPlain ∷ []) ws ≡ None → Form (w ∷ ws)
 create_from w ws is e =
     let t = name_next (OfPlain ∷ []) ws e in
@@ -77,9 +73,9 @@ run_from w ws is e =
     let t = accesses_from a.rest 1 (omega arith) a.goes in
     let s = t.further in
     record {
-      form = Run (a.value ∷ t.accesses) s.steps;
+      form = Run (a.value ∷ t.accesses) s.steps s.deed;
       same = ap (λ v. v ∷ ws) is ∙ ap (λ v. codes "RUN" ∷ v) (a.same ∙ ap (λ v. access_word a.value ∷ v) (t.same ∙ ap (λ v. map access_word t.accesses ++ v) s.same));
-      grammar = (omega arith, omega (arith, t.room), (a.good, t.each), omega (arith, s.room), omega (arith, s.few), s.each);
+      grammar = (omega arith, omega (arith, t.room), (a.good, t.each), omega (arith, s.room), omega (arith, s.few), s.each, s.last);
     }
 
 form_from : (ws : List (List ℕ)) → fault_from (OfForm ∷ []) ws ≡ None → Form ws
@@ -87,12 +83,17 @@ form_from [] e = absurd cc
 form_from (w ∷ ws) e =
     let creates = bytes_eq w (codes "CREATE") in
     let runs = bytes_eq w (codes "RUN") in
-    let b = both_none (unless (creates || runs) UnknownWord) (fault_from (expected_behind OfForm w ++ []) ws) e in
+    let b = both_none (unless (creates || runs || is_deed w) UnknownWord) (fault_from (expected_behind OfForm w ++ []) ws) e in
+    let some = unless_none (creates || runs || is_deed w) UnknownWord b.0 in
     elim (cases_Bool creates) [
       | inl create ↦ create_from w ws ((bytes_eq-Decides w (codes "CREATE")).0 create) (rw create at b.1)
       | inr other ↦
-          let run : runs ≡ true = elim (or_cases creates runs (unless_none (creates || runs) UnknownWord b.0)) [ inl create ↦ absurd cc | inr r ↦ r ] in
-          run_from w ws ((bytes_eq-Decides w (codes "RUN")).0 run) (rw other at b.1)
+          elim (cases_Bool runs) [
+            | inl run ↦ run_from w ws ((bytes_eq-Decides w (codes "RUN")).0 run) (rw (other, run) at b.1)
+            | inr neither ↦
+                let d = deed_from w ws (rw (other, neither) at some) (rw (other, neither) at b.1) in
+                record { form = Deed d.deed; same = d.same; grammar = d.is }
+          ]
     ]
 
 -- a line without a fault is short, and its words have none

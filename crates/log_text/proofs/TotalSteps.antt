@@ -1,18 +1,21 @@
--- Words without a fault are those of steps.
-use Rattle.std.proofs.Common.{◌≡◌, ℕ, suc, zero, ◌+◌, ◌<◌, ◌≤◌, ◌^◌, false, ltb, cond, ◌&&◌, ℤ, List, [], ◌∷◌, ◌++◌, length, map, Option, Some, None, refl, ap, sym, ◌∙◌, inl, inr, arith}
-use Rattle.std.specs.Prelude.{codes, decimal, IsTrue}
+-- Words without a fault are those of steps and of deeds.
+use Rattle.std.proofs.Common.{◌≡◌, ℕ, suc, zero, ◌+◌, ◌<◌, ◌≤◌, ◌^◌, Bool, true, false, ltb, cond, ◌&&◌, ℤ, List, [], ◌∷◌, ◌++◌, length, map, Option, Some, None, refl, ap, sym, ◌∙◌, inl, inr, arith}
+use Rattle.std.specs.Prelude.{bytes_eq, codes, decimal, IsTrue}
 use Rattle.std.specs.Fmt.{signed_decimal}
-use Rattle.std.specs.List.{AllByRecursion, flat_map, sum_by}
+use Rattle.std.specs.List.{AllByRecursion, sum_by}
 use Rattle.std.proofs.lemmas.List.Sums.{sum_by-cons}
-use Rattle.std.proofs.lemmas.Bool.{cases_Bool, cond-true, cond-false, ltb-true, and_parts}
+use Rattle.std.proofs.lemmas.Bool.{cases_Bool, cond-true, cond-false, ltb-true, and_parts, or_cases}
 use Rattle.std.proofs.lemmas.Slice.Eq.{bytes_eq-Decides}
 use Rattle.log_text.specs.Words.{plain, is_name, fits_64_bits}
 use Rattle.log_text.specs.Access.{access_word, IsAccess}
 use Rattle.log_text.specs.Faults.{unless, or_else}
-use Rattle.log_text.specs.Fault.{Expected, OfName, OfPlain, OfWhole, OfRegister, OfRow, OfAccess, OfStep, OfBar, OfMore, fault_from, misfit, expected_behind, may_end, is_bar, step_name, step_fault, expected_in, register_fault}
-use Rattle.log_text.specs.Statement.{row_word, IsRegister, IsRow, IsStep, step_words, further_step, outs_of}
+use Rattle.log_text.specs.Fault.{Expected, OfName, OfPlain, OfWhole, OfRegister, OfRow, OfKind, OfOption, OfAccess, OfStep, OfBar, OfMore, fault_from, misfit, expected_behind, may_end, is_bar, is_deed, step_name, step_fault, expected_in, expected_in_deed, expected_in_grant, expected_in_revoke, register_fault}
+use Rattle.log_text.specs.Statement.{body_words, deed_words, kind_word, option_words, row_word, IsDeed, IsLastDeed, IsRegister, IsRow, IsStep, step_words, outs_of}
 use Rattle.log_text.specs.declared.fault.LineFault.TheVariants.{UnknownWord, BadNumber, BadName, TooManySteps}
 use Rattle.log_text.specs.declared.access.RawAccess.{RawAccess}
+use Rattle.model_base.specs.declared.deed.Kind.{Kind}
+use Rattle.log_text.specs.declared.statement.RawDeed.{RawDeed}
+use Rattle.log_text.specs.declared.statement.RawDeed.TheVariants as deed
 use Rattle.log_text.specs.declared.statement.RawStep.{RawStep}
 use Rattle.log_text.specs.declared.step_name.StepName.{StepName}
 use Rattle.log_text.specs.declared.step_name.StepName.TheVariants as name
@@ -20,8 +23,9 @@ use Rattle.log_text.specs.declared.statement.RawStep.TheVariants as step
 use Rattle.model_base.specs.declared.statement.RowName.{RowName}
 use Rattle.log_text.proofs.Plain.{plain_empty}
 use Rattle.log_text.proofs.Whole.{whole_missing}
-use Rattle.log_text.proofs.StepNames.{named_word}
-use Rattle.log_text.proofs.TotalWords.{Spells, both_none, unless_none, plain_spells, whole_spells, register_spells, row_spells, access_spells}
+use Rattle.log_text.proofs.StepNames.{at_step, named_word}
+use Rattle.log_text.proofs.Tails.{body_more}
+use Rattle.log_text.proofs.TotalWords.{Spells, both_none, unless_none, kind_spells, plain_spells, whole_spells, register_spells, row_spells, access_spells}
 
 -- the first word spells a value of this kind, and the others have no fault
 pub record Next (A : Type 0) (word_of : A → List ℕ) (Is : A → Type 0) (ps : List Expected) (ws : List (List ℕ)) : Type 0 where
@@ -59,16 +63,75 @@ register_next ps ws e =
 pub row_next : (ps : List Expected) (ws : List (List ℕ)) → fault_from (OfRow ∷ ps) ws ≡ None → Next RowName row_word IsRow ps ws
 row_next ps ws e = next row_word IsRow OfRow ps ws refl (λ w. refl) (λ f. cc) row_spells e
 
+pub kind_next : (ps : List Expected) (ws : List (List ℕ)) → fault_from (OfKind ∷ ps) ws ≡ None → Next Kind kind_word (λ k. Unit {0}) ps ws
+kind_next ps ws e = next kind_word (λ k. Unit {0}) OfKind ps ws refl (λ w. refl) (λ f. cc) kind_spells e
+
 pub access_next : (ps : List Expected) (ws : List (List ℕ)) → fault_from (OfAccess ∷ ps) ws ≡ None → Next RawAccess access_word IsAccess ps ws
 access_next ps ws e = next access_word IsAccess OfAccess ps ws refl (λ w. refl) (λ f. cc) access_spells e
 
--- the words are those of further steps, when there are so many steps and outs before them
+-- the words are those of further steps and a deed, when there are so many steps and outs before them
 pub record Further (n o : ℕ) (ws : List (List ℕ)) : Type 0 where
   pub steps : List RawStep
-  pub same : ws ≡ flat_map further_step steps
+  pub deed : Option RawDeed
+  pub same : ws ≡ body_words steps deed
   pub room : n + length steps ≤ 64
   pub few : o + sum_by outs_of steps ≤ 8
   pub each : AllByRecursion IsStep steps
+  pub last : IsLastDeed deed
+
+-- the words are those of a deed
+pub record DeedIn (ws : List (List ℕ)) : Type 0 where
+  pub deed : RawDeed
+  pub same : ws ≡ deed_words deed
+  pub is : IsDeed deed
+
+pub ended : (ws : List (List ℕ)) → fault_from [] ws ≡ None → ws ≡ []
+ended [] e = refl
+ended (w ∷ ws) e = absurd cc
+
+-- the words tell whether a grant is with the option
+option_from : (ws : List (List ℕ)) → fault_from (OfOption ∷ []) ws ≡ None → (option : Bool) × (ws ≡ option_words option)
+option_from [] e = (false, refl)
+option_from (w ∷ ws) e =
+    let b = both_none (unless (bytes_eq w (codes "OPTION")) UnknownWord) (fault_from [] ws) e in
+    let word = (bytes_eq-Decides w (codes "OPTION")).0 (unless_none (bytes_eq w (codes "OPTION")) UnknownWord b.0) in
+    let none = ended ws b.1 in
+    (true, cc)
+
+grant_from : (w : List ℕ) (ws : List (List ℕ)) → w ≡ codes "GRANT" → fault_from expected_in_grant ws ≡ None → DeedIn (w ∷ ws)
+grant_from w ws is e =
+    let k = kind_next (OfName ∷ OfName ∷ OfOption ∷ []) ws e in
+    let t = name_next (OfName ∷ OfOption ∷ []) k.rest k.goes in
+    let g = name_next (OfOption ∷ []) t.rest t.goes in
+    let o = option_from g.rest g.goes in
+    let first = k.same in
+    let second = t.same in
+    let third = g.same in
+    let fourth = o.1 in
+    record { deed = deed.Grant k.value t.value g.value o.0; same = cc; is = (t.good, g.good) }
+
+revoke_from : (w : List ℕ) (ws : List (List ℕ)) → w ≡ codes "REVOKE" → fault_from expected_in_revoke ws ≡ None → DeedIn (w ∷ ws)
+revoke_from w ws is e =
+    let k = kind_next (OfName ∷ OfName ∷ []) ws e in
+    let t = name_next (OfName ∷ []) k.rest k.goes in
+    let g = name_next [] t.rest t.goes in
+    let first = k.same in
+    let second = t.same in
+    let third = g.same in
+    let fourth = ended g.rest g.goes in
+    record { deed = deed.Revoke k.value t.value g.value; same = cc; is = (t.good, g.good) }
+
+-- a word that begins a deed, and what follows it
+pub deed_from : (w : List ℕ) (ws : List (List ℕ)) → is_deed w ≡ true → fault_from (expected_in_deed w ++ []) ws ≡ None → DeedIn (w ∷ ws)
+deed_from w ws begins e =
+    let grants = bytes_eq w (codes "GRANT") in
+    let revokes = bytes_eq w (codes "REVOKE") in
+    elim (cases_Bool grants) [
+      | inl grant ↦ grant_from w ws ((bytes_eq-Decides w (codes "GRANT")).0 grant) (rw grant at e)
+      | inr other ↦
+          let revoke : revokes ≡ true = elim (or_cases grants revokes begins) [ inl grant ↦ absurd cc | inr r ↦ r ] in
+          revoke_from w ws ((bytes_eq-Decides w (codes "REVOKE")).0 revoke) (rw other at e)
+    ]
 
 -- words of at most this number are those of further steps, if they have no fault
 abbrev Reader : ℕ → Type 0
@@ -278,25 +341,51 @@ step_from fuel n o w ws (Some name.Out) read low is fits e steps few =
     let first = a.same in
     record { step = step.Out a.value; left = a.rest; outs = o + 1; outs_are = omega arith; further = t; same = cc; is = a.good }
 
-step_at : (fuel n o : ℕ) (ws : List (List ℕ)) → Reader fuel → length ws ≤ fuel → n ≤ 64 → o ≤ 8 → fault_from (OfStep n o ∷ []) ws ≡ None → Step n o ws
-step_at fuel n o [] read low steps few e = absurd cc
-step_at fuel n o (w ∷ ws) read low steps few e =
-    let b = both_none (step_fault (step_name w) n o) (fault_from (expected_in (step_name w) n o ++ []) ws) e in
-    step_from fuel n o w ws (step_name w) read (omega arith) refl b.0 b.1 steps few
+-- where a bar stood: a step, or a deed and the end
+data Behind (n o : ℕ) (ws : List (List ℕ)) : Type 0 where
+  a_step : Step n o ws → Behind n o ws
+  a_deed : DeedIn ws → Behind n o ws
 
--- words without a fault, where a bar or the end may stand, are those of further steps
+behind_bar : (fuel n o : ℕ) (ws : List (List ℕ)) → Reader fuel → length ws ≤ fuel → n ≤ 64 → o ≤ 8 → fault_from (OfStep n o ∷ []) ws ≡ None → Behind n o ws
+behind_bar fuel n o [] read low steps few e = absurd cc
+behind_bar fuel n o (w ∷ ws) read low steps few e = elim (cases_Bool (is_deed w)) [
+  | inl deed ↦
+      let f : fault_from (expected_in_deed w ++ []) ws ≡ None = rw deed at e in
+      a_deed (deed_from w ws deed f)
+  | inr other ↦
+      let f = sym (at_step w ws n o other) ∙ e in
+      let b = both_none (step_fault (step_name w) n o) (fault_from (expected_in (step_name w) n o ++ []) ws) f in
+      a_step (step_from fuel n o w ws (step_name w) read (omega arith) refl b.0 b.1 steps few)
+]
+
+-- what stands behind a bar, read
+further_with : (n o : ℕ) (w : List ℕ) (ws : List (List ℕ)) → w ≡ codes "|" → n ≤ 64 → o ≤ 8 → Behind n o ws → Further n o (w ∷ ws)
+further_with n o w ws bar steps few (a_deed d) = record {
+  steps = [];
+  deed = Some d.deed;
+  same = ap (λ v. v ∷ ws) bar ∙ ap (λ v. codes "|" ∷ v) d.same;
+  room = omega arith;
+  few = omega arith;
+  each = tt;
+  last = d.is;
+}
+further_with n o w ws bar steps few (a_step s) =
+    let t = s.further in
+    record {
+      steps = s.step ∷ t.steps;
+      deed = t.deed;
+      same = ap (λ v. v ∷ ws) bar ∙ ap (λ v. codes "|" ∷ v) (s.same ∙ ap (λ v. step_words s.step ++ v) t.same) ∙ sym (body_more s.step t.steps t.deed);
+      room = omega (arith, t.room);
+      few = omega (arith, t.few, s.outs_are, sum_by-cons outs_of s.step t.steps);
+      each = (s.is, t.each);
+      last = t.last;
+    }
+
+-- words without a fault, where a bar or the end may stand, are those of further steps and a deed
 pub further_from : (fuel : ℕ) → Reader fuel
-further_from fuel n o [] low steps few e = record { steps = []; same = refl; room = omega arith; few = omega arith; each = tt }
+further_from fuel n o [] low steps few e = record { steps = []; deed = None; same = refl; room = omega arith; few = omega arith; each = tt; last = tt }
 further_from zero n o (w ∷ ws) low steps few e = absurd (omega arith)
 further_from (suc fuel) n o (w ∷ ws) low steps few e =
     let b = both_none (unless (is_bar w) UnknownWord) (fault_from (OfStep n o ∷ []) ws) e in
     let bar : w ≡ codes "|" = (bytes_eq-Decides w (codes "|")).0 (unless_none (is_bar w) UnknownWord b.0) in
-    let s = step_at fuel n o ws (further_from fuel) (omega arith) steps few b.1 in
-    let t = s.further in
-    record {
-      steps = s.step ∷ t.steps;
-      same = ap (λ v. v ∷ ws) bar ∙ ap (λ v. codes "|" ∷ v) (s.same ∙ ap (λ v. step_words s.step ++ v) t.same);
-      room = omega (arith, t.room);
-      few = omega (arith, t.few, s.outs_are, sum_by-cons outs_of s.step t.steps);
-      each = (s.is, t.each);
-    }
+    further_with n o w ws bar steps few (behind_bar fuel n o ws (further_from fuel) (omega arith) steps few b.1)

@@ -6,6 +6,8 @@ use Rattle.log_text.specs.Faults.{unless, or_else}
 use Rattle.log_text.specs.Access.{access_fault}
 use Rattle.log_text.specs.declared.fault.LineFault.{LineFault}
 use Rattle.log_text.specs.declared.fault.LineFault.TheVariants.{TooLong, NotAscii, Empty, UnknownWord, BadNumber, BadName, TooManySteps, TooManyAccesses, BadRegister}
+use Rattle.model_base.specs.declared.deed.Kind.{Kind}
+use Rattle.model_base.specs.declared.deed.Kind.TheVariants as kind
 use Rattle.log_text.specs.declared.step_name.StepName.{StepName}
 use Rattle.log_text.specs.declared.step_name.StepName.TheVariants.{Const, Add, Sub, Mul, Less, Same, Has, Load, Store, Insert, Delete, Check, Skip, Out}
 
@@ -16,13 +18,16 @@ pub data Expected : Type 0 where
   OfWhole : Expected
   OfRegister : Expected
   OfRow : Expected
-  -- CREATE or RUN
+  OfKind : Expected
+  -- OPTION or the end
+  OfOption : Expected
+  -- CREATE, RUN, GRANT or REVOKE
   OfForm : Expected
   -- the first access
   OfAccess : Expected
   -- a further access, when there are so many, or a bar or the end
   OfNext : (accesses : ℕ) → Expected
-  -- a step's word, when there are so many steps and outs
+  -- a step's word, when there are so many steps and outs, or GRANT or REVOKE
   OfStep : (steps outs : ℕ) → Expected
   -- a bar or the end
   OfBar : (steps outs : ℕ) → Expected
@@ -31,6 +36,19 @@ pub data Expected : Type 0 where
 
 abbrev pub is_bar : List ℕ → Bool
 is_bar w = bytes_eq w (codes "|")
+
+-- whether the word begins a deed
+abbrev pub is_deed : List ℕ → Bool
+is_deed w = bytes_eq w (codes "GRANT") || bytes_eq w (codes "REVOKE")
+
+-- the kind that a word names
+abbrev pub kind_named : List ℕ → Option Kind
+kind_named w =
+    if bytes_eq w (codes "READ") then Some kind.Read
+    else if bytes_eq w (codes "INSERT") then Some kind.Insert
+    else if bytes_eq w (codes "UPDATE") then Some kind.Update
+    else if bytes_eq w (codes "DELETE") then Some kind.Delete
+    else None
 
 -- the step that a word names
 abbrev pub step_name : List ℕ → Option StepName
@@ -75,6 +93,17 @@ expected_in (Some Check) steps outs = OfRegister ∷ OfBar (steps + 1) outs ∷ 
 expected_in (Some Skip) steps outs = OfRegister ∷ OfPlain ∷ OfBar (steps + 1) outs ∷ []
 expected_in (Some Out) steps outs = OfRegister ∷ OfBar (steps + 1) (outs + 1) ∷ []
 
+-- what follows GRANT, and what REVOKE: nothing stands behind a deed
+abbrev pub expected_in_grant : List Expected
+expected_in_grant = OfKind ∷ OfName ∷ OfName ∷ OfOption ∷ []
+
+abbrev pub expected_in_revoke : List Expected
+expected_in_revoke = OfKind ∷ OfName ∷ OfName ∷ []
+
+-- what follows the word that begins a deed
+abbrev pub expected_in_deed : List ℕ → List Expected
+expected_in_deed w = if bytes_eq w (codes "GRANT") then expected_in_grant else expected_in_revoke
+
 abbrev pub register_fault : Option ℕ → Option LineFault
 register_fault None = Some BadNumber
 register_fault (Some n) = unless (nat_lt n 16) BadRegister
@@ -90,10 +119,12 @@ misfit OfPlain w = unless (is_some (plain w)) BadNumber
 misfit OfWhole w = unless (is_some (whole w)) BadNumber
 misfit OfRegister w = register_fault (plain w)
 misfit OfRow w = row_fault w
-misfit OfForm w = unless (bytes_eq w (codes "CREATE") || bytes_eq w (codes "RUN")) UnknownWord
+misfit OfKind w = unless (is_some (kind_named w)) UnknownWord
+misfit OfOption w = unless (bytes_eq w (codes "OPTION")) UnknownWord
+misfit OfForm w = unless (bytes_eq w (codes "CREATE") || bytes_eq w (codes "RUN") || is_deed w) UnknownWord
 misfit OfAccess w = access_fault w
 misfit (OfNext accesses) w = if is_bar w then None else if nat_lt accesses 16 then access_fault w else Some TooManyAccesses
-misfit (OfStep steps outs) w = step_fault (step_name w) steps outs
+misfit (OfStep steps outs) w = if is_deed w then None else step_fault (step_name w) steps outs
 misfit (OfBar steps outs) w = unless (is_bar w) UnknownWord
 misfit (OfMore registers steps outs) w = if is_bar w then None else if nat_lt registers 8 then register_fault (plain w) else Some UnknownWord
 
@@ -104,15 +135,21 @@ expected_behind OfPlain w = []
 expected_behind OfWhole w = []
 expected_behind OfRegister w = []
 expected_behind OfRow w = []
-expected_behind OfForm w = if bytes_eq w (codes "CREATE") then OfName ∷ OfPlain ∷ [] else OfAccess ∷ OfNext 1 ∷ []
+expected_behind OfKind w = []
+expected_behind OfOption w = []
+expected_behind OfForm w =
+    if bytes_eq w (codes "CREATE") then OfName ∷ OfPlain ∷ []
+    else if bytes_eq w (codes "RUN") then OfAccess ∷ OfNext 1 ∷ []
+    else expected_in_deed w
 expected_behind OfAccess w = []
 expected_behind (OfNext accesses) w = if is_bar w then OfStep 0 0 ∷ [] else OfNext (accesses + 1) ∷ []
-expected_behind (OfStep steps outs) w = expected_in (step_name w) steps outs
+expected_behind (OfStep steps outs) w = if is_deed w then expected_in_deed w else expected_in (step_name w) steps outs
 expected_behind (OfBar steps outs) w = OfStep steps outs ∷ []
 expected_behind (OfMore registers steps outs) w = if is_bar w then OfStep steps outs ∷ [] else OfMore (registers + 1) steps outs ∷ []
 
 -- the line may end in place of such a word
 abbrev pub may_end : Expected → Bool
+may_end OfOption = true
 may_end (OfNext accesses) = true
 may_end (OfBar steps outs) = true
 may_end (OfMore registers steps outs) = true

@@ -1,13 +1,17 @@
 -- Statements as a line spells them, and which line reads as which.
-use Rattle.std.specs.Prelude.{◌≡◌, ℕ, ◌<◌, ◌≤◌, ◌^◌, List, [], ◌∷◌, ◌++◌, length, map, codes, IsTrue}
+use Rattle.std.specs.Prelude.{◌≡◌, ℕ, ◌<◌, ◌≤◌, ◌^◌, Bool, Option, Some, None, List, [], ◌∷◌, ◌++◌, length, map, codes, if◌then◌else◌, IsTrue}
 use Rattle.std.specs.Fmt.{decimal, signed_decimal}
 use Rattle.std.specs.List.{join_with_byte, flat_map, AllByRecursion, sum_by}
+use Rattle.model_base.specs.declared.deed.Kind.{Kind}
+use Rattle.model_base.specs.declared.deed.Kind.TheVariants as kind
 use Rattle.model_base.specs.declared.statement.RowName.{RowName}
 use Rattle.model_base.specs.declared.statement.RowName.TheVariants.{Number, Held}
 use Rattle.log_text.specs.Words.{words, is_name, fits_64_bits}
 use Rattle.log_text.specs.Access.{access_word, IsAccess}
+use Rattle.log_text.specs.declared.statement.RawDeed.{RawDeed}
+use Rattle.log_text.specs.declared.statement.RawDeed.TheVariants.{Grant, Revoke}
 use Rattle.log_text.specs.declared.statement.RawForm.{RawForm}
-use Rattle.log_text.specs.declared.statement.RawForm.TheVariants.{Create, Run}
+use Rattle.log_text.specs.declared.statement.RawForm.TheVariants.{Create, Run, Deed}
 use Rattle.log_text.specs.declared.statement.RawStep.{RawStep}
 use Rattle.log_text.specs.declared.statement.RawStep.TheVariants.{Const, Add, Sub, Mul, Less, Same, Has, Load, Store, Insert, Delete, Check, Skip, Out}
 
@@ -42,10 +46,36 @@ step_words (Out of) = codes "OUT" ∷ decimal of ∷ []
 abbrev pub further_step : RawStep → List (List ℕ)
 further_step s = codes "|" ∷ step_words s
 
--- " CREATE " name " " plain | " RUN " access {" " access} {" | " step}
+-- the word of a kind
+abbrev pub kind_word : Kind → List ℕ
+kind_word kind.Read = codes "READ"
+kind_word kind.Insert = codes "INSERT"
+kind_word kind.Update = codes "UPDATE"
+kind_word kind.Delete = codes "DELETE"
+
+-- [" OPTION"]
+abbrev pub option_words : Bool → List (List ℕ)
+option_words option = if option then codes "OPTION" ∷ [] else []
+
+-- "GRANT " kind " " name " " name [" OPTION"] | "REVOKE " kind " " name " " name
+abbrev pub deed_words : RawDeed → List (List ℕ)
+deed_words (Grant kind table grantee option) = codes "GRANT" ∷ kind_word kind ∷ table ∷ grantee ∷ option_words option
+deed_words (Revoke kind table grantee) = codes "REVOKE" ∷ kind_word kind ∷ table ∷ grantee ∷ []
+
+-- [" | " deed]
+abbrev pub last_deed : Option RawDeed → List (List ℕ)
+last_deed None = []
+last_deed (Some deed) = codes "|" ∷ deed_words deed
+
+-- {" | " step} [" | " deed]
+abbrev pub body_words : List RawStep → Option RawDeed → List (List ℕ)
+body_words steps deed = flat_map further_step steps ++ last_deed deed
+
+-- " CREATE " name " " plain | " RUN " access {" " access} {" | " step} [" | " deed] | " " deed
 abbrev pub form_words : RawForm → List (List ℕ)
 form_words (Create table columns) = codes "CREATE" ∷ table ∷ decimal columns ∷ []
-form_words (Run accesses steps) = codes "RUN" ∷ (map access_word accesses ++ flat_map further_step steps)
+form_words (Run accesses steps deed) = codes "RUN" ∷ (map access_word accesses ++ body_words steps deed)
+form_words (Deed deed) = deed_words deed
 
 -- the words of a statement
 abbrev pub statement_words : Sentence → List (List ℕ)
@@ -86,11 +116,23 @@ abbrev pub outs_of : RawStep → ℕ
 outs_of (Out of) = 1
 outs_of _ = 0
 
--- a table with a number of columns below 2^32, or 1 to 16 accesses and at most 64 steps, at most 8 of them OUT
+-- the names of a deed are names
+abbrev pub IsDeed : RawDeed → Type 0
+IsDeed (Grant kind table grantee option) = IsTrue (is_name table) × IsTrue (is_name grantee)
+IsDeed (Revoke kind table grantee) = IsTrue (is_name table) × IsTrue (is_name grantee)
+
+-- those of the deed behind the steps, if there is one
+abbrev pub IsLastDeed : Option RawDeed → Type 0
+IsLastDeed None = Unit {0}
+IsLastDeed (Some deed) = IsDeed deed
+
+-- a table with a number of columns below 2^32, or 1 to 16 accesses and at most 64 steps, at most 8 of them OUT, and
+-- perhaps a deed, or a deed
 abbrev pub IsFormInGrammar : RawForm → Type 0
 IsFormInGrammar (Create table columns) = IsTrue (is_name table) × (columns < 2 ^ 32)
-IsFormInGrammar (Run accesses steps) = (1 ≤ length accesses) × (length accesses ≤ 16) × AllByRecursion IsAccess accesses
-    × (length steps ≤ 64) × (sum_by outs_of steps ≤ 8) × AllByRecursion IsStep steps
+IsFormInGrammar (Run accesses steps deed) = (1 ≤ length accesses) × (length accesses ≤ 16) × AllByRecursion IsAccess accesses
+    × (length steps ≤ 64) × (sum_by outs_of steps ≤ 8) × AllByRecursion IsStep steps × IsLastDeed deed
+IsFormInGrammar (Deed deed) = IsDeed deed
 
 -- the statement has a line of at most 4,096 bytes
 pub record IsInGrammar (s : Sentence) : Type 0 where

@@ -3,6 +3,7 @@
 
 mod access;
 mod fault;
+mod kind;
 mod laws;
 mod name;
 mod number;
@@ -16,6 +17,7 @@ mod word_list;
 
 pub use access::RawAccess;
 pub use fault::LineFault;
+pub use kind::kind_word;
 pub use laws::every_line_reads;
 pub use log_text_base::{
     Counted, LineReader, ReadFault, WriteFault, flush, write_much, write_out, write_pending,
@@ -23,4 +25,4 @@ pub use log_text_base::{
 pub use name::Name;
 pub use parsing::{one_spelling, parse_line};
 pub use printing::print_statement;
-pub use statement::{RawForm, RawStatement, RawStep};
+pub use statement::{RawDeed, RawForm, RawStatement, RawStep};

@@ -2,6 +2,7 @@
 
 mod accesses;
 mod computing;
+mod deeds;
 mod form;
 mod line;
 mod places;

@@ -3,13 +3,14 @@ ghost use Rattle.std.specs.Prelude.{◌≡◌, ◌++◌, ◌∷◌, [], ◌<◌,
 ghost use Rattle.std.specs.Fmt.{decimal};
 ghost use Rattle.std.specs.List.{flat_map};
 ghost use Rattle.log_text.specs.Access.{letters, letter_if, access_word};
-ghost use Rattle.log_text.specs.Statement.{spelling, further_step, row_word, Reads};
+ghost use Rattle.log_text.specs.Statement.{spelling, deed_words, further_step, last_deed, row_word, Reads};
 ghost use Rattle.log_text.specs.Parsing.{spaced};
 ghost use Rattle.log_text.specs.declared.statement.RawStep.{RawStep};
 
 use crate::access::RawAccess;
+use crate::kind::kind_word;
 use crate::name::Name;
-use crate::statement::{RawForm, RawStatement, RawStep};
+use crate::statement::{RawDeed, RawForm, RawStatement, RawStep};
 use model_base::{Kinds, Register, RowName};
 use std::alloc::{AllocError, Global};
 
@@ -217,23 +218,72 @@ fn push_steps(text: &mut String, steps: &[RawStep]) -> Result<(), AllocError>
     Ok(())
 }
 
+/// Appends a grant or a revocation, each word behind a space.
+fn push_deed(text: &mut String, deed: &RawDeed) -> Result<(), AllocError>
+    ensures { OnOk result (string_bytes text.new ≡ string_bytes text.old ++ spaced (deed_words deed.now)) }
+{
+    match deed {
+        RawDeed::Grant {
+            kind,
+            table,
+            grantee,
+            option,
+        } => {
+            write!(text, " GRANT {} {table} {grantee}", kind_word(*kind))?;
+            if *option {
+                text.push_str(" OPTION")?;
+            }
+        }
+        RawDeed::Revoke {
+            kind,
+            table,
+            grantee,
+        } => {
+            write!(text, " REVOKE {} {table} {grantee}", kind_word(*kind))?;
+        }
+    }
+    Ok(())
+}
+
+/// Appends a bar and the deed, if there is one.
+fn push_last_deed(text: &mut String, deed: &Option<RawDeed>) -> Result<(), AllocError>
+    ensures { OnOk result (string_bytes text.new ≡ string_bytes text.old ++ spaced (last_deed deed.now)) }
+{
+    if let Some(deed) = deed {
+        text.push_str(" |")?;
+        push_deed(text, deed)?;
+    }
+    Ok(())
+}
+
 /// The line of a RUN.
 fn run_text(
     alloc: Global,
     user: &str,
     accesses: &[RawAccess],
     steps: &[RawStep],
+    deed: &Option<RawDeed>,
 ) -> Result<String, AllocError>
-    ensures { IfOk result (λ text. string_bytes text ≡ user.now ++ codes " RUN" ++ spaced (map access_word accesses.now) ++ spaced (flat_map further_step steps.now)) }
+    ensures { IfOk result (λ text. string_bytes text ≡ user.now ++ codes " RUN" ++ spaced (map access_word accesses.now) ++ spaced (flat_map further_step steps.now) ++ spaced (last_deed deed.now)) }
 {
     let mut text = format!(in alloc; "{user} RUN")?;
     push_accesses(&mut text, accesses)?;
     push_steps(&mut text, steps)?;
+    push_last_deed(&mut text, deed)?;
+    Ok(text)
+}
+
+/// The line of a deed by itself.
+fn deed_text(alloc: Global, user: &str, deed: &RawDeed) -> Result<String, AllocError>
+    ensures { IfOk result (λ text. string_bytes text ≡ user.now ++ spaced (deed_words deed.now)) }
+{
+    let mut text = format!(in alloc; "{user}")?;
+    push_deed(&mut text, deed)?;
     Ok(text)
 }
 
 /// The one line that reads as the statement, without an end of line. It fails only where the allocator refused.
-#[tactic(auto, using(crate::proofs::Grammar::line_is_spelling, crate::proofs::Joined::run_spelling))]
+#[tactic(auto, using(crate::proofs::Grammar::line_is_spelling, crate::proofs::Joined::run_spelling, crate::proofs::Joined::deed_spelling))]
 pub fn print_statement(alloc: Global, statement: &RawStatement) -> Result<Vec<u8>, AllocError>
     // The line is the statement's words, joined by single spaces.
     ensures text { IfOk result (λ text. text.items ≡ spelling statement.now) }
@@ -246,8 +296,16 @@ pub fn print_statement(alloc: Global, statement: &RawStatement) -> Result<Vec<u8
             let text = format!(in alloc; "{user} CREATE {table} {columns}")?;
             Ok(text.into_bytes())
         }
-        RawForm::Run { accesses, steps } => {
-            let text = run_text(alloc, user, accesses.as_slice(), steps.as_slice())?;
+        RawForm::Run {
+            accesses,
+            steps,
+            deed,
+        } => {
+            let text = run_text(alloc, user, accesses.as_slice(), steps.as_slice(), deed)?;
+            Ok(text.into_bytes())
+        }
+        RawForm::Deed(deed) => {
+            let text = deed_text(alloc, user, deed)?;
             Ok(text.into_bytes())
         }
     }

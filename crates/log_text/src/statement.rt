@@ -2,7 +2,7 @@
 
 use crate::access::RawAccess;
 use crate::name::Name;
-use model_base::{Items, Register, RowName};
+use model_base::{Items, Kind, Register, RowName};
 use std::marker::Model;
 
 /// One step of a body, with its table's name.
@@ -76,6 +76,23 @@ pub enum RawStep {
     },
 }
 
+/// A grant or a revocation. Its grantor is the statement's user.
+#[derive(Drop)]
+pub enum RawDeed {
+    /// With the option the grantee may grant further.
+    Grant {
+        kind: Kind,
+        table: Name,
+        grantee: Name,
+        option: bool,
+    },
+    Revoke {
+        kind: Kind,
+        table: Name,
+        grantee: Name,
+    },
+}
+
 /// What a statement asks for.
 #[derive(Drop)]
 pub enum RawForm {
@@ -84,11 +101,13 @@ pub enum RawForm {
         table: Name,
         columns: u32,
     },
-    /// One to 16 accesses, and at most 64 steps, at most 8 of them `Out`.
+    /// One to 16 accesses, at most 64 steps, at most 8 of them `Out`, and perhaps a deed.
     Run {
         accesses: Items<RawAccess>,
         steps: Items<RawStep>,
+        deed: Option<RawDeed>,
     },
+    Deed(RawDeed),
 }
 
 /// A statement as a line spells it. `parse_line` alone makes one, so it keeps to the limits of the grammar.

@@ -6,6 +6,7 @@ ghost use Rattle.log_text.specs.Faults.{IsFault};
 ghost use Rattle.log_text.specs.Fault.{OfName, OfPlain, OfForm, OfAccess, OfNext, fault_from};
 
 use super::accesses::accesses;
+use super::deeds::deed_from;
 use super::places::{end, name, number};
 use super::steps::steps;
 use crate::fault::LineFault;
@@ -34,11 +35,18 @@ fn run(alloc: Global, words: &mut Words<'_>) -> Result<RawForm, LineFault>
     let (accesses, more) = accesses(alloc, words)?;
     let accesses = Items::new(accesses);
     if !more {
-        let steps = Items::empty(alloc);
-        return Ok(RawForm::Run { accesses, steps });
+        return Ok(RawForm::Run {
+            accesses,
+            steps: Items::empty(alloc),
+            deed: None,
+        });
     }
-    let steps = Items::new(steps(alloc, words)?);
-    Ok(RawForm::Run { accesses, steps })
+    let (steps, deed) = steps(alloc, words)?;
+    Ok(RawForm::Run {
+        accesses,
+        steps: Items::new(steps),
+        deed,
+    })
 }
 
 /// What stands behind the user.
@@ -57,7 +65,10 @@ fn form(alloc: Global, words: &mut Words<'_>) -> Result<RawForm, LineFault>
         let form = run(alloc, words)?;
         return Ok(form);
     }
-    Err(LineFault::UnknownWord)
+    match deed_from(word, words)? {
+        Some(deed) => Ok(RawForm::Deed(deed)),
+        None => Err(LineFault::UnknownWord),
+    }
 }
 
 /// The user, and what the user asks for.

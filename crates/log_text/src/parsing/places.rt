@@ -1,15 +1,16 @@
-//! What stands in one place of a line: a name, a number, a register, a row, a bar.
+//! What stands in one place of a line: a name, a number, a register, a row, a kind, a bar.
 ghost use Rattle.std.specs.Prelude.{MatchBool, ◌≡◌, ◌∷◌, ◌<◌, ◌^◌, [], Some, None, List, ℕ, IfOk, IfErr, IsTrue, OnOk, codes};
 ghost use Rattle.std.specs.Fmt.{decimal, signed_decimal};
 ghost use Rattle.log_text.specs.Words.{is_name, plain, whole, fits_64_bits, first_word};
-ghost use Rattle.log_text.specs.Statement.{row_word, IsRow};
-ghost use Rattle.log_text.specs.Fault.{OfName, OfPlain, OfWhole, OfRegister, OfRow, OfBar, misfit, fault_from};
+ghost use Rattle.log_text.specs.Statement.{kind_word, row_word, IsRow};
+ghost use Rattle.log_text.specs.Fault.{OfName, OfPlain, OfWhole, OfRegister, OfRow, OfKind, OfBar, misfit, fault_from};
 
 use crate::fault::LineFault;
+use crate::kind::kind_of;
 use crate::name::Name;
 use crate::number::{plain_value, whole_value};
 use crate::word_list::Words;
-use model_base::{Register, RowName};
+use model_base::{Kind, Register, RowName};
 
 /// Takes a name.
 pub(crate) fn name(words: &mut Words<'_>) -> Result<Name, LineFault>
@@ -90,6 +91,18 @@ pub(crate) fn row(words: &mut Words<'_>) -> Result<RowName, LineFault>
         return Err(LineFault::BadNumber);
     };
     Ok(RowName::Number(number))
+}
+
+/// Takes a kind.
+#[tactic(auto, using(crate::proofs::KindWords::named_kind))]
+pub(crate) fn kind(words: &mut Words<'_>) -> Result<Kind, LineFault>
+    ensures ok { IfOk result (λ k. (words.old ≡ kind_word k ∷ words.new) × (misfit OfKind (kind_word k) ≡ None)) }
+    ensures fault { IfErr result (λ f. misfit OfKind (first_word words.old) ≡ Some f) }
+{
+    match words.next() {
+        Some(word) => kind_of(word).ok_or(LineFault::UnknownWord),
+        None => Err(LineFault::UnknownWord),
+    }
 }
 
 /// Takes a bar, or finds the end.

@@ -1,28 +1,26 @@
-//! The steps of a RUN.
-ghost use Rattle.std.specs.Prelude.{◌≡◌, ◌∷◌, ◌+◌, ◌≤◌, ◌<◌, [], vec_len, Some, None, IfOk, IfErr, OnOk, codes};
-ghost use Rattle.std.specs.List.{AllByRecursion, flat_map, sum_by};
-ghost use Rattle.log_text.specs.Statement.{further_step, IsStep, outs_of};
+//! The steps of a RUN, and the deed behind them.
+ghost use Rattle.std.specs.Prelude.{◌≡◌, ◌∷◌, ◌+◌, ◌≤◌, ◌<◌, [], vec_len, Some, None, false, IfOk, IfErr, codes};
+ghost use Rattle.std.specs.List.{AllByRecursion, sum_by};
+ghost use Rattle.log_text.specs.Statement.{body_words, IsLastDeed, IsStep, outs_of};
 ghost use Rattle.log_text.specs.Faults.{IsFault};
-ghost use Rattle.log_text.specs.Fault.{OfStep, step_fault, step_name, fault_from};
+ghost use Rattle.log_text.specs.Fault.{OfStep, step_fault, step_name, fault_from, is_deed};
 ghost use Rattle.log_text.specs.Parsing.{Goes, fault_behind, step_word};
 
 use super::computing::{add, check, constant, less, mul, out, same, skip, sub};
+use super::deeds::deed_from;
 use super::touching::{delete, has, insert, load, store};
 use crate::fault::LineFault;
-use crate::statement::RawStep;
+use crate::statement::{RawDeed, RawStep};
 use crate::step_name::StepName;
 use crate::word_list::Words;
 use std::alloc::Global;
 
-/// Takes the word that names a step, when there are so many steps and outs before it.
+/// The step that a word names, when there are so many steps and outs before it.
 #[tactic(auto, using(crate::proofs::StepNames::named_word, crate::proofs::StepNames::no_step_fault))]
-fn named_step(words: &mut Words<'_>, steps: usize, outs: usize) -> Result<StepName, LineFault>
-    ensures ok { IfOk result (λ s. (words.old ≡ step_word s ∷ words.new) × (step_name (step_word s) ≡ Some s) × (step_fault (Some s) steps outs ≡ None)) }
-    ensures fault { IfErr result (λ f. fault_from (OfStep steps outs ∷ []) words.old ≡ Some f) }
+fn named_step(word: &[u8], steps: usize, outs: usize) -> Result<StepName, LineFault>
+    ensures ok { IfOk result (λ s. (word.now ≡ step_word s) × (step_name (step_word s) ≡ Some s) × (step_fault (Some s) steps outs ≡ None)) }
+    ensures fault { IfErr result (λ f. step_fault (step_name word.now) steps outs ≡ Some f) }
 {
-    let Some(word) = words.next() else {
-        return Err(LineFault::UnknownWord);
-    };
     let Some(name) = StepName::of(word) else {
         return Err(LineFault::UnknownWord);
     };
@@ -35,20 +33,22 @@ fn named_step(words: &mut Words<'_>, steps: usize, outs: usize) -> Result<StepNa
     Ok(name)
 }
 
-/// A step, up to the next one or the end, when there are so many steps and outs before it.
+/// A step that begins with this word, up to the next one or the end, when there are so many steps and outs before it.
 #[tactic(auto, using(crate::proofs::StepNames::goes_on))]
 fn step(
     alloc: Global,
+    word: &[u8],
     words: &mut Words<'_>,
     steps: usize,
     outs: usize,
 ) -> Result<(RawStep, bool), LineFault>
-    requires { outs ≤ 8 }
-    ensures ok { IfOk result (λ r. Goes words.old r.0 r.1 words.new × IsStep r.0 × (steps < 64) × (outs + outs_of r.0 ≤ 8)) }
-    ensures fits { IfOk result (λ r. fault_from (OfStep steps outs ∷ []) words.old ≡ fault_behind r.1 (steps + 1) (outs + outs_of r.0) words.new) }
-    ensures fault { IfErr result (λ f. IsFault f (fault_from (OfStep steps outs ∷ []) words.old)) }
+    requires few { outs ≤ 8 }
+    requires step { is_deed word.now ≡ false }
+    ensures ok { IfOk result (λ r. Goes (word.now ∷ words.old) r.0 r.1 words.new × IsStep r.0 × (steps < 64) × (outs + outs_of r.0 ≤ 8)) }
+    ensures fits { IfOk result (λ r. fault_from (OfStep steps outs ∷ []) (word.now ∷ words.old) ≡ fault_behind r.1 (steps + 1) (outs + outs_of r.0) words.new) }
+    ensures fault { IfErr result (λ f. IsFault f (fault_from (OfStep steps outs ∷ []) (word.now ∷ words.old))) }
 {
-    match named_step(words, steps, outs)? {
+    match named_step(word, steps, outs)? {
         StepName::Const => Ok(constant(words)?),
         StepName::Add => Ok(add(words)?),
         StepName::Sub => Ok(sub(words)?),
@@ -76,21 +76,29 @@ fn out_count(step: &RawStep) -> usize
     }
 }
 
-/// The steps behind the first bar, to the end of the line.
-pub(crate) fn steps(alloc: Global, words: &mut Words<'_>) -> Result<Vec<RawStep>, LineFault>
-    ensures ok { IfOk result (λ v. (codes "|" ∷ words.old ≡ flat_map further_step v.items)
-        × (vec_len v ≤ 64) × (sum_by outs_of v.items ≤ 8) × AllByRecursion IsStep v.items) }
-    ensures fits { OnOk result (fault_from (OfStep 0 0 ∷ []) words.old ≡ None) }
+/// The steps and the deed behind the first bar, to the end of the line.
+pub(crate) fn steps(
+    alloc: Global,
+    words: &mut Words<'_>,
+) -> Result<(Vec<RawStep>, Option<RawDeed>), LineFault>
+    ensures ok { IfOk result (λ r. (codes "|" ∷ words.old ≡ body_words r.0.items r.1)
+        × (vec_len r.0 ≤ 64) × (sum_by outs_of r.0.items ≤ 8) × AllByRecursion IsStep r.0.items × IsLastDeed r.1) }
     ensures fault { IfErr result (λ f. IsFault f (fault_from (OfStep 0 0 ∷ []) words.old)) }
 {
     let mut found = Vec::with_capacity(alloc, 8)?;
     let mut outs = 0;
     'steps: loop {
-        let (step, more) = step(alloc, words, found.len(), outs)?;
+        let Some(word) = words.next() else {
+            return Err(LineFault::UnknownWord);
+        };
+        if let Some(deed) = deed_from(word, words)? {
+            return Ok((found, Some(deed)));
+        }
+        let (step, more) = step(alloc, word, words, found.len(), outs)?;
         outs += out_count(&step);
         found.push(step)?;
         if !more {
-            return Ok(found);
+            return Ok((found, None));
         }
     }
 }
