@@ -1,6 +1,6 @@
 //! Lines with their faults, and lines printed back.
 
-use crate::{LineFault, RawForm, RawStep, parse_line, print_statement};
+use crate::{LineFault, RawDeed, RawForm, RawStep, kind_word, parse_line, print_statement};
 use std::alloc::Global;
 use std::process::Abort;
 use std::test::Fail;
@@ -48,6 +48,62 @@ fn reads_and_prints_lines(rt: HostRuntime) -> Result<(), Fail> {
 }
 
 #[test]
+fn reads_and_prints_deeds(rt: HostRuntime) -> Result<(), Fail> {
+    let lines = [
+        "alice GRANT READ t bob",
+        "alice GRANT INSERT t bob OPTION",
+        "alice GRANT UPDATE t alice OPTION",
+        "b_2 GRANT DELETE abcdefghijklmnopqrstuvwxyz_56789 c_3",
+        "alice REVOKE READ t bob",
+        "alice REVOKE DELETE t bob",
+        "alice RUN t:1:R | GRANT READ t bob",
+        "alice RUN t:1:R | GRANT UPDATE t bob OPTION",
+        "alice RUN t:1:R t:2:RIUD | CONST 0 1 | OUT 0 | GRANT INSERT u carol OPTION",
+        "alice RUN t:1:I | INSERT t 1 0 1 | REVOKE READ t bob",
+        "a RUN t:1:R | OUT 1 | OUT 1 | OUT 1 | OUT 1 | OUT 1 | OUT 1 | OUT 1 | OUT 1 | REVOKE READ t b",
+    ];
+    for line in lines {
+        expect_line(&rt, rt.alloc(), line.as_bytes(), None)?;
+    }
+    Ok(())
+}
+
+#[test]
+fn finds_faults_of_deeds(rt: HostRuntime) -> Result<(), Fail> {
+    let cases = [
+        ("alice GRANT", LineFault::UnknownWord),
+        ("alice GRANT read t bob", LineFault::UnknownWord),
+        ("alice GRANT READ", LineFault::BadName),
+        ("alice GRANT READ T bob", LineFault::BadName),
+        ("alice GRANT READ t", LineFault::BadName),
+        ("alice GRANT READ t bob option", LineFault::UnknownWord),
+        ("alice GRANT READ t bob ", LineFault::UnknownWord),
+        ("alice GRANT READ t bob OPTION ", LineFault::UnknownWord),
+        (
+            "alice GRANT READ t bob OPTION OPTION",
+            LineFault::UnknownWord,
+        ),
+        ("alice GRANT READ t bob | OUT 0", LineFault::UnknownWord),
+        ("alice REVOKE", LineFault::UnknownWord),
+        ("alice REVOKE CREATE t bob", LineFault::UnknownWord),
+        ("alice REVOKE READ t bob OPTION", LineFault::UnknownWord),
+        ("alice REVOKE READ t 1", LineFault::BadName),
+        ("alice RUN t:1:R | GRANT", LineFault::UnknownWord),
+        ("alice RUN t:1:R | REVOKE READ t", LineFault::BadName),
+        (
+            "alice RUN t:1:R | GRANT READ t bob | OUT 0",
+            LineFault::UnknownWord,
+        ),
+        ("alice RUN GRANT READ t bob", LineFault::BadName),
+        ("alice RUN t:1:R GRANT READ t bob", LineFault::BadName),
+    ];
+    for (line, want) in cases {
+        expect_line(&rt, rt.alloc(), line.as_bytes(), Some(want))?;
+    }
+    Ok(())
+}
+
+#[test]
 fn finds_the_first_fault(rt: HostRuntime) -> Result<(), Fail> {
     let cases = [
         ("", LineFault::Empty),
@@ -63,7 +119,7 @@ fn finds_the_first_fault(rt: HostRuntime) -> Result<(), Fail> {
         (" alice CREATE u 1", LineFault::BadName),
         ("alice  CREATE u 1", LineFault::UnknownWord),
         ("alice create u 1", LineFault::UnknownWord),
-        ("alice GRANT READ u bob", LineFault::UnknownWord),
+        ("alice grant READ u bob", LineFault::UnknownWord),
         ("alice CREATE", LineFault::BadName),
         ("alice CREATE u", LineFault::BadNumber),
         ("alice CREATE u 01", LineFault::BadNumber),
@@ -172,6 +228,9 @@ fn repeated(alloc: Global, front: &str, piece: &str, times: usize) -> Result<Vec
 fn keeps_to_the_limits(rt: HostRuntime) -> Result<(), Fail> {
     let steps = repeated(rt.alloc(), "a RUN t:1:R", " | CONST 0 1", 64)?;
     expect_line(&rt, rt.alloc(), steps.as_slice(), None)?;
+    let mut steps = repeated(rt.alloc(), "a RUN t:1:R", " | CONST 0 1", 64)?;
+    steps.extend_from_slice(b" | GRANT READ t b")?;
+    expect_line(&rt, rt.alloc(), steps.as_slice(), None)?;
     let steps = repeated(rt.alloc(), "a RUN t:1:R", " | CONST 0 1", 65)?;
     expect_line(
         &rt,
@@ -187,13 +246,39 @@ fn keeps_to_the_limits(rt: HostRuntime) -> Result<(), Fail> {
 }
 
 #[test]
+fn gives_the_deed(rt: HostRuntime) -> Result<(), Fail> {
+    let statement = parse_line(rt.alloc(), b"alice GRANT UPDATE t bob OPTION")?;
+    let RawForm::Deed(
+        RawDeed::Grant {
+            kind,
+            table,
+            grantee,
+            option,
+        },
+    ) = statement.form()
+    else {
+        panic!(rt; "no grant");
+    };
+    assert_eq!(rt; kind_word(*kind), "UPDATE");
+    assert_eq!(rt; table.as_str(), "t");
+    assert_eq!(rt; grantee.as_str(), "bob");
+    assert!(rt; *option);
+    Ok(())
+}
+
+#[test]
 fn gives_the_parts(rt: HostRuntime) -> Result<(), Fail> {
     let statement = parse_line(rt.alloc(), b"alice RUN t:7:RD | CONST 3 -1")?;
     assert_eq!(rt; statement.user(), "alice");
     assert!(rt; matches!(statement.form(), RawForm::Run { .. }));
     let (user, form) = statement.into_parts();
     assert_eq!(rt; user.as_str(), "alice");
-    let RawForm::Run { accesses, steps } = form else {
+    let RawForm::Run {
+        accesses,
+        steps,
+        deed: None,
+    } = form
+    else {
         panic!(rt; "no RUN of one CONST");
     };
     let Some(access) = accesses.as_slice().first() else {

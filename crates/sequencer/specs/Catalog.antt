@@ -1,11 +1,14 @@
 -- What a log knows of names after its first statements, and how a statement's names become numbers.
-use Rattle.std.specs.Prelude.{ℕ, ◌+◌, None, List, [], ◌∷◌, ◌++◌, map}
+use Rattle.std.specs.Prelude.{ℕ, ◌+◌, Option, Some, None, List, [], ◌∷◌, ◌++◌, map}
+use Rattle.std.specs.Option.{option_map}
 use Rattle.model_base.specs.declared.statement.Access.{Access}
 use Rattle.model_base.specs.declared.statement.Step.{Step}
+use Rattle.model_base.specs.declared.statement.DeedForm.{DeedForm}
 use Rattle.model_base.specs.declared.statement.Form.{Form}
 use Rattle.model_base.specs.declared.statement.Statement.{Statement}
 use Rattle.log_text.specs.Statement.{Sentence}
 use Rattle.log_text.specs.declared.access.RawAccess.{RawAccess}
+use Rattle.log_text.specs.declared.statement.RawDeed.{RawDeed}
 use Rattle.log_text.specs.declared.statement.RawForm.{RawForm}
 use Rattle.log_text.specs.declared.statement.RawStep.{RawStep}
 use Rattle.sequencer.specs.Names.{number_of, with_name}
@@ -45,16 +48,48 @@ numbered_step names (RawStep.Check of) = Step.Check of
 numbered_step names (RawStep.Skip of steps) = Step.Skip of steps
 numbered_step names (RawStep.Out of) = Step.Out of
 
--- what a statement asks for, with its tables by number
+-- a deed with its table and its grantee by number
+abbrev pub numbered_deed : Names → RawDeed → DeedForm
+numbered_deed names (RawDeed.Grant kind table grantee option) =
+    DeedForm.Grant kind (number_of names.tables table) (number_of names.users grantee) option
+numbered_deed names (RawDeed.Revoke kind table grantee) =
+    DeedForm.Revoke kind (number_of names.tables table) (number_of names.users grantee)
+
+-- what a statement asks for, with its names by number
 abbrev pub numbered_form : Names → RawForm → Form
 numbered_form names (RawForm.Create table columns) = Form.Create (number_of names.tables table) columns
-numbered_form names (RawForm.Run accesses steps) =
-    Form.Run (map (numbered_access names) accesses) (map (numbered_step names) steps) None
+numbered_form names (RawForm.Run accesses steps deed) =
+    Form.Run (map (numbered_access names) accesses) (map (numbered_step names) steps) (option_map (numbered_deed names) deed)
+numbered_form names (RawForm.Deed deed) = Form.Deed (numbered_deed names deed)
 
--- a statement with its names by number; a name that it is the first to name gets the next one
+-- the names once the user of a statement is named
+abbrev pub with_user : Names → List ℕ → Names
+with_user names user = record names { users = with_name names.users user }
+
+-- a statement with its names by number; a name that it is the first to name gets the next one, its user before its grantee
 abbrev pub numbered : Names → Sentence → Statement
 numbered names sentence =
-    record { user = number_of names.users sentence.user; form = numbered_form names sentence.form }
+    record { user = number_of names.users sentence.user; form = numbered_form (with_user names sentence.user) sentence.form }
+
+-- the table that a deed names, and the grantee
+abbrev pub table_of : RawDeed → List ℕ
+table_of (RawDeed.Grant kind table grantee option) = table
+table_of (RawDeed.Revoke kind table grantee) = table
+
+abbrev pub grantee_of : RawDeed → List ℕ
+grantee_of (RawDeed.Grant kind table grantee option) = grantee
+grantee_of (RawDeed.Revoke kind table grantee) = grantee
+
+-- the deed of a statement, if it has one
+abbrev pub deed_in : RawForm → Option RawDeed
+deed_in (RawForm.Create table columns) = None
+deed_in (RawForm.Run accesses steps deed) = deed
+deed_in (RawForm.Deed deed) = Some deed
+
+-- the users once the grantee of a deed is named
+abbrev pub with_grantee : List (List ℕ) → Option RawDeed → List (List ℕ)
+with_grantee users None = users
+with_grantee users (Some deed) = with_name users (grantee_of deed)
 
 -- the names after an accepted statement of this user's form
 abbrev pub with_form : Names → ℕ → RawForm → Names
@@ -64,12 +99,13 @@ with_form names user (RawForm.Create table columns) =
       owners = names.owners ++ user ∷ [];
       columns = names.columns ++ columns ∷ [];
     }
-with_form names user (RawForm.Run accesses steps) = names
+with_form names user (RawForm.Run accesses steps deed) = names
+with_form names user (RawForm.Deed deed) = names
 
--- the names after an accepted statement: its user is named, and a CREATE names its table
+-- the names after an accepted statement: its user is named, then its grantee, and a CREATE names its table
 abbrev pub with_statement : Names → Sentence → Names
 with_statement names sentence =
     record (with_form names (number_of names.users sentence.user) sentence.form) {
-      users = with_name names.users sentence.user;
+      users = with_grantee (with_name names.users sentence.user) (deed_in sentence.form);
       places = names.places + 1;
     }

@@ -1,7 +1,7 @@
 -- What a catalog shows, and room for a statement.
 use Rattle.std.specs.Prelude.{◌≡◌, ◌≤◌, [], length, vec_capacity}
 use Rattle.log_text.specs.declared.statement.RawForm.{RawForm}
-use Rattle.log_text.specs.declared.statement.RawForm.TheVariants.{Create, Run}
+use Rattle.log_text.specs.declared.statement.RawForm.TheVariants.{Create, Run, Deed}
 use Rattle.sequencer.specs.Catalog.{Names}
 use Rattle.sequencer.specs.declared.catalog.Catalog.TheInside.{Inside}
 use Rattle.sequencer.specs.declared.numbering.Room.{Room}
@@ -25,5 +25,6 @@ pub record IsConsistent (inside : Inside) : Type 0 where
 -- the room is empty, and each access and step of the statement finds a place in it
 abbrev pub HasRoom : Room → RawForm → Type 0
 HasRoom room (Create table columns) = Unit {0}
-HasRoom room (Run accesses steps) =
+HasRoom room (Deed deed) = Unit {0}
+HasRoom room (Run accesses steps deed) =
     (room.accesses.items ≡ []) × (room.steps.items ≡ []) × (length accesses ≤ vec_capacity room.accesses) × (length steps ≤ vec_capacity room.steps)

@@ -3,10 +3,11 @@ use Rattle.std.specs.Prelude.{◌≡◌, ◌≢◌, ℕ, ◌==◌, ◌&&◌, ◌
 use Rattle.std.specs.List.{list_any}
 use Rattle.log_text.specs.Statement.{Sentence}
 use Rattle.log_text.specs.declared.access.RawAccess.{RawAccess}
+use Rattle.log_text.specs.declared.statement.RawDeed.{RawDeed}
 use Rattle.log_text.specs.declared.statement.RawForm.{RawForm}
 use Rattle.log_text.specs.declared.statement.RawStep.{RawStep}
-use Rattle.sequencer.specs.Names.{is_known, number_of}
-use Rattle.sequencer.specs.Catalog.{Names}
+use Rattle.sequencer.specs.Names.{is_known, number_of, with_name}
+use Rattle.sequencer.specs.Catalog.{Names, deed_in, grantee_of, table_of}
 use Rattle.sequencer.specs.declared.refused.Refused.{Refused}
 use Rattle.sequencer.specs.declared.refused.Refused.TheVariants.{UnknownTable, TableExists, BadColumns, DuplicateAccess, BadColumnNumber, SkipPastEnd, LogFull, TooManyNames, NoMemory}
 
@@ -80,27 +81,47 @@ abbrev pub create_refusal : Names → List ℕ → ℕ → Option Refused
 create_refusal names table columns =
     or_else (unless (not (is_known names.tables table)) TableExists) (unless (nat_le 1 columns && nat_le columns 8) BadColumns)
 
--- the accesses of a RUN come before its steps
+-- a deed, where there is one, is on a table that is known
+abbrev pub deed_refusal : Names → Option RawDeed → Option Refused
+deed_refusal names None = None
+deed_refusal names (Some deed) = known_refusal names (table_of deed)
+
+-- the accesses of a RUN come before its steps, and the steps before its deed
 abbrev pub form_refusal : Names → RawForm → Option Refused
 form_refusal names (RawForm.Create table columns) = create_refusal names table columns
-form_refusal names (RawForm.Run accesses steps) =
-    or_else (accesses_refusal names [] accesses) (steps_refusal names steps)
+form_refusal names (RawForm.Run accesses steps deed) =
+    or_else (accesses_refusal names [] accesses) (or_else (steps_refusal names steps) (deed_refusal names deed))
+form_refusal names (RawForm.Deed deed) = deed_refusal names (Some deed)
 
 -- a new name, where there are 65,536 already
 abbrev pub name_refusal : List (List ℕ) → List ℕ → Option Refused
 name_refusal names name = unless (nat_lt (length names) 65536 || is_known names name) TooManyNames
 
+-- two names, of which the first is entered before the second
+abbrev pub two_refusal : List (List ℕ) → List ℕ → List ℕ → Option Refused
+two_refusal names first second = or_else (name_refusal names first) (name_refusal (with_name names first) second)
+
+-- a new grantee, where there are 65,536 users already
+abbrev pub grantee_refusal : List (List ℕ) → Option RawDeed → Option Refused
+grantee_refusal users None = None
+grantee_refusal users (Some deed) = name_refusal users (grantee_of deed)
+
+-- a new user comes before a new grantee
+abbrev pub users_refusal : List (List ℕ) → List ℕ → Option RawDeed → Option Refused
+users_refusal users user deed = or_else (name_refusal users user) (grantee_refusal (with_name users user) deed)
+
 -- a new table, where there are 65,536 already
 abbrev pub table_refusal : Names → RawForm → Option Refused
 table_refusal names (RawForm.Create table columns) = name_refusal names.tables table
-table_refusal names (RawForm.Run accesses steps) = None
+table_refusal names (RawForm.Run accesses steps deed) = None
+table_refusal names (RawForm.Deed deed) = None
 
 -- the first test of a statement that isn't passed, if there is one
 abbrev pub refusal : Names → Sentence → Option Refused
 refusal names sentence =
     or_else (unless (nat_lt names.places 4294967295) LogFull)
     (or_else (form_refusal names sentence.form)
-    (or_else (name_refusal names.users sentence.user) (table_refusal names sentence.form)))
+    (or_else (users_refusal names.users sentence.user (deed_in sentence.form)) (table_refusal names sentence.form)))
 
 -- want of memory comes only where no test refuses, and any other answer is the first test that isn't passed
 abbrev pub IsRefusal : Refused → Option Refused → Type 0

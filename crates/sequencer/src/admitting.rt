@@ -1,18 +1,61 @@
 //! How a statement is taken.
 
-ghost use Rattle.std.specs.Prelude.{◌≡◌, ◌<◌, None, IfOk, IfErr, OnOk, OnErr};
-ghost use Rattle.sequencer.specs.Catalog.{numbered, with_statement};
+ghost use Rattle.std.specs.Prelude.{◌≡◌, ◌<◌, None, Some, option_map, IfOk, IfErr, OnOk, OnErr};
+ghost use Rattle.sequencer.specs.Names.{number_of, with_name};
+ghost use Rattle.sequencer.specs.Catalog.{numbered, numbered_deed, with_grantee, with_statement, with_user};
 ghost use Rattle.sequencer.specs.Known.{HasRoom};
-ghost use Rattle.sequencer.specs.Refusal.{IsRefusal, refusal};
+ghost use Rattle.sequencer.specs.Refusal.{IsRefusal, deed_refusal, or_else, refusal, users_refusal};
 
 use crate::catalog::{Catalog, MOST_PLACES};
-use crate::numbering::{Room, room_for};
+use crate::numbering::{Room, deed_form, room_for};
 use crate::refused::Refused;
-use crate::testing::test_name;
-use log_text::{Name, RawAccess, RawForm, RawStatement, RawStep};
-use model_base::{Form, Items, Statement, Table, User};
+use crate::testing::{names_in, test_name};
+use log_text::{Name, RawAccess, RawDeed, RawForm, RawStatement, RawStep};
+use model_base::{DeedForm, Form, Items, Statement, Table, User};
 
 impl Catalog {
+    /// Enters the user of a statement and then the grantee of its deed, and answers both by number. The deed's table has
+    /// to be known. After a refusal nothing has changed.
+    #[tactic(auto, using(crate::proofs::RefusalLemmas::refusal_of_test))]
+    fn enter_deed(&mut self, user: &Name, deed: &RawDeed) -> Result<(User, DeedForm), Refused>
+        ensures user { IfOk result (λ r. r.0 ≡ number_of self.old.users user.now) }
+        ensures deed { IfOk result (λ r. r.1 ≡ numbered_deed (with_user self.old user.now) deed.now) }
+        ensures names { OnOk result (self.new ≡ record self.old { users = with_grantee (with_name self.old.users user.now) (Some deed.now) }) }
+        ensures passes { OnOk result (or_else (deed_refusal self.old (Some deed.now)) (users_refusal self.old.users user.now (Some deed.now)) ≡ None) }
+        ensures refused { IfErr result (λ r. IsRefusal r (or_else (deed_refusal self.old (Some deed.now)) (users_refusal self.old.users user.now (Some deed.now)))) }
+        ensures err { OnErr result (self.new ≡ self.old) }
+    {
+        let (table, grantee) = names_in(deed);
+        let table = self.known_table(table)?;
+        let (user, grantee) = self.users.enter_both(user.as_str(), grantee.as_str())?;
+        Ok((User(user), deed_form(deed, table, User(grantee))))
+    }
+
+    /// Enters the user of a statement, and then the grantee of its deed where it has one, as `enter_deed`.
+    fn enter_users(
+        &mut self,
+        user: &Name,
+        deed: &Option<RawDeed>,
+    ) -> Result<(User, Option<DeedForm>), Refused>
+        ensures user { IfOk result (λ r. r.0 ≡ number_of self.old.users user.now) }
+        ensures deed { IfOk result (λ r. r.1 ≡ option_map (numbered_deed (with_user self.old user.now)) deed.now) }
+        ensures names { OnOk result (self.new ≡ record self.old { users = with_grantee (with_name self.old.users user.now) deed.now }) }
+        ensures passes { OnOk result (or_else (deed_refusal self.old deed.now) (users_refusal self.old.users user.now deed.now) ≡ None) }
+        ensures refused { IfErr result (λ r. IsRefusal r (or_else (deed_refusal self.old deed.now) (users_refusal self.old.users user.now deed.now))) }
+        ensures err { OnErr result (self.new ≡ self.old) }
+    {
+        match deed {
+            None => {
+                let (number, _) = self.users.enter(user.as_str())?;
+                Ok((User(number), None))
+            }
+            Some(deed) => {
+                let (user, deed) = self.enter_deed(user, deed)?;
+                Ok((user, Some(deed)))
+            }
+        }
+    }
+
     /// Takes a RUN, as `admit`, where a place is left. Its accesses and steps go where room was made.
     #[tactic(auto, using(crate::proofs::RefusalLemmas::refusal_of_test))]
     fn admit_run(
@@ -20,28 +63,44 @@ impl Catalog {
         user: &Name,
         accesses: Items<RawAccess>,
         steps: Items<RawStep>,
+        deed: &Option<RawDeed>,
         room: Room,
     ) -> Result<Statement, Refused>
         requires place { self.old.places < 4294967295 }
-        requires room { HasRoom room (RawForm.Run accesses steps) }
-        ensures ok { IfOk result (λ s. s ≡ numbered self.old record { user = user.now; form = RawForm.Run accesses steps }) }
-        ensures passes { OnOk result (refusal self.old record { user = user.now; form = RawForm.Run accesses steps } ≡ None) }
-        ensures names { OnOk result (self.new ≡ with_statement self.old record { user = user.now; form = RawForm.Run accesses steps }) }
-        ensures refused { IfErr result (λ r. IsRefusal r (refusal self.old record { user = user.now; form = RawForm.Run accesses steps })) }
+        requires room { HasRoom room (RawForm.Run accesses steps deed.now) }
+        ensures ok { IfOk result (λ s. s ≡ numbered self.old record { user = user.now; form = RawForm.Run accesses steps deed.now }) }
+        ensures passes { OnOk result (refusal self.old record { user = user.now; form = RawForm.Run accesses steps deed.now } ≡ None) }
+        ensures names { OnOk result (self.new ≡ with_statement self.old record { user = user.now; form = RawForm.Run accesses steps deed.now }) }
+        ensures refused { IfErr result (λ r. IsRefusal r (refusal self.old record { user = user.now; form = RawForm.Run accesses steps deed.now })) }
         ensures err { OnErr result (self.new ≡ self.old) }
     {
         let accesses = self.numbered_accesses(accesses.as_slice(), room.accesses)?;
         let steps = self.numbered_steps(steps, room.steps)?;
-        let (number, _) = self.users.enter(user.as_str())?;
+        let (user, deed) = self.enter_users(user, deed)?;
         self.places += 1;
         Ok(Statement {
-            user: User(number),
+            user,
             form: Form::Run {
                 accesses,
                 steps,
-                deed: None,
+                deed,
             },
         })
+    }
+
+    /// Takes a deed by itself, as `admit`, where a place is left.
+    fn admit_deed(&mut self, user: &Name, deed: &RawDeed) -> Result<Statement, Refused>
+        requires { self.old.places < 4294967295 }
+        ensures ok { IfOk result (λ s. s ≡ numbered self.old record { user = user.now; form = RawForm.Deed deed.now }) }
+        ensures passes { OnOk result (refusal self.old record { user = user.now; form = RawForm.Deed deed.now } ≡ None) }
+        ensures names { OnOk result (self.new ≡ with_statement self.old record { user = user.now; form = RawForm.Deed deed.now }) }
+        ensures refused { IfErr result (λ r. IsRefusal r (refusal self.old record { user = user.now; form = RawForm.Deed deed.now })) }
+        ensures err { OnErr result (self.new ≡ self.old) }
+    {
+        let (user, deed) = self.enter_deed(user, deed)?;
+        self.places += 1;
+        let form = Form::Deed(deed);
+        Ok(Statement { user, form })
     }
 
     /// Takes a CREATE that passes the tests. It is refused only for want of memory, and then nothing has changed.
@@ -121,7 +180,12 @@ impl Catalog {
         let (user, form) = statement.into_parts();
         match form {
             RawForm::Create { table, columns } => self.admit_create(&user, &table, columns),
-            RawForm::Run { accesses, steps } => self.admit_run(&user, accesses, steps, room),
+            RawForm::Run {
+                accesses,
+                steps,
+                deed,
+            } => self.admit_run(&user, accesses, steps, &deed, room),
+            RawForm::Deed(deed) => self.admit_deed(&user, &deed),
         }
     }
 }

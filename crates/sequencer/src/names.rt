@@ -1,6 +1,7 @@
 //! Names in the order in which they came, each found by its hash.
 
 use crate::refused::Refused;
+use crate::testing::test_two;
 use indexmap::IndexSet;
 use std::alloc::{AllocError, Global};
 use std::marker::Model;
@@ -28,7 +29,7 @@ impl Model for NameTable {
 impl NameTable {
     ghost use Rattle.std.specs.Prelude.{◌≡◌, ◌<◌, ◌≤◌, ◌-◌, [], length, take, slice_get, Some, None, IfOk, IfErr, OnOk, OnErr, not, is_some, false};
     ghost use Rattle.sequencer.specs.Names.{is_known, known_number, number_of, with_name};
-    ghost use Rattle.sequencer.specs.Refusal.{IsRefusal, name_refusal};
+    ghost use Rattle.sequencer.specs.Refusal.{IsRefusal, name_refusal, two_refusal};
 
     /// The table without names. It takes no memory.
     pub fn new(alloc: Global) -> Self
@@ -96,6 +97,41 @@ impl NameTable {
         }
         let number = self.add(name)?;
         Ok((number, true))
+    }
+
+    /// The refusal of two names for which there is no memory.
+    #[tactic(auto, using(crate::proofs::RefusalLemmas::refusal_of_test))]
+    fn refused(&self, first: &str, second: &str) -> Refused
+        ensures { IsRefusal result (two_refusal self.now first.now second.now) }
+    {
+        match test_two(self, first, second) {
+            Ok(()) => Refused::NoMemory,
+            Err(refused) => refused,
+        }
+    }
+
+    /// The numbers of two names, of which each is there already or is entered last, the first before the second. It
+    /// refuses as `enter`, and then nothing has changed.
+    pub(crate) fn enter_both(&mut self, first: &str, second: &str) -> Result<(u32, u32), Refused>
+        ensures first { IfOk result (λ r. r.0 ≡ number_of self.old first.now) }
+        ensures second { IfOk result (λ r. r.1 ≡ number_of (with_name self.old first.now) second.now) }
+        ensures entered { OnOk result (self.new ≡ with_name (with_name self.old first.now) second.now) }
+        ensures passes { OnOk result (two_refusal self.old first.now second.now ≡ None) }
+        ensures refused { IfErr result (λ r. IsRefusal r (two_refusal self.old first.now second.now)) }
+        ensures err { OnErr result (self.new ≡ self.old) }
+    {
+        let Ok((number, is_new)) = self.enter(first) else {
+            return Err(self.refused(first, second));
+        };
+        match self.enter(second) {
+            Ok((other, _)) => Ok((number, other)),
+            Err(refused) => {
+                if is_new {
+                    self.forget_last();
+                }
+                Err(refused)
+            }
+        }
     }
 
     /// Takes the last name out, if there is one.

@@ -1,7 +1,7 @@
 //! Names become numbers, where they pass the tests.
 
 ghost use Rattle.std.specs.Prelude.{◌≡◌, ◌≤◌, [], length, map, IfOk, vec_capacity};
-ghost use Rattle.sequencer.specs.Catalog.{numbered_access, numbered_step};
+ghost use Rattle.sequencer.specs.Catalog.{Names, grantee_of, numbered_access, numbered_deed, numbered_step, table_of};
 ghost use Rattle.sequencer.specs.Names.{number_of};
 ghost use Rattle.sequencer.specs.Refusal.{IsAnswerOf, access_refusal, accesses_refusal, column_refusal, step_refusal, steps_refusal};
 ghost use Rattle.model_base.specs.declared.statement.Step.{Step};
@@ -10,8 +10,8 @@ ghost use Rattle.sequencer.specs.Known.{HasRoom};
 use crate::catalog::Catalog;
 use crate::refused::Refused;
 use crate::testing::{is_repeated, test_skip};
-use log_text::{Name, RawAccess, RawForm, RawStep};
-use model_base::{Access, Items, Key, Register, RowName, Step};
+use log_text::{Name, RawAccess, RawDeed, RawForm, RawStep};
+use model_base::{Access, DeedForm, Items, Key, Register, RowName, Step, Table, User};
 use std::alloc::{AllocError, Global};
 
 /// Where the accesses and the steps of a statement go, with their tables by number.
@@ -26,13 +26,36 @@ pub(crate) fn room_for(alloc: Global, form: &RawForm) -> Result<Room, AllocError
     ensures { IfOk result (λ room. HasRoom room form.now) }
 {
     let (accesses, steps) = match form {
-        RawForm::Create { .. } => (0, 0),
-        RawForm::Run { accesses, steps } => (accesses.as_slice().len(), steps.as_slice().len()),
+        RawForm::Run {
+            accesses,
+            steps,
+            ..
+        } => (accesses.as_slice().len(), steps.as_slice().len()),
+        RawForm::Create { .. } | RawForm::Deed(_) => (0, 0),
     };
     Ok(Room {
         accesses: Vec::with_capacity(alloc, accesses)?,
         steps: Vec::with_capacity(alloc, steps)?,
     })
+}
+
+/// The deed with its table and its grantee by number.
+pub(crate) fn deed_form(deed: &RawDeed, table: Table, grantee: User) -> DeedForm
+    ensures { (names : Names) → table ≡ number_of names.tables (table_of deed.now) → grantee ≡ number_of names.users (grantee_of deed.now) → result ≡ numbered_deed names deed.now }
+{
+    match deed {
+        RawDeed::Grant { kind, option, .. } => DeedForm::Grant {
+            kind: *kind,
+            table,
+            grantee,
+            option: *option,
+        },
+        RawDeed::Revoke { kind, .. } => DeedForm::Revoke {
+            kind: *kind,
+            table,
+            grantee,
+        },
+    }
 }
 
 impl Catalog {

@@ -1,14 +1,15 @@
 //! The tests that a statement has to pass, in their order.
 
-ghost use Rattle.std.specs.Prelude.{◌≡◌, ◌<◌, [], length, nat_le, IfOk};
+ghost use Rattle.std.specs.Prelude.{◌≡◌, ◌<◌, [], length, nat_le, Some, IfOk};
 ghost use Rattle.std.specs.List.{list_any};
 ghost use Rattle.sequencer.specs.Names.{is_known, number_of};
-ghost use Rattle.sequencer.specs.Refusal.{IsAnswer, IsAnswerOf, IsRefusal, accesses_refusal, column_refusal, create_refusal, form_refusal, name_refusal, refusal, same_row, step_refusal, steps_refusal, table_refusal, unless, width_refusal};
+ghost use Rattle.sequencer.specs.Catalog.{deed_in, grantee_of, table_of};
+ghost use Rattle.sequencer.specs.Refusal.{IsAnswer, IsAnswerOf, IsRefusal, accesses_refusal, column_refusal, create_refusal, deed_refusal, form_refusal, name_refusal, or_else, refusal, same_row, step_refusal, steps_refusal, table_refusal, two_refusal, unless, users_refusal, width_refusal};
 
 use crate::catalog::{Catalog, MOST_PLACES};
 use crate::names::{MOST_NAMES, NameTable};
 use crate::refused::Refused;
-use log_text::{Name, RawAccess, RawForm, RawStatement, RawStep};
+use log_text::{Name, RawAccess, RawDeed, RawForm, RawStatement, RawStep};
 use model_base::Table;
 
 /// Whether the two accesses are to one row.
@@ -33,6 +34,39 @@ pub(crate) fn test_name(names: &NameTable, name: &str) -> Result<(), Refused>
         return Ok(());
     }
     Err(Refused::TooManyNames)
+}
+
+/// Two new names have to find room, the first before the second.
+#[tactic(auto, using(crate::proofs::TwoNames::two_of_known, crate::proofs::TwoNames::two_of_same, crate::proofs::TwoNames::two_of_new))]
+pub(crate) fn test_two(names: &NameTable, first: &str, second: &str) -> Result<(), Refused>
+    ensures { IsAnswer result (two_refusal names.now first.now second.now) }
+{
+    test_name(names, first)?;
+    if names.find(first).is_some() {
+        return test_name(names, second);
+    }
+    if second == first {
+        return Ok(());
+    }
+    if names.len() + 1 < MOST_NAMES {
+        return Ok(());
+    }
+    match names.find(second) {
+        Some(_) => Ok(()),
+        None => Err(Refused::TooManyNames),
+    }
+}
+
+/// The table and the grantee that a deed names.
+pub(crate) fn names_in(deed: &RawDeed) -> (&Name, &Name)
+    ensures table { result.0.now ≡ table_of deed.now }
+    ensures grantee { result.1.now ≡ grantee_of deed.now }
+{
+    match deed {
+        RawDeed::Grant { table, grantee, .. } | RawDeed::Revoke { table, grantee, .. } => {
+            (table, grantee)
+        }
+    }
 }
 
 /// A SKIP has to pass over no more steps than there are behind it.
@@ -135,26 +169,51 @@ impl Catalog {
         Ok(())
     }
 
+    /// A deed has to be on a known table.
+    fn test_deed(&self, deed: &RawDeed) -> Result<(), Refused>
+        ensures { IsAnswer result (deed_refusal self.now (Some deed.now)) }
+    {
+        self.known_table(names_in(deed).0)?;
+        Ok(())
+    }
+
     /// What a statement asks for.
     fn test_form(&self, form: &RawForm) -> Result<(), Refused>
         ensures { IsAnswer result (form_refusal self.now form.now) }
     {
         match form {
             RawForm::Create { table, columns } => self.test_create(table, *columns),
-            RawForm::Run { accesses, steps } => {
+            RawForm::Run {
+                accesses,
+                steps,
+                deed,
+            } => {
                 self.test_accesses(accesses.as_slice())?;
-                self.test_steps(steps.as_slice())
+                self.test_steps(steps.as_slice())?;
+                match deed {
+                    Some(deed) => self.test_deed(deed),
+                    None => Ok(()),
+                }
             }
+            RawForm::Deed(deed) => self.test_deed(deed),
         }
     }
 
-    /// The name of a new table has to find room.
-    fn test_table_name(&self, form: &RawForm) -> Result<(), Refused>
-        ensures { IsAnswer result (table_refusal self.now form.now) }
+    /// The names of a new user, of a new grantee and of a new table have to find room.
+    fn test_names(&self, user: &str, form: &RawForm) -> Result<(), Refused>
+        ensures { IsAnswer result (or_else (users_refusal self.now.users user.now (deed_in form.now)) (table_refusal self.now form.now)) }
     {
         match form {
-            RawForm::Create { table, .. } => test_name(self.tables(), table.as_str()),
-            RawForm::Run { .. } => Ok(()),
+            RawForm::Create { table, .. } => {
+                test_name(self.users(), user)?;
+                test_name(self.tables(), table.as_str())
+            }
+            RawForm::Run { deed: None, .. } => test_name(self.users(), user),
+            RawForm::Run {
+                deed: Some(deed),
+                ..
+            } => test_two(self.users(), user, names_in(deed).1.as_str()),
+            RawForm::Deed(deed) => test_two(self.users(), user, names_in(deed).1.as_str()),
         }
     }
 
@@ -166,8 +225,7 @@ impl Catalog {
             return Err(Refused::LogFull);
         }
         self.test_form(statement.form())?;
-        test_name(self.users(), statement.user())?;
-        self.test_table_name(statement.form())
+        self.test_names(statement.user(), statement.form())
     }
 
     /// The refusal of a statement for which there is no memory.

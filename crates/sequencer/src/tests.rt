@@ -1,10 +1,10 @@
-//! Worked examples: a log of a few lines, and each call of the names and of the catalog. Those of the log and
-//! the catalog go on where memory is refused once, and look then whether all is as it was.
+//! Worked examples: a log of a few lines, and each call of the names and of the catalog. Those of few lines go on where
+//! memory is refused once, and look then whether all is as it was.
 
 use crate::{Catalog, Log, NameTable, Refused};
 use log_text::{LineFault, RawStatement, parse_line};
-use model_base::{Form, Key, Place, Statement, Table, User};
-use std::alloc::Global;
+use model_base::{DeedForm, Form, Key, Kind, Place, Statement, Table, User};
+use std::alloc::{AllocError, Global};
 use std::process::Abort;
 use std::test::Fail;
 
@@ -98,6 +98,98 @@ fn small_log(rt: &impl Abort, alloc: Global) -> Result<Log, Fail> {
         expect_answer(rt, alloc, &mut log, line, want)?;
     }
     Ok(log)
+}
+
+/// The log that takes grants and revocations.
+fn log_of_deeds(rt: &impl Abort, alloc: Global) -> Result<Log, Fail> {
+    let cases = [
+        ("alice GRANT READ t bob", Err(Refused::UnknownTable)),
+        ("alice CREATE t 1", Ok(0)),
+        ("alice GRANT READ t bob", Ok(1)),
+        ("alice REVOKE READ u bob", Err(Refused::UnknownTable)),
+        ("carol REVOKE READ t dave", Ok(2)),
+        (
+            "alice RUN t:1:R | GRANT READ u eve",
+            Err(Refused::UnknownTable),
+        ),
+        // Accesses come before steps, and steps before the deed.
+        (
+            "alice RUN t:1:R t:1:R | GRANT READ u eve",
+            Err(Refused::DuplicateAccess),
+        ),
+        (
+            "alice RUN t:1:R | SKIP 0 1 | GRANT READ u eve",
+            Err(Refused::SkipPastEnd),
+        ),
+        ("alice RUN t:1:R | GRANT UPDATE t alice OPTION", Ok(3)),
+        ("eve RUN t:1:R | REVOKE READ t eve", Ok(4)),
+    ];
+    let mut log = Log::new(alloc);
+    for (line, want) in cases {
+        expect_answer(rt, alloc, &mut log, line, want)?;
+    }
+    Ok(log)
+}
+
+#[test]
+fn a_user_is_numbered_before_a_grantee(rt: HostRuntime) -> Result<(), Fail> {
+    let log = log_of_deeds(&rt, rt.alloc())?;
+    assert_eq!(rt; log.catalog().users().len(), 5);
+    for (number, name) in ["alice", "bob", "carol", "dave", "eve"].iter().enumerate() {
+        assert_eq!(rt; log.user_name(User(number as u32)), *name);
+    }
+    let [_, grant, revoke, run, _] = log.statements() else {
+        panic!(rt; "not five statements");
+    };
+    let granted = DeedForm::Grant {
+        kind: Kind::Read,
+        table: Table(0),
+        grantee: User(1),
+        option: false,
+    };
+    assert!(rt; matches!(&grant.form, Form::Deed(deed) if *deed == granted));
+    let revoked = DeedForm::Revoke {
+        kind: Kind::Read,
+        table: Table(0),
+        grantee: User(3),
+    };
+    assert_eq!(rt; revoke.user, User(2));
+    assert!(rt; matches!(&revoke.form, Form::Deed(deed) if *deed == revoked));
+    let itself = DeedForm::Grant {
+        kind: Kind::Update,
+        table: Table(0),
+        grantee: User(0),
+        option: true,
+    };
+    assert!(rt; matches!(&run.form, Form::Run { deed: Some(deed), .. } if *deed == itself));
+    Ok(())
+}
+
+/// The name `u` with a number behind it.
+fn numbered_name(alloc: Global, number: usize) -> Result<String, AllocError> {
+    format!(in alloc; "u{number}")
+}
+
+#[test]
+fn a_grantee_may_be_one_name_too_many(rt: HostRuntime) -> Result<(), Fail> {
+    let mut catalog = Catalog::new(rt.alloc());
+    expect_admitted(&rt, rt.alloc(), &mut catalog, "u0 CREATE t 1")?;
+    for number in 1..65_535 {
+        let name = numbered_name(rt.alloc(), number)?;
+        let line = format!(in rt.alloc(); "{name} RUN t:1:R")?;
+        catalog.admit(parsed(rt.alloc(), line.as_str())?)?;
+    }
+    let refused = catalog.admit(parsed(rt.alloc(), "v RUN t:1:R | GRANT READ t w")?);
+    assert!(rt; matches!(refused, Err(Refused::TooManyNames)));
+    assert_eq!(rt; catalog.users().len(), 65_535);
+    catalog.admit(parsed(rt.alloc(), "v GRANT READ t v")?)?;
+    assert_eq!(rt; catalog.users().len(), 65_536);
+    let refused = catalog.admit(parsed(rt.alloc(), "u0 REVOKE READ t w")?);
+    assert!(rt; matches!(refused, Err(Refused::TooManyNames)));
+    catalog.admit(parsed(rt.alloc(), "u1 REVOKE READ t u65534")?)?;
+    let refused = catalog.admit(parsed(rt.alloc(), "w RUN t:1:R")?);
+    assert!(rt; matches!(refused, Err(Refused::TooManyNames)));
+    Ok(())
 }
 
 #[test]
