@@ -1,1 +1,3 @@
 mod Padding
+pub mod Replay
+pub mod Parts

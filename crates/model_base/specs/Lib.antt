@@ -4,3 +4,4 @@ pub mod Privileges
 pub mod Body
 pub mod Outcomes
 pub mod Versions
+pub mod Laws
