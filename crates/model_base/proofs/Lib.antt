@@ -1,3 +1,4 @@
 mod Padding
 pub mod Replay
 pub mod Parts
+pub mod Places

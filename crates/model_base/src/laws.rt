@@ -1,8 +1,8 @@
 //! What holds of the grants in force after every list of deeds.
 
-ghost use Rattle.std.specs.Prelude.{ℕ, List, [], ◌∷◌, ◌++◌};
+ghost use Rattle.std.specs.Prelude.{◌≡◌, ℕ, ◌<◌, false, List, [], ◌∷◌, ◌++◌, All, Contains};
 ghost use Rattle.model_base.specs.Laws.{IsPart};
-ghost use Rattle.model_base.specs.Privileges.{kept, replayed};
+ghost use Rattle.model_base.specs.Privileges.{IsProper, is_among, kept, place_of, replayed};
 ghost use Rattle.model_base.specs.declared.deed.Deed.TheVariants.{Granting, Revoking};
 ghost use Rattle.model_base.specs.declared.deed.Deed.{Deed};
 ghost use Rattle.model_base.specs.declared.deed.Grant.{Grant};
@@ -20,4 +20,14 @@ pub fn fewer_grants_keep_fewer()
         → IsPart (kept owners (past ++ later)) (kept owners (past ++ Granting grant ∷ later)) }
     ensures replayed { (owners : List ℕ) (standing wider fewer more : List Grant)
         → IsPart standing wider → IsPart fewer more → IsPart (replayed owners standing fewer) (replayed owners wider more) }
+{}
+
+/// A grant that is out of force after some deeds is so after all deeds that follow, whose places lie above its own.
+pub fn ended_grants_stay_ended()
+    ensures above { (owners : List ℕ) (past later : List Deed) (place : ℕ)
+        → All (λ deed. place < place_of deed) later
+        → is_among place (kept owners past) ≡ false → is_among place (kept owners (past ++ later)) ≡ false }
+    ensures proper { (owners : List ℕ) (past later : List Deed) (grant : Grant)
+        → IsProper owners (past ++ later) → Contains past (Granting grant)
+        → is_among grant.place (kept owners past) ≡ false → is_among grant.place (kept owners (past ++ later)) ≡ false }
 {}
