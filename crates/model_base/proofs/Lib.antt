@@ -2,3 +2,4 @@ mod Padding
 pub mod Replay
 pub mod Parts
 pub mod Places
+pub mod Causes

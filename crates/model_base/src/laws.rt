@@ -1,11 +1,14 @@
 //! What holds of the grants in force after every list of deeds.
 
-ghost use Rattle.std.specs.Prelude.{◌≡◌, ℕ, ◌<◌, false, List, [], ◌∷◌, ◌++◌, All, Contains};
+ghost use Rattle.std.specs.Prelude.{◌≡◌, ℕ, ◌<◌, true, false, List, [], ◌∷◌, ◌++◌, All, Contains, if◌then◌else◌};
 ghost use Rattle.model_base.specs.Laws.{IsPart};
-ghost use Rattle.model_base.specs.Privileges.{IsProper, is_among, kept, place_of, replayed};
+ghost use Rattle.model_base.specs.Outcomes.{cause};
+ghost use Rattle.model_base.specs.Privileges.{IsProper, holds, is_among, kept, option_of, place_of, replayed};
+ghost use Rattle.model_base.specs.declared.deed.Cause.TheVariants.{Taken};
 ghost use Rattle.model_base.specs.declared.deed.Deed.TheVariants.{Granting, Revoking};
 ghost use Rattle.model_base.specs.declared.deed.Deed.{Deed};
 ghost use Rattle.model_base.specs.declared.deed.Grant.{Grant};
+ghost use Rattle.model_base.specs.declared.deed.Need.{Need};
 ghost use Rattle.model_base.specs.declared.deed.Revocation.{Revocation};
 
 /// No grant comes into force by a revocation: those in force after it are some of those before it.
@@ -30,4 +33,20 @@ pub fn ended_grants_stay_ended()
     ensures proper { (owners : List ℕ) (past later : List Deed) (grant : Grant)
         → IsProper owners (past ++ later) → Contains past (Granting grant)
         → is_among grant.place (kept owners past) ≡ false → is_among grant.place (kept owners (past ++ later)) ≡ false }
+{}
+
+/// A grant ends none: it joins those in force if its grantor has the option, and what was held stays held.
+pub fn grants_end_none()
+    ensures kept { (owners : List ℕ) (deeds : List Deed) (grant : Grant)
+        → kept owners (deeds ++ Granting grant ∷ [])
+        ≡ kept owners deeds ++ (if holds owners deeds grant.grantor (option_of grant) then grant ∷ [] else []) }
+    ensures held { (owners : List ℕ) (deeds : List Deed) (grant : Grant) (user : ℕ) (need : Need)
+        → holds owners deeds user need ≡ true → holds owners (deeds ++ Granting grant ∷ []) user need ≡ true }
+{}
+
+/// Only a revocation takes a need away: the place that the cause of a denial names is the place of one of the deeds'.
+pub fn causes_are_revocations()
+    ensures { (owners : List ℕ) (deeds : List Deed) (user : ℕ) (need : Need) (place : ℕ)
+        → cause owners deeds user need ≡ Taken place
+        → (revocation : Revocation) × Contains deeds (Revoking revocation) × (place ≡ revocation.place) }
 {}

@@ -13,7 +13,7 @@ mod row;
 mod statement;
 
 pub use deed::{Cause, Deed, Grant, Kind, Kinds, Need, Revocation};
-pub use laws::{ended_grants_stay_ended, fewer_grants_keep_fewer, revocations_add_none};
+pub use laws::{causes_are_revocations, ended_grants_stay_ended, fewer_grants_keep_fewer, grants_end_none, revocations_add_none};
 pub use list::Items;
 pub use name::{Place, RowNumber, Table, User};
 pub use outcome::{DeedDone, Outcome, Reason};
