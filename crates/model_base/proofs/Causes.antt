@@ -1,5 +1,5 @@
 -- What is held stays held until a revocation, and the cause of a denial is the last loss.
-use Rattle.std.proofs.Common.{◌≡◌, ℕ, zero, suc, ◌<◌, ◌||◌, ◌&&◌, not, Bool, true, false, List, [], ◌∷◌, ◌++◌, Some, refl, sym, ◌∙◌, ap, append_assoc, arith, ◌⊎◌, inl, inr}
+use Rattle.std.proofs.Common.{◌≡◌, ◌↔◌, ℕ, zero, suc, ◌<◌, ◌||◌, ◌&&◌, not, Bool, true, false, List, [], ◌∷◌, ◌++◌, Some, refl, sym, ◌∙◌, ap, append_assoc, arith, ◌⊎◌, inl, inr}
 use Rattle.std.specs.Prelude.{Contains, slice_get, take, if◌then◌else◌}
 use Rattle.std.proofs.Math.Seq.{take-nil}
 use Rattle.std.proofs.lemmas.Bool.{or_left, true≢false, cases_order}
@@ -140,3 +140,40 @@ module _ (owners : List ℕ) (user : ℕ) (need : Need) where
         | inl never ↦ by_cases (holds owners past user need) (λ held. inr (lost_here past later deed held never)) (λ out. inl (never_here past later deed out never))
         | inr lost ↦ inr (lost_there past later deed lost)
       ]
+
+  -- the cause is `Never` exactly where no beginning of the deeds holds the need
+  pub cause-never : (deeds : List Deed) → holds owners deeds user need ≡ false
+      → (cause owners deeds user need ≡ Never) ↔ ((n : ℕ) → holds owners (take n deeds) user need ≡ false)
+  cause-never deeds missing =
+      elim (lost_or_never [] deeds missing) [
+        | inl never ↦ (λ was. never.missing, λ none. never.same Never)
+        | inr lost ↦ (λ was. let taken = lost.taken Never in absurd (cc), λ none. absurd (true≢false (sym lost.before ∙ none lost.index)))
+      ]
+
+  -- of two last losses one can't come before the other
+  one_loss : (deeds : List Deed) (place : ℕ) (lost : IsLostLater [] deeds) → IsLastLoss owners deeds user need place → place_of lost.deed ≡ place
+  one_loss deeds place lost last =
+      elim (cases_order lost.index last.index) [
+        | inl same ↦
+        let both : Some lost.deed ≡ Some last.deed = sym lost.there ∙ ap (slice_get deeds) same ∙ last.there in
+        let deed : lost.deed ≡ last.deed = cc in
+        ap place_of deed ∙ last.here
+        | inr other ↦ elim other [
+          | inl less ↦ absurd (true≢false (sym last.before ∙ lost.after last.index less))
+          | inr more ↦ absurd (true≢false (sym lost.before ∙ last.after lost.index more))
+        ]
+      ]
+
+  -- and otherwise the place of the last loss
+  pub cause-taken : (deeds : List Deed) (place : ℕ) → holds owners deeds user need ≡ false
+      → (cause owners deeds user need ≡ Taken place) ↔ IsLastLoss owners deeds user need place
+  cause-taken deeds place missing =
+      elim (lost_or_never [] deeds missing) [
+        | inl never ↦ (λ was. let same = never.same Never in absurd (cc), λ last. absurd (true≢false (sym last.before ∙ never.missing last.index)))
+        | inr lost ↦ (by_cause lost, λ last. lost.taken Never ∙ ap Taken (one_loss deeds place lost last))
+      ]
+    where
+      by_cause : IsLostLater [] deeds → cause owners deeds user need ≡ Taken place → IsLastLoss owners deeds user need place
+      by_cause lost was =
+          let taken = lost.taken Never in
+          record { index = lost.index; deed = lost.deed; there = lost.there; here = cc; before = lost.before; after = lost.after }

@@ -3,3 +3,4 @@ pub mod Replay
 pub mod Parts
 pub mod Places
 pub mod Causes
+pub mod Growth

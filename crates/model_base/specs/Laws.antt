@@ -1,5 +1,5 @@
 -- Words of the laws of src/laws.rt.
-use Rattle.std.specs.Prelude.{◌≡◌, ℕ, ◌<◌, Option, Some, true, false, All, List, [], ◌∷◌, slice_get, take}
+use Rattle.std.specs.Prelude.{◌≡◌, ◌⊎◌, ℕ, ◌<◌, Option, Some, true, false, All, List, [], ◌∷◌, ◌++◌, slice_get, take}
 use Rattle.model_base.specs.declared.deed.Grant.{Grant}
 use Rattle.model_base.specs.declared.deed.Need.{Need}
 use Rattle.model_base.specs.declared.deed.Deed.{Deed}
@@ -24,3 +24,7 @@ pub record IsLastLoss (owners : List ℕ) (deeds : List Deed) (user : ℕ) (need
   pub here : place_of deed ≡ place
   pub before : holds owners (take index deeds) user need ≡ true
   pub after : (n : ℕ) → index < n → holds owners (take n deeds) user need ≡ false
+
+-- the deeds after the place are those before it, or one more, which has the place
+abbrev pub GrowsAt : ℕ → List Deed → List Deed → Type 0
+GrowsAt place before after = (after ≡ before) ⊎ ((deed : Deed) × (after ≡ before ++ deed ∷ []) × (place_of deed ≡ place))

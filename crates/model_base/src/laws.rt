@@ -1,15 +1,16 @@
 //! What holds of the grants in force after every list of deeds.
 
-ghost use Rattle.std.specs.Prelude.{◌≡◌, ℕ, ◌<◌, true, false, List, [], ◌∷◌, ◌++◌, All, Contains, if◌then◌else◌};
-ghost use Rattle.model_base.specs.Laws.{IsPart};
-ghost use Rattle.model_base.specs.Outcomes.{cause};
+ghost use Rattle.std.specs.Prelude.{◌≡◌, ◌↔◌, ℕ, ◌+◌, ◌<◌, true, false, List, [], ◌∷◌, ◌++◌, All, Contains, take, if◌then◌else◌};
+ghost use Rattle.model_base.specs.Laws.{GrowsAt, IsLastLoss, IsPart};
+ghost use Rattle.model_base.specs.Outcomes.{cause, deeds_before, owners};
 ghost use Rattle.model_base.specs.Privileges.{IsProper, holds, is_among, kept, option_of, place_of, replayed};
-ghost use Rattle.model_base.specs.declared.deed.Cause.TheVariants.{Taken};
+ghost use Rattle.model_base.specs.declared.deed.Cause.TheVariants.{Never, Taken};
 ghost use Rattle.model_base.specs.declared.deed.Deed.TheVariants.{Granting, Revoking};
 ghost use Rattle.model_base.specs.declared.deed.Deed.{Deed};
 ghost use Rattle.model_base.specs.declared.deed.Grant.{Grant};
 ghost use Rattle.model_base.specs.declared.deed.Need.{Need};
 ghost use Rattle.model_base.specs.declared.deed.Revocation.{Revocation};
+ghost use Rattle.model_base.specs.declared.statement.Statement.{Statement};
 
 /// No grant comes into force by a revocation: those in force after it are some of those before it.
 pub fn revocations_add_none()
@@ -49,4 +50,24 @@ pub fn causes_are_revocations()
     ensures { (owners : List ℕ) (deeds : List Deed) (user : ℕ) (need : Need) (place : ℕ)
         → cause owners deeds user need ≡ Taken place
         → (revocation : Revocation) × Contains deeds (Revoking revocation) × (place ≡ revocation.place) }
+{}
+
+/// The cause of a denial, by the beginnings of the deeds: a need that isn't held never was exactly if no beginning of
+/// the deeds holds it, and was taken at a place exactly if the deed of that place is the last loss.
+pub fn causes_are_last_losses()
+    ensures never { (owners : List ℕ) (deeds : List Deed) (user : ℕ) (need : Need)
+        → holds owners deeds user need ≡ false
+        → (cause owners deeds user need ≡ Never) ↔ ((n : ℕ) → holds owners (take n deeds) user need ≡ false) }
+    ensures taken { (owners : List ℕ) (deeds : List Deed) (user : ℕ) (need : Need) (place : ℕ)
+        → holds owners deeds user need ≡ false
+        → (cause owners deeds user need ≡ Taken place) ↔ IsLastLoss owners deeds user need place }
+{}
+
+/// Each place of a log makes at most one deed, which has its place, and the deeds before a place are proper: their
+/// places rise, below this one, and each grantor held the option when it granted.
+pub fn deeds_grow_by_one()
+    ensures grows { (log : List Statement) (place : ℕ)
+        → GrowsAt place (deeds_before log place) (deeds_before log (place + 1)) }
+    ensures proper { (log : List Statement) (place : ℕ) → IsProper (owners log) (deeds_before log place) }
+    ensures below { (log : List Statement) (place : ℕ) → All (λ deed. place_of deed < place) (deeds_before log place) }
 {}

@@ -13,7 +13,10 @@ mod row;
 mod statement;
 
 pub use deed::{Cause, Deed, Grant, Kind, Kinds, Need, Revocation};
-pub use laws::{causes_are_revocations, ended_grants_stay_ended, fewer_grants_keep_fewer, grants_end_none, revocations_add_none};
+pub use laws::{
+    causes_are_last_losses, causes_are_revocations, deeds_grow_by_one, ended_grants_stay_ended, fewer_grants_keep_fewer,
+    grants_end_none, revocations_add_none,
+};
 pub use list::Items;
 pub use name::{Place, RowNumber, Table, User};
 pub use outcome::{DeedDone, Outcome, Reason};
