@@ -4,3 +4,4 @@ pub mod Parts
 pub mod Places
 pub mod Causes
 pub mod Growth
+pub mod Paths

@@ -5,3 +5,4 @@ pub mod Body
 pub mod Outcomes
 pub mod Versions
 pub mod Laws
+pub mod Paths

@@ -1,9 +1,10 @@
 //! What holds of the grants in force after every list of deeds.
 
 ghost use Rattle.std.specs.Prelude.{◌≡◌, ◌↔◌, ℕ, ◌+◌, ◌<◌, true, false, List, [], ◌∷◌, ◌++◌, All, Contains, take, if◌then◌else◌};
-ghost use Rattle.model_base.specs.Laws.{GrowsAt, IsLastLoss, IsPart};
+ghost use Rattle.model_base.specs.Laws.{GrowsAt, IsLastLoss, IsPart, IsRising};
 ghost use Rattle.model_base.specs.Outcomes.{cause, deeds_before, owners};
-ghost use Rattle.model_base.specs.Privileges.{IsProper, holds, is_among, kept, option_of, place_of, replayed};
+ghost use Rattle.model_base.specs.Paths.{LeadsTo, path};
+ghost use Rattle.model_base.specs.Privileges.{IsProper, gives, has, holds, is_among, kept, option_of, owns, place_of, replayed};
 ghost use Rattle.model_base.specs.declared.deed.Cause.TheVariants.{Never, Taken};
 ghost use Rattle.model_base.specs.declared.deed.Deed.TheVariants.{Granting, Revoking};
 ghost use Rattle.model_base.specs.declared.deed.Deed.{Deed};
@@ -70,4 +71,27 @@ pub fn deeds_grow_by_one()
         → GrowsAt place (deeds_before log place) (deeds_before log (place + 1)) }
     ensures proper { (log : List Statement) (place : ℕ) → IsProper (owners log) (deeds_before log place) }
     ensures below { (log : List Statement) (place : ℕ) → All (λ deed. place_of deed < place) (deeds_before log place) }
+{}
+
+/// A need that is held has a path of grants in force, along which the places rise. It leads from the table's owner to
+/// the need: the owner makes the first grant, each gives the grantor of the next the option, and the last gives the need.
+pub fn held_needs_have_paths()
+    ensures leads { (owners : List ℕ) (deeds : List Deed) (user : ℕ) (need : Need)
+        → holds owners deeds user need ≡ true
+        → LeadsTo owners (path owners (kept owners deeds) user need) user need }
+    ensures part { (owners : List ℕ) (deeds : List Deed) (user : ℕ) (need : Need)
+        → IsPart (path owners (kept owners deeds) user need) (kept owners deeds) }
+    ensures rises { (owners : List ℕ) (deeds : List Deed) (user : ℕ) (need : Need)
+        → IsProper owners deeds → IsRising (path owners (kept owners deeds) user need) }
+{}
+
+/// What the path of a need is: none for the table's owner, and otherwise the earliest grant that gives the need, behind
+/// the path of its grantor's option by the grants before it.
+pub fn paths_take_the_earliest()
+    ensures owner { (owners : List ℕ) (grants : List Grant) (user : ℕ) (need : Need)
+        → owns owners user need.table ≡ true → path owners grants user need ≡ [] }
+    ensures earliest { (owners : List ℕ) (before later : List Grant) (grant : Grant) (user : ℕ) (need : Need)
+        → has owners before user need ≡ false → gives grant user need ≡ true
+        → path owners (before ++ grant ∷ later) user need
+        ≡ path owners before grant.grantor (option_of grant) ++ grant ∷ [] }
 {}
