@@ -1,5 +1,5 @@
 -- What is held stays held until a revocation, and the cause of a denial is the last loss.
-use Rattle.std.proofs.Common.{◌≡◌, ◌↔◌, ℕ, zero, suc, ◌<◌, ◌||◌, ◌&&◌, not, Bool, true, false, List, [], ◌∷◌, ◌++◌, Some, refl, sym, ◌∙◌, ap, append_assoc, arith, ◌⊎◌, inl, inr}
+use Rattle.std.proofs.Common.{◌≡◌, ◌↔◌, ℕ, zero, suc, ◌<◌, ◌&&◌, not, Bool, true, false, List, [], ◌∷◌, ◌++◌, Some, refl, sym, ◌∙◌, ap, append_assoc, arith, ◌⊎◌, inl, inr}
 use Rattle.std.specs.Prelude.{Contains, slice_get, take, if◌then◌else◌}
 use Rattle.std.proofs.Math.Seq.{take-nil}
 use Rattle.std.proofs.lemmas.Bool.{or_left, true≢false, cases_order}
@@ -58,8 +58,8 @@ module _ (owners : List ℕ) (user : ℕ) (need : Need) where
   taken_by past (deed ∷ later) found place was =
       elim (taken_by (past ++ deed ∷ []) later (if takes past deed then Taken (place_of deed) else found) place was) [
         | inl here ↦ by_cases (takes past deed)
-        (λ took. let same : Taken (place_of deed) ≡ Taken place = rw took at here in inr (taken_here past later deed place took (cc)))
-        (λ left. inl (rw left at here))
+            (λ took. let same : Taken (place_of deed) ≡ Taken place = rw took at here in inr (taken_here past later deed place took (cc)))
+            (λ left. inl (rw left at here))
         | inr there ↦ inr (there.0, Contains-append_right (deed ∷ []) later (Revoking there.0) there.1, there.2)
       ]
 
@@ -155,9 +155,9 @@ module _ (owners : List ℕ) (user : ℕ) (need : Need) where
   one_loss deeds place lost last =
       elim (cases_order lost.index last.index) [
         | inl same ↦
-        let both : Some lost.deed ≡ Some last.deed = sym lost.there ∙ ap (slice_get deeds) same ∙ last.there in
-        let deed : lost.deed ≡ last.deed = cc in
-        ap place_of deed ∙ last.here
+            let both : Some lost.deed ≡ Some last.deed = sym lost.there ∙ ap (slice_get deeds) same ∙ last.there in
+            let deed : lost.deed ≡ last.deed = cc in
+            ap place_of deed ∙ last.here
         | inr other ↦ elim other [
           | inl less ↦ absurd (true≢false (sym last.before ∙ lost.after last.index less))
           | inr more ↦ absurd (true≢false (sym lost.before ∙ last.after lost.index more))

@@ -3,12 +3,11 @@ use Rattle.std.proofs.Common.{◌≡◌, ℕ, zero, suc, ◌+◌, ◌<◌, ◌�
 use Rattle.std.specs.Prelude.{All, take}
 use Rattle.std.specs.List.{find, flat_map}
 use Rattle.std.proofs.Math.Seq.{take-nil}
-use Rattle.std.proofs.lemmas.Bool.{not-false, true≢false}
+use Rattle.std.proofs.lemmas.Bool.{not-false}
 use Rattle.std.proofs.lemmas.List.{append-nil, length-take}
 use Rattle.std.proofs.lemmas.List.Elements.{All-nil, All-push, All-weaker}
 use Rattle.model_base.specs.declared.deed.Need.{Need}
 use Rattle.model_base.specs.declared.deed.Deed.{Deed}
-use Rattle.model_base.specs.declared.deed.Deed.TheVariants.{Granting, Revoking}
 use Rattle.model_base.specs.declared.statement.DeedForm.{DeedForm}
 use Rattle.model_base.specs.declared.statement.Form.{Form}
 use Rattle.model_base.specs.declared.statement.Statement.{Statement}
@@ -27,6 +26,7 @@ find-none_right test (x ∷ first) later none =
     (λ passes. let found = rw passes at none in absurd (cc))
     (λ fails. find-none_right test first later (rw fails at none))
 
+-- nor is it a list's only item
 find-none_one : {X : Type 0} (test : X → Bool) (x : X) → find test (x ∷ []) ≡ None → test x ≡ false
 find-none_one test x none =
     by_cases (test x)
@@ -34,7 +34,8 @@ find-none_one test x none =
     (λ fails. fails)
 
 -- the beginning of a log grows by one statement, or is the whole
-pub take-next : {X : Type 0} (n : ℕ) (xs : List X) → (take (suc n) xs ≡ take n xs) ⊎ ((x : X) × (take (suc n) xs ≡ take n xs ++ x ∷ []) × (length (take n xs) ≡ n))
+pub take-next : {X : Type 0} (n : ℕ) (xs : List X)
+    → (take (suc n) xs ≡ take n xs) ⊎ ((x : X) × (take (suc n) xs ≡ take n xs ++ x ∷ []) × (length (take n xs) ≡ n))
 take-next n [] = inl (sym (take-nil n))
 take-next zero (x ∷ xs) = inr (x, refl, refl)
 take-next (suc n) (x ∷ xs) =
@@ -43,6 +44,7 @@ take-next (suc n) (x ∷ xs) =
       | inr more ↦ inr (more.0, ap (λ r. x ∷ r) more.1, ap suc more.2)
     ]
 
+-- the deed of a form has its place
 deed_at-place : (place user : ℕ) (form : DeedForm) → place_of (deed_at place user form) ≡ place
 deed_at-place place user (DeedForm.Grant kind table grantee option) = refl
 deed_at-place place user (DeedForm.Revoke kind table grantee) = refl
@@ -63,13 +65,16 @@ pub record Stands (owners : List ℕ) (place : ℕ) (deeds : List Deed) : Type 0
   pub proper : IsProper owners deeds
   pub below : All (λ deed. place_of deed < place) deeds
 
+-- and below each later one
 pub stands-later : (owners : List ℕ) (place : ℕ) (deeds : List Deed) → Stands owners place deeds → Stands owners (place + 1) deeds
 stands-later owners place deeds stands = record {
   proper = stands.proper;
   below = All-weaker (λ deed. place_of deed < place) (λ deed. place_of deed < place + 1) (λ deed less. omega arith) deeds stands.below;
 }
 
-pub stands-one : (owners : List ℕ) (place : ℕ) (deeds : List Deed) (deed : Deed) → Stands owners place deeds → place_of deed ≡ place → MayFollow owners deeds deed
+-- a deed of the place that may follow stands with them before the next
+pub stands-one : (owners : List ℕ) (place : ℕ) (deeds : List Deed) (deed : Deed)
+    → Stands owners place deeds → place_of deed ≡ place → MayFollow owners deeds deed
     → Stands owners (place + 1) (deeds ++ deed ∷ [])
 stands-one owners place deeds deed stands at may = record {
   proper = proper-one owners [] deeds deed stands.proper may;
@@ -104,27 +109,31 @@ pub record IsNext (owners : List ℕ) (place : ℕ) (before after : List Deed) :
   pub stands : Stands owners place before → Stands owners (place + 1) after
 
 module _ (owners : List ℕ) (place : ℕ) (world : World) (statement : Statement) where
+  -- most places make no deed
   next-same : IsNext owners place world.deeds world.deeds
   next-same = record { grows = inl refl; stands = stands-later owners place world.deeds }
 
+  -- what a body's end makes of them
   next-changed : (made : Option Deed) (ending : Ending) → deed_of place statement.user statement.form ≡ made
       → missing owners world statement.user statement.form ≡ None → IsNext owners place world.deeds (changed world made ending).deeds
   next-changed None (completed rows outputs) is held = rw append-nil next-same
   next-changed (Some deed) (completed rows outputs) is held = record {
     grows = inr (deed, refl, deed_of-place place statement.user statement.form deed is);
     stands = λ stands.
-    stands-one owners place world.deeds deed stands (deed_of-place place statement.user statement.form deed is)
-    (may_follow owners place statement.user world.deeds stands.below statement.form deed held is);
+        stands-one owners place world.deeds deed stands (deed_of-place place statement.user statement.form deed is)
+        (may_follow owners place statement.user world.deeds stands.below statement.form deed held is);
   }
   next-changed made (aborted step reason) is held = next-same
   next-changed made (undeclared step) is held = next-same
 
+  -- what the judgment does
   next-judged : (lack : Option Need) → missing owners world statement.user statement.form ≡ lack
       → IsNext owners place world.deeds (judged owners place world statement lack).1.deeds
   next-judged (Some need) is = next-same
   next-judged None is =
       next-changed (deed_of place statement.user statement.form) (body world.rows statement.form) refl is
 
+  -- what a statement of each form does
   next-form : (form : Form) → statement.form ≡ form → IsNext owners place world.deeds (step_form owners place world statement form).1.deeds
   next-form (Form.Create table columns) is = next-same
   next-form (Form.Run accesses steps deed) is =
@@ -149,6 +158,7 @@ world_after-snoc owners place world (first ∷ statements) statement =
     world_after-snoc owners (place + 1) next statements statement
     ∙ ap (λ (at : ℕ). (at_place owners at (world_after owners (place + 1) next statements) statement).1) same
 
+-- after some statements the deeds stand so before the next place
 stands-after : (owners : List ℕ) (place : ℕ) (world : World) (statements : List Statement) → Stands owners place world.deeds
     → Stands owners (place + length statements) (world_after owners place world statements).deeds
 stands-after owners place world [] stands =
@@ -167,7 +177,9 @@ deeds_before-stands log place =
     let long : length (take place log) ≤ place = omega (arith, length-take place log) in
     record {
       proper = stands.proper;
-      below = All-weaker (λ deed. place_of deed < 0 + length (take place log)) (λ deed. place_of deed < place) (λ deed less. omega arith) (deeds_before log place) stands.below;
+      below =
+          All-weaker (λ deed. place_of deed < 0 + length (take place log)) (λ deed. place_of deed < place) (λ deed less. omega arith)
+          (deeds_before log place) stands.below;
     }
 
 -- one place more makes at most one deed more
@@ -175,7 +187,7 @@ pub deeds_before-grows : (log : List Statement) (place : ℕ) → GrowsAt place 
 deeds_before-grows log place =
     elim (take-next place log) [
       | inl whole ↦ inl (ap (λ (n : ℕ). (world_after (owners log) 0 empty_world (take n log)).deeds) (add-one place)
-      ∙ ap (λ (xs : List Statement). (world_after (owners log) 0 empty_world xs).deeds) whole)
+          ∙ ap (λ (xs : List Statement). (world_after (owners log) 0 empty_world xs).deeds) whole)
       | inr more ↦ grown more.0 more.1 more.2
     ]
   where

@@ -1,5 +1,5 @@
 -- Lists with some of their grants left out, and that fewer grants never keep more in force.
-use Rattle.std.proofs.Common.{◌≡◌, ℕ, not, Bool, true, false, List, [], ◌∷◌, ◌++◌, filter, sym, ◌∙◌, inl, inr}
+use Rattle.std.proofs.Common.{◌≡◌, ℕ, not, Bool, true, List, [], ◌∷◌, ◌++◌, filter, sym, ◌∙◌, inl, inr}
 use Rattle.std.specs.Prelude.{All}
 use Rattle.std.specs.List.{list_any}
 use Rattle.std.proofs.lemmas.Bool.{or_cases, or_left, or_right}
@@ -12,12 +12,14 @@ use Rattle.model_base.specs.declared.deed.Deed.{Deed}
 use Rattle.model_base.specs.declared.deed.Deed.TheVariants.{Granting, Revoking}
 use Rattle.model_base.specs.Privileges.{owns, gives, has, option_of, names, revokes, erased, replayed, kept}
 use Rattle.model_base.specs.Laws.{IsPart, none, left_out, stays}
-use Rattle.model_base.proofs.Replay.{GivesNoMore, by_cases, both_more, one_more, same_grants, has-snoc, kept-revoke}
+use Rattle.model_base.proofs.Replay.{GivesNoMore, by_cases, both_more, one_more, same_grants, kept-revoke}
 
+-- a list is a part of itself
 pub part-same : (grants : List Grant) → IsPart grants grants
 part-same [] = none
 part-same (grant ∷ grants) = stays (part-same grants)
 
+-- what passes a test is a part
 pub part-filter : (test : Grant → Bool) (grants : List Grant) → IsPart (filter test grants) grants
 part-filter test [] = none
 part-filter test (grant ∷ grants) =
@@ -53,6 +55,7 @@ part-any test (stays {part} {grants} {grant} p) found =
     ]
 
 module _ (owners : List ℕ) where
+  -- what stands of the grants that are replayed is a part of them
   pub part-replayed : (standing grants : List Grant) → IsPart (replayed owners standing grants) grants
   part-replayed standing [] = none
   part-replayed standing (grant ∷ grants) =
@@ -89,7 +92,8 @@ module _ (owners : List ℕ) where
   part-replayed_part standing wider weaker (stays {part} {grants} {grant} p) =
       by_cases (has owners standing grant.grantor (option_of grant))
       (λ holds. rw (holds, weaker.within grant.grantor (option_of grant) holds)
-      (stays (part-replayed_part (standing ++ grant ∷ []) (wider ++ grant ∷ []) (both_more owners standing wider grant weaker) p)))
+      (stays
+      (part-replayed_part (standing ++ grant ∷ []) (wider ++ grant ∷ []) (both_more owners standing wider grant weaker) p)))
       (λ falls. by_cases (has owners wider grant.grantor (option_of grant))
       (λ holds. rw (falls, holds) (left_out (part-replayed_part standing (wider ++ grant ∷ []) (one_more owners standing wider grant weaker) p)))
       (λ none. rw (falls, none) (part-replayed_part standing wider weaker p)))

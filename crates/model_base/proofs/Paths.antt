@@ -1,8 +1,8 @@
 -- A need that is held has a path of grants in force, which leads to it from the table's owner.
-use Rattle.std.proofs.Common.{◌≡◌, ℕ, ◌||◌, Bool, true, false, List, [], ◌∷◌, ◌++◌, refl, sym, ◌∙◌, ap, append_assoc, subst}
-use Rattle.std.specs.Prelude.{reverse, IsTrue}
+use Rattle.std.proofs.Common.{◌≡◌, ℕ, ◌||◌, Bool, true, false, List, [], ◌∷◌, ◌++◌, refl, sym, ◌∙◌, ap, append_assoc}
+use Rattle.std.specs.Prelude.{reverse}
 use Rattle.std.specs.List.{list_any}
-use Rattle.std.proofs.lemmas.Bool.{or_left, or_right, true≢false}
+use Rattle.std.proofs.lemmas.Bool.{or_left, or_right, true≢false, false_from_ne_true}
 use Rattle.std.proofs.lemmas.List.{append-nil, reverse-append, reverse-reverse}
 use Rattle.std.proofs.lemmas.List.Folds.{list_any-append}
 use Rattle.model_base.specs.declared.deed.Grant.{Grant}
@@ -12,12 +12,14 @@ use Rattle.model_base.specs.Privileges.{owns, gives, has, option_of, erased, rep
 use Rattle.model_base.specs.Laws.{IsPart, IsRising, none, left_out, stays}
 use Rattle.model_base.specs.Paths.{path, path_back, LeadsFrom, LeadsTo}
 use Rattle.model_base.proofs.Replay.{by_cases}
-use Rattle.model_base.proofs.Parts.{part-same, part-part, part-gives}
+use Rattle.model_base.proofs.Parts.{part-same, part-gives}
 use Rattle.model_base.proofs.Places.{rising-part, IsRising-kept}
 
+-- the first item comes last
 pub reverse-cons : {X : Type 0} (x : X) (xs : List X) → reverse (x ∷ xs) ≡ reverse xs ++ x ∷ []
 reverse-cons x xs = reverse-append (x ∷ []) xs
 
+-- and the last first
 pub reverse-snoc : {X : Type 0} (xs : List X) (x : X) → reverse (xs ++ x ∷ []) ≡ x ∷ reverse xs
 reverse-snoc xs x = reverse-append xs (x ∷ [])
 
@@ -60,7 +62,7 @@ part-end : (later earlier : List Grant) → IsPart earlier (later ++ earlier)
 part-end [] earlier = part-same earlier
 part-end (grant ∷ later) earlier = left_out (part-end later earlier)
 
--- the path is a part of the grants
+-- the path by grants that are listed last first is a part of them
 part-path_back : (owners : List ℕ) (grants : List Grant) (user : ℕ) (need : Need) → IsPart (path_back owners grants user need) (reverse grants)
 part-path_back owners [] user need = none
 part-path_back owners (grant ∷ earlier) user need =
@@ -72,6 +74,7 @@ part-path_back owners (grant ∷ earlier) user need =
     (λ other. rw (missing, other) (part-empty (reverse earlier ++ grant ∷ [])))))
 
 module _ (owners : List ℕ) where
+  -- so it is, listed in their order
   pub part-path : (grants : List Grant) (user : ℕ) (need : Need) → IsPart (path owners grants user need) grants
   part-path grants user need = rw reverse-reverse at (part-path_back owners (reverse grants) user need)
 
@@ -161,10 +164,25 @@ module _ (owners : List ℕ) where
       → path owners (before ++ grant ∷ later) user need ≡ path owners before grant.grantor (option_of grant) ++ grant ∷ []
   path-earliest before later grant user need missing given =
       let back : reverse (before ++ grant ∷ later) ≡ reverse later ++ grant ∷ reverse before
-      = reverse-append before (grant ∷ later) ∙ ap (λ r. r ++ reverse before) (reverse-cons grant later) ∙ append_assoc (reverse later) (grant ∷ []) (reverse before) in
+      = reverse-append before (grant ∷ later) ∙ ap (λ r. r ++ reverse before) (reverse-cons grant later)
+      ∙ append_assoc (reverse later) (grant ∷ []) (reverse before) in
       ap (λ (grants : List Grant). path_back owners grants user need) back
       ∙ path_back-later (reverse later) (grant ∷ reverse before) user need (has_one grant (reverse before) user need given)
       ∙ rw (has-reverse before user need, missing, given) refl
+
+  -- where the need isn't held there is no path
+  pub path-none : (grants : List Grant) (user : ℕ) (need : Need) → has owners grants user need ≡ false → path owners grants user need ≡ []
+  path-none grants user need missing = by_grants (reverse grants) (has-reverse grants user need ∙ missing)
+    where
+      by_grants : (back : List Grant) → has owners back user need ≡ false → path_back owners back user need ≡ []
+      by_grants [] out = refl
+      by_grants (grant ∷ earlier) out =
+          let fewer : has owners earlier user need ≡ false
+          = false_from_ne_true (has owners earlier user need)
+          (λ held. true≢false (sym ((part-gives owners (left_out (part-same earlier))).within user need held) ∙ out)) in
+          let other : gives grant user need ≡ false
+          = false_from_ne_true (gives grant user need) (λ given. true≢false (sym (has_one grant earlier user need given) ∙ out)) in
+          rw (fewer, other) refl
 
   has-owner : (grants : List Grant) (user : ℕ) (need : Need) → owns owners user need.table ≡ true → has owners grants user need ≡ true
   unfolding has

@@ -1,5 +1,5 @@
 -- The grants in force stand in the order of their places, and one that has left force never comes back.
-use Rattle.std.proofs.Common.{◌≡◌, ℕ, ◌<◌, ◌||◌, Bool, true, false, List, [], ◌∷◌, ◌++◌, refl, sym, ◌∙◌, append_assoc, arith, inl, inr, subst}
+use Rattle.std.proofs.Common.{◌≡◌, ℕ, ◌<◌, ◌||◌, true, false, List, [], ◌∷◌, ◌++◌, refl, sym, ◌∙◌, append_assoc, arith, inl, inr, subst}
 use Rattle.std.specs.Prelude.{All, Contains, ◌==◌}
 use Rattle.std.specs.List.{list_any}
 use Rattle.std.proofs.lemmas.Bool.{or_cases, or_from, true≢false, eqb-true, ne_eqb, false_from_ne_true}
@@ -41,6 +41,7 @@ pub none_below : (grants : List Grant) (place : ℕ) → All (λ grant. place < 
 none_below grants place all =
     none_among grants place (All-weaker (λ grant. place < grant.place) (λ grant. grant.place ≡ place → ⊥) (λ x lt same. omega arith) grants all)
 
+-- a grant is among two lists together if it is among one
 pub among-append : (first later : List Grant) (place : ℕ) → is_among place (first ++ later) ≡ (is_among place first || is_among place later)
 among-append first later place = list_any-append (λ grant. grant.place == place) first later
 
@@ -94,6 +95,7 @@ module _ (owners : List ℕ) where
   pub All-kept : (P : ℕ → Type 0) (deeds : List Deed) → All (λ deed. P (place_of deed)) deeds → All (λ grant. P grant.place) (kept owners deeds)
   All-kept P deeds all = part-all (λ grant. P grant.place) (part-replayed owners [] (erased deeds)) (All-erased P deeds all)
 
+  -- the places of a proper list's grants rise
   IsRising-erased : (past deeds : List Deed) → IsProperAfter owners past deeds → IsRising (erased deeds)
   IsRising-erased past [] proper = tt
   IsRising-erased past (Granting grant ∷ deeds) proper =

@@ -62,6 +62,7 @@ erased-revoke (Granting first ∷ deeds) revocation =
 erased-revoke (Revoking first ∷ deeds) revocation = erased-revoke deeds revocation
 
 module _ (owners : List ℕ) where
+  -- a list gives no more than itself
   pub same_grants : (grants : List Grant) → GivesNoMore owners grants grants
   same_grants grants = record { within = λ user need held. held }
 
@@ -103,7 +104,8 @@ module _ (owners : List ℕ) where
       by_cases (test grant)
       (λ passes. by_cases (has owners more grant.grantor (option_of grant))
       (λ stands. by_cases (has owners fewer grant.grantor (option_of grant))
-      (λ held. let ih = replayed-filter test (fewer ++ grant ∷ []) (more ++ grant ∷ []) grants (both_more fewer more grant weaker) in rw (stands, passes, held) (ap (λ r. grant ∷ r) ih))
+      (λ held. let ih = replayed-filter test (fewer ++ grant ∷ []) (more ++ grant ∷ []) grants (both_more fewer more grant weaker) in
+      rw (stands, passes, held) (ap (λ r. grant ∷ r) ih))
       (λ missing. let ih = replayed-filter test fewer (more ++ grant ∷ []) grants (one_more fewer more grant weaker) in rw (stands, passes, missing) ih))
       (λ falls. by_cases (has owners fewer grant.grantor (option_of grant))
       (λ held. absurd (true≢false (sym (weaker.within grant.grantor (option_of grant) held) ∙ falls)))

@@ -1,4 +1,4 @@
-//! What holds of the grants in force after every list of deeds.
+//! What holds of every list of deeds, of the grants in force after it, and of every log.
 
 ghost use Rattle.std.specs.Prelude.{◌≡◌, ◌↔◌, ℕ, ◌+◌, ◌<◌, true, false, List, [], ◌∷◌, ◌++◌, All, Contains, take, if◌then◌else◌};
 ghost use Rattle.model_base.specs.Laws.{GrowsAt, IsLastLoss, IsPart, IsRising};
@@ -13,13 +13,14 @@ ghost use Rattle.model_base.specs.declared.deed.Need.{Need};
 ghost use Rattle.model_base.specs.declared.deed.Revocation.{Revocation};
 ghost use Rattle.model_base.specs.declared.statement.Statement.{Statement};
 
-/// No grant comes into force by a revocation: those in force after it are some of those before it.
+/// No grant comes into force by a revocation: those in force after it are those before it, with some left out.
 pub fn revocations_add_none()
     ensures { (owners : List ℕ) (deeds : List Deed) (revocation : Revocation)
         → IsPart (kept owners (deeds ++ Revoking revocation ∷ [])) (kept owners deeds) }
 {}
 
-/// Leaving out a grant never brings another into force, in the deeds as in the grants that are replayed.
+/// Leaving out a grant never brings another into force: of the deeds, as the erasure does, or of the grants that are
+/// replayed or that stand before these.
 pub fn fewer_grants_keep_fewer()
     ensures deeds { (owners : List ℕ) (past later : List Deed) (grant : Grant)
         → IsPart (kept owners (past ++ later)) (kept owners (past ++ Granting grant ∷ later)) }
@@ -46,7 +47,7 @@ pub fn grants_end_none()
         → holds owners deeds user need ≡ true → holds owners (deeds ++ Granting grant ∷ []) user need ≡ true }
 {}
 
-/// Only a revocation takes a need away: the place that the cause of a denial names is the place of one of the deeds'.
+/// Only a revocation takes a need away: the cause of a denial is `Never`, or names the place of a revocation of the deeds.
 pub fn causes_are_revocations()
     ensures { (owners : List ℕ) (deeds : List Deed) (user : ℕ) (need : Need) (place : ℕ)
         → cause owners deeds user need ≡ Taken place
@@ -64,11 +65,15 @@ pub fn causes_are_last_losses()
         → (cause owners deeds user need ≡ Taken place) ↔ IsLastLoss owners deeds user need place }
 {}
 
-/// Each place of a log makes at most one deed, which has its place, and the deeds before a place are proper: their
-/// places rise, below this one, and each grantor held the option when it granted.
-pub fn deeds_grow_by_one()
-    ensures grows { (log : List Statement) (place : ℕ)
+/// Each place of a log makes at most one deed, which has its place.
+pub fn places_make_one_deed_at_most()
+    ensures { (log : List Statement) (place : ℕ)
         → GrowsAt place (deeds_before log place) (deeds_before log (place + 1)) }
+{}
+
+/// The deeds before a place of a log are proper: their places rise, below this one, and each grantor held the option when
+/// it granted.
+pub fn deeds_before_are_proper()
     ensures proper { (log : List Statement) (place : ℕ) → IsProper (owners log) (deeds_before log place) }
     ensures below { (log : List Statement) (place : ℕ) → All (λ deed. place_of deed < place) (deeds_before log place) }
 {}
@@ -85,8 +90,8 @@ pub fn held_needs_have_paths()
         → IsProper owners deeds → IsRising (path owners (kept owners deeds) user need) }
 {}
 
-/// What the path of a need is: none for the table's owner, and otherwise the earliest grant that gives the need, behind
-/// the path of its grantor's option by the grants before it.
+/// What the path of a need is: empty for the table's owner, and otherwise the earliest grant that gives the need, behind
+/// the path of its grantor's option by the grants before it. A need that isn't held has none.
 pub fn paths_take_the_earliest()
     ensures owner { (owners : List ℕ) (grants : List Grant) (user : ℕ) (need : Need)
         → owns owners user need.table ≡ true → path owners grants user need ≡ [] }
@@ -94,4 +99,6 @@ pub fn paths_take_the_earliest()
         → has owners before user need ≡ false → gives grant user need ≡ true
         → path owners (before ++ grant ∷ later) user need
         ≡ path owners before grant.grantor (option_of grant) ++ grant ∷ [] }
+    ensures none { (owners : List ℕ) (grants : List Grant) (user : ℕ) (need : Need)
+        → has owners grants user need ≡ false → path owners grants user need ≡ [] }
 {}

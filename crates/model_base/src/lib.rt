@@ -14,8 +14,9 @@ mod statement;
 
 pub use deed::{Cause, Deed, Grant, Kind, Kinds, Need, Revocation};
 pub use laws::{
-    causes_are_last_losses, causes_are_revocations, deeds_grow_by_one, ended_grants_stay_ended, fewer_grants_keep_fewer,
-    grants_end_none, held_needs_have_paths, paths_take_the_earliest, revocations_add_none,
+    causes_are_last_losses, causes_are_revocations, deeds_before_are_proper,
+    ended_grants_stay_ended, fewer_grants_keep_fewer, grants_end_none, held_needs_have_paths,
+    paths_take_the_earliest, places_make_one_deed_at_most, revocations_add_none,
 };
 pub use list::Items;
 pub use name::{Place, RowNumber, Table, User};
