@@ -1,1 +1,7 @@
 mod Padding
+pub mod Replay
+pub mod Parts
+pub mod Places
+pub mod Causes
+pub mod Growth
+pub mod Paths

@@ -4,3 +4,5 @@ pub mod Privileges
 pub mod Body
 pub mod Outcomes
 pub mod Versions
+pub mod Laws
+pub mod Paths

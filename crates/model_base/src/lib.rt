@@ -5,6 +5,7 @@
 #![tactic(auto)]
 
 mod deed;
+mod laws;
 mod list;
 mod name;
 mod outcome;
@@ -12,6 +13,11 @@ mod row;
 mod statement;
 
 pub use deed::{Cause, Deed, Grant, Kind, Kinds, Need, Revocation};
+pub use laws::{
+    causes_are_last_losses, causes_are_revocations, deeds_before_are_proper,
+    ended_grants_stay_ended, fewer_grants_keep_fewer, grants_end_none, held_needs_have_paths,
+    paths_take_the_earliest, places_make_one_deed_at_most, revocations_add_none,
+};
 pub use list::Items;
 pub use name::{Place, RowNumber, Table, User};
 pub use outcome::{DeedDone, Outcome, Reason};

@@ -1,0 +1,104 @@
+//! What holds of every list of deeds, of the grants in force after it, and of every log.
+
+ghost use Rattle.std.specs.Prelude.{◌≡◌, ◌↔◌, ℕ, ◌+◌, ◌<◌, true, false, List, [], ◌∷◌, ◌++◌, All, Contains, take, if◌then◌else◌};
+ghost use Rattle.model_base.specs.Laws.{GrowsAt, IsLastLoss, IsPart, IsRising};
+ghost use Rattle.model_base.specs.Outcomes.{cause, deeds_before, owners};
+ghost use Rattle.model_base.specs.Paths.{LeadsTo, path};
+ghost use Rattle.model_base.specs.Privileges.{IsProper, gives, has, holds, is_among, kept, option_of, owns, place_of, replayed};
+ghost use Rattle.model_base.specs.declared.deed.Cause.TheVariants.{Never, Taken};
+ghost use Rattle.model_base.specs.declared.deed.Deed.TheVariants.{Granting, Revoking};
+ghost use Rattle.model_base.specs.declared.deed.Deed.{Deed};
+ghost use Rattle.model_base.specs.declared.deed.Grant.{Grant};
+ghost use Rattle.model_base.specs.declared.deed.Need.{Need};
+ghost use Rattle.model_base.specs.declared.deed.Revocation.{Revocation};
+ghost use Rattle.model_base.specs.declared.statement.Statement.{Statement};
+
+/// No grant comes into force by a revocation: those in force after it are those before it, with some left out.
+pub fn revocations_add_none()
+    ensures { (owners : List ℕ) (deeds : List Deed) (revocation : Revocation)
+        → IsPart (kept owners (deeds ++ Revoking revocation ∷ [])) (kept owners deeds) }
+{}
+
+/// Leaving out a grant never brings another into force: of the deeds, as the erasure does, or of the grants that are
+/// replayed or that stand before these.
+pub fn fewer_grants_keep_fewer()
+    ensures deeds { (owners : List ℕ) (past later : List Deed) (grant : Grant)
+        → IsPart (kept owners (past ++ later)) (kept owners (past ++ Granting grant ∷ later)) }
+    ensures replayed { (owners : List ℕ) (standing wider fewer more : List Grant)
+        → IsPart standing wider → IsPart fewer more → IsPart (replayed owners standing fewer) (replayed owners wider more) }
+{}
+
+/// A grant that is out of force after some deeds is so after all deeds that follow, whose places lie above its own.
+pub fn ended_grants_stay_ended()
+    ensures above { (owners : List ℕ) (past later : List Deed) (place : ℕ)
+        → All (λ deed. place < place_of deed) later
+        → is_among place (kept owners past) ≡ false → is_among place (kept owners (past ++ later)) ≡ false }
+    ensures proper { (owners : List ℕ) (past later : List Deed) (grant : Grant)
+        → IsProper owners (past ++ later) → Contains past (Granting grant)
+        → is_among grant.place (kept owners past) ≡ false → is_among grant.place (kept owners (past ++ later)) ≡ false }
+{}
+
+/// A grant ends none: it joins those in force if its grantor has the option, and what was held stays held.
+pub fn grants_end_none()
+    ensures kept { (owners : List ℕ) (deeds : List Deed) (grant : Grant)
+        → kept owners (deeds ++ Granting grant ∷ [])
+        ≡ kept owners deeds ++ (if holds owners deeds grant.grantor (option_of grant) then grant ∷ [] else []) }
+    ensures held { (owners : List ℕ) (deeds : List Deed) (grant : Grant) (user : ℕ) (need : Need)
+        → holds owners deeds user need ≡ true → holds owners (deeds ++ Granting grant ∷ []) user need ≡ true }
+{}
+
+/// Only a revocation takes a need away: the cause of a denial is `Never`, or names the place of a revocation of the deeds.
+pub fn causes_are_revocations()
+    ensures { (owners : List ℕ) (deeds : List Deed) (user : ℕ) (need : Need) (place : ℕ)
+        → cause owners deeds user need ≡ Taken place
+        → (revocation : Revocation) × Contains deeds (Revoking revocation) × (place ≡ revocation.place) }
+{}
+
+/// The cause of a denial, by the beginnings of the deeds: a need that isn't held never was exactly if no beginning of
+/// the deeds holds it, and was taken at a place exactly if the deed of that place is the last loss.
+pub fn causes_are_last_losses()
+    ensures never { (owners : List ℕ) (deeds : List Deed) (user : ℕ) (need : Need)
+        → holds owners deeds user need ≡ false
+        → (cause owners deeds user need ≡ Never) ↔ ((n : ℕ) → holds owners (take n deeds) user need ≡ false) }
+    ensures taken { (owners : List ℕ) (deeds : List Deed) (user : ℕ) (need : Need) (place : ℕ)
+        → holds owners deeds user need ≡ false
+        → (cause owners deeds user need ≡ Taken place) ↔ IsLastLoss owners deeds user need place }
+{}
+
+/// Each place of a log makes at most one deed, which has its place.
+pub fn places_make_one_deed_at_most()
+    ensures { (log : List Statement) (place : ℕ)
+        → GrowsAt place (deeds_before log place) (deeds_before log (place + 1)) }
+{}
+
+/// The deeds before a place of a log are proper: their places rise, below this one, and each grantor held the option when
+/// it granted.
+pub fn deeds_before_are_proper()
+    ensures proper { (log : List Statement) (place : ℕ) → IsProper (owners log) (deeds_before log place) }
+    ensures below { (log : List Statement) (place : ℕ) → All (λ deed. place_of deed < place) (deeds_before log place) }
+{}
+
+/// A need that is held has a path of grants in force, along which the places rise. It leads from the table's owner to
+/// the need: the owner makes the first grant, each gives the grantor of the next the option, and the last gives the need.
+pub fn held_needs_have_paths()
+    ensures leads { (owners : List ℕ) (deeds : List Deed) (user : ℕ) (need : Need)
+        → holds owners deeds user need ≡ true
+        → LeadsTo owners (path owners (kept owners deeds) user need) user need }
+    ensures part { (owners : List ℕ) (deeds : List Deed) (user : ℕ) (need : Need)
+        → IsPart (path owners (kept owners deeds) user need) (kept owners deeds) }
+    ensures rises { (owners : List ℕ) (deeds : List Deed) (user : ℕ) (need : Need)
+        → IsProper owners deeds → IsRising (path owners (kept owners deeds) user need) }
+{}
+
+/// What the path of a need is: empty for the table's owner, and otherwise the earliest grant that gives the need, behind
+/// the path of its grantor's option by the grants before it. A need that isn't held has none.
+pub fn paths_take_the_earliest()
+    ensures owner { (owners : List ℕ) (grants : List Grant) (user : ℕ) (need : Need)
+        → owns owners user need.table ≡ true → path owners grants user need ≡ [] }
+    ensures earliest { (owners : List ℕ) (before later : List Grant) (grant : Grant) (user : ℕ) (need : Need)
+        → has owners before user need ≡ false → gives grant user need ≡ true
+        → path owners (before ++ grant ∷ later) user need
+        ≡ path owners before grant.grantor (option_of grant) ++ grant ∷ [] }
+    ensures none { (owners : List ℕ) (grants : List Grant) (user : ℕ) (need : Need)
+        → has owners grants user need ≡ false → path owners grants user need ≡ [] }
+{}
