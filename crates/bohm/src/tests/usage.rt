@@ -15,6 +15,15 @@ fn reads_the_words_of_a_run(rt: HostRuntime) {
     }
 }
 
+#[test]
+fn reads_the_words_of_a_serial_run(rt: HostRuntime) {
+    let words = ["bohm", "serial", "x.log"];
+    match read_words(rt.alloc(), words.as_slice()) {
+        Ok(command) => assert!(rt; command == Command::Serial { file: "x.log" }),
+        Err(_) => assert!(rt; false),
+    }
+}
+
 /// The status with which the program ends on the words, if they are no command.
 fn status(rt: &HostRuntime, words: &[&str]) -> Option<u8> {
     match read_words(rt.alloc(), words) {
@@ -29,8 +38,12 @@ fn other_words_are_faults_or_help(rt: HostRuntime) {
     assert!(rt; status(&rt, &["bohm", "walk"]) == Some(2));
     assert!(rt; status(&rt, &["bohm", "run", "a", "b"]) == Some(2));
     assert!(rt; status(&rt, &["bohm", "run", "--workers", "2"]) == Some(2));
+    assert!(rt; status(&rt, &["bohm", "serial"]) == Some(2));
+    assert!(rt; status(&rt, &["bohm", "serial", "a", "b"]) == Some(2));
     assert!(rt; status(&rt, &["bohm", "--help"]) == Some(0));
     assert!(rt; status(&rt, &["bohm", "run", "-h"]) == Some(0));
+    assert!(rt; status(&rt, &["bohm", "serial", "-h"]) == Some(0));
+    assert!(rt; status(&rt, &["bohm", "help"]) == Some(0));
     assert!(rt; status(&rt, &["bohm", "run", "a"]) == None);
 }
 
