@@ -8,7 +8,7 @@ use Rattle.sequencer.specs.Log.{Accepted, with_accepted}
 use Rattle.sequencer.specs.Refusal.{refusal}
 use Rattle.sequencer.specs.declared.refused.Refused.{Refused}
 use Rattle.bohm.specs.declared.collecting.Became.{Became}
-use Rattle.bohm.specs.Report.{IsReport, Reading, read, faulty, accepted, line_text, log_of, names_after, names_if, names_with, report_from, report_of, statement_if, text_if}
+use Rattle.bohm.specs.Report.{IsReport, Reading, read, faulty, accepted, line_text, log_of, names_after, names_if, names_with, report_from, statement_if, text_if}
 use Rattle.bohm.specs.Collecting.{Collects, IsLogOf, all_became, became, became_if, became_text, log_text, places_of, report_text, with_reading}
 
 names_after-append : (names : Names) (xs ys : List Reading) → names_after names (xs ++ ys) ≡ names_after (names_after names xs) ys

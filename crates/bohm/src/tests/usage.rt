@@ -6,11 +6,18 @@ use crate::words::{Command, ProgramFault, Usage, ending, read_words};
 #[test]
 fn reads_the_words_of_a_run(rt: HostRuntime) {
     let words = ["bohm", "run"];
-    let read = read_words(rt.alloc(), words.as_slice());
-    assert!(rt; matches!(&read, Ok(Command::Run { file: None })));
+    match read_words(rt.alloc(), words.as_slice()) {
+        Ok(command) => assert!(rt; command == Command::Run { file: None }),
+        Err(_) => assert!(rt; false),
+    }
     let words = ["bohm", "run", "some.log"];
     match read_words(rt.alloc(), words.as_slice()) {
-        Ok(Command::Run { file }) => assert!(rt; file == Some("some.log")),
+        Ok(command) => assert!(rt;
+            command
+                == Command::Run {
+                    file: Some("some.log")
+                }
+        ),
         Err(_) => assert!(rt; false),
     }
 }

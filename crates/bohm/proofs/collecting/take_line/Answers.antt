@@ -1,4 +1,3 @@
-use Rattle.std.proofs.Common.{refl, ap, sym, ◌∙◌, Some}
 use Rattle.bohm.specs.Report.{read, faulty}
 use Rattle.bohm.proofs.LinesRead.{kept_reading, kept_faulty}
 use Rattle.bohm.proofs.Logs.{unchanged}
