@@ -1,24 +1,28 @@
--- What a statement that the log takes is: it fits a window, and its tables are known.
-use Rattle.std.proofs.Common.{◌≡◌, ℕ, suc, ◌+◌, ◌<◌, Bool, true, false, not, cond, List, [], ◌∷◌, ◌++◌, length, map, Option, Some, None, refl, ap, sym, ◌∙◌, subst, arith}
+-- What a statement that the log takes is: it fits a window, and what it needs is of tables that are known.
+use Rattle.std.proofs.Common.{◌≡◌, ℕ, suc, ◌+◌, ◌<◌, ◌≤◌, Bool, true, false, not, cond, List, [], ◌∷◌, ◌++◌, length, map, Option, Some, None, refl, ap, sym, ◌∙◌, subst, arith, length-append}
 use Rattle.std.specs.Prelude.{bytes_eq, ◌||◌}
-use Rattle.std.specs.List.{list_any, sum_by, AllByRecursion}
+use Rattle.std.specs.List.{flat_map, list_any, sum_by, AllByRecursion}
 use Rattle.std.proofs.lemmas.List.{length-map}
-use Rattle.std.proofs.lemmas.List.Elements.{All-from_recursion}
+use Rattle.std.proofs.lemmas.List.Elements.{All-append, All-from_recursion, All-map, All-nil, All-push, All-weaker}
 use Rattle.std.proofs.lemmas.List.Sums.{sum_by-cons}
+use Rattle.model_base.specs.declared.deed.Need.{Need}
 use Rattle.model_base.specs.declared.statement.Access.{Access}
+use Rattle.model_base.specs.declared.statement.Statement.{Statement}
+use Rattle.model_base.specs.Outcomes.{kinds_in, need_of, needs, needs_of_access}
 use Rattle.body.specs.Premises.{IsNarrow, IsRunnable, outputs_of}
 use Rattle.log_text.specs.Statement.{Sentence, IsInGrammar, IsStep, outs_of}
 use Rattle.log_text.specs.declared.access.RawAccess.{RawAccess}
 use Rattle.log_text.specs.declared.statement.RawForm.{RawForm}
 use Rattle.log_text.specs.declared.statement.RawStep.{RawStep}
 use Rattle.sequencer.specs.Names.{is_known, number_of}
-use Rattle.sequencer.specs.Catalog.{Names, numbered, numbered_access, numbered_step, with_statement}
-use Rattle.sequencer.specs.Refusal.{access_refusal, accesses_refusal, or_else, refusal, unless}
+use Rattle.sequencer.specs.Catalog.{Names, numbered, numbered_access, numbered_form, numbered_step, with_form, with_statement}
+use Rattle.sequencer.specs.Log.{Accepted, empty_log}
+use Rattle.sequencer.specs.Refusal.{access_refusal, accesses_refusal, form_refusal, or_else, refusal, unless}
 use Rattle.sequencer.specs.declared.refused.Refused.{Refused}
-use Rattle.model_base.specs.declared.statement.Statement.{Statement}
-use Rattle.model_base.specs.Rows.{Rows}
-use Rattle.bohm.specs.Run.{IsWithin}
-use Rattle.bohm.specs.Progress.{AdvancesIf, Reports}
+use Rattle.bohm.specs.Report.{read}
+use Rattle.bohm.specs.Collecting.{with_reading}
+use Rattle.bohm.specs.Run.{AreWithin, IsReady, IsWithin}
+use Rattle.bohm.proofs.Logs.{log_if, unchanged}
 
 by_head : (here behind : Bool) (number count : ℕ) → (behind ≡ true → number < count) → (here || behind) ≡ true → cond (not here) (1 + number) 0 < suc count
 by_head true behind number count low h = omega arith
@@ -37,13 +41,20 @@ passes : (b : Bool) (r : Refused) → unless b r ≡ None → b ≡ true
 passes true r e = refl
 passes false r e = cc
 
+-- an access to a table that is known
+access-within : (tables : ℕ) (access : Access) → access.key.table < tables → AreWithin tables (needs_of_access access)
+access-within tables access low = All-map (λ (need : Need). need.table < tables) (need_of access) (kinds_in access.kinds) (λ k d in_list. low)
+
 accesses-within : (names : Names) (earlier accesses : List RawAccess) → accesses_refusal names earlier accesses ≡ None
-    → AllByRecursion (λ (access : Access). access.key.table < length names.tables) (map (numbered_access names) accesses)
-accesses-within names earlier [] e = tt
+    → AreWithin (length names.tables) (flat_map needs_of_access (map (numbered_access names) accesses))
+accesses-within names earlier [] e = All-nil (λ (need : Need). need.table < length names.tables)
 accesses-within names earlier (access ∷ accesses) e =
     let parts = both_none (access_refusal names earlier access) (accesses_refusal names (earlier ++ access ∷ []) accesses) e in
     let first = both_none (unless (is_known names.tables access.table) Refused.UnknownTable) (unless (not (list_any _ earlier)) Refused.DuplicateAccess) parts.0 in
-    (known-below names.tables access.table (passes (is_known names.tables access.table) Refused.UnknownTable first.0), accesses-within names (earlier ++ access ∷ []) accesses parts.1)
+    All-append (λ (need : Need). need.table < length names.tables)
+    (needs_of_access (numbered_access names access)) (flat_map needs_of_access (map (numbered_access names) accesses))
+    (access-within (length names.tables) (numbered_access names access) (known-below names.tables access.table (passes (is_known names.tables access.table) Refused.UnknownTable first.0)))
+    (accesses-within names (earlier ++ access ∷ []) accesses parts.1)
 
 steps-narrow : (names : Names) (steps : List RawStep) → AllByRecursion IsStep steps → AllByRecursion IsNarrow (map (numbered_step names) steps)
 steps-narrow names [] h = tt
@@ -93,28 +104,50 @@ runnable_form names user (RawForm.Run accesses steps) h = record {
   outputs = omega (arith, h.form, steps-outputs names steps);
 }
 
-pub runnable : (names : Names) (sentence : Sentence) → IsInGrammar sentence → IsRunnable (numbered names sentence)
+runnable : (names : Names) (sentence : Sentence) → IsInGrammar sentence → IsRunnable (numbered names sentence)
 runnable names sentence h = runnable_form names sentence.user sentence.form h
 
-within_form : (names : Names) (user : List ℕ) (form : RawForm) → refusal names (record { user = user; form = form }) ≡ None
-    → IsWithin (length (with_statement names (record { user = user; form = form })).tables) (numbered names (record { user = user; form = form })).form
-within_form names user (RawForm.Create table columns) e = tt
-within_form names user (RawForm.Run accesses steps) e =
+-- what a statement needs that the log takes
+within_form : (names : Names) (form : RawForm) → form_refusal names form ≡ None
+    → AreWithin (length names.tables) (needs (numbered_form names form))
+within_form names (RawForm.Create table columns) e = All-nil (λ (need : Need). need.table < length names.tables)
+within_form names (RawForm.Run accesses steps) e =
+    let P : Need → Type 0 = λ need. need.table < length names.tables in
+    let parts = both_none (accesses_refusal names [] accesses) _ e in
+    All-append P (flat_map needs_of_access (map (numbered_access names) accesses)) [] (accesses-within names [] accesses parts.0) (All-nil P)
+
+within : (names : Names) (sentence : Sentence) → refusal names sentence ≡ None → IsWithin (length names.tables) (numbered names sentence)
+within names sentence e =
     let rest = both_none _ _ e in
     let form = both_none _ _ rest.1 in
-    let parts = both_none (accesses_refusal names [] accesses) _ form.0 in
-    (All-from_recursion (λ (access : Access). access.key.table < length names.tables) (map (numbered_access names) accesses) (accesses-within names [] accesses parts.0), refl)
+    within_form names sentence.form form.0
 
-pub within : (names : Names) (sentence : Sentence) → refusal names sentence ≡ None → IsWithin (length (with_statement names sentence).tables) (numbered names sentence).form
-within names sentence e = within_form names sentence.user sentence.form e
+-- the tables stay, and others may come behind them
+more_tables : (names : Names) (user : ℕ) (form : RawForm) → length names.tables ≤ length (with_form names user form).tables
+more_tables names user (RawForm.Create table columns) = omega (arith, length-append names.tables (table ∷ []))
+more_tables names user form = omega arith
 
--- a statement that was taken and executed was dealt with
-pub advanced : (names after_names : Names) (sentence : Sentence) (statement : Statement) (place : ℕ) (rows : Rows) (number : ℕ) (old : List ℕ) (after : Rows) (new : List ℕ)
-    → refusal names sentence ≡ None → after_names ≡ with_statement names sentence → statement ≡ numbered names sentence → place ≡ names.places
-    → Reports after_names place statement rows old after new → AdvancesIf names rows number sentence (refusal names sentence) old after new
-advanced names after_names sentence statement place rows number old after new passed named is at reports =
-    let P : Names → Type 0 = λ n. Reports n place statement rows old after new in
-    let Q : Statement → Type 0 = λ s. Reports (with_statement names sentence) place s rows old after new in
-    let R : ℕ → Type 0 = λ p. Reports (with_statement names sentence) p (numbered names sentence) rows old after new in
-    let S : Option Refused → Type 0 = λ r. AdvancesIf names rows number sentence r old after new in
-    subst S (sym passed) (subst R at (subst Q is (subst P named reports)))
+more-within : (few many : ℕ) → few ≤ many → (statement : Statement) → IsWithin few statement → IsWithin many statement
+more-within few many more statement within =
+    All-weaker (λ (need : Need). need.table < few) (λ (need : Need). need.table < many) (λ need low. omega arith) (needs statement.form) within
+
+-- the log with a statement that it takes, or refuses, is ready
+ready_if : (log : Accepted) (sentence : Sentence) → IsInGrammar sentence → (o : Option Refused) → refusal log.names sentence ≡ o → IsReady log → IsReady (log_if log sentence o)
+ready_if log sentence grammar None passes ready =
+    let tables : ℕ = length (with_statement log.names sentence).tables in
+    let more : length log.names.tables ≤ tables = more_tables log.names (number_of log.names.users sentence.user) sentence.form in
+    let statement : Statement = numbered log.names sentence in
+    record {
+      runnable = All-push IsRunnable log.statements statement ready.runnable (runnable log.names sentence grammar);
+      within = All-push (IsWithin tables) log.statements statement
+          (All-weaker (IsWithin (length log.names.tables)) (IsWithin tables) (more-within (length log.names.tables) tables more) log.statements ready.within)
+          (more-within (length log.names.tables) tables more statement (within log.names sentence passes));
+    }
+ready_if log sentence grammar (Some refused) is ready = subst IsReady (unchanged log) ready
+
+pub ready_with : (log new : Accepted) (sentence : Sentence) → IsInGrammar sentence → new ≡ with_reading log (read sentence) → IsReady log → IsReady new
+ready_with log new sentence grammar is ready = subst IsReady (sym is) (ready_if log sentence grammar (refusal log.names sentence) refl ready)
+
+-- and so is the log without statements
+pub ready_empty : IsReady empty_log
+ready_empty = record { runnable = All-nil IsRunnable; within = All-nil (IsWithin 0) }

@@ -1,145 +1,92 @@
 -- The report so far, as the writer holds it.
-use Rattle.std.proofs.Common.{◌≡◌, ℕ, ◌+◌, List, [], ◌∷◌, ◌++◌, take, drop, Option, Some, None, refl, ap, sym, ◌∙◌, subst, append_assoc}
+use Rattle.std.proofs.Common.{◌≡◌, ℕ, ◌+◌, ◌<◌, List, [], ◌∷◌, ◌++◌, length, get_or, take, drop, Option, Some, None, ap, sym, ◌∙◌, subst, append_assoc, add-one, drop-cons}
 use Rattle.std.specs.Prelude.{IfSome}
-use Rattle.std.specs.Io.KnownBytes.{Appends, Keeps, IsAtEnd, prepend_known}
-use Rattle.std.proofs.lemmas.List.{append-nil, take-append-drop}
-use Rattle.model_base.specs.Rows.{Rows, no_rows}
-use Rattle.log_text_base.specs.Lines.{lines_of, first_line}
-use Rattle.log_text_base.specs.Known.{AppendsFront, HasBegun, MovesOut, TookLine, HadSome}
-use Rattle.log_text_base.proofs.Written.{appends_none, appends_then, appends_kept, appends_front, front_kept}
-use Rattle.sequencer.specs.Catalog.{Names, no_names}
-use Rattle.bohm.specs.Report.{AreReadings, IsReport, Reading, log_of, names_after, names_with, report_from, report_of}
-use Rattle.bohm.specs.Progress.{Advances, IsSoFar, Reported, ReadsAs}
-use Rattle.bohm.proofs.Reporting.{so_far}
-use Rattle.bohm.proofs.Readings.{IsTotal, readings}
+use Rattle.std.specs.Io.KnownBytes.{Appends, Keeps}
+use Rattle.std.proofs.lemmas.List.{take-append-drop}
+use Rattle.log_text_base.specs.Known.{AppendsFront, HasBegun, MovesOut}
+use Rattle.log_text_base.proofs.Written.{appends_none, appends_then, appends_kept, appends_front}
+use Rattle.sequencer.specs.Log.{Accepted}
+use Rattle.bohm.specs.declared.collecting.Became.{Became}
+use Rattle.bohm.specs.Report.{IsReport}
+use Rattle.bohm.specs.Collecting.{Collects, became_text, log_text, places_of, report_text}
+use Rattle.bohm.proofs.Logs.{report_is}
+use Rattle.bohm.proofs.Readings.{IsTotal, some_report}
 
--- at first nothing is read, and nothing is written
-so_far_start : (xs : List ℕ) → IsSoFar xs xs [] 1 no_names no_rows []
-so_far_start xs = record {
-  named = refl;
-  reads = λ later r. r;
-  left = λ later. refl;
-  text = λ later. refl;
-}
-
-pub report_start : (i o : Option (List ℕ)) (bytes pending : List ℕ) → bytes ≡ [] → pending ≡ [] → Reported i (prepend_known bytes i) o o pending 1 no_names no_rows
-report_start None o bytes pending b p = tt
-report_start (Some xs) None bytes pending b p =
-    ([], ([], (tt, subst (λ (w : List ℕ). IsSoFar xs (w ++ xs) pending 1 no_names no_rows []) (sym b) (subst (λ (w : List ℕ). IsSoFar xs xs w 1 no_names no_rows []) (sym p) (so_far_start xs)))))
-report_start (Some xs) (Some ys) bytes pending b p =
-    ([], ([], (sym (append-nil ys), subst (λ (w : List ℕ). IsSoFar xs (w ++ xs) pending 1 no_names no_rows []) (sym b) (subst (λ (w : List ℕ). IsSoFar xs xs w 1 no_names no_rows []) (sym p) (so_far_start xs)))))
-
--- one more line
-pub report_step : (i j k o n : Option (List ℕ)) (number : ℕ) (names next : Names) (rows new : Rows) (line text pending more : List ℕ)
-    → Reported i j o n pending number names rows → TookLine j k [] line × HadSome j
-    → ((reading : Reading) × (ReadsAs line reading × (Advances names rows number reading [] new text × (next ≡ names_with names reading))))
-    → more ≡ pending ++ text → Reported i k o n more (number + 1) next new
-report_step None j k o n number names next rows new line text pending more r t e m = tt
-report_step (Some xs) None k o n number names next rows new line text pending more r t e m = absurd r
-report_step (Some xs) (Some ys) None o n number names next rows new line text pending more r t e m = absurd t.0
-report_step (Some xs) (Some ys) (Some zs) o n number names next rows new line text pending more r t e m =
-    let earlier : List Reading = r.0 in
-    let front : List ℕ = r.1.0 in
-    let reading : Reading = e.0 in
-    let so : IsSoFar xs zs ((front ++ pending) ++ text) (number + 1) (names_with names reading) new (earlier ++ reading ∷ []) =
-    so_far xs ys zs (front ++ pending) text number names rows new earlier reading t.1 t.0.1 (e.1.0 (first_line ys) t.0.0) e.1.1.0 r.1.1.1 in
-    let same : (front ++ pending) ++ text ≡ front ++ more = append_assoc front pending text ∙ ap (λ (w : List ℕ). front ++ w) (sym m) in
-    (earlier ++ reading ∷ [], (front, (r.1.1.0, subst (λ (n : Names). IsSoFar xs zs (front ++ more) (number + 1) n new (earlier ++ reading ∷ [])) (sym e.1.1.1) (subst (λ (w : List ℕ). IsSoFar xs zs w (number + 1) (names_with names reading) new (earlier ++ reading ∷ [])) same so))))
+-- the line of an index of the log's lines is pending too
+pub moves_on : (o n : Option (List ℕ)) (log : Accepted) (lines : List Became) (index place places : ℕ) (d : Became) (pending more text : List ℕ)
+    → MovesOut o n (log_text log lines) (pending ++ report_text log.statements log.names.tables (index + 1) place (drop index lines))
+    → index < length lines → places ≡ places_of (get_or lines index d)
+    → more ≡ pending ++ text → text ≡ became_text log.statements log.names.tables (index + 1) place (get_or lines index d)
+    → MovesOut o n (log_text log lines) (more ++ report_text log.statements log.names.tables (index + 1 + 1) (place + places) (drop (index + 1) lines))
+moves_on o n log lines index place places d pending more text moves low places_is more_is text_is =
+    let line : Became = get_or lines index d in
+    let rest : ℕ → List ℕ = λ next. report_text log.statements log.names.tables (index + 1 + 1) next (drop (index + 1) lines) in
+    let split : drop index lines ≡ line ∷ drop (index + 1) lines =
+    drop-cons lines index d low ∙ ap (λ (k : ℕ). line ∷ drop k lines) (sym (add-one index)) in
+    let same : more ++ rest (place + places) ≡ pending ++ report_text log.statements log.names.tables (index + 1) place (drop index lines) =
+    ap (λ (w : List ℕ). w ++ rest (place + places)) (more_is ∙ ap (λ (t : List ℕ). pending ++ t) text_is)
+    ∙ append_assoc pending (became_text log.statements log.names.tables (index + 1) place line) (rest (place + places))
+    ∙ ap (λ (k : ℕ). pending ++ (became_text log.statements log.names.tables (index + 1) place line ++ rest (place + k))) places_is
+    ∙ ap (λ (ls : List Became). pending ++ report_text log.statements log.names.tables (index + 1) place ls) (sym split) in
+    subst (MovesOut o n (log_text log lines)) (sym same) moves
 
 -- a front of what was pending is written
-pub report_written : (i j o n m : Option (List ℕ)) (number : ℕ) (names : Names) (rows : Rows) (pending less : List ℕ)
-    → Reported i j o n pending number names rows → MovesOut n m pending less → Reported i j o m less number names rows
-report_written None j o n m number names rows pending less r w = tt
-report_written (Some xs) None o n m number names rows pending less r w = absurd r
-report_written (Some xs) (Some ys) o n m number names rows pending less r w =
-    let front : List ℕ = r.1.0 in
-    let same : front ++ pending ≡ (front ++ w.0) ++ less = ap (λ (v : List ℕ). front ++ v) (sym w.2) ∙ sym (append_assoc front w.0 less) in
-    (r.0, (front ++ w.0, (appends_then o n m front w.0 r.1.1.0 w.1, subst (λ (v : List ℕ). IsSoFar xs ys v number names rows r.0) same r.1.1.1)))
+pub moves_then : (o n m : Option (List ℕ)) (whole pending less rest : List ℕ) → MovesOut o n whole (pending ++ rest) → MovesOut n m pending less
+    → MovesOut o m whole (less ++ rest)
+moves_then o n m whole pending less rest first then = (
+  first.0 ++ then.0,
+  appends_then o n m first.0 then.0 first.1 then.1,
+  append_assoc first.0 then.0 (less ++ rest)
+      ∙ ap (λ (w : List ℕ). first.0 ++ w) (sym (append_assoc then.0 less rest) ∙ ap (λ (w : List ℕ). w ++ rest) then.2)
+      ∙ first.2,
+)
 
--- what was written, and then what is pending, is a beginning of the report
-pub begun_front : IsTotal → (i j o n : Option (List ℕ)) (number : ℕ) (names : Names) (rows : Rows) (pending less : List ℕ)
-    → Reported i j o n pending number names rows → less ≡ pending
-    → IfSome i (λ input. (text : List ℕ) × (IsReport input text × HasBegun o n less text))
-begun_front total None j o n number names rows pending less r e = tt
-begun_front total (Some xs) None o n number names rows pending less r e = absurd r
-begun_front total (Some xs) (Some ys) o n number names rows pending less r e =
-    let earlier : List Reading = r.0 in
-    let front : List ℕ = r.1.0 in
-    let so = r.1.1.1 in
-    let later = readings total (lines_of ys) in
-    let rest : List ℕ = report_from (log_of no_names (earlier ++ later.0)) (names_after no_names (earlier ++ later.0)).tables number names later.0 in (
-      report_of (earlier ++ later.0),
-      (
-        (earlier ++ later.0, (so.reads later.0 later.1, refl)),
-        (rest, (front, r.1.1.0, ap (λ (w : List ℕ). front ++ (w ++ rest)) e ∙ sym (append_assoc front pending rest) ∙ so.text later.0)),
-      ),
-    )
-
--- a piece of what was pending is written
-pub begun_piece : IsTotal → (i j o n m : Option (List ℕ)) (number : ℕ) (names : Names) (rows : Rows) (pending less : List ℕ)
-    → Reported i j o n pending number names rows → AppendsFront n m pending → less ≡ []
-    → IfSome i (λ input. (text : List ℕ) × (IsReport input text × HasBegun o m less text))
-begun_piece total None j o n m number names rows pending less r a e = tt
-begun_piece total (Some xs) None o n m number names rows pending less r a e = absurd r
-begun_piece total (Some xs) (Some ys) o n m number names rows pending less r a e =
-    let now : Reported (Some xs) (Some ys) o m (drop a.0 pending) number names rows =
-    report_written (Some xs) (Some ys) o n m number names rows pending (drop a.0 pending) r (take a.0 pending, a.1, take-append-drop a.0 pending) in
-    let begun = begun_front total (Some xs) (Some ys) o m number names rows (drop a.0 pending) (drop a.0 pending) now refl in
-    (begun.0, (begun.1.0, (drop a.0 pending ++ begun.1.1.0, (begun.1.1.1.0, begun.1.1.1.1, ap (λ (w : List ℕ). begun.1.1.1.0 ++ (w ++ (drop a.0 pending ++ begun.1.1.0))) e ∙ begun.1.1.1.2))))
-
--- at the end of the input the report is whole
-pub ended_all : (i j o n : Option (List ℕ)) (number : ℕ) (names : Names) (rows : Rows) (pending : List ℕ)
-    → Reported i j o n pending number names rows → IsAtEnd j
-    → IfSome i (λ input. (text : List ℕ) × (IsReport input text × MovesOut o n text pending))
-ended_all None j o n number names rows pending r z = tt
-ended_all (Some xs) None o n number names rows pending r z = absurd r
-ended_all (Some xs) (Some ys) o n number names rows pending r z =
-    let earlier : List Reading = r.0 in
-    let front : List ℕ = r.1.0 in
-    let so = r.1.1.1 in
-    let none : AreReadings (lines_of ys) [] = subst (λ (l : List ℕ). AreReadings (lines_of l) []) (sym z) tt in (
-      report_of (earlier ++ []),
-      ((earlier ++ [], (so.reads [] none, refl)), (front, r.1.1.0, sym (append-nil (front ++ pending)) ∙ so.text [])),
-    )
+-- a front of what was pending is written, and the rest of it is lost
+pub begun_lost : (o n m : Option (List ℕ)) (whole pending less rest : List ℕ) → MovesOut o n whole (pending ++ rest) → AppendsFront n m pending → less ≡ []
+    → HasBegun o m less whole
+begun_lost o n m whole pending less rest moves front none =
+    let left : List ℕ = drop front.0 pending in
+    let moved : MovesOut o m whole (left ++ rest) = moves_then o n m whole pending left rest moves (take front.0 pending, front.1, take-append-drop front.0 pending) in
+    (left ++ rest, subst (λ (w : List ℕ). MovesOut o m whole (w ++ (left ++ rest))) (sym none) moved)
 
 -- what was pending at the end is written, or a front of it
-pub front_written : (i o n m : Option (List ℕ)) (pending : List ℕ)
-    → IfSome i (λ input. (text : List ℕ) × (IsReport input text × HasBegun o n pending text)) → AppendsFront n m pending
-    → IfSome i (λ input. (text : List ℕ) × (IsReport input text × AppendsFront o m text))
-front_written None o n m pending b a = tt
-front_written (Some xs) o n m pending b a =
-    let text : List ℕ = b.0 in
-    let rest : List ℕ = b.1.1.0 in
-    let front : List ℕ = b.1.1.1.0 in
-    let first : List ℕ = take a.0 pending in
-    let last : List ℕ = drop a.0 pending in (
-      text,
-      (
-        b.1.0,
-        appends_front o m (front ++ first) (last ++ rest) text (appends_then o n m front first b.1.1.1.1 a.1)
-            (append_assoc front first (last ++ rest)
-            ∙ ap (λ (w : List ℕ). front ++ w) (sym (append_assoc first last rest) ∙ ap (λ (w : List ℕ). w ++ rest) (take-append-drop a.0 pending))
-            ∙ b.1.1.1.2),
-      ),
-    )
+front_written : (o n m : Option (List ℕ)) (whole pending : List ℕ) → HasBegun o n pending whole → AppendsFront n m pending → AppendsFront o m whole
+front_written o n m whole pending begun front =
+    let left : List ℕ = drop front.0 pending ++ begun.0 in
+    let moved : MovesOut o m whole left =
+    moves_then o n m whole pending (drop front.0 pending) begun.0 begun.1 (take front.0 pending, front.1, take-append-drop front.0 pending) in
+    appends_front o m moved.0 left whole moved.1 moved.2
 
-pub all_written : (i o n m k : Option (List ℕ)) (pending : List ℕ)
-    → IfSome i (λ input. (text : List ℕ) × (IsReport input text × MovesOut o n text pending)) → Appends n m pending → Keeps m k
-    → IfSome i (λ input. (text : List ℕ) × (IsReport input text × Appends o k text))
-all_written None o n m k pending b a e = tt
-all_written (Some xs) o n m k pending b a e =
-    let front : List ℕ = b.1.1.0 in
-    (b.0, (b.1.0, subst (Appends o k) b.1.1.2 (appends_kept o m k (front ++ pending) (appends_then o n m front pending b.1.1.1 a) e)))
-
--- before anything is read, nothing is written or pending
-pub begun_start : IsTotal → (i o : Option (List ℕ)) (pending : List ℕ) → pending ≡ []
-    → IfSome i (λ input. (text : List ℕ) × (IsReport input text × HasBegun o o pending text))
-begun_start total i o pending p = begun_front total i (prepend_known [] i) o o 1 no_names no_rows pending pending (report_start i o [] pending refl p) refl
-
+-- before the log is read and run, nothing is written
 pub nothing_written : IsTotal → (i o : Option (List ℕ)) → IfSome i (λ input. (text : List ℕ) × (IsReport input text × AppendsFront o o text))
-nothing_written total i o = front_written i o o o [] (begun_start total i o [] refl) (0, appends_none o [])
+nothing_written total None o = tt
+nothing_written total (Some input) o = let report = some_report total input in (report.0, (report.1, (0, appends_none o report.0)))
 
-pub front_kept_written : (i o n m k : Option (List ℕ)) (pending : List ℕ)
-    → IfSome i (λ input. (text : List ℕ) × (IsReport input text × HasBegun o n pending text)) → AppendsFront n m pending → Keeps m k
-    → IfSome i (λ input. (text : List ℕ) × (IsReport input text × AppendsFront o k text))
-front_kept_written i o n m k pending b a e = front_written i o n k pending b (front_kept n m k pending a e)
+module _ (i : Option (List ℕ)) (log : Accepted) (lines : List Became) where
+  -- a beginning of the report is written
+  pub some_written : (o n m : Option (List ℕ)) (pending : List ℕ) → IfSome i (λ input. Collects input log lines)
+      → HasBegun o n pending (log_text log lines) → AppendsFront n m pending
+      → IfSome i (λ input. (text : List ℕ) × (IsReport input text × AppendsFront o m text))
+  some_written o n m pending collects begun front = some_written_if i collects
+    where
+      some_written_if : (known : Option (List ℕ)) → IfSome known (λ input. Collects input log lines)
+          → IfSome known (λ input. (text : List ℕ) × (IsReport input text × AppendsFront o m text))
+      some_written_if None _ = tt
+      some_written_if (Some input) c = (log_text log lines, (report_is input log lines c, front_written o n m (log_text log lines) pending begun front))
+
+  -- the whole report is written
+  pub all_written : (o n m k : Option (List ℕ)) (pending : List ℕ) → IfSome i (λ input. Collects input log lines)
+      → MovesOut o n (log_text log lines) pending → Appends n m pending → Keeps m k
+      → IfSome i (λ input. (text : List ℕ) × (IsReport input text × Appends o k text))
+  all_written o n m k pending collects moves appends keeps = all_written_if i collects
+    where
+      all_written_if : (known : Option (List ℕ)) → IfSome known (λ input. Collects input log lines)
+          → IfSome known (λ input. (text : List ℕ) × (IsReport input text × Appends o k text))
+      all_written_if None _ = tt
+      all_written_if (Some input) c = (
+        log_text log lines,
+        (
+          report_is input log lines c,
+          subst (Appends o k) moves.2 (appends_kept o m k (moves.0 ++ pending) (appends_then o n m moves.0 pending moves.1 appends) keeps),
+        ),
+      )

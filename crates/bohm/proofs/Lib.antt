@@ -1,8 +1,7 @@
-pub mod Holding
-pub mod Executing
 pub mod Admitted
+pub mod Named
 pub mod Logs
-pub mod Reporting
 pub mod Readings
+pub mod LinesRead
 pub mod Beginnings
 pub mod Telling

@@ -1,89 +1,105 @@
 -- Logs and names, line after line.
-use Rattle.std.proofs.Common.{◌≡◌, ℕ, suc, ◌+◌, List, [], ◌∷◌, ◌++◌, length, Option, Some, None, refl, ap, sym, ◌∙◌, append_assoc, arith, length-append}
-use Rattle.std.specs.Prelude.{slice_get}
+use Rattle.std.proofs.Common.{◌≡◌, ℕ, ◌+◌, List, [], ◌∷◌, ◌++◌, Option, Some, None, refl, ap, sym, ◌∙◌, append_assoc, arith}
 use Rattle.std.proofs.lemmas.List.{append-nil}
-use Rattle.std.proofs.lemmas.Grind.{flat_map-append}
 use Rattle.model_base.specs.declared.statement.Statement.{Statement}
-use Rattle.model_base.specs.Outcomes.{World, at_place, creator, owners, world_after}
-use Rattle.log_text.specs.declared.statement.RawForm.{RawForm}
-use Rattle.sequencer.specs.Catalog.{Names}
+use Rattle.log_text.specs.Statement.{Sentence}
+use Rattle.sequencer.specs.Catalog.{Names, no_names}
+use Rattle.sequencer.specs.Log.{Accepted, with_accepted}
 use Rattle.sequencer.specs.Refusal.{refusal}
 use Rattle.sequencer.specs.declared.refused.Refused.{Refused}
-use Rattle.bohm.specs.Report.{Reading, read, faulty, accepted, log_of, names_after, names_if, names_with, statement_if}
+use Rattle.bohm.specs.declared.collecting.Became.{Became}
+use Rattle.bohm.specs.Report.{IsReport, Reading, read, faulty, accepted, line_text, log_of, names_after, names_if, names_with, report_from, statement_if, text_if}
+use Rattle.bohm.specs.Collecting.{Collects, IsLogOf, all_became, became, became_if, became_text, log_text, places_of, report_text, with_reading}
 
-pub names_after-append : (names : Names) (xs ys : List Reading) → names_after names (xs ++ ys) ≡ names_after (names_after names xs) ys
+names_after-append : (names : Names) (xs ys : List Reading) → names_after names (xs ++ ys) ≡ names_after (names_after names xs) ys
 names_after-append names [] ys = refl
 names_after-append names (x ∷ xs) ys = names_after-append (names_with names x) xs ys
 
-pub log_of-append : (names : Names) (xs ys : List Reading) → log_of names (xs ++ ys) ≡ log_of names xs ++ log_of (names_after names xs) ys
+log_of-append : (names : Names) (xs ys : List Reading) → log_of names (xs ++ ys) ≡ log_of names xs ++ log_of (names_after names xs) ys
 log_of-append names [] ys = refl
 log_of-append names (x ∷ xs) ys =
     ap (λ (log : List Statement). accepted names x ++ log) (log_of-append (names_with names x) xs ys)
     ∙ sym (append_assoc (accepted names x) (log_of (names_with names x) xs) (log_of (names_after (names_with names x) xs) ys))
 
-pub owners-append : (xs ys : List Statement) → owners (xs ++ ys) ≡ owners xs ++ owners ys
-owners-append xs ys = flat_map-append (λ (s : Statement). creator s.user s.form) xs ys
+all_became-append : (names : Names) (xs ys : List Reading) → all_became names (xs ++ ys) ≡ all_became names xs ++ all_became (names_after names xs) ys
+all_became-append names [] ys = refl
+all_became-append names (x ∷ xs) ys = ap (λ (lines : List Became). became names x ∷ lines) (all_became-append (names_with names x) xs ys)
 
-pub world_after-append : (own : List ℕ) (place : ℕ) (world : World) (xs ys : List Statement)
-    → world_after own place world (xs ++ ys) ≡ world_after own (place + length xs) (world_after own place world xs) ys
-world_after-append own place world [] ys = let e : place ≡ place + 0 = omega arith in ap (λ (p : ℕ). world_after own p world ys) e
-world_after-append own place world (x ∷ xs) ys =
-    let e : place + 1 + length xs ≡ place + suc (length xs) = omega arith in
-    world_after-append own (place + 1) (at_place own place world x).1 xs ys
-    ∙ ap (λ (p : ℕ). world_after own p (world_after own (place + 1) (at_place own place world x).1 xs) ys) e
+-- a line that adds nothing
+pub unchanged : (log : Accepted) → log ≡ record { names = log.names; statements = log.statements ++ [] }
+unchanged log =
+    let with_statements : List Statement → Accepted = λ statements. record { names = log.names; statements = statements } in
+    ap with_statements (sym (append-nil log.statements))
 
--- how many statements a line adds
-places_if : (names : Names) (user : List ℕ) (form : RawForm) (o : Option Refused) → (names_if names (record { user = user; form = form }) o).places ≡ names.places + length (statement_if names (record { user = user; form = form }) o)
-places_if names user form None = refl
-places_if names user form (Some r) = omega arith
+-- the log after a statement that it takes or refuses
+abbrev pub log_if : Accepted → Sentence → Option Refused → Accepted
+log_if log sentence o = record {
+  names = names_if log.names sentence o;
+  statements = log.statements ++ statement_if log.names sentence o;
+}
 
-places_with : (names : Names) (r : Reading) → (names_with names r).places ≡ names.places + length (accepted names r)
-places_with names (read s) = places_if names s.user s.form (refusal names s)
-places_with names (faulty f) = omega arith
+pub after_taken : (log new : Accepted) (sentence : Sentence) → refusal log.names sentence ≡ None → new ≡ with_accepted log sentence
+    → new ≡ with_reading log (read sentence)
+after_taken log new sentence passes is = is ∙ ap (log_if log sentence) (sym passes)
 
-pub places_after : (names : Names) (rs : List Reading) → (names_after names rs).places ≡ names.places + length (log_of names rs)
-places_after names [] = omega arith
-places_after names (r ∷ rs) = omega (arith, places_after (names_with names r) rs, places_with names r, length-append (accepted names r) (log_of (names_with names r) rs))
+-- the lines so far, and one more
+pub log_step : (earlier : List Reading) (reading : Reading) (log new : Accepted) (lines more : List Became) (line : Became)
+    → IsLogOf earlier log lines → line ≡ became log.names reading → new ≡ with_reading log reading → more ≡ lines ++ line ∷ []
+    → IsLogOf (earlier ++ reading ∷ []) new more
+log_step earlier reading log new lines more line so line_is new_is more_is = record {
+  names = ap (λ (l : Accepted). l.names) new_is ∙ ap (λ (n : Names). names_with n reading) so.names ∙ sym (names_after-append no_names earlier (reading ∷ []));
+  statements = ap (λ (l : Accepted). l.statements) new_is
+      ∙ ap (λ (xs : List Statement). xs ++ accepted log.names reading) so.statements
+      ∙ ap (λ (n : Names). log_of no_names earlier ++ accepted n reading) so.names
+      ∙ ap (λ (xs : List Statement). log_of no_names earlier ++ xs) (sym (append-nil (accepted (names_after no_names earlier) reading)))
+      ∙ sym (log_of-append no_names earlier (reading ∷ []));
+  each = more_is
+      ∙ ap (λ (b : Became). lines ++ b ∷ []) line_is
+      ∙ ap (λ (bs : List Became). bs ++ became log.names reading ∷ []) so.each
+      ∙ ap (λ (n : Names). all_became no_names earlier ++ became n reading ∷ []) so.names
+      ∙ sym (all_became-append no_names earlier (reading ∷ []));
+}
 
--- whose tables a line adds
-owners_if : (names : Names) (user : List ℕ) (form : RawForm) (o : Option Refused) → (names_if names (record { user = user; form = form }) o).owners ≡ names.owners ++ owners (statement_if names (record { user = user; form = form }) o)
-owners_if names user (RawForm.Create table columns) None = refl
-owners_if names user (RawForm.Run accesses steps) None = sym (append-nil names.owners)
-owners_if names user form (Some r) = sym (append-nil names.owners)
+-- how many places there are after a line
+places_if : (names : Names) (sentence : Sentence) (o : Option Refused) → names.places + places_of (became_if o) ≡ (names_if names sentence o).places
+places_if names sentence None = refl
+places_if names sentence (Some refused) = omega arith
 
-owners_with : (names : Names) (r : Reading) → (names_with names r).owners ≡ names.owners ++ owners (accepted names r)
-owners_with names (read s) = owners_if names s.user s.form (refusal names s)
-owners_with names (faulty f) = sym (append-nil names.owners)
+places_with : (names : Names) (reading : Reading) → names.places + places_of (became names reading) ≡ (names_with names reading).places
+places_with names (read sentence) = places_if names sentence (refusal names sentence)
+places_with names (faulty fault) = omega arith
 
-pub owners_after : (names : Names) (rs : List Reading) → (names_after names rs).owners ≡ names.owners ++ owners (log_of names rs)
-owners_after names [] = sym (append-nil names.owners)
-owners_after names (r ∷ rs) =
-    owners_after (names_with names r) rs
-    ∙ ap (λ (own : List ℕ). own ++ owners (log_of (names_with names r) rs)) (owners_with names r)
-    ∙ append_assoc names.owners (owners (accepted names r)) (owners (log_of (names_with names r) rs))
-    ∙ ap (λ (own : List ℕ). names.owners ++ own) (sym (owners-append (accepted names r) (log_of (names_with names r) rs)))
+-- the report's line for a line, by what it became
+text_same_if : (log : List Statement) (tables : List (List ℕ)) (number place : ℕ) (o : Option Refused) → text_if log tables number place o ≡ became_text log tables number place (became_if o)
+text_same_if log tables number place None = refl
+text_same_if log tables number place (Some refused) = refl
 
--- the tables stay, and others may come behind them
-abbrev pub Longer : List (List ℕ) → List (List ℕ) → Type 0
-Longer xs ys = (more : List (List ℕ)) × (ys ≡ xs ++ more)
+text_same : (log : List Statement) (tables : List (List ℕ)) (number : ℕ) (names : Names) (reading : Reading) → line_text log tables number names reading ≡ became_text log tables number names.places (became names reading)
+text_same log tables number names (read sentence) = text_same_if log tables number names.places (refusal names sentence)
+text_same log tables number names (faulty fault) = refl
 
-tables_if : (names : Names) (user : List ℕ) (form : RawForm) (o : Option Refused) → Longer names.tables (names_if names (record { user = user; form = form }) o).tables
-tables_if names user (RawForm.Create table columns) None = (table ∷ [], refl)
-tables_if names user (RawForm.Run accesses steps) None = ([], sym (append-nil names.tables))
-tables_if names user form (Some r) = ([], sym (append-nil names.tables))
+-- the report of some lines, by what they became
+report_same : (log : List Statement) (tables : List (List ℕ)) (number : ℕ) (names : Names) (readings : List Reading)
+    → report_from log tables number names readings ≡ report_text log tables number names.places (all_became names readings)
+report_same log tables number names [] = refl
+report_same log tables number names (reading ∷ readings) =
+    ap (λ (t : List ℕ). t ++ report_from log tables (number + 1) (names_with names reading) readings) (text_same log tables number names reading)
+    ∙ ap (λ (t : List ℕ). became_text log tables number names.places (became names reading) ++ t) (report_same log tables (number + 1) (names_with names reading) readings)
+    ∙ ap (λ (p : ℕ). became_text log tables number names.places (became names reading) ++ report_text log tables (number + 1) p (all_became (names_with names reading) readings))
+    (sym (places_with names reading))
 
-tables_with : (names : Names) (r : Reading) → Longer names.tables (names_with names r).tables
-tables_with names (read s) = tables_if names s.user s.form (refusal names s)
-tables_with names (faulty f) = ([], sym (append-nil names.tables))
-
-pub tables_after : (names : Names) (rs : List Reading) → Longer names.tables (names_after names rs).tables
-tables_after names [] = ([], sym (append-nil names.tables))
-tables_after names (r ∷ rs) =
-    let first = tables_with names r in
-    let rest = tables_after (names_with names r) rs in
-    (first.0 ++ rest.0, rest.1 ∙ ap (λ (ts : List (List ℕ)). ts ++ rest.0) first.1 ∙ append_assoc names.tables first.0 rest.0)
-
--- the statement behind some others
-pub slice_get_at : (xs ys : List Statement) (x : Statement) → slice_get (xs ++ x ∷ ys) (length xs) ≡ Some x
-slice_get_at [] ys x = refl
-slice_get_at (y ∷ xs) ys x = slice_get_at xs ys x
+-- the report of a log that was collected is the report of its text
+pub report_is : (input : List ℕ) (log : Accepted) (lines : List Became) → Collects input log lines → IsReport input (log_text log lines)
+report_is input log lines collects =
+    let readings : List Reading = collects.0 in
+    let so : IsLogOf readings log lines = collects.1.1 in
+    let statements : List Statement = log_of no_names readings in (
+      readings,
+      (
+        collects.1.0,
+        ap (λ (xs : List Statement). report_text xs log.names.tables 1 0 lines) so.statements
+            ∙ ap (λ (n : Names). report_text statements n.tables 1 0 lines) so.names
+            ∙ ap (λ (bs : List Became). report_text statements (names_after no_names readings).tables 1 0 bs) so.each
+            ∙ sym (report_same statements (names_after no_names readings).tables 1 no_names readings),
+      ),
+    )

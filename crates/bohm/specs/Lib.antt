@@ -1,6 +1,6 @@
 pub mod Text
 pub mod Report
 pub mod Run
-pub mod Progress
+pub mod Collecting
 pub mod Faults
 pub mod Words

@@ -1,7 +1,7 @@
 -- Which words of the command line are a command, and how the program ends: its exit status, and what it prints of a fault.
-use Rattle.std.specs.Prelude.{◌≡◌, ◌≢◌, ◌⊎◌, ℕ, List, Option, None, codes, map, string_bytes, true, IsSome}
+use Rattle.std.specs.Prelude.{◌≡◌, ◌≢◌, ◌⊎◌, ℕ, Bool, List, [], Option, None, bytes_eq, codes, false, map, string_bytes, true, unwrap_or, IsSome}
 use Rattle.std.specs.Option.{option_map, option_map_or}
-use Rattle.clap.specs.Words.{App, IsAmong, Kinds, Text, first_of, new_app, new_rule, subcommand_of, with_rule, with_subcommand}
+use Rattle.clap.specs.Words.{App, IsAmong, Kinds, Row, Shape, Text, first_of, new_app, new_rule, with_rule, with_subcommand}
 use Rattle.clap.specs.declared.error.kind.ErrorKind.{ErrorKind}
 use denote.Ref.{Bor}
 use Rattle.bohm.specs.declared.words.Command.{Command}
@@ -47,20 +47,36 @@ message_of (ProgramFault.Usage Usage.NoMemory) = codes "bohm: out of memory"
 message_of ProgramFault.Open = codes "bohm: cannot open file"
 message_of (ProgramFault.Engine fault) = engine_message fault
 
--- the program has one subcommand, `run`, which has to be there, and which may have one word, FILE
+-- `run` may have one word, FILE
+abbrev pub run_shape : Shape
+run_shape = (with_rule (new_app (codes "run")) (new_rule (codes "FILE"))).top
+
+-- and `serial` has to have it
+abbrev pub serial_shape : Shape
+serial_shape = (with_rule (new_app (codes "serial")) (record (new_rule (codes "FILE")) { required = true })).top
+
+-- the program has these two subcommands, one of which has to be there
 abbrev pub bohm_app : App
 bohm_app =
-    let app = with_subcommand (new_app (codes "bohm")) (with_rule (new_app (codes "run")) (new_rule (codes "FILE"))).top in
+    let app = with_subcommand (with_subcommand (new_app (codes "bohm")) run_shape) serial_shape in
     record app { top = record app.top { subcommand_required = true } }
 
 -- the texts of some words
 abbrev pub texts_of : List (Bor Text) → List Text
 texts_of words = map (λ word. word.now) words
 
--- the file that the words of a run name, if they name one
-abbrev pub file_given : List Text → Option Text
-file_given words = option_map_or (λ found. first_of (codes "FILE") found.1) (subcommand_of bohm_app words) None
+-- whether the words name the subcommand of this name
+abbrev pub is_entered : Text → Option (Text × List Row) → Bool
+is_entered name entered = option_map_or (λ found. bytes_eq found.0 name) entered false
 
--- the file of a command
-abbrev pub file_of : Command → Option Text
-file_of (Command.Run file) = option_map (λ path. path.now) file
+-- the file that the words of a subcommand name, if they name one
+abbrev pub file_among : Option (Text × List Row) → Option Text
+file_among entered = option_map_or (λ found. first_of (codes "FILE") found.1) entered None
+
+-- whether the command is the one of a subcommand that was entered with some words: `serial` with its file, where nothing
+-- stands for a file that is not there, or else a run, of the file if there is one
+abbrev pub Asks : Command → Option (Text × List Row) → Type 0
+Asks (Command.Run file) entered =
+    (is_entered (codes "serial") entered ≡ false) × (option_map (λ path. path.now) file ≡ file_among entered)
+Asks (Command.Serial file) entered =
+    (is_entered (codes "serial") entered ≡ true) × (file.now ≡ unwrap_or (file_among entered) [])

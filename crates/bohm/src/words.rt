@@ -1,9 +1,8 @@
 //! The words of the command line, and how a run of the program ends.
 
-ghost use Rattle.std.specs.Prelude.{◌≡◌, [], None, codes, option_map, IfOk, IfErr, OnOk};
-ghost use Rattle.std.specs.Option.{option_map_or};
-ghost use Rattle.clap.specs.Words.{app_of, fault_of, first_of, kind_of, subcommand_rows_of};
-ghost use Rattle.bohm.specs.Words.{Tells, TellsOneOf, bohm_app, file_given, file_of, message_of, status_of, texts_of};
+ghost use Rattle.std.specs.Prelude.{◌≡◌, [], IfOk, IfErr, OnOk};
+ghost use Rattle.clap.specs.Words.{app_of, fault_of, kind_of, subcommand_of, subcommand_rows_of, with_subcommand};
+ghost use Rattle.bohm.specs.Words.{Asks, Tells, TellsOneOf, bohm_app, message_of, run_shape, serial_shape, status_of, texts_of};
 
 use crate::fault::EngineFault;
 use clap::error::ErrorKind;
@@ -15,6 +14,8 @@ use std::alloc::{AllocError, Global};
 pub enum Command<'a> {
     /// Execute a log and write its report. Without a file the log is what standard input gives.
     Run { file: Option<&'a str> },
+    /// Execute a log of a file by the slow serial run, and write its report.
+    Serial { file: &'a str },
 }
 
 /// Why the words are no command, with the text to print.
@@ -37,17 +38,38 @@ pub enum ProgramFault {
     Engine(EngineFault),
 }
 
-/// The program's own description of its words.
-fn program<'a>(alloc: Global) -> Result<clap::Command<'a>, AllocError>
-    ensures { IfOk result (λ c. app_of c ≡ bohm_app) }
+/// Adds the description of `run` to the program's.
+fn with_run<'a>(alloc: Global, program: clap::Command<'a>) -> Result<clap::Command<'a>, AllocError>
+    ensures { IfOk result (λ c. app_of c ≡ with_subcommand (app_of program.entry) run_shape) }
 {
     let file = Arg::new(alloc, "FILE").help("The log. Without it, standard input is read");
     let run = clap::Command::new(alloc, "run")
         .about("Executes a log, and writes its report to standard output")
         .arg(file)?;
-    let bohm = clap::Command::new(alloc, "bohm")
-        .about("A deterministic transaction executor")
-        .subcommand(run)?;
+    program.subcommand(run)
+}
+
+/// Adds the description of `serial` to the program's.
+fn with_serial<'a>(
+    alloc: Global,
+    program: clap::Command<'a>,
+) -> Result<clap::Command<'a>, AllocError>
+    ensures { IfOk result (λ c. app_of c ≡ with_subcommand (app_of program.entry) serial_shape) }
+{
+    let file = Arg::new(alloc, "FILE").required(true).help("The log");
+    let serial = clap::Command::new(alloc, "serial")
+        .about("Executes a log by the slow serial run, and writes its report to standard output")
+        .arg(file)?;
+    program.subcommand(serial)
+}
+
+/// The program's own description of its words.
+fn program<'a>(alloc: Global) -> Result<clap::Command<'a>, AllocError>
+    ensures { IfOk result (λ c. app_of c ≡ bohm_app) }
+{
+    let bohm = clap::Command::new(alloc, "bohm").about("A deterministic transaction executor");
+    let bohm = with_run(alloc, bohm)?;
+    let bohm = with_serial(alloc, bohm)?;
     Ok(bohm.subcommand_required(true))
 }
 
@@ -66,22 +88,29 @@ fn usage_of(alloc: Global, error: &Error) -> Usage
     }
 }
 
-/// The file that the words of a run name, if they name one.
-fn file_in<'a>(matches: &ArgMatches<'a>) -> Option<&'a str>
-    ensures { option_map (λ path. path.now) result ≡ option_map_or (λ found. first_of (codes "FILE") found.1) (subcommand_rows_of matches.now) None }
+/// The command of the subcommand that was entered. `clap` takes no `serial` without a file: the empty path, which no file
+/// has, stands for it.
+fn command_in<'a>(matches: &ArgMatches<'a>) -> Command<'a>
+    ensures { Asks result (subcommand_rows_of matches.now) }
 {
-    match matches.subcommand() {
-        Some((_, run)) => run.get_str("FILE"),
-        None => None,
+    let Some((name, found)) = matches.subcommand() else {
+        return Command::Run { file: None };
+    };
+    let file = found.get_str("FILE");
+    if name == "serial" {
+        return Command::Serial {
+            file: file.unwrap_or(""),
+        };
     }
+    Command::Run { file }
 }
 
 /// Reads the words of the command line, the program's name first. The words are judged by `clap`: an answered command
-/// is one that it takes, with the file that it finds, and words that it takes fail only where a growth was refused. Help
+/// is the one of the subcommand that it finds, with the file that it finds, and words that it takes fail only where a growth was refused. Help
 /// is answered only where the words ask for it, and a fault only where they are wrong.
 pub fn read_words<'a>(alloc: Global, words: &'a [&'a str]) -> Result<Command<'a>, Usage>
     ensures taken { OnOk result (fault_of bohm_app (texts_of words.entry.now) ≡ []) }
-    ensures file { IfOk result (λ command. file_of command ≡ file_given (texts_of words.entry.now)) }
+    ensures asked { IfOk result (λ command. Asks command (subcommand_of bohm_app (texts_of words.entry.now))) }
     ensures fault { IfErr result (λ usage. fault_of bohm_app (texts_of words.entry.now) ≡ [] → usage ≡ Usage.NoMemory) }
     ensures told { IfErr result (TellsOneOf (fault_of bohm_app (texts_of words.entry.now))) }
 {
@@ -93,8 +122,7 @@ pub fn read_words<'a>(alloc: Global, words: &'a [&'a str]) -> Result<Command<'a>
         Ok(matches) => matches,
         Err(error) => return Err(usage_of(alloc, &error)),
     };
-    let file = file_in(&matches);
-    Ok(Command::Run { file })
+    Ok(command_in(&matches))
 }
 
 /// The exit status of a fault, and the text to print: on standard output where the status is 0, else on standard error.

@@ -2,7 +2,7 @@
 
 use super::doubles::{Giving, Taking};
 use crate::fault::EngineFault;
-use crate::plain::plain_text;
+use crate::serial_run::serial_text;
 use log_text_base::Counted;
 use std::alloc::{AllocError, Global};
 use std::test::Fail;
@@ -43,7 +43,7 @@ const EMPTY: (&str, &str) = ("", "");
 fn report(alloc: Global, log: &[u8]) -> Result<Vec<u8>, EngineFault> {
     let mut reader = Counted::new(log);
     let mut writer = Counted::new(Vec::new(alloc));
-    plain_text(alloc, &mut reader, &mut writer)?;
+    serial_text(alloc, &mut reader, &mut writer)?;
     Ok(writer.inner)
 }
 
@@ -91,7 +91,7 @@ fn a_reader_may_fail_at_any_read(rt: HostRuntime) {
             reads,
         });
         let mut writer = Counted::new(Vec::new(rt.alloc()));
-        let ended = plain_text(rt.alloc(), &mut reader, &mut writer);
+        let ended = serial_text(rt.alloc(), &mut reader, &mut writer);
         let is_whole = reads as usize > log.len();
         assert!(rt;
             ended
@@ -102,8 +102,8 @@ fn a_reader_may_fail_at_any_read(rt: HostRuntime) {
                 }
         );
         assert!(rt; reader.errors == if is_whole { 0 } else { 1 });
-        assert!(rt; wanted.as_bytes().starts_with(writer.inner.as_slice()));
-        assert!(rt; !is_whole || writer.inner.len() == wanted.len());
+        let written = if is_whole { wanted } else { "" };
+        assert!(rt; writer.inner.as_slice() == written.as_bytes());
     }
 }
 
@@ -118,7 +118,7 @@ fn a_writer_may_fail_at_any_write(rt: HostRuntime) {
             writes,
             flushes: true,
         });
-        let ended = plain_text(rt.alloc(), &mut reader, &mut writer);
+        let ended = serial_text(rt.alloc(), &mut reader, &mut writer);
         let is_whole = writes as usize >= wanted.len();
         assert!(rt;
             ended
@@ -144,7 +144,7 @@ fn a_writer_may_fail_to_flush_or_take_no_byte(rt: HostRuntime) {
             writes: 100,
             flushes,
         });
-        let ended = plain_text(rt.alloc(), &mut reader, &mut writer);
+        let ended = serial_text(rt.alloc(), &mut reader, &mut writer);
         assert!(rt; ended == Err(EngineFault::Write));
         assert_eq!(rt; (writer.errors, writer.inner.taken.len()), (1, wanted));
     }

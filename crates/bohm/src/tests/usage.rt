@@ -6,11 +6,27 @@ use crate::words::{Command, ProgramFault, Usage, ending, read_words};
 #[test]
 fn reads_the_words_of_a_run(rt: HostRuntime) {
     let words = ["bohm", "run"];
-    let read = read_words(rt.alloc(), words.as_slice());
-    assert!(rt; matches!(&read, Ok(Command::Run { file: None })));
+    match read_words(rt.alloc(), words.as_slice()) {
+        Ok(command) => assert!(rt; command == Command::Run { file: None }),
+        Err(_) => assert!(rt; false),
+    }
     let words = ["bohm", "run", "some.log"];
     match read_words(rt.alloc(), words.as_slice()) {
-        Ok(Command::Run { file }) => assert!(rt; file == Some("some.log")),
+        Ok(command) => assert!(rt;
+            command
+                == Command::Run {
+                    file: Some("some.log")
+                }
+        ),
+        Err(_) => assert!(rt; false),
+    }
+}
+
+#[test]
+fn reads_the_words_of_a_serial_run(rt: HostRuntime) {
+    let words = ["bohm", "serial", "x.log"];
+    match read_words(rt.alloc(), words.as_slice()) {
+        Ok(command) => assert!(rt; command == Command::Serial { file: "x.log" }),
         Err(_) => assert!(rt; false),
     }
 }
@@ -29,8 +45,12 @@ fn other_words_are_faults_or_help(rt: HostRuntime) {
     assert!(rt; status(&rt, &["bohm", "walk"]) == Some(2));
     assert!(rt; status(&rt, &["bohm", "run", "a", "b"]) == Some(2));
     assert!(rt; status(&rt, &["bohm", "run", "--workers", "2"]) == Some(2));
+    assert!(rt; status(&rt, &["bohm", "serial"]) == Some(2));
+    assert!(rt; status(&rt, &["bohm", "serial", "a", "b"]) == Some(2));
     assert!(rt; status(&rt, &["bohm", "--help"]) == Some(0));
     assert!(rt; status(&rt, &["bohm", "run", "-h"]) == Some(0));
+    assert!(rt; status(&rt, &["bohm", "serial", "-h"]) == Some(0));
+    assert!(rt; status(&rt, &["bohm", "help"]) == Some(0));
     assert!(rt; status(&rt, &["bohm", "run", "a"]) == None);
 }
 

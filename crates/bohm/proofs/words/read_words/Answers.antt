@@ -1,9 +1,7 @@
-use Rattle.std.proofs.Common.{subst, ◌≡◌, List, Option, None, true, refl, ap, ◌∙◌}
-use Rattle.std.specs.Prelude.{codes}
-use Rattle.std.specs.Option.{option_map_or}
-use Rattle.clap.specs.Words.{App, HasKind, Row, Text, fault_of, first_of, is_simple, is_simple_and_free, subcommand_of}
+use Rattle.std.proofs.Common.{subst, ◌≡◌, true, refl, ap, ◌∙◌}
+use Rattle.clap.specs.Words.{App, HasKind, fault_of, is_simple, is_simple_and_free, subcommand_of}
 use Rattle.clap.proofs.OnLiterals.{clap_on_literals}
-use Rattle.bohm.specs.Words.{bohm_app, texts_of}
+use Rattle.bohm.specs.Words.{Asks, bohm_app, texts_of}
 use Rattle.bohm.proofs.Telling.{told}
 use Rattle.bohm.proofs.words.read_words.Goals as goal
 
@@ -11,12 +9,10 @@ simple : is_simple bohm_app ≡ true
 unfolding clap_on_literals
 simple = refl
 
-pub returns-clause-file : goal.returns-clause-file
-returns-clause-file c =
+pub returns-clause-asked : goal.returns-clause-asked
+returns-clause-asked c =
     let found = (c.in-Ok-try_get_matches_from.ensures.matches (ap is_simple c.in-Ok.ensures ∙ simple)).1 in
-    c.file_in-file.ensures
-    ∙ ap (λ (o : Option (Text × List Row)). option_map_or (λ p. first_of (codes "FILE") p.1) o None)
-    (found ∙ ap (λ (a : App). subcommand_of a (texts_of c.args.words.now)) c.in-Ok.ensures)
+    subst (Asks c.command_in.result) (found ∙ ap (λ (a : App). subcommand_of a (texts_of c.args.words.now)) c.in-Ok.ensures) c.command_in.ensures
 
 simple_and_free : is_simple_and_free bohm_app ≡ true
 unfolding clap_on_literals
