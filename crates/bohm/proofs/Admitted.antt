@@ -2,22 +2,24 @@
 use Rattle.std.proofs.Common.{◌≡◌, ℕ, suc, ◌+◌, ◌<◌, ◌≤◌, Bool, true, false, not, cond, List, [], ◌∷◌, ◌++◌, length, map, Option, Some, None, refl, ap, sym, ◌∙◌, subst, arith, length-append}
 use Rattle.std.specs.Prelude.{bytes_eq, ◌||◌}
 use Rattle.std.specs.List.{flat_map, list_any, sum_by, AllByRecursion}
+use Rattle.std.specs.Option.{option_map, option_map_or}
 use Rattle.std.proofs.lemmas.List.{length-map}
 use Rattle.std.proofs.lemmas.List.Elements.{All-append, All-from_recursion, All-map, All-nil, All-push, All-weaker}
 use Rattle.std.proofs.lemmas.List.Sums.{sum_by-cons}
 use Rattle.model_base.specs.declared.deed.Need.{Need}
 use Rattle.model_base.specs.declared.statement.Access.{Access}
 use Rattle.model_base.specs.declared.statement.Statement.{Statement}
-use Rattle.model_base.specs.Outcomes.{kinds_in, need_of, needs, needs_of_access}
+use Rattle.model_base.specs.Outcomes.{kinds_in, need_of, needs, needs_of_access, needs_of_deed}
 use Rattle.body.specs.Premises.{IsNarrow, IsRunnable, outputs_of}
 use Rattle.log_text.specs.Statement.{Sentence, IsInGrammar, IsStep, outs_of}
 use Rattle.log_text.specs.declared.access.RawAccess.{RawAccess}
+use Rattle.log_text.specs.declared.statement.RawDeed.{RawDeed}
 use Rattle.log_text.specs.declared.statement.RawForm.{RawForm}
 use Rattle.log_text.specs.declared.statement.RawStep.{RawStep}
-use Rattle.sequencer.specs.Names.{is_known, number_of}
-use Rattle.sequencer.specs.Catalog.{Names, numbered, numbered_access, numbered_form, numbered_step, with_form, with_statement}
+use Rattle.sequencer.specs.Names.{is_known, number_of, with_name}
+use Rattle.sequencer.specs.Catalog.{Names, numbered, numbered_access, numbered_deed, numbered_form, numbered_step, table_of, with_form, with_statement, with_user}
 use Rattle.sequencer.specs.Log.{Accepted, empty_log}
-use Rattle.sequencer.specs.Refusal.{access_refusal, accesses_refusal, form_refusal, or_else, refusal, unless}
+use Rattle.sequencer.specs.Refusal.{access_refusal, accesses_refusal, deed_refusal, form_refusal, known_refusal, or_else, refusal, steps_refusal, unless}
 use Rattle.sequencer.specs.declared.refused.Refused.{Refused}
 use Rattle.bohm.specs.Report.{read}
 use Rattle.bohm.specs.Collecting.{with_reading}
@@ -45,16 +47,32 @@ passes false r e = cc
 access-within : (tables : ℕ) (access : Access) → access.key.table < tables → AreWithin tables (needs_of_access access)
 access-within tables access low = All-map (λ (need : Need). need.table < tables) (need_of access) (kinds_in access.kinds) (λ k d in_list. low)
 
-accesses-within : (names : Names) (earlier accesses : List RawAccess) → accesses_refusal names earlier accesses ≡ None
-    → AreWithin (length names.tables) (flat_map needs_of_access (map (numbered_access names) accesses))
-accesses-within names earlier [] e = All-nil (λ (need : Need). need.table < length names.tables)
-accesses-within names earlier (access ∷ accesses) e =
+-- whoever the users are, the accesses that the log takes are to its tables
+accesses-within : (names : Names) (users : List (List ℕ)) (earlier accesses : List RawAccess) → accesses_refusal names earlier accesses ≡ None
+    → AreWithin (length names.tables) (flat_map needs_of_access (map (numbered_access (record names { users = users })) accesses))
+accesses-within names users earlier [] e = All-nil (λ (need : Need). need.table < length names.tables)
+accesses-within names users earlier (access ∷ accesses) e =
+    let named : Names = record names { users = users } in
     let parts = both_none (access_refusal names earlier access) (accesses_refusal names (earlier ++ access ∷ []) accesses) e in
     let first = both_none (unless (is_known names.tables access.table) Refused.UnknownTable) (unless (not (list_any _ earlier)) Refused.DuplicateAccess) parts.0 in
     All-append (λ (need : Need). need.table < length names.tables)
-    (needs_of_access (numbered_access names access)) (flat_map needs_of_access (map (numbered_access names) accesses))
-    (access-within (length names.tables) (numbered_access names access) (known-below names.tables access.table (passes (is_known names.tables access.table) Refused.UnknownTable first.0)))
-    (accesses-within names (earlier ++ access ∷ []) accesses parts.1)
+    (needs_of_access (numbered_access named access)) (flat_map needs_of_access (map (numbered_access named) accesses))
+    (access-within (length names.tables) (numbered_access named access) (known-below names.tables access.table (passes (is_known names.tables access.table) Refused.UnknownTable first.0)))
+    (accesses-within names users (earlier ++ access ∷ []) accesses parts.1)
+
+-- and so is the table of a deed
+deed-within : (names : Names) (users : List (List ℕ)) (deed : RawDeed) → known_refusal names (table_of deed) ≡ None
+    → AreWithin (length names.tables) (needs_of_deed (numbered_deed (record names { users = users }) deed))
+deed-within names users (RawDeed.Grant kind table grantee option) e =
+    let P : Need → Type 0 = λ need. need.table < length names.tables in
+    All-push P [] (record { table = number_of names.tables table; kind = kind; option = true }) (All-nil P)
+    (known-below names.tables table (passes (is_known names.tables table) Refused.UnknownTable e))
+deed-within names users (RawDeed.Revoke kind table grantee) e = All-nil (λ (need : Need). need.table < length names.tables)
+
+last_deed-within : (names : Names) (users : List (List ℕ)) (deed : Option RawDeed) → deed_refusal names deed ≡ None
+    → AreWithin (length names.tables) (option_map_or needs_of_deed (option_map (numbered_deed (record names { users = users })) deed) [])
+last_deed-within names users None e = All-nil (λ (need : Need). need.table < length names.tables)
+last_deed-within names users (Some deed) e = deed-within names users deed e
 
 steps-narrow : (names : Names) (steps : List RawStep) → AllByRecursion IsStep steps → AllByRecursion IsNarrow (map (numbered_step names) steps)
 steps-narrow names [] h = tt
@@ -98,34 +116,42 @@ steps-outputs names (step ∷ steps) =
 
 runnable_form : (names : Names) (user : List ℕ) (form : RawForm) → IsInGrammar (record { user = user; form = form }) → IsRunnable (numbered names (record { user = user; form = form }))
 runnable_form names user (RawForm.Create table columns) h = tt
-runnable_form names user (RawForm.Run accesses steps) h = record {
-  places = omega (arith, h.form, length-map accesses (numbered_access names));
-  columns = All-from_recursion IsNarrow (map (numbered_step names) steps) (steps-narrow names steps h.form.5);
-  outputs = omega (arith, h.form, steps-outputs names steps);
-}
+runnable_form names user (RawForm.Run accesses steps deed) h =
+    let named : Names = with_user names user in
+    record {
+      places = omega (arith, h.form, length-map accesses (numbered_access named));
+      columns = All-from_recursion IsNarrow (map (numbered_step named) steps) (steps-narrow named steps h.form.5);
+      outputs = omega (arith, h.form, steps-outputs named steps);
+    }
+runnable_form names user (RawForm.Deed deed) h = tt
 
 runnable : (names : Names) (sentence : Sentence) → IsInGrammar sentence → IsRunnable (numbered names sentence)
 runnable names sentence h = runnable_form names sentence.user sentence.form h
 
 -- what a statement needs that the log takes
-within_form : (names : Names) (form : RawForm) → form_refusal names form ≡ None
-    → AreWithin (length names.tables) (needs (numbered_form names form))
-within_form names (RawForm.Create table columns) e = All-nil (λ (need : Need). need.table < length names.tables)
-within_form names (RawForm.Run accesses steps) e =
-    let P : Need → Type 0 = λ need. need.table < length names.tables in
-    let parts = both_none (accesses_refusal names [] accesses) _ e in
-    All-append P (flat_map needs_of_access (map (numbered_access names) accesses)) [] (accesses-within names [] accesses parts.0) (All-nil P)
+within_form : (names : Names) (users : List (List ℕ)) (form : RawForm) → form_refusal names form ≡ None
+    → AreWithin (length names.tables) (needs (numbered_form (record names { users = users }) form))
+within_form names users (RawForm.Create table columns) e = All-nil (λ (need : Need). need.table < length names.tables)
+within_form names users (RawForm.Run accesses steps deed) e =
+    let named : Names = record names { users = users } in
+    let first = both_none (accesses_refusal names [] accesses) _ e in
+    let rest = both_none (steps_refusal names steps) (deed_refusal names deed) first.1 in
+    All-append (λ (need : Need). need.table < length names.tables)
+    (flat_map needs_of_access (map (numbered_access named) accesses)) (option_map_or needs_of_deed (option_map (numbered_deed named) deed) [])
+    (accesses-within names users [] accesses first.0) (last_deed-within names users deed rest.1)
+within_form names users (RawForm.Deed deed) e = deed-within names users deed e
 
 within : (names : Names) (sentence : Sentence) → refusal names sentence ≡ None → IsWithin (length names.tables) (numbered names sentence)
 within names sentence e =
     let rest = both_none _ _ e in
     let form = both_none _ _ rest.1 in
-    within_form names sentence.form form.0
+    within_form names (with_name names.users sentence.user) sentence.form form.0
 
 -- the tables stay, and others may come behind them
 more_tables : (names : Names) (user : ℕ) (form : RawForm) → length names.tables ≤ length (with_form names user form).tables
 more_tables names user (RawForm.Create table columns) = omega (arith, length-append names.tables (table ∷ []))
-more_tables names user form = omega arith
+more_tables names user (RawForm.Run accesses steps deed) = omega arith
+more_tables names user (RawForm.Deed deed) = omega arith
 
 more-within : (few many : ℕ) → few ≤ many → (statement : Statement) → IsWithin few statement → IsWithin many statement
 more-within few many more statement within =

@@ -2,8 +2,6 @@
 use Rattle.std.specs.Prelude.{ℕ, ℤ, List, [], ◌∷◌, ◌++◌, codes, unwrap_or, slice_get, if◌then◌else◌}
 use Rattle.std.specs.Fmt.{decimal, signed_decimal}
 use Rattle.std.specs.List.{flat_map}
-use Rattle.model_base.specs.declared.deed.Kind.{Kind}
-use Rattle.model_base.specs.declared.deed.Kind.TheVariants.{Read, Insert, Update, Delete}
 use Rattle.model_base.specs.declared.deed.Cause.{Cause}
 use Rattle.model_base.specs.declared.deed.Cause.TheVariants.{Never, Taken}
 use Rattle.model_base.specs.declared.deed.Need.{Need}
@@ -12,6 +10,7 @@ use Rattle.model_base.specs.declared.outcome.Reason.{Reason}
 use Rattle.model_base.specs.declared.outcome.Reason.TheVariants.{NoRow, RowExists, Overflow, Check}
 use Rattle.model_base.specs.declared.outcome.DeedDone.{DeedDone}
 use Rattle.model_base.specs.declared.outcome.Outcome.{Outcome}
+use Rattle.log_text.specs.Statement.{kind_word}
 use Rattle.log_text.specs.declared.fault.LineFault.{LineFault}
 use Rattle.sequencer.specs.declared.refused.Refused.{Refused}
 
@@ -43,13 +42,6 @@ refused_word Refused.NoMemory = []
 -- the report's line for a line of the log that isn't accepted
 abbrev pub refused_text : ℕ → List ℕ → List ℕ
 refused_text number word = codes "line " ++ decimal number ++ codes " refused " ++ word ++ codes "\n"
-
--- the word of a kind
-abbrev pub kind_word : Kind → List ℕ
-kind_word Read = codes "READ"
-kind_word Insert = codes "INSERT"
-kind_word Update = codes "UPDATE"
-kind_word Delete = codes "DELETE"
 
 -- the word of the reason for which a body was aborted
 abbrev pub reason_word : Reason → List ℕ

@@ -3,11 +3,11 @@
 ghost use Rattle.std.specs.Prelude.{◌≡◌, ◌<◌, ◌++◌, List, length, codes, OnOk};
 ghost use Rattle.std.specs.Fmt.{decimal, signed_decimal};
 ghost use Rattle.bohm.specs.Run.{IsNamed};
-ghost use Rattle.bohm.specs.Text.{cause_text, deed_text, done_text, ending_text, fault_word, kind_word, need_text, numbers_text, outcome_text, places_text, reason_word, refused_text, refused_word};
+ghost use Rattle.bohm.specs.Text.{cause_text, deed_text, done_text, ending_text, fault_word, need_text, numbers_text, outcome_text, places_text, reason_word, refused_text, refused_word};
 
 use itoa::Buffer;
-use log_text::LineFault;
-use model_base::{Cause, DeedDone, Form, Kind, Need, Outcome, Place, Reason};
+use log_text::{LineFault, kind_word};
+use model_base::{Cause, DeedDone, Form, Need, Outcome, Place, Reason};
 use sequencer::{NameTable, Refused};
 use std::alloc::AllocError;
 
@@ -43,18 +43,6 @@ fn refused_word(refused: Refused) -> &'static str
         Refused::LogFull => "log-full",
         Refused::TooManyNames => "too-many-names",
         Refused::NoMemory => "",
-    }
-}
-
-/// The word of a kind.
-fn kind_word(kind: Kind) -> &'static str
-    ensures { result.now ≡ kind_word kind }
-{
-    match kind {
-        Kind::Read => "READ",
-        Kind::Insert => "INSERT",
-        Kind::Update => "UPDATE",
-        Kind::Delete => "DELETE",
     }
 }
 

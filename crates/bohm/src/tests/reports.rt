@@ -5,6 +5,7 @@ use crate::fault::EngineFault;
 use crate::serial_run::serial_text;
 use log_text_base::Counted;
 use std::alloc::{AllocError, Global};
+use std::process::Abort;
 use std::test::Fail;
 
 const UNDECLARED: (&str, &str) = (
@@ -19,7 +20,7 @@ const FIRST: (&str, &str) = (
 
 const REFUSED: (&str, &str) = (
     "alice CREATE t 0\nalice CREATE t 2\nbob CREATE t 1\nalice RUN t:1:R t:1:U\nalice RUN t:1:R | LOAD 0 t 1 2\nalice RUN t:1:I | INSERT t 1 0\nalice RUN t:1:R | SKIP 0 1\nalice GRANT READ u bob\nalice RUN t:1:RI | OUT 16\n\nalice  CREATE u 1\nAlice CREATE u 1\nalice RUN t:01:R\nalice RUN t:1:UR\nalice GRANT READ t bob option\nalice RUN t:1:R\n",
-    "line 1 refused bad-columns\n0 created\nline 3 refused table-exists\nline 4 refused duplicate-access\nline 5 refused bad-column-number\nline 6 refused bad-columns\nline 7 refused skip-past-end\nline 8 refused unknown-word\nline 9 refused bad-register\nline 10 refused empty\nline 11 refused unknown-word\nline 12 refused bad-name\nline 13 refused bad-number\nline 14 refused unknown-word\nline 15 refused unknown-word\n1 done\n",
+    "line 1 refused bad-columns\n0 created\nline 3 refused table-exists\nline 4 refused duplicate-access\nline 5 refused bad-column-number\nline 6 refused bad-columns\nline 7 refused skip-past-end\nline 8 refused unknown-table\nline 9 refused bad-register\nline 10 refused empty\nline 11 refused unknown-word\nline 12 refused bad-name\nline 13 refused bad-number\nline 14 refused unknown-word\nline 15 refused unknown-word\n1 done\n",
 );
 
 const BROKEN: (&str, &str) = (
@@ -40,7 +41,7 @@ const STEPS: (&str, &str) = (
 const EMPTY: (&str, &str) = ("", "");
 
 /// The report of a log.
-fn report(alloc: Global, log: &[u8]) -> Result<Vec<u8>, EngineFault> {
+pub(super) fn report(alloc: Global, log: &[u8]) -> Result<Vec<u8>, EngineFault> {
     let mut reader = Counted::new(log);
     let mut writer = Counted::new(Vec::new(alloc));
     serial_text(alloc, &mut reader, &mut writer)?;
@@ -63,6 +64,35 @@ fn letters(alloc: Global, count: usize) -> Result<Vec<u8>, AllocError> {
         bytes.push(b'a')?;
     }
     Ok(bytes)
+}
+
+/// A line of so many pieces behind a beginning, and its refusal where it is line 2 of a log.
+fn expect_refusal(
+    rt: &impl Abort,
+    alloc: Global,
+    (front, piece, times): (&str, &str, usize),
+    word: &str,
+) -> Result<(), Fail> {
+    let mut log = Vec::from_slice(alloc, b"alice CREATE t 1\n")?;
+    log.extend_from_slice(front.as_bytes())?;
+    for _ in 0..times {
+        log.extend_from_slice(piece.as_bytes())?;
+    }
+    log.push(b'\n')?;
+    let found = report(alloc, log.as_slice()).expect(rt, "memory");
+    let wanted = format!(in alloc; "0 created\nline 2 refused {word}\n")?;
+    assert!(rt; found.as_slice() == wanted.as_bytes());
+    Ok(())
+}
+
+#[test]
+fn too_many_parts_are_refused(rt: HostRuntime) -> Result<(), Fail> {
+    let alloc = rt.alloc();
+    expect_refusal(&rt, alloc, ("alice RUN", " t:1:R", 17), "too-many-accesses")?;
+    let steps = ("alice RUN t:1:R", " | CONST 0 1", 65);
+    expect_refusal(&rt, alloc, steps, "too-many-steps")?;
+    let outs = ("alice RUN t:1:R", " | OUT 0", 9);
+    expect_refusal(&rt, alloc, outs, "too-many-steps")
 }
 
 #[test]
