@@ -76,15 +76,10 @@ fn logs_with_deeds_have_their_reports(rt: HostRuntime) {
 
 /// How many lines the text has.
 fn line_count(text: &[u8]) -> usize {
-    let mut count = 0;
-    for byte in text {
-        if *byte == b'\n' {
-            count += 1;
-        }
-    }
+    let ends = text.iter().filter(|byte| **byte == b'\n').count();
     match text.last() {
-        None | Some(b'\n') => count,
-        Some(_) => count + 1,
+        None | Some(b'\n') => ends,
+        Some(_) => ends.saturating_add(1),
     }
 }
 
