@@ -5,3 +5,4 @@ pub mod Places
 pub mod Causes
 pub mod Growth
 pub mod Paths
+pub mod Records
