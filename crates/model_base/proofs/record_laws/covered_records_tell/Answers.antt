@@ -1,0 +1,10 @@
+use Rattle.model_base.proofs.ByTables.{cut-covered, ended_by-covered, holds_by-covered, last_loss-covered}
+use Rattle.model_base.proofs.record_laws.covered_records_tell.Goals as goal
+
+pub returns : goal.returns
+returns c = record {
+  held = holds_by-covered;
+  lost = last_loss-covered;
+  ended = ended_by-covered;
+  cut = cut-covered;
+}
