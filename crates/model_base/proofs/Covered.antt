@@ -10,10 +10,8 @@ use Rattle.model_base.specs.declared.deed.Kind.TheVariants.{Read, Insert, Update
 use Rattle.model_base.specs.declared.deed.Grant.{Grant}
 use Rattle.model_base.specs.declared.deed.Need.{Need}
 use Rattle.model_base.specs.declared.deed.Revocation.{Revocation}
-use Rattle.model_base.specs.declared.deed.Deed.{Deed}
-use Rattle.model_base.specs.declared.deed.Deed.TheVariants.{Revoking}
-use Rattle.model_base.specs.Privileges.{owns, gives, has, option_of, same_kind, names, kept, replayed, is_among}
-use Rattle.model_base.proofs.Replay.{by_cases, kept-revoke, kept-replayed}
+use Rattle.model_base.specs.Privileges.{owns, gives, has, option_of, same_kind, names, replayed, is_among}
+use Rattle.model_base.proofs.Replay.{by_cases}
 
 -- a test can't pass and fail
 pub contrary : {G : Type 0} (test : Bool) → test ≡ true → test ≡ false → G
@@ -35,6 +33,10 @@ filter-swap first second (grant ∷ grants) =
     by_cases (first grant)
     (λ one. by_cases (second grant) (λ two. rw (one, two, one, rest) refl) (λ not_two. rw (one, not_two, rest) refl))
     (λ not_one. by_cases (second grant) (λ two. rw (not_one, two, not_one, rest) refl) (λ not_two. rw (not_one, not_two, rest) refl))
+
+-- what a revocation leaves of grants: the replay of those that it doesn't name
+abbrev pub left_by : List ℕ → Revocation → List Grant → List Grant
+left_by owners revocation grants = replayed owners [] (filter (λ grant. not (names revocation grant)) grants)
 
 module _ (owners : List ℕ) (covers : Kind → ℕ → Bool) where
   -- whether the grant is one of the kinds and tables
@@ -58,6 +60,7 @@ module _ (owners : List ℕ) (covers : Kind → ℕ → Bool) where
       and_false true = refl
       and_false false = refl
 
+  -- so the covered grants give it exactly if all do
   any-covered : (grants : List Grant) (user : ℕ) (need : Need) → covers need.kind need.table ≡ true
       → list_any (λ grant. gives grant user need) (filter is_covered grants) ≡ list_any (λ grant. gives grant user need) grants
   any-covered [] user need cover = refl
@@ -95,31 +98,30 @@ module _ (owners : List ℕ) (covers : Kind → ℕ → Bool) where
       (ap (λ s. replayed owners s (filter is_covered grants)) (sym next) ∙ replayed-covered (standing ++ grant ∷ []) grants))
       (λ falls. rw (other, falls) (replayed-covered standing grants)))
 
-  -- after a revocation, the covered grants in force are the replay of those before it that it doesn't name
-  pub kept_revoke-covered : (deeds : List Deed) (revocation : Revocation)
-      → replayed owners [] (filter (λ grant. not (names revocation grant)) (filter is_covered (kept owners deeds)))
-      ≡ filter is_covered (kept owners (deeds ++ Revoking revocation ∷ []))
-  kept_revoke-covered deeds revocation =
-      let left : Grant → Bool = λ grant. not (names revocation grant) in
-      ap (replayed owners []) (filter-swap left is_covered (kept owners deeds))
-      ∙ replayed-covered [] (filter left (kept owners deeds))
-      ∙ ap (filter is_covered) (sym (kept-revoke owners deeds revocation))
+  -- a replay of covered grants is the covered part of the replay, so what bears its own replay bears it there
+  pub stands-covered : (grants : List Grant) → replayed owners [] grants ≡ grants → replayed owners [] (filter is_covered grants) ≡ filter is_covered grants
+  stands-covered grants stands = replayed-covered [] grants ∙ ap (filter is_covered) stands
 
-  -- a revocation that concerns none of the covered grants leaves those in force
-  pub kept_revoke-other : (deeds : List Deed) (revocation : Revocation) → ((grant : Grant) → is_covered grant ≡ true → names revocation grant ≡ false)
-      → filter is_covered (kept owners (deeds ++ Revoking revocation ∷ [])) ≡ filter is_covered (kept owners deeds)
-  kept_revoke-other deeds revocation other =
-      sym (kept_revoke-covered deeds revocation)
-      ∙ ap (replayed owners []) (left (kept owners deeds))
-      ∙ replayed-covered [] (kept owners deeds)
-      ∙ ap (filter is_covered) (kept-replayed owners deeds)
+  -- of the covered grants a revocation leaves those that it leaves of all
+  pub left_by-covered : (revocation : Revocation) (grants : List Grant)
+      → left_by owners revocation (filter is_covered grants) ≡ filter is_covered (left_by owners revocation grants)
+  left_by-covered revocation grants =
+      let unnamed : Grant → Bool = λ grant. not (names revocation grant) in
+      ap (replayed owners []) (filter-swap unnamed is_covered grants) ∙ replayed-covered [] (filter unnamed grants)
+
+  -- a revocation that names none of the covered grants leaves them all
+  pub left_by-other : (revocation : Revocation) (grants : List Grant) → replayed owners [] grants ≡ grants
+      → ((grant : Grant) → is_covered grant ≡ true → names revocation grant ≡ false)
+      → filter is_covered (left_by owners revocation grants) ≡ filter is_covered grants
+  left_by-other revocation grants stands other =
+      sym (left_by-covered revocation grants) ∙ ap (replayed owners []) (unnamed grants) ∙ stands-covered grants stands
     where
-      left : (grants : List Grant) → filter (λ grant. not (names revocation grant)) (filter is_covered grants) ≡ filter is_covered grants
-      left [] = refl
-      left (grant ∷ grants) =
+      unnamed : (grants : List Grant) → filter (λ grant. not (names revocation grant)) (filter is_covered grants) ≡ filter is_covered grants
+      unnamed [] = refl
+      unnamed (grant ∷ grants) =
           by_cases (is_covered grant)
-          (λ covered. rw (covered, other grant covered, left grants) refl)
-          (λ fails. rw fails (left grants))
+          (λ covered. rw (covered, other grant covered, unnamed grants) refl)
+          (λ fails. rw fails (unnamed grants))
 
   -- where each grant of a place is covered, the place is among the covered grants if it is among all
   pub among-covered : (place : ℕ) (grants : List Grant) → All (λ grant. grant.place ≡ place → is_covered grant ≡ true) grants

@@ -16,7 +16,7 @@ use Rattle.model_base.proofs.Places.{among_all, among-kept_grant, All-kept, foll
 use Rattle.model_base.proofs.Records.{grants-append, end-append}
 use Rattle.model_base.proofs.Recorded.{All-both, part-kept_grants, rising-grants, rising-unique}
 use Rattle.model_base.proofs.Covered.{contrary}
-use Rattle.model_base.proofs.ByTables.{stays-other}
+use Rattle.model_base.proofs.Ended.{kept-stays_other}
 
 -- whether the deed takes the grant of this place out of force
 abbrev pub is_ended : List ℕ → List Deed → Deed → ℕ → Bool
@@ -133,7 +133,7 @@ module _ (owners : List ℕ) where
       let after = is_among grant.place (kept owners (past ++ Revoking revocation ∷ [])) in
       by_cases (concerns revocation grant)
       (λ concerned. (revocation, refl, concerned))
-      (λ other. contrary after (left (kept owners past) alone parts.0 (stays-other owners past revocation) other) (not-true after parts.1))
+      (λ other. contrary after (left (kept owners past) alone parts.0 (kept-stays_other owners revocation past) other) (not-true after parts.1))
     where
       left : (grants : List Grant) → All (λ x. x.place ≡ grant.place → x ≡ grant) grants → is_among grant.place grants ≡ true
           → All (λ x. concerns revocation x ≡ false → is_among x.place (kept owners (past ++ Revoking revocation ∷ [])) ≡ true) grants

@@ -9,6 +9,7 @@ pub mod Records
 pub mod Covered
 pub mod Recorded
 pub mod ByTables
+pub mod Ended
 pub mod Ends
 pub mod Cuts
 pub mod Losses

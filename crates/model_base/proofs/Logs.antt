@@ -16,7 +16,8 @@ use Rattle.model_base.specs.Laws.{GrowsAt}
 use Rattle.model_base.specs.Records.{records, covered, cut, deeds_below, ended_by_records, holds_by, last_loss_by}
 use Rattle.model_base.proofs.Growth.{deeds_before-grows, deeds_before-stands}
 use Rattle.model_base.proofs.Records.{holds_by-records}
-use Rattle.model_base.proofs.ByTables.{cut-covered, ended_by-covered, holds_by-covered, last_loss-covered}
+use Rattle.model_base.proofs.ByTables.{cut-covered, holds_by-covered, last_loss-covered}
+use Rattle.model_base.proofs.Ended.{ended_by-covered_records}
 use Rattle.model_base.proofs.Cuts.{records-below, deeds_below-whole, deeds_below-none}
 use Rattle.model_base.proofs.Losses.{cause-records}
 
@@ -96,7 +97,7 @@ module _ (log : List Statement) (covers : ℕ → Bool) (place later : ℕ) (les
   ended-before revocation cover =
       rw (cut-covered covers place seen)
       (ap (λ entries. ended_by_records (owners log) (covered covers entries) revocation) (sym (records-before log place later less))
-      ∙ ended_by-covered (owners log) covers (deeds_before log place) revocation (deeds_before-stands log place).proper cover)
+      ∙ ended_by-covered_records (owners log) covers (deeds_before log place) revocation (deeds_before-stands log place).proper cover)
 
   -- and which place had taken a need away last
   pub cause-before_covered : (user : ℕ) (need : Need) → covers need.table ≡ true
