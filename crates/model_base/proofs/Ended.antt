@@ -66,6 +66,7 @@ module _ (owners : List ℕ) (revocation : Revocation) where
   abbrev pub is_of : Kind → ℕ → Bool
   is_of kind table = same_kind revocation.kind kind && (revocation.table == table)
 
+  -- a revocation doesn't name what it doesn't concern
   unnamed : (grant : Grant) → not (concerns revocation grant) ≡ true → names revocation grant ≡ false
   unfolding names
   unnamed grant other = rw (not-true (concerns revocation grant) other) (and_false (revocation.grantor == grant.grantor) (revocation.grantee == grant.grantee))

@@ -25,9 +25,11 @@ module _ (first second : List ℕ) where
   pub record IsSameOwner (table : ℕ) : Type 0 where
     pub same : (user : ℕ) → owns first user table ≡ owns second user table
 
+  -- both have the same owners of the grants' tables
   abbrev pub AreSameOwners : List Grant → Type 0
   AreSameOwners grants = All (λ grant. IsSameOwner grant.table) grants
 
+  -- what is needed on such a table is held with both owners, or with neither
   has-owners : (grants : List Grant) (user : ℕ) (need : Need) → IsSameOwner need.table → has first grants user need ≡ has second grants user need
   unfolding has
   has-owners grants user need agree = ap (λ b. b || list_any (λ grant. gives grant user need) grants) (agree.same user)
@@ -52,11 +54,13 @@ module _ (first second : List ℕ) where
   holds-owners deeds user need agree on =
       ap (λ grants. has first grants user need) (kept-owners deeds agree) ∙ has-owners (kept second deeds) user need on
 
+  -- the grants of the first deeds are some of all
   front-owners : (past later : List Deed) → AreSameOwners (grants_of (past ++ later)) → AreSameOwners (grants_of past)
   front-owners past later agree =
       let whole : AreSameOwners (grants_of past ++ grants_of later) = rw (← grants-append past later) agree in
       part-all (λ x. IsSameOwner x.table) (part-beginning (grants_of past) (grants_of later)) whole
 
+  -- a grant gets the same end
   end-owners : (past later : List Deed) (place : ℕ) → AreSameOwners (grants_of (past ++ later)) → end_after first past later place ≡ end_after second past later place
   end-owners past [] place agree = refl
   end-owners past (deed ∷ later) place agree =
@@ -69,6 +73,7 @@ module _ (first second : List ℕ) where
       ∙ ap (λ grants. is_among place (kept second past) && not (is_among place grants)) after in
       rw (here, end-owners (past ++ deed ∷ []) later place next) refl
 
+  -- so are the records of any grants
   same_records : (deeds : List Deed) (grants : List Grant) → AreSameOwners (grants_of deeds)
       → map (record_of first deeds) grants ≡ map (record_of second deeds) grants
   same_records deeds [] agree = refl
@@ -101,6 +106,7 @@ module _ (first second : List ℕ) where
       ∙ ap (λ b. cause_after first user need (past ++ deed ∷ []) later (test (holds second past user need) b)) after
       ∙ rest (test (holds second past user need) (holds second (past ++ deed ∷ []) user need)) next on
 
+  -- so the cause of a denial is the same
   pub cause-owners : (deeds : List Deed) (user : ℕ) (need : Need) → AreSameOwners (grants_of deeds) → IsSameOwner need.table
       → cause first deeds user need ≡ cause second deeds user need
   cause-owners deeds user need agree on = same_cause user need [] deeds Never agree on
@@ -132,6 +138,7 @@ module _ (first second : List ℕ) where
       let next : AreSameOwners (grants_of ((past ++ Revoking revocation ∷ []) ++ deeds)) = rw append_assoc agree in
       (proper.0, proper_after-owners (past ++ Revoking revocation ∷ []) deeds next proper.1)
 
+  -- so from the first deed on
   pub proper-owners : (deeds : List Deed) → AreSameOwners (grants_of deeds) → IsProper first deeds → IsProper second deeds
   proper-owners deeds agree proper = proper_after-owners [] deeds agree proper
 

@@ -53,6 +53,7 @@ module _ (owners : List ℕ) where
   pub part-kept_grants : (deeds : List Deed) → IsPart (kept owners deeds) (grants_of deeds)
   part-kept_grants deeds = part-part (part-replayed owners [] (erased deeds)) (part-erased_grants deeds)
 
+  -- a record is of its grant
   recorded-map : (deeds : List Deed) (grants : List Grant) → recorded (map (record_of owners deeds) grants) ≡ grants
   recorded-map deeds [] = refl
   recorded-map deeds (grant ∷ grants) = ap (λ r. grant ∷ r) (recorded-map deeds grants)
@@ -61,6 +62,7 @@ module _ (owners : List ℕ) where
   pub recorded-records : (deeds : List Deed) → recorded (records owners deeds) ≡ grants_of deeds
   recorded-records deeds = recorded-map deeds (grants_of deeds)
 
+  -- the places of the grants of later deeds rise
   rising-after : (past deeds : List Deed) → IsProperAfter owners past deeds → IsRising (grants_of deeds)
   rising-after past [] proper = tt
   rising-after past (Granting grant ∷ deeds) proper = (
