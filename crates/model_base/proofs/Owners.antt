@@ -3,7 +3,7 @@ use Rattle.std.proofs.Common.{◌≡◌, ℕ, zero, suc, ◌||◌, ◌&&◌, not
 use Rattle.std.specs.Prelude.{All, if◌then◌else◌}
 use Rattle.std.specs.List.{list_any}
 use Rattle.std.proofs.lemmas.List.{append-nil}
-use Rattle.std.proofs.lemmas.List.Elements.{All-head, All-tail, All-contains, Contains-push}
+use Rattle.std.proofs.lemmas.List.Elements.{All-head, All-tail, All-contains, Contains-push, All-filter}
 use Rattle.model_base.specs.declared.deed.Cause.{Cause}
 use Rattle.model_base.specs.declared.deed.Cause.TheVariants.{Never, Taken}
 use Rattle.model_base.specs.declared.deed.Grant.{Grant}
@@ -14,11 +14,11 @@ use Rattle.model_base.specs.declared.deed.Deed.{Deed}
 use Rattle.model_base.specs.declared.deed.Deed.TheVariants.{Granting, Revoking}
 use Rattle.model_base.specs.Privileges.{owns, gives, has, option_of, erased, replayed, kept, holds, is_among, lost, ended_by, place_of, IsProper, IsProperAfter, names}
 use Rattle.model_base.specs.Outcomes.{cause, cause_after}
-use Rattle.model_base.specs.Records.{grants_of, end_after, record_of, records, in_force, recorded, ended_by_records, holds_by, cut, last_loss_by}
+use Rattle.model_base.specs.Records.{grants_of, end_after, record_of, records, in_force, ended_by_records, holds_by, cut, last_loss_by}
 use Rattle.model_base.proofs.Replay.{by_cases}
-use Rattle.model_base.proofs.Parts.{part-all, part-beginning, part-filter, part-part}
+use Rattle.model_base.proofs.Parts.{part-all, part-beginning}
 use Rattle.model_base.proofs.Records.{grants-append}
-use Rattle.model_base.proofs.Recorded.{part-erased_grants, part-in_force}
+use Rattle.model_base.proofs.Recorded.{part-erased_grants}
 
 module _ (first second : List ℕ) where
   -- both have the same owner of the table
@@ -142,11 +142,10 @@ module _ (first second : List ℕ) where
   pub proper-owners : (deeds : List Deed) → AreSameOwners (grants_of deeds) → IsProper first deeds → IsProper second deeds
   proper-owners deeds agree proper = proper_after-owners [] deeds agree proper
 
-  -- and of records of grants on such tables a revocation ends the same
-  pub ended_by_records-owners : (entries : List Record) (revocation : Revocation) → AreSameOwners (recorded entries)
+  -- and of records with grants in force on such tables a revocation ends the same
+  pub ended_by_records-owners : (entries : List Record) (revocation : Revocation) → AreSameOwners (in_force entries)
       → ended_by_records first entries revocation ≡ ended_by_records second entries revocation
   ended_by_records-owners entries revocation agree =
       let unnamed : Grant → Bool = λ grant. not (names revocation grant) in
-      let left : AreSameOwners (filter unnamed (in_force entries)) =
-      part-all (λ x. IsSameOwner x.table) (part-part (part-filter unnamed (in_force entries)) (part-in_force entries)) agree in
+      let left : AreSameOwners (filter unnamed (in_force entries)) = All-filter unnamed (λ x. IsSameOwner x.table) (in_force entries) agree in
       ap (lost (in_force entries)) (replayed-owners [] (filter unnamed (in_force entries)) left)

@@ -159,6 +159,12 @@ module _ (owners : List ℕ) where
       rw (grants-append deeds (Granting grant ∷ []), map-append (record_of owners (deeds ++ Granting grant ∷ [])) (grants_of deeds) (grant ∷ []), same_ends deeds grant (grants_of deeds), own)
       refl
 
+  -- so is one whose place lies above those of all deeds
+  pub records-grant_above : (deeds : List Deed) (grant : Grant) → All (λ deed. place_of deed < grant.place) deeds
+      → records owners (deeds ++ Granting grant ∷ []) ≡ records owners deeds ++ record { grant = grant; end = None } ∷ []
+  records-grant_above deeds grant below =
+      records-grant deeds grant (All-weaker (λ deed. place_of deed < grant.place) (λ deed. place_of deed ≢ grant.place) (λ deed less is. omega arith) deeds below)
+
   -- a revocation ends a grant's record if it has no end and the grant is among those that it takes out of force
   new_end : (deeds : List Deed) (revocation : Revocation) (grant : Grant)
       → record_of owners (deeds ++ Revoking revocation ∷ []) grant
@@ -197,8 +203,7 @@ module _ (owners : List ℕ) where
   in_force-one : (past : List Deed) (deed : Deed) → IsProper owners past → MayFollow owners past deed → in_force (records owners past) ≡ kept owners past
       → in_force (records owners (past ++ deed ∷ [])) ≡ kept owners (past ++ deed ∷ [])
   in_force-one past (Granting grant) proper may same =
-      let others = All-weaker (λ deed. place_of deed < grant.place) (λ deed. place_of deed ≢ grant.place) (λ deed less is. omega arith) past may.0 in
-      rw (records-grant past grant others, in_force-append (records owners past) (record { grant = grant; end = None } ∷ []), same, kept-grant owners past grant may.1)
+      rw (records-grant_above past grant may.0, in_force-append (records owners past) (record { grant = grant; end = None } ∷ []), same, kept-grant owners past grant may.1)
       refl
   in_force-one past (Revoking revocation) proper may same =
       let before = kept owners past in

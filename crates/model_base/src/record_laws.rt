@@ -183,7 +183,7 @@ pub fn later_owners_change_nothing()
         → need.table < length owners
         → last_loss_by (owners ++ more) entries user need place ≡ last_loss_by owners entries user need place }
     ensures ended_by { (owners more : List ℕ) (entries : List Record) (revocation : Revocation)
-        → All (λ grant. grant.table < length owners) (recorded entries)
+        → All (λ grant. grant.table < length owners) (in_force entries)
         → ended_by_records (owners ++ more) entries revocation ≡ ended_by_records owners entries revocation }
 {}
 
