@@ -6,3 +6,4 @@ pub mod Outcomes
 pub mod Versions
 pub mod Laws
 pub mod Paths
+pub mod Records

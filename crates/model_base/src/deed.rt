@@ -68,6 +68,13 @@ pub struct Grant {
     pub option: bool,
 }
 
+/// A grant, and the place of the revocation that took it out of force, if one did.
+#[derive(Clone, Copy, PartialEq, Eq, Debug)]
+pub struct Record {
+    pub grant: Grant,
+    pub end: Option<Place>,
+}
+
 /// The revocation of its grantor's earlier grants of one kind on one table to one user.
 #[derive(Clone, Copy, PartialEq, Eq, Debug)]
 pub struct Revocation {

@@ -9,10 +9,11 @@ mod laws;
 mod list;
 mod name;
 mod outcome;
+mod record_laws;
 mod row;
 mod statement;
 
-pub use deed::{Cause, Deed, Grant, Kind, Kinds, Need, Revocation};
+pub use deed::{Cause, Deed, Grant, Kind, Kinds, Need, Record, Revocation};
 pub use laws::{
     causes_are_last_losses, causes_are_revocations, deeds_before_are_proper,
     ended_grants_stay_ended, fewer_grants_keep_fewer, grants_end_none, held_needs_have_paths,
@@ -21,5 +22,11 @@ pub use laws::{
 pub use list::Items;
 pub use name::{Place, RowNumber, Table, User};
 pub use outcome::{DeedDone, Outcome, Reason};
+pub use record_laws::{
+    causes_are_losses_by_records, covered_records_tell, deeds_change_records,
+    earlier_records_are_cut, ends_are_losses, ends_are_revocations, later_owners_change_nothing,
+    records_rise, records_tell_of_logs, records_tell_what_revocations_end, records_were_authorised,
+    unended_records_are_in_force,
+};
 pub use row::{Key, Outputs, Row, Values};
 pub use statement::{Access, DeedForm, Form, Register, RowName, Statement, Step};
