@@ -4,7 +4,7 @@
 use crate::{Catalog, Log, NameTable, Refused};
 use log_text::{LineFault, RawStatement, parse_line};
 use model_base::{DeedForm, Form, Key, Kind, Place, Statement, Table, User};
-use std::alloc::{AllocError, Global};
+use std::alloc::Global;
 use std::process::Abort;
 use std::test::Fail;
 
@@ -165,31 +165,49 @@ fn a_user_is_numbered_before_a_grantee(rt: HostRuntime) -> Result<(), Fail> {
     Ok(())
 }
 
-/// The name `u` with a number behind it.
-fn numbered_name(alloc: Global, number: usize) -> Result<String, AllocError> {
-    format!(in alloc; "u{number}")
+/// The catalog takes the line, or refuses it.
+fn admitted(alloc: Global, catalog: &mut Catalog, line: &str) -> Result<(), Refused> {
+    let Ok(statement) = parsed(alloc, line) else {
+        return Err(Refused::NoMemory);
+    };
+    catalog.admit(statement)?;
+    Ok(())
+}
+
+/// The catalog takes a line of the user of this number.
+fn admit_user(alloc: Global, catalog: &mut Catalog, number: usize) -> Result<(), Refused> {
+    let line = format!(in alloc; "u{number} RUN t:1:R")?;
+    admitted(alloc, catalog, line.as_str())
+}
+
+/// A catalog with a table and so many users.
+fn catalog_of(alloc: Global, users: usize) -> Result<Catalog, Refused> {
+    let mut catalog = Catalog::new(alloc);
+    admitted(alloc, &mut catalog, "u0 CREATE t 1")?;
+    for number in 1..users {
+        admit_user(alloc, &mut catalog, number)?;
+    }
+    Ok(catalog)
 }
 
 #[test]
-fn a_grantee_may_be_one_name_too_many(rt: HostRuntime) -> Result<(), Fail> {
-    let mut catalog = Catalog::new(rt.alloc());
-    expect_admitted(&rt, rt.alloc(), &mut catalog, "u0 CREATE t 1")?;
-    for number in 1..65_535 {
-        let name = numbered_name(rt.alloc(), number)?;
-        let line = format!(in rt.alloc(); "{name} RUN t:1:R")?;
-        catalog.admit(parsed(rt.alloc(), line.as_str())?)?;
+fn a_grantee_may_be_one_name_too_many(rt: HostRuntime) {
+    let cases = [
+        (
+            "v RUN t:1:R | GRANT READ t w",
+            Err(Refused::TooManyNames),
+            65_535,
+        ),
+        ("v GRANT READ t v", Ok(()), 65_536),
+        ("u0 REVOKE READ t w", Err(Refused::TooManyNames), 65_536),
+        ("u1 REVOKE READ t u65534", Ok(()), 65_536),
+        ("w RUN t:1:R", Err(Refused::TooManyNames), 65_536),
+    ];
+    let mut catalog = catalog_of(rt.alloc(), 65_535).expect(&rt, "memory");
+    for (line, want, users) in cases {
+        assert_eq!(rt; admitted(rt.alloc(), &mut catalog, line), want);
+        assert_eq!(rt; catalog.users().len(), users);
     }
-    let refused = catalog.admit(parsed(rt.alloc(), "v RUN t:1:R | GRANT READ t w")?);
-    assert!(rt; matches!(refused, Err(Refused::TooManyNames)));
-    assert_eq!(rt; catalog.users().len(), 65_535);
-    catalog.admit(parsed(rt.alloc(), "v GRANT READ t v")?)?;
-    assert_eq!(rt; catalog.users().len(), 65_536);
-    let refused = catalog.admit(parsed(rt.alloc(), "u0 REVOKE READ t w")?);
-    assert!(rt; matches!(refused, Err(Refused::TooManyNames)));
-    catalog.admit(parsed(rt.alloc(), "u1 REVOKE READ t u65534")?)?;
-    let refused = catalog.admit(parsed(rt.alloc(), "w RUN t:1:R")?);
-    assert!(rt; matches!(refused, Err(Refused::TooManyNames)));
-    Ok(())
 }
 
 #[test]
