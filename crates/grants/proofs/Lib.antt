@@ -1,0 +1,4 @@
+pub mod Holders
+pub mod Passing
+pub mod SlotLaws
+pub mod ViewLaws

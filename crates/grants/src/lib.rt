@@ -1,0 +1,14 @@
+//! Who holds which privilege at a place, and what a revocation takes with it.
+//!
+//! After P. P. Griffiths and B. W. Wade, "An Authorization Mechanism for a Relational Database System", ACM TODS 1
+//! (1976), with the correction of R. Fagin, "On an Authorization Mechanism", ACM TODS 3 (1978): each grant is kept by
+//! itself, with its own place.
+#![tactic(auto)]
+
+mod cascade;
+mod holding;
+mod records;
+
+pub use cascade::to_end;
+pub use holding::{holds, holds_option};
+pub use records::Records;
