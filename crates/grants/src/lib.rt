@@ -5,10 +5,12 @@
 //! itself, with its own place.
 #![tactic(auto)]
 
+mod book;
 mod cascade;
 mod holding;
 mod records;
 
+pub use book::{Book, Creation};
 pub use cascade::to_end;
 pub use holding::{holds, holds_option};
 pub use records::Records;
