@@ -1,13 +1,20 @@
-//! What holds of the records of grants with their ends, for every list of deeds: that they tell what the deeds tell.
+//! What holds of the records of grants with their ends: they tell of every list of deeds, and of every log, what the
+//! deeds tell, also those of some tables alone, and at every earlier place.
 
-ghost use Rattle.std.specs.Prelude.{◌≡◌, ◌≢◌, ℕ, None, All, List, [], ◌∷◌, ◌++◌, map};
-ghost use Rattle.model_base.specs.Privileges.{IsProper, ended_by, holds, kept, place_of};
-ghost use Rattle.model_base.specs.Records.{ended_at, holds_by, in_force, records};
+ghost use Rattle.std.specs.Prelude.{◌≡◌, ◌≢◌, ◌↔◌, ℕ, ◌<◌, ◌≤◌, Bool, true, false, Some, None, All, Contains, List, [], ◌∷◌, ◌++◌, length, map};
+ghost use Rattle.std.specs.Option.{option_map_or};
+ghost use Rattle.model_base.specs.Laws.{IsRising};
+ghost use Rattle.model_base.specs.Outcomes.{cause, deeds_before, owners};
+ghost use Rattle.model_base.specs.Privileges.{IsProper, concerns, ended_by, holds, is_among, kept, option_of, place_of};
+ghost use Rattle.model_base.specs.Records.{covered, cut, deeds_below, end_after, ended_at, ended_by_records, grants_of, holds_by, in_force, last_loss_by, recorded, records};
+ghost use Rattle.model_base.specs.declared.deed.Cause.TheVariants.{Never, Taken};
 ghost use Rattle.model_base.specs.declared.deed.Deed.TheVariants.{Granting, Revoking};
 ghost use Rattle.model_base.specs.declared.deed.Deed.{Deed};
 ghost use Rattle.model_base.specs.declared.deed.Grant.{Grant};
 ghost use Rattle.model_base.specs.declared.deed.Need.{Need};
+ghost use Rattle.model_base.specs.declared.deed.Record.{Record};
 ghost use Rattle.model_base.specs.declared.deed.Revocation.{Revocation};
+ghost use Rattle.model_base.specs.declared.statement.Statement.{Statement};
 
 /// The grants of the records that have no end are those in force, so the records tell who holds what.
 pub fn unended_records_are_in_force()
@@ -27,4 +34,129 @@ pub fn deeds_change_records()
     ensures revoking { (owners : List ℕ) (deeds : List Deed) (revocation : Revocation)
         → records owners (deeds ++ Revoking revocation ∷ [])
         ≡ map (ended_at revocation.place (ended_by owners deeds revocation)) (records owners deeds) }
+{}
+
+/// The records are of all grants of the deeds, and their places rise.
+pub fn records_rise()
+    ensures grants { (owners : List ℕ) (deeds : List Deed) → recorded (records owners deeds) ≡ grants_of deeds }
+    ensures rises { (owners : List ℕ) (deeds : List Deed)
+        → IsProper owners deeds → IsRising (recorded (records owners deeds)) }
+{}
+
+/// A record's end lies above its grant's place, and is the place of a revocation of the grant's kind on its table.
+pub fn ends_are_revocations()
+    ensures above { (owners : List ℕ) (deeds : List Deed)
+        → IsProper owners deeds
+        → All (λ entry. (end : ℕ) → entry.end ≡ Some end → entry.grant.place < end) (records owners deeds) }
+    ensures revocation { (owners : List ℕ) (deeds : List Deed)
+        → IsProper owners deeds
+        → All (λ entry. (end : ℕ) → entry.end ≡ Some end
+        → (revocation : Revocation) × Contains deeds (Revoking revocation) × (end ≡ revocation.place) × (concerns revocation entry.grant ≡ true))
+        (records owners deeds) }
+{}
+
+/// The end of a grant is the place of the deed before which it is in force and after which it isn't.
+pub fn ends_are_losses()
+    ensures { (owners : List ℕ) (past : List Deed) (deed : Deed) (later : List Deed) (place : ℕ)
+        → IsProper owners (past ++ deed ∷ later)
+        → (end_after owners [] (past ++ deed ∷ later) place ≡ Some (place_of deed))
+        ↔ ((is_among place (kept owners past) ≡ true) × (is_among place (kept owners (past ++ deed ∷ [])) ≡ false)) }
+{}
+
+/// Each record was authorised when it was made: its grantor held the option by the deeds below its place, and by the
+/// records as they stood there.
+pub fn records_were_authorised()
+    ensures deeds { (owners : List ℕ) (deeds : List Deed)
+        → IsProper owners deeds
+        → All (λ entry. holds owners (deeds_below entry.grant.place deeds) entry.grant.grantor (option_of entry.grant) ≡ true)
+        (records owners deeds) }
+    ensures records { (owners : List ℕ) (deeds : List Deed)
+        → IsProper owners deeds
+        → All (λ entry. holds_by owners (cut entry.grant.place (records owners deeds)) entry.grant.grantor (option_of entry.grant) ≡ true)
+        (records owners deeds) }
+{}
+
+/// The records of the deeds below a place are those of all deeds, cut at the place, and so they tell who held what there.
+pub fn earlier_records_are_cut()
+    ensures beginning { (owners : List ℕ) (place : ℕ) (past later : List Deed)
+        → All (λ deed. place_of deed < place) past → All (λ deed. place ≤ place_of deed) later
+        → cut place (records owners (past ++ later)) ≡ records owners past }
+    ensures below { (owners : List ℕ) (place : ℕ) (deeds : List Deed)
+        → IsProper owners deeds → records owners (deeds_below place deeds) ≡ cut place (records owners deeds) }
+    ensures held { (owners : List ℕ) (deeds : List Deed) (place user : ℕ) (need : Need)
+        → IsProper owners deeds
+        → holds_by owners (cut place (records owners deeds)) user need ≡ holds owners (deeds_below place deeds) user need }
+{}
+
+/// The records of some tables tell of these tables what all records tell: who holds what, which place took a need away
+/// last, and which grants a revocation ends. Cutting them is the same as taking them of the cut records.
+pub fn covered_records_tell()
+    ensures held { (owners : List ℕ) (covers : ℕ → Bool) (records : List Record) (user : ℕ) (need : Need)
+        → covers need.table ≡ true
+        → holds_by owners (covered covers records) user need ≡ holds_by owners records user need }
+    ensures lost { (owners : List ℕ) (covers : ℕ → Bool) (records : List Record) (user : ℕ) (need : Need) (place : ℕ)
+        → covers need.table ≡ true
+        → last_loss_by owners (covered covers records) user need place ≡ last_loss_by owners records user need place }
+    ensures ended { (owners : List ℕ) (covers : ℕ → Bool) (deeds : List Deed) (revocation : Revocation)
+        → IsProper owners deeds → covers revocation.table ≡ true
+        → ended_by_records owners (covered covers (records owners deeds)) revocation ≡ ended_by owners deeds revocation }
+    ensures cut { (covers : ℕ → Bool) (place : ℕ) (records : List Record)
+        → cut place (covered covers records) ≡ covered covers (cut place records) }
+{}
+
+/// The cause of a denial is the last loss by the records, counted down from any place above all deeds; by the deeds below
+/// a place, counted down from there.
+pub fn causes_are_losses_by_records()
+    ensures all { (owners : List ℕ) (deeds : List Deed) (user : ℕ) (need : Need) (place : ℕ)
+        → IsProper owners deeds → All (λ deed. place_of deed < place) deeds
+        → cause owners deeds user need ≡ option_map_or Taken (last_loss_by owners (records owners deeds) user need place) Never }
+    ensures below { (owners : List ℕ) (deeds : List Deed) (user : ℕ) (need : Need) (place : ℕ)
+        → IsProper owners deeds
+        → cause owners (deeds_below place deeds) user need
+        ≡ option_map_or Taken (last_loss_by owners (records owners deeds) user need place) Never }
+{}
+
+/// Owners that are added behind, of tables created later, change nothing for grants on the tables that there are. The
+/// grants of proper deeds are on such tables.
+pub fn later_owners_change_nothing()
+    ensures tables { (owners : List ℕ) (deeds : List Deed)
+        → IsProper owners deeds → All (λ grant. grant.table < length owners) (grants_of deeds) }
+    ensures proper { (owners more : List ℕ) (deeds : List Deed)
+        → All (λ grant. grant.table < length owners) (grants_of deeds)
+        → IsProper (owners ++ more) deeds ↔ IsProper owners deeds }
+    ensures kept { (owners more : List ℕ) (deeds : List Deed)
+        → All (λ grant. grant.table < length owners) (grants_of deeds)
+        → kept (owners ++ more) deeds ≡ kept owners deeds }
+    ensures records { (owners more : List ℕ) (deeds : List Deed)
+        → All (λ grant. grant.table < length owners) (grants_of deeds)
+        → records (owners ++ more) deeds ≡ records owners deeds }
+    ensures ended { (owners more : List ℕ) (deeds : List Deed) (revocation : Revocation)
+        → All (λ grant. grant.table < length owners) (grants_of deeds)
+        → ended_by (owners ++ more) deeds revocation ≡ ended_by owners deeds revocation }
+    ensures held { (owners more : List ℕ) (deeds : List Deed) (user : ℕ) (need : Need)
+        → All (λ grant. grant.table < length owners) (grants_of deeds) → need.table < length owners
+        → holds (owners ++ more) deeds user need ≡ holds owners deeds user need }
+    ensures cause { (owners more : List ℕ) (deeds : List Deed) (user : ℕ) (need : Need)
+        → All (λ grant. grant.table < length owners) (grants_of deeds) → need.table < length owners
+        → cause (owners ++ more) deeds user need ≡ cause owners deeds user need }
+{}
+
+/// The records of the deeds before a place of a log tell of every place up to it: cut there, they are the records of the
+/// deeds before that place; and those of some tables tell of these tables who held what, which grants a revocation ended,
+/// and the cause of a denial.
+pub fn records_tell_of_logs()
+    ensures cut { (log : List Statement) (place later : ℕ) → place ≤ later
+        → records (owners log) (deeds_before log place) ≡ cut place (records (owners log) (deeds_before log later)) }
+    ensures held { (log : List Statement) (covers : ℕ → Bool) (place later : ℕ) (user : ℕ) (need : Need)
+        → place ≤ later → covers need.table ≡ true
+        → holds_by (owners log) (cut place (covered covers (records (owners log) (deeds_before log later)))) user need
+        ≡ holds (owners log) (deeds_before log place) user need }
+    ensures ended { (log : List Statement) (covers : ℕ → Bool) (place later : ℕ) (revocation : Revocation)
+        → place ≤ later → covers revocation.table ≡ true
+        → ended_by_records (owners log) (cut place (covered covers (records (owners log) (deeds_before log later)))) revocation
+        ≡ ended_by (owners log) (deeds_before log place) revocation }
+    ensures cause { (log : List Statement) (covers : ℕ → Bool) (place later : ℕ) (user : ℕ) (need : Need)
+        → place ≤ later → covers need.table ≡ true
+        → cause (owners log) (deeds_before log place) user need
+        ≡ option_map_or Taken (last_loss_by (owners log) (covered covers (records (owners log) (deeds_before log later))) user need place) Never }
 {}

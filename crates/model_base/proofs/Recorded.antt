@@ -1,0 +1,74 @@
+-- The grants of the records are all that the deeds made, and their places rise.
+use Rattle.std.proofs.Common.{◌≡◌, ℕ, ◌<◌, List, [], ◌∷◌, ◌++◌, refl, ap, arith, map}
+use Rattle.std.specs.Prelude.{All}
+use Rattle.std.specs.List.{list_any}
+use Rattle.std.proofs.lemmas.List.Elements.{All-nil, All-cons, All-head, All-tail, All-weaker, Contains-push}
+use Rattle.model_base.specs.declared.deed.Grant.{Grant}
+use Rattle.model_base.specs.declared.deed.Deed.{Deed}
+use Rattle.model_base.specs.declared.deed.Deed.TheVariants.{Granting, Revoking}
+use Rattle.model_base.specs.Privileges.{revokes, erased, kept, place_of, IsProper, IsProperAfter}
+use Rattle.model_base.specs.Laws.{IsPart, IsRising, none, left_out, stays}
+use Rattle.model_base.specs.Records.{grants_of, record_of, records, recorded}
+use Rattle.model_base.proofs.Replay.{by_cases}
+use Rattle.model_base.proofs.Parts.{part-part, part-replayed}
+use Rattle.model_base.proofs.Places.{proper-above}
+
+-- two facts on each item are one
+pub All-both : {X : Type 0} (P Q : X → Type 0) (xs : List X) → All P xs → All Q xs → All (λ x. P x × Q x) xs
+All-both P Q xs first second = λ k d less. (first k d less, second k d less)
+
+-- what holds of the places of all deeds holds of those of their grants
+pub All-grants : (P : ℕ → Type 0) (deeds : List Deed) → All (λ deed. P (place_of deed)) deeds → All (λ grant. P grant.place) (grants_of deeds)
+All-grants P [] all = All-nil (λ grant. P grant.place)
+All-grants P (Granting grant ∷ deeds) all =
+    All-cons (λ x. P x.place) grant (grants_of deeds) (All-head (λ deed. P (place_of deed)) (Granting grant) deeds all)
+    (All-grants P deeds (All-tail (λ deed. P (place_of deed)) (Granting grant) deeds all))
+All-grants P (Revoking revocation ∷ deeds) all = All-grants P deeds (All-tail (λ deed. P (place_of deed)) (Revoking revocation) deeds all)
+
+-- of grants with rising places no two have the same
+pub rising-unique : (grants : List Grant) → IsRising grants → All (λ grant. All (λ x. x.place ≡ grant.place → x ≡ grant) grants) grants
+rising-unique [] rising = All-nil (λ grant. All (λ x. x.place ≡ grant.place → x ≡ grant) [])
+rising-unique (grant ∷ grants) rising =
+    let Same : Grant → Grant → Type 0 = λ g x. x.place ≡ g.place → x ≡ g in
+    let Above : Grant → Type 0 = λ later. grant.place < later.place in
+    let Alone : Grant → Type 0 = λ g. All (Same g) grants in
+    All-cons (λ g. All (Same g) (grant ∷ grants)) grant grants
+    (All-cons (Same grant) grant grants (λ same. refl) (All-weaker Above (Same grant) (λ x less same. absurd (omega arith)) grants rising.0))
+    (All-weaker (λ g. Above g × Alone g) (λ g. All (Same g) (grant ∷ grants))
+    (λ g both. let less : grant.place < g.place = both.0 in All-cons (Same g) grant grants (λ same. absurd (omega arith)) both.1) grants
+    (All-both Above Alone grants rising.0 (rising-unique grants rising.1)))
+
+-- the grants that aren't erased are some of all
+pub part-erased_grants : (deeds : List Deed) → IsPart (erased deeds) (grants_of deeds)
+part-erased_grants [] = none
+part-erased_grants (Granting grant ∷ deeds) =
+    by_cases (list_any (λ deed. revokes deed grant) deeds)
+    (λ named. rw named (left_out (part-erased_grants deeds)))
+    (λ other. rw other (stays (part-erased_grants deeds)))
+part-erased_grants (Revoking revocation ∷ deeds) = part-erased_grants deeds
+
+module _ (owners : List ℕ) where
+  -- the grants in force are some of all
+  pub part-kept_grants : (deeds : List Deed) → IsPart (kept owners deeds) (grants_of deeds)
+  part-kept_grants deeds = part-part (part-replayed owners [] (erased deeds)) (part-erased_grants deeds)
+
+  recorded-map : (deeds : List Deed) (grants : List Grant) → recorded (map (record_of owners deeds) grants) ≡ grants
+  recorded-map deeds [] = refl
+  recorded-map deeds (grant ∷ grants) = ap (λ r. grant ∷ r) (recorded-map deeds grants)
+
+  -- the grants of the records are those of the deeds
+  pub recorded-records : (deeds : List Deed) → recorded (records owners deeds) ≡ grants_of deeds
+  recorded-records deeds = recorded-map deeds (grants_of deeds)
+
+  rising-after : (past deeds : List Deed) → IsProperAfter owners past deeds → IsRising (grants_of deeds)
+  rising-after past [] proper = tt
+  rising-after past (Granting grant ∷ deeds) proper = (
+    All-grants (λ place. grant.place < place) deeds
+        (proper-above owners (past ++ Granting grant ∷ []) deeds (Granting grant) (Contains-push past (Granting grant)) proper.1),
+    rising-after (past ++ Granting grant ∷ []) deeds proper.1,
+  )
+  rising-after past (Revoking revocation ∷ deeds) proper = rising-after (past ++ Revoking revocation ∷ []) deeds proper.1
+
+  -- the places of the grants rise
+  pub rising-grants : (deeds : List Deed) → IsProper owners deeds → IsRising (grants_of deeds)
+  rising-grants deeds proper = rising-after [] deeds proper

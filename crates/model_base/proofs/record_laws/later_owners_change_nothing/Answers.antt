@@ -1,0 +1,18 @@
+use Rattle.std.proofs.Common.{◌++◌}
+use Rattle.model_base.specs.Records.{grants_of}
+use Rattle.model_base.proofs.Owners.{kept-owners, records-owners, ended_by-owners, holds-owners, cause-owners}
+use Rattle.model_base.proofs.MoreOwners.{all_same-more, proper-more, same-more, tables-proper}
+use Rattle.model_base.proofs.record_laws.later_owners_change_nothing.Goals as goal
+
+pub returns : goal.returns
+returns c = record {
+  tables = tables-proper;
+  proper = proper-more;
+  kept = λ owners more deeds on. kept-owners (owners ++ more) owners deeds (all_same-more owners more (grants_of deeds) on);
+  records = λ owners more deeds on. records-owners (owners ++ more) owners deeds (all_same-more owners more (grants_of deeds) on);
+  ended = λ owners more deeds revocation on. ended_by-owners (owners ++ more) owners deeds revocation (all_same-more owners more (grants_of deeds) on);
+  held = λ owners more deeds user need on here.
+      holds-owners (owners ++ more) owners deeds user need (all_same-more owners more (grants_of deeds) on) (same-more owners more need.table here);
+  cause = λ owners more deeds user need on here.
+      cause-owners (owners ++ more) owners deeds user need (all_same-more owners more (grants_of deeds) on) (same-more owners more need.table here);
+}
