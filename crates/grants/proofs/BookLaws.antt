@@ -39,7 +39,7 @@ rising_push (first ∷ tables) creation rising below =
     rising_push tables creation rising.1 (All-tail (λ (earlier : Creation). earlier.place < creation.place) first tables below))
 
 -- a table that is there is so with more behind it
-get_more : {X : Type 0} (xs more : List X) (i : ℕ) (x : X) → slice_get xs i ≡ Some x → slice_get (xs ++ more) i ≡ Some x
+pub get_more : {X : Type 0} (xs more : List X) (i : ℕ) (x : X) → slice_get xs i ≡ Some x → slice_get (xs ++ more) i ≡ Some x
 get_more [] more i x is = absurd (cc)
 get_more (y ∷ xs) more zero x is = is
 get_more (y ∷ xs) more (suc i) x is = get_more xs more i x is

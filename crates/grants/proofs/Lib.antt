@@ -3,3 +3,6 @@ pub mod Passing
 pub mod SlotLaws
 pub mod ViewLaws
 pub mod BookLaws
+pub mod SeenLaws
+pub mod GrantLaws
+pub mod RevokeLaws

@@ -5,10 +5,13 @@ ghost use Rattle.model_base.specs.declared.deed.Deed.TheVariants.{Granting, Revo
 ghost use Rattle.model_base.specs.declared.deed.Deed.{Deed};
 ghost use Rattle.model_base.specs.Privileges.{ended_by, option_of, place_of};
 ghost use Rattle.model_base.specs.Records.{deeds_below, ended_at};
+ghost use Rattle.grants.specs.Pass.{is_one_of};
 
 use crate::cascade::to_end;
+use crate::records::Records;
 use model_base::{Grant, Place, Record, Revocation, Table, User};
 use std::alloc::{AllocError, Global};
+use std::collections::BTreeSet;
 use std::marker::Model;
 
 /// Who created a table, and at which place.
@@ -39,7 +42,7 @@ impl Model for Book {
 
 impl Book {
     ghost use Rattle.grants.specs.Book.{IsLater, IsSound, ShowsBook, owners_of, view_of, with_ends, with_grant, with_table};
-    ghost use Rattle.grants.specs.View.{holds_in};
+    ghost use Rattle.grants.specs.View.{Shows, holds_in};
 
     /// A book without tables and grants. It takes no memory.
     #[tactic(auto, using(crate::proofs::BookLaws::sound_empty))]
@@ -84,5 +87,144 @@ impl Book {
         let number = self.tables.len();
         self.tables.push(Creation { owner, place })?;
         Ok(Table(number as u32))
+    }
+
+    /// Adds a grant last. The place has to lie above all of the book, the table to be one of its tables, and the grantor to
+    /// hold the kind with the option, as `holds_option` tells by the book's view. On `Err` memory was refused, and the book
+    /// is as it was.
+    #[tactic(auto, using(crate::proofs::GrantLaws::sound_grant, crate::proofs::GrantLaws::shows_grant))]
+    pub fn grant(&mut self, grant: Grant) -> Result<(), AllocError>
+        requires later { IsLater self.old grant.place }
+        requires table { grant.table < length self.old.tables }
+        requires held { IsTrue (holds_in (view_of self.old grant.place) grant.grantor (option_of grant)) }
+        ensures ok { OnOk result (self.new ≡ with_grant self.old grant) }
+        ensures after { OnOk result ((owners : List ℕ) (deeds : List Deed) → ShowsBook self.old owners deeds
+            → All (λ deed. place_of deed < grant.place) deeds → ShowsBook self.new owners (deeds ++ Granting grant ∷ [])) }
+        ensures err { OnErr result (self.new ≡ self.old) }
+    {
+        self.records.push(Record { grant, end: None })?;
+        Ok(())
+    }
+
+    /// The book at a place: the grants made below it, with the ends that lie below it, on all tables of the book. It takes
+    /// no memory.
+    #[tactic(auto, using(crate::proofs::SeenLaws::shows_view))]
+    pub fn at(&self, place: Place) -> BookView<'_>
+        ensures book { result.book.now ≡ self.now }
+        ensures place { result.place ≡ place }
+        ensures shows { (owners : List ℕ) (deeds : List Deed) → ShowsBook self.now owners deeds
+            → Shows (view_of self.now place) owners (deeds_below place deeds) }
+    {
+        BookView { book: self, place }
+    }
+
+    /// The places of the grants that the revocation takes out of force.
+    fn to_end(&self, alloc: Global, revocation: &Revocation) -> Result<Vec<Place>, AllocError>
+        requires table { revocation.now.table < length self.now.tables }
+        ensures { IfOk result (λ ends. (owners : List ℕ) (deeds : List Deed) → ShowsBook self.now owners deeds
+            → All (λ deed. place_of deed < revocation.now.place) deeds → ends.items ≡ ended_by owners deeds revocation.now) }
+    {
+        let mut view = self.at(revocation.place);
+        let ended = to_end(alloc, &mut view, revocation)?;
+        Ok(ended)
+    }
+
+    /// Ends the grants that the revocation takes out of force, at its place, and answers their places in rising order. The
+    /// place has to lie above all of the book, and the table to be one of its tables. It costs what `to_end` does on the
+    /// book's view, and for each grant of the book a look-up among the ended places, in a time that grows with the logarithm
+    /// of their number. On `Err` memory was refused, and the book is as it was.
+    pub fn revoke(&mut self, alloc: Global, revocation: &Revocation) -> Result<Vec<Place>, AllocError>
+        requires later { IsLater self.old revocation.now.place }
+        requires table { revocation.now.table < length self.old.tables }
+        ensures ended { IfOk result (λ ends. (owners : List ℕ) (deeds : List Deed) → ShowsBook self.old owners deeds
+            → All (λ deed. place_of deed < revocation.now.place) deeds → ends.items ≡ ended_by owners deeds revocation.now) }
+        ensures ok { IfOk result (λ ends. self.new ≡ with_ends self.old revocation.now.place ends.items) }
+        ensures after { OnOk result ((owners : List ℕ) (deeds : List Deed) → ShowsBook self.old owners deeds
+            → All (λ deed. place_of deed < revocation.now.place) deeds → ShowsBook self.new owners (deeds ++ Revoking revocation.now ∷ [])) }
+        ensures err { OnErr result (self.new ≡ self.old) }
+    {
+        let ended = self.to_end(alloc, revocation)?;
+        let places = place_set(alloc, &ended)?;
+        close(&mut self.records, revocation.place, &places);
+        Ok(ended)
+    }
+}
+
+/// The places as a set.
+fn place_set(alloc: Global, places: &[Place]) -> Result<BTreeSet<Place>, AllocError>
+    ensures { IfOk result (λ set. (place : ℕ) → is_one_of set.keys place ≡ is_one_of places.now place) }
+{
+    let mut set = BTreeSet::new(alloc);
+    for place in places {
+        set.insert(*place)?;
+    }
+    Ok(set)
+}
+
+/// The record, ended at this place if it has no end and its grant's place is one of these.
+#[tactic(auto, using(crate::proofs::Holders::contains_one))]
+fn ended_at(entry: Record, place: Place, ended: &BTreeSet<Place>) -> Record
+    ensures { result ≡ ended_at place ended.now.keys entry }
+{
+    if entry.end.is_none() && ended.contains(&entry.grant.place) {
+        Record {
+            grant: entry.grant,
+            end: Some(place),
+        }
+    } else {
+        entry
+    }
+}
+
+/// Ends the records of the grants of these places that have no end.
+fn close(records: &mut [Record], place: Place, ended: &BTreeSet<Place>)
+    ensures { records.new ≡ map (ended_at place ended.now.keys) records.old }
+{
+    for entry in records.iter_mut() {
+        *entry = ended_at(*entry, place, ended);
+    }
+}
+
+/// A book at a place.
+#[derive(Clone, Copy)]
+pub struct BookView<'a> {
+    book: &'a Book,
+    place: Place,
+}
+
+impl Records for BookView<'_> {
+    ghost use Rattle.grants.specs.Book.{view_of};
+    ghost use Rattle.grants.specs.View.{IsLawful};
+
+    ghost shown = { λ view. view_of view.book.now view.place };
+
+    #[tactic(auto, using(crate::proofs::SeenLaws::lawful_view))]
+    fn at(&self) -> Place {
+        let _tables = self.book.tables();
+        self.place
+    }
+
+    fn covers(&self, table: Table) -> bool {
+        (table.0 as usize) < self.book.tables().len()
+    }
+
+    fn owner(&self, table: Table) -> User {
+        self.book.tables()[table.0 as usize].owner
+    }
+
+    fn slots(&self) -> usize {
+        self.book.records().len()
+    }
+
+    fn grant(&mut self, i: usize) -> Option<Grant> {
+        let record = &self.book.records()[i];
+        (record.grant.place < self.place).then_some(record.grant)
+    }
+
+    fn end(&mut self, i: usize) -> Option<Place> {
+        let record = &self.book.records()[i];
+        record
+            .end
+            .filter(|end| record.grant.place < self.place && *end < self.place)
     }
 }

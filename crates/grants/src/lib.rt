@@ -10,7 +10,7 @@ mod cascade;
 mod holding;
 mod records;
 
-pub use book::{Book, Creation};
+pub use book::{Book, BookView, Creation};
 pub use cascade::to_end;
 pub use holding::{holds, holds_option};
 pub use records::Records;
