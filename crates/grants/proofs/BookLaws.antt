@@ -34,9 +34,10 @@ sound_empty = record {
 rising_push : (tables : List Creation) (creation : Creation) → AreRising tables → All (λ (earlier : Creation). earlier.place < creation.place) tables
     → AreRising (tables ++ creation ∷ [])
 rising_push [] creation rising below = (All-nil (λ (later : Creation). creation.place < later.place), tt)
-rising_push (first ∷ tables) creation rising below =
-    (All-push (λ (later : Creation). first.place < later.place) tables creation rising.0 (All-head (λ (earlier : Creation). earlier.place < creation.place) first tables below),
-    rising_push tables creation rising.1 (All-tail (λ (earlier : Creation). earlier.place < creation.place) first tables below))
+rising_push (first ∷ tables) creation rising below = (
+  All-push (λ (later : Creation). first.place < later.place) tables creation rising.0 (All-head (λ (earlier : Creation). earlier.place < creation.place) first tables below),
+  rising_push tables creation rising.1 (All-tail (λ (earlier : Creation). earlier.place < creation.place) first tables below),
+)
 
 -- a table that is there is so with more behind it
 pub get_more : {X : Type 0} (xs more : List X) (i : ℕ) (x : X) → slice_get xs i ≡ Some x → slice_get (xs ++ more) i ≡ Some x
@@ -67,14 +68,15 @@ has_by-same : (first second : ℕ → Option ℕ) (grants : List Grant) (user : 
 unfolding has_by
 has_by-same first second grants user need same = rw same refl
 
-authorised-same : (first second : ℕ → Option ℕ) (before later : List Record) → All (λ (entry : Record). first entry.grant.table ≡ second entry.grant.table) later
+pub authorised-same : (first second : ℕ → Option ℕ) (before later : List Record) → All (λ (entry : Record). first entry.grant.table ≡ second entry.grant.table) later
     → AreAuthorised second before later → AreAuthorised first before later
 authorised-same first second before [] all authorised = tt
-authorised-same first second before (entry ∷ later) all authorised =
-    (has_by-same first second (in_force (cut entry.grant.place before)) entry.grant.grantor (option_of entry.grant)
-    (All-head (λ (entry : Record). first entry.grant.table ≡ second entry.grant.table) entry later all)
-    ∙ authorised.0,
-    authorised-same first second (before ++ entry ∷ []) later (All-tail (λ (entry : Record). first entry.grant.table ≡ second entry.grant.table) entry later all) authorised.1)
+authorised-same first second before (entry ∷ later) all authorised = (
+  has_by-same first second (in_force (cut entry.grant.place before)) entry.grant.grantor (option_of entry.grant)
+      (All-head (λ (entry : Record). first entry.grant.table ≡ second entry.grant.table) entry later all)
+      ∙ authorised.0,
+  authorised-same first second (before ++ entry ∷ []) later (All-tail (λ (entry : Record). first entry.grant.table ≡ second entry.grant.table) entry later all) authorised.1,
+)
 
 pub sound_table : (book : Entries) (creation : Creation) → IsSound book → IsLater book creation.place → length book.tables < 65536 → IsSound (with_table book creation)
 sound_table book creation sound later room = record {

@@ -34,8 +34,11 @@ cut-whole place [] grants ends = refl
 cut-whole place (entry ∷ entries) grants ends =
     let below : Record → Type 0 = λ (e : Record). e.grant.place < place in
     let ended : Record → Type 0 = λ (e : Record). IfSome e.end (λ q. q < place) in
-    rw (lt-ltb entry.grant.place place (All-head below entry entries grants), end-whole place entry.end (All-head ended entry entries ends),
-    cut-whole place entries (All-tail below entry entries grants) (All-tail ended entry entries ends))
+    rw (
+      lt-ltb entry.grant.place place (All-head below entry entries grants),
+      end-whole place entry.end (All-head ended entry entries ends),
+      cut-whole place entries (All-tail below entry entries grants) (All-tail ended entry entries ends),
+    )
     refl
 
 -- one more grant, whose place lies above the others

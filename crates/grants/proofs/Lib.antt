@@ -6,3 +6,5 @@ pub mod BookLaws
 pub mod SeenLaws
 pub mod GrantLaws
 pub mod RevokeLaws
+pub mod LaterLaws
+pub mod CutLaws

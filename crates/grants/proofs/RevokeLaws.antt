@@ -25,9 +25,6 @@ none_is None is = refl
 none_is (Some q) is = absurd (true≢false (sym is))
 
 module _ (place : ℕ) (ended : List ℕ) where
-
-
-
   -- the grant of a record stays
   same_grant : (entry : Record) → (ended_at place ended entry).grant ≡ entry.grant
   same_grant entry =
@@ -60,9 +57,10 @@ module _ (place : ℕ) (ended : List ℕ) where
       let under : Record → Type 0 = λ (e : Record). e.grant.place < place in
       let less : entry.grant.place < place = All-head under entry later below in
       let le : entry.grant.place ≤ place = omega arith in
-      let rest = authorised-ended owner (before ++ entry ∷ []) later (All-tail under entry later below) authorised.1 in
-      (rw (same_grant entry, cut-ended entry.grant.place le before) authorised.0,
-      rw (map-append (ended_at place ended) before (entry ∷ [])) at rest)
+      let rest = authorised-ended owner (before ++ entry ∷ []) later (All-tail under entry later below) authorised.1 in (
+        rw (same_grant entry, cut-ended entry.grant.place le before) authorised.0,
+        rw (map-append (ended_at place ended) before (entry ∷ [])) at rest,
+      )
 
 pub sound_revoke : (book : Entries) (place : ℕ) (ended : List ℕ) → IsSound book → IsLater book place → IsSound (with_ends book place ended)
 sound_revoke book place ended sound later = record {

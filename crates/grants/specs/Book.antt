@@ -1,5 +1,6 @@
 -- What a book of grants shows: the tables, and each grant that was made, with its end.
-use Rattle.std.specs.Prelude.{◌≡◌, ◌<◌, ◌≤◌, ◌++◌, ◌∷◌, ℕ, nat_lt, Option, Some, None, List, [], All, IfSome, filter, length, map, slice_get, if◌then◌else◌}
+use Rattle.std.specs.Prelude.{◌≡◌, ◌<◌, ◌≤◌, ◌&&◌, ◌++◌, ◌∷◌, ℕ, Bool, true, nat_lt, Option, Some, None, List, [], All, IfSome, filter, length, map, slice_get, if◌then◌else◌}
+use Rattle.std.specs.Option.{option_map_or}
 use Rattle.model_base.specs.declared.deed.Grant.{Grant}
 use Rattle.model_base.specs.declared.deed.Revocation.{Revocation}
 use Rattle.model_base.specs.declared.deed.Record.{Record}
@@ -64,10 +65,18 @@ cut_book place book = record {
   records = cut place book.records;
 }
 
+-- the record as it stood at a place above its grant's: its end counts only if it lies below
+abbrev pub reopened : ℕ → Record → Record
+reopened place entry = record { grant = entry.grant; end = end_below place entry.end }
+
+-- whether the grant and its end lie below the place
+abbrev pub lies_below : ℕ → Record → Bool
+lies_below place entry = nat_lt entry.grant.place place && option_map_or (λ end. nat_lt end place) entry.end true
+
 -- the slot of a record in a view at a place: empty if the grant wasn't made below it
 abbrev pub slot_below : ℕ → Record → Option Record
 slot_below place entry =
-    if nat_lt entry.grant.place place then Some (record { grant = entry.grant; end = end_below place entry.end }) else None
+    if nat_lt entry.grant.place place then Some (reopened place entry) else None
 
 -- the view of the book at a place, which covers all its tables
 abbrev pub view_of : Entries → ℕ → View

@@ -1,11 +1,14 @@
 //! The book of grants: each grant that was made, with its end.
 
-ghost use Rattle.std.specs.Prelude.{◌≡◌, ◌<◌, ◌++◌, ◌∷◌, [], ℕ, List, All, IfOk, IsTrue, OnErr, OnOk, length, map, take, slice_get, Some};
+ghost use Rattle.std.specs.Prelude.{Decides, filter, nat_lt, ◌≡◌, ◌<◌, ◌++◌, ◌∷◌, [], ℕ, List, All, IfOk, IsTrue, OnErr, OnOk, length, map, take, slice_get, Some};
 ghost use Rattle.model_base.specs.declared.deed.Deed.TheVariants.{Granting, Revoking};
 ghost use Rattle.model_base.specs.declared.deed.Deed.{Deed};
 ghost use Rattle.model_base.specs.Privileges.{ended_by, option_of, place_of};
 ghost use Rattle.model_base.specs.Records.{deeds_below, ended_at};
 ghost use Rattle.grants.specs.Pass.{is_one_of};
+ghost use Rattle.grants.specs.Book.{lies_below, reopened};
+ghost use Rattle.grants.specs.declared.book.Creation.{Creation};
+ghost use Rattle.model_base.specs.declared.deed.Record.{Record};
 
 use crate::cascade::to_end;
 use crate::records::Records;
@@ -41,7 +44,7 @@ impl Model for Book {
 }
 
 impl Book {
-    ghost use Rattle.grants.specs.Book.{IsLater, IsSound, ShowsBook, owners_of, view_of, with_ends, with_grant, with_table};
+    ghost use Rattle.grants.specs.Book.{IsLater, IsSound, ShowsBook, cut_book, owners_of, table_of, view_of, with_ends, with_grant, with_table};
     ghost use Rattle.grants.specs.View.{Shows, holds_in};
 
     /// A book without tables and grants. It takes no memory.
@@ -133,7 +136,11 @@ impl Book {
     /// place has to lie above all of the book, and the table to be one of its tables. It costs what `to_end` does on the
     /// book's view, and for each grant of the book a look-up among the ended places, in a time that grows with the logarithm
     /// of their number. On `Err` memory was refused, and the book is as it was.
-    pub fn revoke(&mut self, alloc: Global, revocation: &Revocation) -> Result<Vec<Place>, AllocError>
+    pub fn revoke(
+        &mut self,
+        alloc: Global,
+        revocation: &Revocation,
+    ) -> Result<Vec<Place>, AllocError>
         requires later { IsLater self.old revocation.now.place }
         requires table { revocation.now.table < length self.old.tables }
         ensures ended { IfOk result (λ ends. (owners : List ℕ) (deeds : List Deed) → ShowsBook self.old owners deeds
@@ -147,6 +154,70 @@ impl Book {
         let places = place_set(alloc, &ended)?;
         close(&mut self.records, revocation.place, &places);
         Ok(ended)
+    }
+
+    /// Whether the place lies above those of all tables, grants and ends of the book. It looks once at each.
+    #[tactic(auto, using(crate::proofs::LaterLaws::decides_later))]
+    pub fn is_later(&self, place: Place) -> bool
+        ensures { Decides result (IsLater self.now place) }
+    {
+        self.tables().iter().all(|creation| creation.place < place)
+            && self
+                .records()
+                .iter()
+                .all(|record| lies_below(record, place))
+    }
+
+    /// Forgets the tables, grants and ends of the place and of later ones. It takes no memory, and looks once at each.
+    pub fn cut(&mut self, place: Place)
+        ensures cut { self.new ≡ cut_book place self.old }
+        ensures after { (owners others more : List ℕ) (deeds : List Deed) → ShowsBook self.old owners deeds
+            → All (λ deed. table_of deed < length self.new.tables) (deeds_below place deeds)
+            → others ≡ owners_of self.new.tables ++ more → ShowsBook self.new others (deeds_below place deeds) }
+    {
+        retain_tables(&mut self.tables, place);
+        retain_records(&mut self.records, place);
+        reopen(&mut self.records, place);
+    }
+}
+
+/// Whether the grant and its end lie below the place.
+fn lies_below(entry: &Record, place: Place) -> bool
+    ensures { result ≡ lies_below place entry.now }
+{
+    entry.grant.place < place && entry.end.is_none_or(|end| end < place)
+}
+
+/// Keeps the tables that were created below the place.
+fn retain_tables(tables: &mut Vec<Creation>, place: Place)
+    ensures { tables.new.items ≡ filter (λ (creation : Creation). nat_lt creation.place place) tables.old.items }
+{
+    tables.retain(|creation| creation.place < place);
+}
+
+/// Keeps the records of the grants that were made below the place.
+fn retain_records(records: &mut Vec<Record>, place: Place)
+    ensures { records.new.items ≡ filter (λ (entry : Record). nat_lt entry.grant.place place) records.old.items }
+{
+    records.retain(|record| record.grant.place < place);
+}
+
+/// The record, without an end that doesn't lie below the place.
+fn reopened(entry: Record, place: Place) -> Record
+    ensures { result ≡ reopened place entry }
+{
+    Record {
+        grant: entry.grant,
+        end: entry.end.filter(|end| *end < place),
+    }
+}
+
+/// Forgets the ends that don't lie below the place.
+fn reopen(records: &mut [Record], place: Place)
+    ensures { records.new ≡ map (reopened place) records.old }
+{
+    for entry in records.iter_mut() {
+        *entry = reopened(*entry, place);
     }
 }
 
