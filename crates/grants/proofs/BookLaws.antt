@@ -1,20 +1,14 @@
 -- What holds of a book stays so by each step.
-use Rattle.std.proofs.Common.{◌≡◌, ℕ, ◌<◌, ◌≤◌, ◌+◌, ◌||◌, ◌&&◌, zero, suc, Bool, true, false, List, [], ◌∷◌, ◌++◌, Option, Some, None, is_none, length, map, filter, length-append, refl, sym, ◌∙◌, ap, append_assoc, arith}
-use Rattle.std.specs.Prelude.{All, IfSome, IsTrue, nat_lt, slice_get}
-use Rattle.std.specs.List.{list_any}
-use Rattle.std.specs.Option.{option_map, option_map_or}
-use Rattle.std.proofs.lemmas.Bool.{lt-ltb, le-ltb, ltb-true, cases_lt, true≢false}
-use Rattle.std.proofs.lemmas.List.{map-append, append-nil}
-use Rattle.std.proofs.lemmas.List.Elements.{All-nil, All-cons, All-head, All-tail, All-push, All-append, All-weaker, All-filter}
+use Rattle.std.proofs.Common.{◌≡◌, ℕ, ◌<◌, zero, suc, List, [], ◌∷◌, ◌++◌, Option, Some, None, length, length-append, refl, ◌∙◌, arith}
+use Rattle.std.specs.Prelude.{All, slice_get}
+use Rattle.std.proofs.lemmas.List.Elements.{All-nil, All-head, All-tail, All-push, All-weaker}
 use Rattle.std.proofs.lemmas.Option.{slice_get-map}
 use Rattle.model_base.specs.declared.deed.Grant.{Grant}
 use Rattle.model_base.specs.declared.deed.Record.{Record}
 use Rattle.model_base.specs.declared.deed.Need.{Need}
 use Rattle.model_base.specs.declared.deed.Deed.{Deed}
-use Rattle.model_base.specs.Privileges.{gives, option_of, place_of}
-use Rattle.model_base.specs.Laws.{IsRising}
-use Rattle.model_base.specs.Records.{cut, end_below, ended_at, in_force, recorded, records}
-use Rattle.model_base.proofs.Replay.{by_cases}
+use Rattle.model_base.specs.Privileges.{option_of}
+use Rattle.model_base.specs.Records.{cut, in_force}
 use Rattle.grants.specs.View.{AreAuthorised, has_by}
 use Rattle.grants.specs.Book.{AreRising, Entries, IsCreatedBelow, IsLater, IsSound, ShowsBook, owners_of, with_table, table_of}
 use Rattle.grants.specs.declared.book.Creation.{Creation}

@@ -1,6 +1,6 @@
 -- Whether a place lies above all of a book.
-use Rattle.std.proofs.Common.{◌≡◌, ℕ, ◌<◌, ◌&&◌, Bool, true, List, [], ◌∷◌, Option, Some, None, refl}
-use Rattle.std.specs.Prelude.{All, Decides, IfSome, nat_lt}
+use Rattle.std.proofs.Common.{ℕ, ◌<◌, ◌&&◌, true, Option, Some, None, refl}
+use Rattle.std.specs.Prelude.{Decides, IfSome, nat_lt}
 use Rattle.std.specs.List.{list_all}
 use Rattle.std.specs.Option.{option_map_or}
 use Rattle.std.proofs.lemmas.Bool.Decides.{Decides-and, Decides-by_and, Decides-like, Decides-ltb}

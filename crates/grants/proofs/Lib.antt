@@ -8,3 +8,4 @@ pub mod GrantLaws
 pub mod RevokeLaws
 pub mod LaterLaws
 pub mod CutLaws
+pub mod SlotEnds

@@ -1,12 +1,13 @@
 //! The book of grants: each grant that was made, with its end.
 
-ghost use Rattle.std.specs.Prelude.{Decides, filter, nat_lt, ◌≡◌, ◌<◌, ◌++◌, ◌∷◌, [], ℕ, List, All, IfOk, IsTrue, OnErr, OnOk, length, map, take, slice_get, Some};
+ghost use Rattle.std.specs.Prelude.{Decides, filter, nat_lt, vec_capacity, vec_len, ◌+◌, ◌≤◌, ◌≡◌, ◌<◌, ◌++◌, ◌∷◌, [], ℕ, List, All, IfOk, IsTrue, OnErr, OnOk, length, map, take, slice_get, Some};
 ghost use Rattle.model_base.specs.declared.deed.Deed.TheVariants.{Granting, Revoking};
 ghost use Rattle.model_base.specs.declared.deed.Deed.{Deed};
 ghost use Rattle.model_base.specs.Privileges.{ended_by, option_of, place_of};
 ghost use Rattle.model_base.specs.Records.{deeds_below, ended_at};
 ghost use Rattle.grants.specs.Pass.{is_one_of};
-ghost use Rattle.grants.specs.Book.{lies_below, reopened};
+ghost use Rattle.grants.specs.Book.{end_slot, end_slots, lies_below, reopened, unended};
+ghost use Rattle.grants.specs.declared.book.End.{End};
 ghost use Rattle.grants.specs.declared.book.Creation.{Creation};
 ghost use Rattle.model_base.specs.declared.deed.Record.{Record};
 
@@ -21,6 +22,13 @@ use std::marker::Model;
 #[derive(Clone, Copy, PartialEq, Eq, Debug)]
 pub struct Creation {
     pub owner: User,
+    pub place: Place,
+}
+
+/// That the record of a slot ends at a place.
+#[derive(Clone, Copy, PartialEq, Eq, Debug)]
+pub struct End {
+    pub slot: usize,
     pub place: Place,
 }
 
@@ -44,7 +52,7 @@ impl Model for Book {
 }
 
 impl Book {
-    ghost use Rattle.grants.specs.Book.{IsLater, IsSound, ShowsBook, cut_book, owners_of, table_of, view_of, with_ends, with_grant, with_table};
+    ghost use Rattle.grants.specs.Book.{IsLater, IsSound, ShowsBook, cut_book, extended, owners_of, table_of, view_of, with_ends, with_grant, with_table};
     ghost use Rattle.grants.specs.View.{Shows, holds_in};
 
     /// A book without tables and grants. It takes no memory.
@@ -168,6 +176,27 @@ impl Book {
                 .all(|record| lies_below(record, place))
     }
 
+    /// Adds tables and grants behind the others, the grants without an end, and then ends records by their slots. What is
+    /// so put together has to be a book. On `Err` memory was refused, and the book is as it was.
+    pub fn extend(
+        &mut self,
+        tables: &[Creation],
+        grants: &[Grant],
+        ends: &[End],
+    ) -> Result<(), AllocError>
+        requires slots { All (λ (end : End). end.slot < length self.old.records + length grants.now) ends.now }
+        requires sound { IsSound (extended self.old tables.now grants.now ends.now) }
+        ensures ok { OnOk result (self.new ≡ extended self.old tables.now grants.now ends.now) }
+        ensures err { OnErr result (self.new ≡ self.old) }
+    {
+        self.tables.reserve(tables.len())?;
+        self.records.reserve(grants.len())?;
+        append_tables(&mut self.tables, tables);
+        append_grants(&mut self.records, grants);
+        set_ends(&mut self.records, ends);
+        Ok(())
+    }
+
     /// Forgets the tables, grants and ends of the place and of later ones. It takes no memory, and looks once at each.
     pub fn cut(&mut self, place: Place)
         ensures cut { self.new ≡ cut_book place self.old }
@@ -186,6 +215,47 @@ fn lies_below(entry: &Record, place: Place) -> bool
     ensures { result ≡ lies_below place entry.now }
 {
     entry.grant.place < place && entry.end.is_none_or(|end| end < place)
+}
+
+/// Adds the tables behind the others, for which there is room.
+fn append_tables(tables: &mut Vec<Creation>, more: &[Creation])
+    requires { vec_len tables.old + length more.now ≤ vec_capacity tables.old }
+    ensures { tables.new.items ≡ tables.old.items ++ more.now }
+{
+    for creation in more {
+        tables.push_reserved(*creation);
+    }
+}
+
+/// Adds the grants without an end behind the others, for which there is room.
+fn append_grants(records: &mut Vec<Record>, grants: &[Grant])
+    requires { vec_len records.old + length grants.now ≤ vec_capacity records.old }
+    ensures { records.new.items ≡ records.old.items ++ map unended grants.now }
+{
+    for grant in grants {
+        records.push_reserved(Record {
+            grant: *grant,
+            end: None,
+        });
+    }
+}
+
+/// Ends the record of the slot.
+fn set_end(records: &mut [Record], slot: usize, place: Place)
+    requires { slot < length records.old }
+    ensures { records.new ≡ end_slot records.old slot place }
+{
+    records[slot].end = Some(place);
+}
+
+/// Ends the records of the slots, one after the other.
+fn set_ends(records: &mut [Record], ends: &[End])
+    requires { All (λ (end : End). end.slot < length records.old) ends.now }
+    ensures { records.new ≡ end_slots records.old ends.now }
+{
+    for end in ends {
+        set_end(records, end.slot, end.place);
+    }
 }
 
 /// Keeps the tables that were created below the place.

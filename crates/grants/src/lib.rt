@@ -9,8 +9,10 @@ mod book;
 mod cascade;
 mod holding;
 mod records;
+#[cfg(test)]
+mod tests;
 
-pub use book::{Book, BookView, Creation};
+pub use book::{Book, BookView, Creation, End};
 pub use cascade::to_end;
 pub use holding::{holds, holds_option};
 pub use records::Records;
