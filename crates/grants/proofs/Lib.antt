@@ -9,3 +9,4 @@ pub mod RevokeLaws
 pub mod LaterLaws
 pub mod CutLaws
 pub mod SlotEnds
+pub mod Parts
