@@ -10,3 +10,4 @@ pub mod LaterLaws
 pub mod CutLaws
 pub mod SlotEnds
 pub mod Parts
+pub mod ShownLaws

@@ -8,6 +8,7 @@
 mod book;
 mod cascade;
 mod holding;
+mod laws;
 mod records;
 #[cfg(test)]
 mod tests;
@@ -15,4 +16,5 @@ mod tests;
 pub use book::{Book, BookView, Creation, End};
 pub use cascade::to_end;
 pub use holding::{holds, holds_option};
+pub use laws::shown_books_are_sound;
 pub use records::Records;
