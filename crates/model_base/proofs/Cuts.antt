@@ -27,6 +27,7 @@ module _ (owners : List ℕ) (place : ℕ) (past later : List Deed) (before : Al
       by_end None None is was = refl
       by_end None (Some end) is was = rw (le-ltb end place (end-within owners (λ p. place ≤ p) past later made end after was)) refl
 
+  -- the records of grants below the place stay, with the ends by the beginning
   cut-low : (deeds : List Deed) → All (λ deed. place_of deed < place) deeds
       → cut place (map (record_of owners (past ++ later)) (grants_of deeds)) ≡ map (record_of owners past) (grants_of deeds)
   cut-low [] all = refl
@@ -35,6 +36,7 @@ module _ (owners : List ℕ) (place : ℕ) (past later : List Deed) (before : Al
       rw (lt-ltb grant.place place (All-head (λ deed. place_of deed < place) (Granting grant) deeds all), end-cut grant.place, rest) refl
   cut-low (Revoking revocation ∷ deeds) all = cut-low deeds (All-tail (λ deed. place_of deed < place) (Revoking revocation) deeds all)
 
+  -- those of the others fall away
   cut-high : (deeds : List Deed) → All (λ deed. place ≤ place_of deed) deeds
       → cut place (map (record_of owners (past ++ later)) (grants_of deeds)) ≡ []
   cut-high [] all = refl
@@ -43,6 +45,7 @@ module _ (owners : List ℕ) (place : ℕ) (past later : List Deed) (before : Al
       (cut-high deeds (All-tail (λ deed. place ≤ place_of deed) (Granting grant) deeds all))
   cut-high (Revoking revocation ∷ deeds) all = cut-high deeds (All-tail (λ deed. place ≤ place_of deed) (Revoking revocation) deeds all)
 
+  -- two lists of records are cut each by itself
   cut-append : (first last : List Record) → cut place (first ++ last) ≡ cut place first ++ cut place last
   cut-append [] last = refl
   cut-append (entry ∷ first) last =

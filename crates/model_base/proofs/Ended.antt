@@ -18,7 +18,7 @@ use Rattle.model_base.proofs.Parts.{part-all, part-filter, part-part, part-repla
 use Rattle.model_base.proofs.Places.{among-part, IsRising-kept}
 use Rattle.model_base.proofs.Records.{in_force-records}
 use Rattle.model_base.proofs.Recorded.{rising-unique}
-use Rattle.model_base.proofs.Covered.{contrary, is_covered, left_by, left_by-covered, left_by-other, among-covered, same_kind-true}
+use Rattle.model_base.proofs.Covered.{contrary, is_covered, left_by, left_by-covered, left_by-other, among-covered, same_kind-true, stands-covered}
 use Rattle.model_base.proofs.ByTables.{taken, in_force-taken}
 
 -- each grant that passes a test is among those that pass
@@ -66,6 +66,7 @@ module _ (owners : List ℕ) (revocation : Revocation) where
   abbrev pub is_of : Kind → ℕ → Bool
   is_of kind table = same_kind revocation.kind kind && (revocation.table == table)
 
+  -- a revocation doesn't name what it doesn't concern
   unnamed : (grant : Grant) → not (concerns revocation grant) ≡ true → names revocation grant ≡ false
   unfolding names
   unnamed grant other = rw (not-true (concerns revocation grant) other) (and_false (revocation.grantor == grant.grantor) (revocation.grantee == grant.grantee))
@@ -154,6 +155,14 @@ pub stands-in_force : (owners : List ℕ) (deeds : List Deed) → IsProper owner
 stands-in_force owners deeds proper =
     let force = in_force-records owners deeds proper in
     ap (replayed owners []) force ∙ kept-replayed owners deeds ∙ sym force
+
+-- which those of some tables do, if all do
+pub stands-in_force_covered : (owners : List ℕ) (covers : ℕ → Bool) (entries : List Record) → replayed owners [] (in_force entries) ≡ in_force entries
+    → replayed owners [] (in_force (covered covers entries)) ≡ in_force (covered covers entries)
+stands-in_force_covered owners covers entries stands =
+    let on : Kind → ℕ → Bool = λ kind table. covers table in
+    let force = in_force-taken owners on entries in
+    ap (replayed owners []) force ∙ stands-covered owners on (in_force entries) stands ∙ sym force
 
 -- so the records of some tables tell which grants a revocation on one of them ends after the deeds
 pub ended_by-covered_records : (owners : List ℕ) (covers : ℕ → Bool) (deeds : List Deed) (revocation : Revocation) → IsProper owners deeds

@@ -164,6 +164,7 @@ module _ (owners : List ℕ) where
   IsEndedBy deeds grant end =
       (revocation : Revocation) × Contains deeds (Revoking revocation) × (end ≡ revocation.place) × (concerns revocation grant ≡ true)
 
+  -- an end is set by a revocation of the kind on the table
   end-revocation : (past later : List Deed) (grant : Grant) (end : ℕ) → All (λ x. x.place ≡ grant.place → x ≡ grant) (grants_of (past ++ later))
       → end_after owners past later grant.place ≡ Some end → IsEndedBy later grant end
   end-revocation past [] grant end alone is = absurd (cc)

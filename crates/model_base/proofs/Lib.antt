@@ -16,3 +16,4 @@ pub mod Losses
 pub mod Logs
 pub mod Owners
 pub mod MoreOwners
+pub mod Unended

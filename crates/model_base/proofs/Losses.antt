@@ -30,10 +30,11 @@ module _ (owners : List ℕ) where
       ap (λ entries. holds_by owners entries user need) (sym (records-below owners place deeds proper))
       ∙ holds_by-records owners (deeds_below place deeds) user need (deeds_below-proper owners place deeds proper)
 
-  -- the deeds after the first ones, which are below a place, are those below the place after them
+  -- the grantor held the option by the first deeds, and those of the others that lie below the grant
   abbrev held_when_made : List Deed → List Deed → Grant → Type 0
   held_when_made start deeds grant = holds owners (start ++ deeds_below grant.place deeds) grant.grantor (option_of grant) ≡ true
 
+  -- what is held by the later deeds below a place is held by them behind one more that lies below
   held-later : (start deeds : List Deed) (deed : Deed) → All (λ next. place_of deed < place_of next) deeds
       → All (held_when_made (start ++ deed ∷ []) deeds) (grants_of deeds) → All (held_when_made start (deed ∷ deeds)) (grants_of deeds)
   held-later start deeds deed above held =
@@ -75,6 +76,7 @@ module _ (owners : List ℕ) where
       (records-authorised deeds proper)
 
 module _ (owners : List ℕ) (user : ℕ) (need : Need) where
+  -- of more deeds the last decides first
   cause_after-snoc : (past later : List Deed) (deed : Deed) (found : Cause)
       → cause_after owners user need past (later ++ deed ∷ []) found
       ≡ (if takes owners user need (past ++ later) deed then Taken (place_of deed) else cause_after owners user need past later found)

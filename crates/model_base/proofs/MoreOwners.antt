@@ -18,6 +18,7 @@ use Rattle.model_base.proofs.Records.{grants-append}
 use Rattle.model_base.proofs.Recorded.{part-kept_grants}
 use Rattle.model_base.proofs.Owners.{IsSameOwner, AreSameOwners, proper-owners}
 
+-- what is in a list is there with more behind it
 slice_get-append : (first later : List ℕ) (i : ℕ) → i < length first → slice_get (first ++ later) i ≡ slice_get first i
 slice_get-append [] later i less = absurd (omega arith)
 slice_get-append (x ∷ first) later zero less = refl
@@ -35,12 +36,15 @@ module _ (owners more : List ℕ) where
     same = λ user. ap (λ (o : Option ℕ). option_map_or (λ owner. owner == user) o false) (slice_get-append owners more table less);
   }
 
+  -- and the other way round
   pub same-fewer : (table : ℕ) → table < length owners → IsSameOwner owners (owners ++ more) table
   same-fewer table less = let agree = same-more table less in record { same = λ user. sym (agree.same user) }
 
+  -- grants on them have the same owners of their tables
   pub all_same-more : (grants : List Grant) → All (IsOnTable owners) grants → AreSameOwners (owners ++ more) owners grants
   all_same-more grants on = All-weaker (IsOnTable owners) (λ grant. IsSameOwner (owners ++ more) owners grant.table) (λ grant less. same-more grant.table less) grants on
 
+  -- and the other way round
   pub all_same-fewer : (grants : List Grant) → All (IsOnTable owners) grants → AreSameOwners owners (owners ++ more) grants
   all_same-fewer grants on = All-weaker (IsOnTable owners) (λ grant. IsSameOwner owners (owners ++ more) grant.table) (λ grant less. same-fewer grant.table less) grants on
 
@@ -52,6 +56,7 @@ module _ (owners more : List ℕ) where
   )
 
 module _ (owners : List ℕ) where
+  -- a table that is owned is there
   owns-table : (user table : ℕ) → owns owners user table ≡ true → table < length owners
   unfolding owns
   owns-table user table owned =
@@ -60,6 +65,7 @@ module _ (owners : List ℕ) where
         | inr past ↦ absurd (true≢false (sym (rw (slice_get_past owners table past) at owned)))
       ]
 
+  -- a grant gives what is needed on its own table
   gives-table : (grant : Grant) (user : ℕ) (need : Need) → gives grant user need ≡ true → grant.table ≡ need.table
   unfolding gives
   gives-table grant user need given =
@@ -67,6 +73,7 @@ module _ (owners : List ℕ) where
       let table = (and_parts _ _ kind).1 in
       eqb-true grant.table need.table (and_parts (grant.table == need.table) _ table).0
 
+  -- what one of the grants gives is on a table that there is
   any-table : (grants : List Grant) (user : ℕ) (need : Need) → All (IsOnTable owners) grants → list_any (λ grant. gives grant user need) grants ≡ true
       → need.table < length owners
   any-table [] user need on given = absurd (true≢false (sym given))
@@ -88,6 +95,7 @@ module _ (owners : List ℕ) where
         | inr given ↦ any-table grants user need on given
       ]
 
+  -- the grants of later deeds are on tables that there are, if those before are
   tables-after : (past deeds : List Deed) → IsProperAfter owners past deeds → All (IsOnTable owners) (grants_of past) → All (IsOnTable owners) (grants_of deeds)
   tables-after past [] proper on = All-nil (IsOnTable owners)
   tables-after past (Granting grant ∷ deeds) proper on =

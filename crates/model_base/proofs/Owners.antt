@@ -1,9 +1,9 @@
 -- Of the owners only those of the tables that the grants are on matter: who owns other tables changes nothing in force.
-use Rattle.std.proofs.Common.{◌≡◌, ℕ, zero, suc, ◌||◌, ◌&&◌, not, Bool, List, [], ◌∷◌, ◌++◌, map, refl, sym, ◌∙◌, ap, append_assoc}
+use Rattle.std.proofs.Common.{◌≡◌, ℕ, zero, suc, ◌||◌, ◌&&◌, not, Bool, List, [], ◌∷◌, ◌++◌, map, refl, sym, ◌∙◌, ap, append_assoc, filter}
 use Rattle.std.specs.Prelude.{All, if◌then◌else◌}
 use Rattle.std.specs.List.{list_any}
 use Rattle.std.proofs.lemmas.List.{append-nil}
-use Rattle.std.proofs.lemmas.List.Elements.{All-head, All-tail, All-contains, Contains-push}
+use Rattle.std.proofs.lemmas.List.Elements.{All-head, All-tail, All-contains, Contains-push, All-filter}
 use Rattle.model_base.specs.declared.deed.Cause.{Cause}
 use Rattle.model_base.specs.declared.deed.Cause.TheVariants.{Never, Taken}
 use Rattle.model_base.specs.declared.deed.Grant.{Grant}
@@ -12,9 +12,9 @@ use Rattle.model_base.specs.declared.deed.Revocation.{Revocation}
 use Rattle.model_base.specs.declared.deed.Need.{Need}
 use Rattle.model_base.specs.declared.deed.Deed.{Deed}
 use Rattle.model_base.specs.declared.deed.Deed.TheVariants.{Granting, Revoking}
-use Rattle.model_base.specs.Privileges.{owns, gives, has, option_of, erased, replayed, kept, holds, is_among, lost, ended_by, place_of, IsProper, IsProperAfter}
+use Rattle.model_base.specs.Privileges.{owns, gives, has, option_of, erased, replayed, kept, holds, is_among, lost, ended_by, place_of, IsProper, IsProperAfter, names}
 use Rattle.model_base.specs.Outcomes.{cause, cause_after}
-use Rattle.model_base.specs.Records.{grants_of, end_after, record_of, records, in_force, holds_by, cut, last_loss_by}
+use Rattle.model_base.specs.Records.{grants_of, end_after, record_of, records, in_force, ended_by_records, holds_by, cut, last_loss_by}
 use Rattle.model_base.proofs.Replay.{by_cases}
 use Rattle.model_base.proofs.Parts.{part-all, part-beginning}
 use Rattle.model_base.proofs.Records.{grants-append}
@@ -25,9 +25,11 @@ module _ (first second : List ℕ) where
   pub record IsSameOwner (table : ℕ) : Type 0 where
     pub same : (user : ℕ) → owns first user table ≡ owns second user table
 
+  -- both have the same owners of the grants' tables
   abbrev pub AreSameOwners : List Grant → Type 0
   AreSameOwners grants = All (λ grant. IsSameOwner grant.table) grants
 
+  -- what is needed on such a table is held with both owners, or with neither
   has-owners : (grants : List Grant) (user : ℕ) (need : Need) → IsSameOwner need.table → has first grants user need ≡ has second grants user need
   unfolding has
   has-owners grants user need agree = ap (λ b. b || list_any (λ grant. gives grant user need) grants) (agree.same user)
@@ -52,11 +54,13 @@ module _ (first second : List ℕ) where
   holds-owners deeds user need agree on =
       ap (λ grants. has first grants user need) (kept-owners deeds agree) ∙ has-owners (kept second deeds) user need on
 
+  -- the grants of the first deeds are some of all
   front-owners : (past later : List Deed) → AreSameOwners (grants_of (past ++ later)) → AreSameOwners (grants_of past)
   front-owners past later agree =
       let whole : AreSameOwners (grants_of past ++ grants_of later) = rw (← grants-append past later) agree in
       part-all (λ x. IsSameOwner x.table) (part-beginning (grants_of past) (grants_of later)) whole
 
+  -- a grant gets the same end
   end-owners : (past later : List Deed) (place : ℕ) → AreSameOwners (grants_of (past ++ later)) → end_after first past later place ≡ end_after second past later place
   end-owners past [] place agree = refl
   end-owners past (deed ∷ later) place agree =
@@ -69,6 +73,7 @@ module _ (first second : List ℕ) where
       ∙ ap (λ grants. is_among place (kept second past) && not (is_among place grants)) after in
       rw (here, end-owners (past ++ deed ∷ []) later place next) refl
 
+  -- so are the records of any grants
   same_records : (deeds : List Deed) (grants : List Grant) → AreSameOwners (grants_of deeds)
       → map (record_of first deeds) grants ≡ map (record_of second deeds) grants
   same_records deeds [] agree = refl
@@ -101,6 +106,7 @@ module _ (first second : List ℕ) where
       ∙ ap (λ b. cause_after first user need (past ++ deed ∷ []) later (test (holds second past user need) b)) after
       ∙ rest (test (holds second past user need) (holds second (past ++ deed ∷ []) user need)) next on
 
+  -- so the cause of a denial is the same
   pub cause-owners : (deeds : List Deed) (user : ℕ) (need : Need) → AreSameOwners (grants_of deeds) → IsSameOwner need.table
       → cause first deeds user need ≡ cause second deeds user need
   cause-owners deeds user need agree on = same_cause user need [] deeds Never agree on
@@ -132,5 +138,14 @@ module _ (first second : List ℕ) where
       let next : AreSameOwners (grants_of ((past ++ Revoking revocation ∷ []) ++ deeds)) = rw append_assoc agree in
       (proper.0, proper_after-owners (past ++ Revoking revocation ∷ []) deeds next proper.1)
 
+  -- so from the first deed on
   pub proper-owners : (deeds : List Deed) → AreSameOwners (grants_of deeds) → IsProper first deeds → IsProper second deeds
   proper-owners deeds agree proper = proper_after-owners [] deeds agree proper
+
+  -- and of records with grants in force on such tables a revocation ends the same
+  pub ended_by_records-owners : (entries : List Record) (revocation : Revocation) → AreSameOwners (in_force entries)
+      → ended_by_records first entries revocation ≡ ended_by_records second entries revocation
+  ended_by_records-owners entries revocation agree =
+      let unnamed : Grant → Bool = λ grant. not (names revocation grant) in
+      let left : AreSameOwners (filter unnamed (in_force entries)) = All-filter unnamed (λ x. IsSameOwner x.table) (in_force entries) agree in
+      ap (lost (in_force entries)) (replayed-owners [] (filter unnamed (in_force entries)) left)

@@ -1,14 +1,15 @@
 -- The grants of the records are all that the deeds made, and their places rise.
-use Rattle.std.proofs.Common.{◌≡◌, ℕ, ◌<◌, List, [], ◌∷◌, ◌++◌, refl, ap, arith, map}
-use Rattle.std.specs.Prelude.{All}
+use Rattle.std.proofs.Common.{◌≡◌, ℕ, ◌<◌, List, [], ◌∷◌, ◌++◌, refl, ap, arith, map, Bool, filter, is_none}
+use Rattle.std.specs.Prelude.{All, nat_lt}
 use Rattle.std.specs.List.{list_any}
 use Rattle.std.proofs.lemmas.List.Elements.{All-nil, All-cons, All-head, All-tail, All-weaker, Contains-push}
 use Rattle.model_base.specs.declared.deed.Grant.{Grant}
+use Rattle.model_base.specs.declared.deed.Record.{Record}
 use Rattle.model_base.specs.declared.deed.Deed.{Deed}
 use Rattle.model_base.specs.declared.deed.Deed.TheVariants.{Granting, Revoking}
 use Rattle.model_base.specs.Privileges.{revokes, erased, kept, place_of, IsProper, IsProperAfter}
 use Rattle.model_base.specs.Laws.{IsPart, IsRising, none, left_out, stays}
-use Rattle.model_base.specs.Records.{grants_of, record_of, records, recorded}
+use Rattle.model_base.specs.Records.{grants_of, record_of, records, recorded, in_force, covered, cut}
 use Rattle.model_base.proofs.Replay.{by_cases}
 use Rattle.model_base.proofs.Parts.{part-part, part-replayed}
 use Rattle.model_base.proofs.Places.{proper-above}
@@ -52,6 +53,7 @@ module _ (owners : List ℕ) where
   pub part-kept_grants : (deeds : List Deed) → IsPart (kept owners deeds) (grants_of deeds)
   part-kept_grants deeds = part-part (part-replayed owners [] (erased deeds)) (part-erased_grants deeds)
 
+  -- a record is of its grant
   recorded-map : (deeds : List Deed) (grants : List Grant) → recorded (map (record_of owners deeds) grants) ≡ grants
   recorded-map deeds [] = refl
   recorded-map deeds (grant ∷ grants) = ap (λ r. grant ∷ r) (recorded-map deeds grants)
@@ -60,6 +62,7 @@ module _ (owners : List ℕ) where
   pub recorded-records : (deeds : List Deed) → recorded (records owners deeds) ≡ grants_of deeds
   recorded-records deeds = recorded-map deeds (grants_of deeds)
 
+  -- the places of the grants of later deeds rise
   rising-after : (past deeds : List Deed) → IsProperAfter owners past deeds → IsRising (grants_of deeds)
   rising-after past [] proper = tt
   rising-after past (Granting grant ∷ deeds) proper = (
@@ -72,3 +75,25 @@ module _ (owners : List ℕ) where
   -- the places of the grants rise
   pub rising-grants : (deeds : List Deed) → IsProper owners deeds → IsRising (grants_of deeds)
   rising-grants deeds proper = rising-after [] deeds proper
+
+-- records that pass a test have some of the grants
+part-recorded : (test : Record → Bool) (entries : List Record) → IsPart (recorded (filter test entries)) (recorded entries)
+part-recorded test [] = none
+part-recorded test (entry ∷ entries) =
+    by_cases (test entry) (λ passes. rw passes (stays (part-recorded test entries))) (λ fails. rw fails (left_out (part-recorded test entries)))
+
+-- the grants in force are some of those recorded
+pub part-in_force : (entries : List Record) → IsPart (in_force entries) (recorded entries)
+part-in_force entries = part-recorded (λ entry. is_none entry.end) entries
+
+-- so are those on some tables
+pub part-covered : (covers : ℕ → Bool) (entries : List Record) → IsPart (recorded (covered covers entries)) (recorded entries)
+part-covered covers entries = part-recorded (λ entry. covers entry.grant.table) entries
+
+-- and those made below a place
+pub part-cut : (place : ℕ) (entries : List Record) → IsPart (recorded (cut place entries)) (recorded entries)
+part-cut place [] = none
+part-cut place (entry ∷ entries) =
+    by_cases (nat_lt entry.grant.place place)
+    (λ less. rw less (stays (part-cut place entries)))
+    (λ more. rw more (left_out (part-cut place entries)))

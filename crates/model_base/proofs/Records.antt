@@ -99,10 +99,12 @@ all_among (grant ∷ grants) =
     (All-weaker (λ x. is_among x.place grants ≡ true) (λ x. is_among x.place (grant ∷ grants) ≡ true)
     (λ x found. or_right (grant.place == x.place) (is_among x.place grants) found) grants (all_among grants))
 
+-- what fails to fail passes
 not_not : (b : Bool) → not (not b) ≡ b
 not_not true = refl
 not_not false = refl
 
+-- nothing put behind an end leaves it
 option_or-none : (o : Option ℕ) → option_or o None ≡ o
 option_or-none None = refl
 option_or-none (Some x) = refl
@@ -142,6 +144,7 @@ module _ (owners : List ℕ) where
       ∙ ap (option_or (end_after owners [] deeds place)) last
       ∙ option_or-none (end_after owners [] deeds place)
 
+  -- so every record keeps its end
   same_ends : (deeds : List Deed) (grant : Grant) (grants : List Grant)
       → map (record_of owners (deeds ++ Granting grant ∷ [])) grants ≡ map (record_of owners deeds) grants
   same_ends deeds grant [] = refl
@@ -155,6 +158,12 @@ module _ (owners : List ℕ) where
       end-grant deeds grant grant.place ∙ end-none [] deeds grant.place (All-nil (λ deed. place_of deed ≢ grant.place)) others in
       rw (grants-append deeds (Granting grant ∷ []), map-append (record_of owners (deeds ++ Granting grant ∷ [])) (grants_of deeds) (grant ∷ []), same_ends deeds grant (grants_of deeds), own)
       refl
+
+  -- so is one whose place lies above those of all deeds
+  pub records-grant_above : (deeds : List Deed) (grant : Grant) → All (λ deed. place_of deed < grant.place) deeds
+      → records owners (deeds ++ Granting grant ∷ []) ≡ records owners deeds ++ record { grant = grant; end = None } ∷ []
+  records-grant_above deeds grant below =
+      records-grant deeds grant (All-weaker (λ deed. place_of deed < grant.place) (λ deed. place_of deed ≢ grant.place) (λ deed less is. omega arith) deeds below)
 
   -- a revocation ends a grant's record if it has no end and the grant is among those that it takes out of force
   new_end : (deeds : List Deed) (revocation : Revocation) (grant : Grant)
@@ -176,6 +185,7 @@ module _ (owners : List ℕ) where
           (λ ends. rw (is, listed, ends) refl)
           (λ left. rw (is, listed, left) refl)
 
+  -- so with all of them
   new_ends : (deeds : List Deed) (revocation : Revocation) (grants : List Grant)
       → map (record_of owners (deeds ++ Revoking revocation ∷ [])) grants
       ≡ map (ended_at revocation.place (ended_by owners deeds revocation)) (map (record_of owners deeds) grants)
@@ -189,11 +199,11 @@ module _ (owners : List ℕ) where
   records-revoke deeds revocation =
       rw (grants-append deeds (Revoking revocation ∷ []), append-nil (grants_of deeds)) (new_ends deeds revocation (grants_of deeds))
 
+  -- one more deed that may follow keeps the records without an end those in force
   in_force-one : (past : List Deed) (deed : Deed) → IsProper owners past → MayFollow owners past deed → in_force (records owners past) ≡ kept owners past
       → in_force (records owners (past ++ deed ∷ [])) ≡ kept owners (past ++ deed ∷ [])
   in_force-one past (Granting grant) proper may same =
-      let others = All-weaker (λ deed. place_of deed < grant.place) (λ deed. place_of deed ≢ grant.place) (λ deed less is. omega arith) past may.0 in
-      rw (records-grant past grant others, in_force-append (records owners past) (record { grant = grant; end = None } ∷ []), same, kept-grant owners past grant may.1)
+      rw (records-grant_above past grant may.0, in_force-append (records owners past) (record { grant = grant; end = None } ∷ []), same, kept-grant owners past grant may.1)
       refl
   in_force-one past (Revoking revocation) proper may same =
       let before = kept owners past in
@@ -206,6 +216,7 @@ module _ (owners : List ℕ) where
       (λ grant found. rw (listed-lost grant.place before after, found) (not_not (is_among grant.place after))) before (all_among before))
       ∙ filter-part (part-kept_revoke owners past revocation) (IsRising-kept owners past proper))
 
+  -- so do all deeds that may follow
   in_force-after : (past later : List Deed) → IsProper owners past → IsProperAfter owners past later → in_force (records owners past) ≡ kept owners past
       → in_force (records owners (past ++ later)) ≡ kept owners (past ++ later)
   in_force-after past [] proper more same = rw append-nil same

@@ -1,5 +1,5 @@
 -- The grants of some deeds as records, each with the place at which it left force, and what records tell of who holds
--- what. That every grant is kept by itself, with its own time, is R. Fagin's rule, "On an Authorization Mechanism",
+-- what. That every grant is kept by itself, with its own time, is R. Fagin's correction, "On an Authorization Mechanism",
 -- ACM Transactions on Database Systems 3 (1978).
 use Rattle.std.specs.Prelude.{◌==◌, ◌&&◌, not, nat_lt, ℕ, zero, suc, Bool, Option, Some, None, List, [], ◌∷◌, ◌++◌, filter, map, is_none, if◌then◌else◌}
 use Rattle.std.specs.List.{list_any}
@@ -35,20 +35,20 @@ records owners deeds = map (record_of owners deeds) (grants_of deeds)
 
 -- the grants of the records, ended or not
 abbrev pub recorded : List Record → List Grant
-recorded records = map (λ (entry : Record). entry.grant) records
+recorded entries = map (λ (entry : Record). entry.grant) entries
 
 -- the grants of the records that have no end
 abbrev pub in_force : List Record → List Grant
-in_force records = recorded (filter (λ (entry : Record). is_none entry.end) records)
+in_force entries = recorded (filter (λ (entry : Record). is_none entry.end) entries)
 
 -- whether the user holds what is needed, by the records
 abbrev pub holds_by : List ℕ → List Record → ℕ → Need → Bool
-holds_by owners records user need = has owners (in_force records) user need
+holds_by owners entries user need = has owners (in_force entries) user need
 
 -- the places of the grants that a revocation takes out of force, by the records
 abbrev pub ended_by_records : List ℕ → List Record → Revocation → List ℕ
-ended_by_records owners records revocation =
-    lost (in_force records) (replayed owners [] (filter (λ grant. not (names revocation grant)) (in_force records)))
+ended_by_records owners entries revocation =
+    lost (in_force entries) (replayed owners [] (filter (λ grant. not (names revocation grant)) (in_force entries)))
 
 -- the record with its end at this place, if it has none yet and its grant's place is among those ended
 abbrev pub ended_at : ℕ → List ℕ → Record → Record
@@ -59,7 +59,7 @@ ended_at place ended entry =
 
 -- the records of some tables
 abbrev pub covered : (ℕ → Bool) → List Record → List Record
-covered covers records = filter (λ (entry : Record). covers entry.grant.table) records
+covered covers entries = filter (λ (entry : Record). covers entry.grant.table) entries
 
 -- at a place, an end counts only if it lies below
 abbrev pub end_below : ℕ → Option ℕ → Option ℕ
@@ -69,10 +69,10 @@ end_below place (Some end) = if nat_lt end place then Some end else None
 -- the records as they stood at a place: those made below it, with the ends that lie below it
 abbrev pub cut : ℕ → List Record → List Record
 cut place [] = []
-cut place (entry ∷ records) =
+cut place (entry ∷ entries) =
     if nat_lt entry.grant.place place
-    then record { grant = entry.grant; end = end_below place entry.end } ∷ cut place records
-    else cut place records
+    then record { grant = entry.grant; end = end_below place entry.end } ∷ cut place entries
+    else cut place entries
 
 -- the deeds made below a place
 abbrev pub deeds_below : ℕ → List Deed → List Deed
@@ -80,8 +80,8 @@ deeds_below place deeds = filter (λ deed. nat_lt (place_of deed) place) deeds
 
 -- the last place below this one at which the need was lost: by the records it was held there, and no longer at the next
 abbrev pub last_loss_by : List ℕ → List Record → ℕ → Need → ℕ → Option ℕ
-last_loss_by owners records user need zero = None
-last_loss_by owners records user need (suc place) =
-    if holds_by owners (cut place records) user need && not (holds_by owners (cut (suc place) records) user need)
+last_loss_by owners entries user need zero = None
+last_loss_by owners entries user need (suc place) =
+    if holds_by owners (cut place entries) user need && not (holds_by owners (cut (suc place) entries) user need)
     then Some place
-    else last_loss_by owners records user need place
+    else last_loss_by owners entries user need place

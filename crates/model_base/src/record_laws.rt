@@ -1,11 +1,12 @@
 //! What holds of the records of grants with their ends: they tell of every list of deeds, and of every log, what the
 //! deeds tell, also those of some tables alone, and at every earlier place.
 
-ghost use Rattle.std.specs.Prelude.{◌≡◌, ◌≢◌, ◌↔◌, ℕ, ◌<◌, ◌≤◌, Bool, true, false, Some, None, All, Contains, List, [], ◌∷◌, ◌++◌, length, map};
+ghost use Rattle.std.specs.Prelude.{◌≡◌, ◌≢◌, ◌↔◌, ℕ, ◌<◌, ◌≤◌, Bool, true, false, Some, None, is_none, ◌&&◌, ◌||◌, All, Contains, List, [], ◌∷◌, ◌++◌, length, filter, map};
+ghost use Rattle.std.specs.List.{list_any};
 ghost use Rattle.std.specs.Option.{option_map_or};
-ghost use Rattle.model_base.specs.Laws.{IsRising};
+ghost use Rattle.model_base.specs.Laws.{IsPart, IsRising};
 ghost use Rattle.model_base.specs.Outcomes.{cause, deeds_before, owners};
-ghost use Rattle.model_base.specs.Privileges.{IsProper, concerns, ended_by, holds, is_among, kept, option_of, place_of};
+ghost use Rattle.model_base.specs.Privileges.{IsProper, concerns, ended_by, gives, holds, is_among, kept, option_of, owns, place_of, replayed};
 ghost use Rattle.model_base.specs.Records.{covered, cut, deeds_below, end_after, ended_at, ended_by_records, grants_of, holds_by, in_force, last_loss_by, recorded, records};
 ghost use Rattle.model_base.specs.declared.deed.Cause.TheVariants.{Never, Taken};
 ghost use Rattle.model_base.specs.declared.deed.Deed.TheVariants.{Granting, Revoking};
@@ -16,12 +17,19 @@ ghost use Rattle.model_base.specs.declared.deed.Record.{Record};
 ghost use Rattle.model_base.specs.declared.deed.Revocation.{Revocation};
 ghost use Rattle.model_base.specs.declared.statement.Statement.{Statement};
 
-/// The grants of the records that have no end are those in force, so the records tell who holds what.
+/// The grants of the records that have no end are those in force, so the records tell who holds what: the table's owner,
+/// and whom one of the records without an end gives it.
 pub fn unended_records_are_in_force()
     ensures in_force { (owners : List ℕ) (deeds : List Deed)
         → IsProper owners deeds → in_force (records owners deeds) ≡ kept owners deeds }
+    ensures each { (owners : List ℕ) (deeds : List Deed)
+        → IsProper owners deeds
+        → All (λ entry. is_none entry.end ≡ is_among entry.grant.place (kept owners deeds)) (records owners deeds) }
     ensures held { (owners : List ℕ) (deeds : List Deed) (user : ℕ) (need : Need)
         → IsProper owners deeds → holds_by owners (records owners deeds) user need ≡ holds owners deeds user need }
+    ensures given { (owners : List ℕ) (entries : List Record) (user : ℕ) (need : Need)
+        → holds_by owners entries user need
+        ≡ (owns owners user need.table || list_any (λ entry. is_none entry.end && gives entry.grant user need) entries) }
 {}
 
 /// The records of one more deed: a grant, whose place no deed has, is put behind the others, with no end; a revocation
@@ -36,11 +44,17 @@ pub fn deeds_change_records()
         ≡ map (ended_at revocation.place (ended_by owners deeds revocation)) (records owners deeds) }
 {}
 
-/// The records are of all grants of the deeds, and their places rise.
+/// The records are of all grants of the deeds, and their places rise, as do those of the grants in force, of the records of
+/// some tables, and of the records as they stood at a place, since these are some of all.
 pub fn records_rise()
     ensures grants { (owners : List ℕ) (deeds : List Deed) → recorded (records owners deeds) ≡ grants_of deeds }
     ensures rises { (owners : List ℕ) (deeds : List Deed)
         → IsProper owners deeds → IsRising (recorded (records owners deeds)) }
+    ensures part { (part grants : List Grant) → IsPart part grants → IsRising grants → IsRising part }
+    ensures in_force { (entries : List Record) → IsPart (in_force entries) (recorded entries) }
+    ensures covered { (covers : ℕ → Bool) (entries : List Record)
+        → IsPart (recorded (covered covers entries)) (recorded entries) }
+    ensures cut { (place : ℕ) (entries : List Record) → IsPart (recorded (cut place entries)) (recorded entries) }
 {}
 
 /// A record's end lies above its grant's place, and is the place of a revocation of the grant's kind on its table.
@@ -88,20 +102,43 @@ pub fn earlier_records_are_cut()
         → holds_by owners (cut place (records owners deeds)) user need ≡ holds owners (deeds_below place deeds) user need }
 {}
 
-/// The records of some tables tell of these tables what all records tell: who holds what, which place took a need away
-/// last, and which grants a revocation ends. Cutting them is the same as taking them of the cut records.
+/// The records of some tables tell of these tables what all records tell: who holds what, and which place took a need away
+/// last. Cutting them is the same as taking them of the cut records.
 pub fn covered_records_tell()
-    ensures held { (owners : List ℕ) (covers : ℕ → Bool) (records : List Record) (user : ℕ) (need : Need)
+    ensures held { (owners : List ℕ) (covers : ℕ → Bool) (entries : List Record) (user : ℕ) (need : Need)
         → covers need.table ≡ true
-        → holds_by owners (covered covers records) user need ≡ holds_by owners records user need }
-    ensures lost { (owners : List ℕ) (covers : ℕ → Bool) (records : List Record) (user : ℕ) (need : Need) (place : ℕ)
+        → holds_by owners (covered covers entries) user need ≡ holds_by owners entries user need }
+    ensures lost { (owners : List ℕ) (covers : ℕ → Bool) (entries : List Record) (user : ℕ) (need : Need) (place : ℕ)
         → covers need.table ≡ true
-        → last_loss_by owners (covered covers records) user need place ≡ last_loss_by owners records user need place }
-    ensures ended { (owners : List ℕ) (covers : ℕ → Bool) (deeds : List Deed) (revocation : Revocation)
+        → last_loss_by owners (covered covers entries) user need place ≡ last_loss_by owners entries user need place }
+    ensures cut { (covers : ℕ → Bool) (place : ℕ) (entries : List Record)
+        → cut place (covered covers entries) ≡ covered covers (cut place entries) }
+{}
+
+/// Which grants a revocation ends, the records tell, those of some tables with its own among them, and even those of its
+/// kind on its table alone. This holds of all records whose grants in force have rising places and bear their own replay,
+/// as do those of proper deeds, and those of some tables.
+pub fn records_tell_what_revocations_end()
+    ensures all { (owners : List ℕ) (deeds : List Deed) (revocation : Revocation)
+        → IsProper owners deeds
+        → ended_by_records owners (records owners deeds) revocation ≡ ended_by owners deeds revocation }
+    ensures tables { (owners : List ℕ) (covers : ℕ → Bool) (deeds : List Deed) (revocation : Revocation)
         → IsProper owners deeds → covers revocation.table ≡ true
         → ended_by_records owners (covered covers (records owners deeds)) revocation ≡ ended_by owners deeds revocation }
-    ensures cut { (covers : ℕ → Bool) (place : ℕ) (records : List Record)
-        → cut place (covered covers records) ≡ covered covers (cut place records) }
+    ensures covered { (owners : List ℕ) (covers : ℕ → Bool) (entries : List Record) (revocation : Revocation)
+        → IsRising (in_force entries) → replayed owners [] (in_force entries) ≡ in_force entries
+        → covers revocation.table ≡ true
+        → ended_by_records owners (covered covers entries) revocation ≡ ended_by_records owners entries revocation }
+    ensures concerned { (owners : List ℕ) (entries : List Record) (revocation : Revocation)
+        → IsRising (in_force entries) → replayed owners [] (in_force entries) ≡ in_force entries
+        → ended_by_records owners (filter (λ entry. concerns revocation entry.grant) entries) revocation
+        ≡ ended_by_records owners entries revocation }
+    ensures stand { (owners : List ℕ) (deeds : List Deed)
+        → IsProper owners deeds
+        → replayed owners [] (in_force (records owners deeds)) ≡ in_force (records owners deeds) }
+    ensures stand_covered { (owners : List ℕ) (covers : ℕ → Bool) (entries : List Record)
+        → replayed owners [] (in_force entries) ≡ in_force entries
+        → replayed owners [] (in_force (covered covers entries)) ≡ in_force (covered covers entries) }
 {}
 
 /// The cause of a denial is the last loss by the records, counted down from any place above all deeds; by the deeds below
@@ -123,7 +160,7 @@ pub fn later_owners_change_nothing()
         → IsProper owners deeds → All (λ grant. grant.table < length owners) (grants_of deeds) }
     ensures proper { (owners more : List ℕ) (deeds : List Deed)
         → All (λ grant. grant.table < length owners) (grants_of deeds)
-        → IsProper (owners ++ more) deeds ↔ IsProper owners deeds }
+        → (IsProper (owners ++ more) deeds) ↔ (IsProper owners deeds) }
     ensures kept { (owners more : List ℕ) (deeds : List Deed)
         → All (λ grant. grant.table < length owners) (grants_of deeds)
         → kept (owners ++ more) deeds ≡ kept owners deeds }
@@ -139,6 +176,15 @@ pub fn later_owners_change_nothing()
     ensures cause { (owners more : List ℕ) (deeds : List Deed) (user : ℕ) (need : Need)
         → All (λ grant. grant.table < length owners) (grants_of deeds) → need.table < length owners
         → cause (owners ++ more) deeds user need ≡ cause owners deeds user need }
+    ensures held_by { (owners more : List ℕ) (entries : List Record) (user : ℕ) (need : Need)
+        → need.table < length owners
+        → holds_by (owners ++ more) entries user need ≡ holds_by owners entries user need }
+    ensures lost_by { (owners more : List ℕ) (entries : List Record) (user : ℕ) (need : Need) (place : ℕ)
+        → need.table < length owners
+        → last_loss_by (owners ++ more) entries user need place ≡ last_loss_by owners entries user need place }
+    ensures ended_by { (owners more : List ℕ) (entries : List Record) (revocation : Revocation)
+        → All (λ grant. grant.table < length owners) (in_force entries)
+        → ended_by_records (owners ++ more) entries revocation ≡ ended_by_records owners entries revocation }
 {}
 
 /// The records of the deeds before a place of a log tell of every place up to it: cut there, they are the records of the

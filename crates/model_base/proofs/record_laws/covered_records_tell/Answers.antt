@@ -1,11 +1,9 @@
 use Rattle.model_base.proofs.ByTables.{cut-covered, holds_by-covered, last_loss-covered}
-use Rattle.model_base.proofs.Ended.{ended_by-covered_records}
 use Rattle.model_base.proofs.record_laws.covered_records_tell.Goals as goal
 
 pub returns : goal.returns
 returns c = record {
   held = holds_by-covered;
   lost = last_loss-covered;
-  ended = ended_by-covered_records;
   cut = cut-covered;
 }

@@ -1,6 +1,6 @@
 use Rattle.std.proofs.Common.{◌++◌}
-use Rattle.model_base.specs.Records.{grants_of}
-use Rattle.model_base.proofs.Owners.{kept-owners, records-owners, ended_by-owners, holds-owners, cause-owners}
+use Rattle.model_base.specs.Records.{grants_of, in_force}
+use Rattle.model_base.proofs.Owners.{kept-owners, records-owners, ended_by-owners, holds-owners, cause-owners, holds_by-owners, last_loss-owners, ended_by_records-owners}
 use Rattle.model_base.proofs.MoreOwners.{all_same-more, proper-more, same-more, tables-proper}
 use Rattle.model_base.proofs.record_laws.later_owners_change_nothing.Goals as goal
 
@@ -15,4 +15,9 @@ returns c = record {
       holds-owners (owners ++ more) owners deeds user need (all_same-more owners more (grants_of deeds) on) (same-more owners more need.table here);
   cause = λ owners more deeds user need on here.
       cause-owners (owners ++ more) owners deeds user need (all_same-more owners more (grants_of deeds) on) (same-more owners more need.table here);
+  held_by = λ owners more entries user need here. holds_by-owners (owners ++ more) owners entries user need (same-more owners more need.table here);
+  lost_by = λ owners more entries user need place here.
+      last_loss-owners (owners ++ more) owners entries user need place (same-more owners more need.table here);
+  ended_by = λ owners more entries revocation on.
+      ended_by_records-owners (owners ++ more) owners entries revocation (all_same-more owners more (in_force entries) on);
 }
