@@ -1,0 +1,13 @@
+pub mod Holders
+pub mod Passing
+pub mod SlotLaws
+pub mod ViewLaws
+pub mod BookLaws
+pub mod SeenLaws
+pub mod GrantLaws
+pub mod RevokeLaws
+pub mod LaterLaws
+pub mod CutLaws
+pub mod SlotEnds
+pub mod Parts
+pub mod ShownLaws

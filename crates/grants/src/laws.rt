@@ -1,0 +1,15 @@
+//! What holds of books and of what they show.
+
+ghost use Rattle.std.specs.Prelude.{ℕ, ◌≤◌, All, List, length, slice_get};
+ghost use Rattle.model_base.specs.declared.deed.Deed.{Deed};
+ghost use Rattle.model_base.specs.declared.deed.Record.{Record};
+ghost use Rattle.grants.specs.Book.{AreRising, Entries, IsCreatedBelow, IsSound, ShowsBook};
+
+/// Whatever shows some deeds is a book, if its tables were created in turn, each below the places of its grants. So
+/// `extend` takes all tables, grants and ends that lead to what a longer list of deeds makes.
+pub fn shown_books_are_sound()
+    ensures { (book : Entries) (owners : List ℕ) (deeds : List Deed)
+        → ShowsBook book owners deeds → length book.tables ≤ 65536 → AreRising book.tables
+        → All (λ (entry : Record). IsCreatedBelow entry.grant.place (slice_get book.tables entry.grant.table)) book.records
+        → IsSound book }
+{}
