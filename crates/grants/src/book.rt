@@ -341,6 +341,7 @@ impl Records for BookView<'_> {
 
     #[tactic(auto, using(crate::proofs::SeenLaws::lawful_view))]
     fn at(&self) -> Place {
+        // A book is sound, as its accessors say, and so its view is lawful.
         let _tables = self.book.tables();
         self.place
     }
