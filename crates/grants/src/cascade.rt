@@ -1,34 +1,16 @@
 //! What a revocation takes with it.
 
 ghost use Rattle.std.specs.Prelude.{◌≡◌, ◌<◌, ◌++◌, ◌∷◌, ℕ, List, IfOk, IsSome, OnOk, length, true};
-ghost use Rattle.model_base.specs.Privileges.{concerns, ended_by, names};
+ghost use Rattle.model_base.specs.Privileges.{concerns, ended_by};
 ghost use Rattle.model_base.specs.declared.deed.Deed.{Deed};
 ghost use Rattle.model_base.specs.declared.deed.Grant.{Grant};
 ghost use Rattle.grants.specs.Pass.{cascade, concerned, outlasts};
 ghost use Rattle.grants.specs.View.{Shows, slot_at};
 
-use crate::holding::is_same_kind;
 use crate::records::Records;
 use model_base::{Grant, Place, Revocation, User};
 use std::alloc::{AllocError, Global};
 use std::collections::BTreeSet;
-
-/// Whether the revocation speaks of the grant's kind and table.
-fn concerns(revocation: &Revocation, grant: &Grant) -> bool
-    ensures { result ≡ concerns revocation.now grant.now }
-{
-    is_same_kind(revocation.kind, grant.kind) && revocation.table == grant.table
-}
-
-/// Whether the revocation names the grant.
-#[tactic(auto, unfolding(model_base::specs::Privileges::names))]
-fn names(revocation: &Revocation, grant: &Grant) -> bool
-    ensures { result ≡ names revocation.now grant.now }
-{
-    revocation.grantor == grant.grantor
-        && revocation.grantee == grant.grantee
-        && concerns(revocation, grant)
-}
 
 /// The grant of the slot, if it is in force and the revocation speaks of its kind and table.
 fn concerned<V: Records>(view: &mut V, i: usize, revocation: &Revocation) -> Option<Grant>
@@ -39,7 +21,7 @@ fn concerned<V: Records>(view: &mut V, i: usize, revocation: &Revocation) -> Opt
     let grant = view.grant(i);
     let end = view.end(i);
     match grant {
-        Some(grant) if end.is_none() && concerns(revocation, &grant) => Some(grant),
+        Some(grant) if end.is_none() && revocation.concerns(&grant) => Some(grant),
         _ => None,
     }
 }
@@ -49,7 +31,7 @@ fn concerned<V: Records>(view: &mut V, i: usize, revocation: &Revocation) -> Opt
 fn stays(owner: User, holders: &BTreeSet<u32>, revocation: &Revocation, grant: &Grant) -> bool
     ensures { result ≡ outlasts owner holders.now.keys revocation.now grant.now }
 {
-    if names(revocation, grant) {
+    if revocation.names(grant) {
         return false;
     }
     owner == grant.grantor || holders.contains(&grant.grantor.0)

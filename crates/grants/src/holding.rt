@@ -1,31 +1,13 @@
 //! Who holds what, by a view of the records.
 
 ghost use Rattle.std.specs.Prelude.{◌≡◌, ◌<◌, ℕ, List, IsSome, length, true, false};
-ghost use Rattle.model_base.specs.Privileges.{gives, holds, same_kind};
+ghost use Rattle.model_base.specs.Privileges.{holds};
 ghost use Rattle.std.specs.List.{list_any};
 ghost use Rattle.model_base.specs.declared.deed.Deed.{Deed};
 ghost use Rattle.grants.specs.View.{Shows, holds_in, slot_at, slot_gives};
 
 use crate::records::Records;
-use model_base::{Grant, Kind, Need, Table, User};
-
-/// Whether the two kinds are the same.
-pub(crate) fn is_same_kind(first: Kind, second: Kind) -> bool
-    ensures { result ≡ same_kind first second }
-{
-    first == second
-}
-
-/// Whether the grant gives the user what is needed.
-#[tactic(auto, unfolding(model_base::specs::Privileges::gives))]
-fn gives(grant: &Grant, user: User, need: &Need) -> bool
-    ensures { result ≡ gives grant.now user need.now }
-{
-    grant.grantee == user
-        && is_same_kind(grant.kind, need.kind)
-        && grant.table == need.table
-        && (grant.option || !need.option)
-}
+use model_base::{Kind, Need, Table, User};
 
 /// Whether the slot has a grant in force that gives the user what is needed.
 fn slot_gives<V: Records>(view: &mut V, i: usize, user: User, need: &Need) -> bool
@@ -36,7 +18,7 @@ fn slot_gives<V: Records>(view: &mut V, i: usize, user: User, need: &Need) -> bo
     let grant = view.grant(i);
     let end = view.end(i);
     match grant {
-        Some(grant) => end.is_none() && gives(&grant, user, need),
+        Some(grant) => end.is_none() && grant.gives(user, need),
         None => false,
     }
 }

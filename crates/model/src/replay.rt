@@ -4,10 +4,10 @@ ghost use Rattle.std.specs.Prelude.{◌≡◌, ◌++◌, [], IfOk, OnOk};
 ghost use Rattle.std.specs.List.{list_any};
 ghost use Rattle.model_base.specs.declared.deed.Grant.{Grant};
 ghost use Rattle.model_base.specs.Outcomes.{cause, creator, owners};
-ghost use Rattle.model_base.specs.Privileges.{concerns, erased, gives, has, holds, kept, names, option_of, owns, place_of, replayed, revokes, same_kind};
+ghost use Rattle.model_base.specs.Privileges.{erased, gives, has, holds, kept, option_of, owns, place_of, replayed, revokes};
 ghost use Rattle.model.specs.Replay.{unerased};
 
-use model_base::{Cause, Deed, Form, Grant, Kind, Need, Place, Revocation, Statement, Table, User};
+use model_base::{Cause, Deed, Form, Grant, Need, Place, Statement, Table, User};
 use std::alloc::{AllocError, Global};
 
 /// The owner of each table of a log, in the tables' order.
@@ -31,29 +31,11 @@ fn owns(owners: &[User], user: User, table: Table) -> bool
     index < owners.len() && owners[index] == user
 }
 
-/// Whether the two kinds are the same.
-fn is_same(left: Kind, right: Kind) -> bool
-    ensures { result ≡ same_kind left right }
-{
-    left == right
-}
-
-/// Whether the grant gives the user what is needed.
-#[tactic(auto, unfolding(model_base::specs::Privileges::gives))]
-fn gives(grant: &Grant, user: User, need: Need) -> bool
-    ensures { result ≡ gives grant.now user need }
-{
-    grant.grantee == user
-        && is_same(grant.kind, need.kind)
-        && grant.table == need.table
-        && (grant.option || !need.option)
-}
-
 /// Whether one of the grants gives the user what is needed.
 fn is_given(grants: &[Grant], user: User, need: Need) -> bool
     ensures { result ≡ list_any (λ (grant : Grant). gives grant user need) grants.now }
 {
-    grants.iter().any(|grant| gives(grant, user, need))
+    grants.iter().any(|grant| grant.gives(user, &need))
 }
 
 /// Whether the user has what is needed as the table's owner, or by one of the grants.
@@ -75,30 +57,13 @@ fn option_of(grant: &Grant) -> Need
     }
 }
 
-/// Whether the revocation speaks of the grant's kind and table.
-fn concerns(revocation: &Revocation, grant: &Grant) -> bool
-    ensures { result ≡ concerns revocation.now grant.now }
-{
-    is_same(revocation.kind, grant.kind) && revocation.table == grant.table
-}
-
-/// Whether the revocation names the grant.
-#[tactic(auto, unfolding(model_base::specs::Privileges::names))]
-fn names(revocation: &Revocation, grant: &Grant) -> bool
-    ensures { result ≡ names revocation.now grant.now }
-{
-    revocation.grantor == grant.grantor
-        && revocation.grantee == grant.grantee
-        && concerns(revocation, grant)
-}
-
 /// Whether the deed is a revocation that names the grant.
 fn revokes(deed: &Deed, grant: &Grant) -> bool
     ensures { result ≡ revokes deed.now grant.now }
 {
     match deed {
         Deed::Granting(_) => false,
-        Deed::Revoking(revocation) => names(revocation, grant),
+        Deed::Revoking(revocation) => revocation.names(grant),
     }
 }
 

@@ -14,6 +14,18 @@ pub enum Kind {
     Delete,
 }
 
+impl Kind {
+    ghost use Rattle.std.specs.Prelude.{◌≡◌};
+    ghost use Rattle.model_base.specs.Privileges.{same_kind};
+
+    /// Whether the two kinds are the same.
+    fn is_same(self, other: Kind) -> bool
+        ensures { result ≡ same_kind self other }
+    {
+        self == other
+    }
+}
+
 /// Some of the four kinds.
 #[derive(Clone, Copy, PartialEq, Eq, Debug)]
 pub struct Kinds {
@@ -75,6 +87,22 @@ pub struct Record {
     pub end: Option<Place>,
 }
 
+impl Grant {
+    ghost use Rattle.std.specs.Prelude.{◌≡◌};
+    ghost use Rattle.model_base.specs.Privileges.{gives};
+
+    /// Whether it gives the user what is needed.
+    #[tactic(auto, unfolding(crate::specs::Privileges::gives))]
+    pub fn gives(&self, user: User, need: &Need) -> bool
+        ensures { result ≡ gives self.now user need.now }
+    {
+        self.grantee == user
+            && self.kind.is_same(need.kind)
+            && self.table == need.table
+            && (self.option || !need.option)
+    }
+}
+
 /// The revocation of its grantor's earlier grants of one kind on one table to one user.
 #[derive(Clone, Copy, PartialEq, Eq, Debug)]
 pub struct Revocation {
@@ -83,6 +111,26 @@ pub struct Revocation {
     pub grantee: User,
     pub kind: Kind,
     pub table: Table,
+}
+
+impl Revocation {
+    ghost use Rattle.std.specs.Prelude.{◌≡◌};
+    ghost use Rattle.model_base.specs.Privileges.{concerns, names};
+
+    /// Whether it speaks of the grant's kind and table.
+    pub fn concerns(&self, grant: &Grant) -> bool
+        ensures { result ≡ concerns self.now grant.now }
+    {
+        self.kind.is_same(grant.kind) && self.table == grant.table
+    }
+
+    /// Whether it names the grant: its grantor made that to its grantee, of its kind on its table.
+    #[tactic(auto, unfolding(crate::specs::Privileges::names))]
+    pub fn names(&self, grant: &Grant) -> bool
+        ensures { result ≡ names self.now grant.now }
+    {
+        self.grantor == grant.grantor && self.grantee == grant.grantee && self.concerns(grant)
+    }
 }
 
 /// What changes who holds which privilege.
