@@ -85,8 +85,9 @@ pub fn filled<S: RowSource>(statement: &Statement, source: &S) -> Window
     window
 }
 
-/// Makes room for each row that the window has.
-fn reserve_rows<S: RowStore>(
+/// Makes room for each row that the window has, at the keys of the accesses. It changes no row. On `Err` memory was
+/// refused, and room may have been made for some of them: `release_rows` gives it up.
+pub fn reserve_rows<S: RowStore>(
     accesses: &[Access],
     window: &Window,
     store: &mut S,
@@ -104,8 +105,9 @@ fn reserve_rows<S: RowStore>(
     Ok(())
 }
 
-/// Puts the rows of the window where room was made for them.
-fn put_rows<S: RowStore>(accesses: &[Access], window: &Window, store: &mut S)
+/// Puts the rows of the window at the keys of the accesses, where `reserve_rows` made room for them. It takes no memory. If
+/// two accesses name one key, the row of the first counts.
+pub fn put_rows<S: RowStore>(accesses: &[Access], window: &Window, store: &mut S)
     requires places { length accesses.now ≤ 16 }
     requires room { HasRoomFrom (S.has_room store.old) accesses.now window.now.rows }
     ensures rows { S.rows store.new ≡ with_rows accesses.now window.now.rows (S.rows store.old) }
@@ -118,8 +120,8 @@ fn put_rows<S: RowStore>(accesses: &[Access], window: &Window, store: &mut S)
     }
 }
 
-/// Gives up the room that no row needs.
-fn release_rows<S: RowStore>(accesses: &[Access], store: &mut S)
+/// Gives up the room at the keys of the accesses that no row needs. It changes no row.
+pub fn release_rows<S: RowStore>(accesses: &[Access], store: &mut S)
     ensures rows { S.rows store.new ≡ S.rows store.old }
     ensures lean { IsLeanBelow (S.has_room store.new) (S.rows store.new) (length accesses.now) accesses.now }
     ensures no_more { (table row : ℕ) → S.has_room store.new table row → S.has_room store.old table row }
@@ -131,7 +133,7 @@ fn release_rows<S: RowStore>(accesses: &[Access], store: &mut S)
 
 /// Gives up the room at the key of each access whose row the window doesn't have. Once the rows of the window are put, no
 /// room is left that no row needs.
-fn release_absent<S: RowStore>(accesses: &[Access], window: &Window, store: &mut S)
+pub fn release_absent<S: RowStore>(accesses: &[Access], window: &Window, store: &mut S)
     requires { length accesses.now ≤ 16 }
     ensures rows { S.rows store.new ≡ S.rows store.old }
     ensures lean { IsLeanWhereAbsent (S.has_room store.new) (S.rows store.new) (length accesses.now) accesses.now window.now.rows }

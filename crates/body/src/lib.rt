@@ -20,7 +20,10 @@ mod tests;
 mod window;
 
 pub use ending::BodyEnd;
-pub use filling::{RowSource, RowStore, accesses, filled, run_on, write_back};
+pub use filling::{
+    RowSource, RowStore, accesses, filled, put_rows, release_absent, release_rows, reserve_rows,
+    run_on, write_back,
+};
 pub use laws::{keeps_others, leaves_others, shows_rows};
 use model_base::{Form, Statement};
 pub use row_map::RowMap;

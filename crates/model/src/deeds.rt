@@ -1,62 +1,14 @@
-//! The deed of a statement, and what it comes to.
+//! What a deed comes to.
 
 ghost use Rattle.std.specs.Prelude.{◌≡◌, ◌++◌, ◌∷◌, [], IfOk, OnOk};
-ghost use Rattle.model_base.specs.Outcomes.{deed_at, deed_done, deed_of};
+ghost use Rattle.model_base.specs.Outcomes.{deed_done};
 ghost use Rattle.std.specs.Option.{option_map_or};
 ghost use Rattle.model_base.specs.Privileges.{is_among, kept, lost};
 ghost use Rattle.model_base.specs.Rows.{Rows};
 
 use crate::replay::kept;
-use model_base::{
-    Deed, DeedDone, DeedForm, Form, Grant, Items, Place, Revocation, Statement, User,
-};
+use model_base::{Deed, DeedDone, Grant, Items, Place, User};
 use std::alloc::{AllocError, Global};
-
-/// The deed of a user at a place.
-fn deed_at(place: Place, user: User, form: &DeedForm) -> Deed
-    ensures { result ≡ deed_at place user form.now }
-{
-    match *form {
-        DeedForm::Grant {
-            kind,
-            table,
-            grantee,
-            option,
-        } => Deed::Granting(Grant {
-            place,
-            grantor: user,
-            grantee,
-            kind,
-            table,
-            option,
-        }),
-        DeedForm::Revoke {
-            kind,
-            table,
-            grantee,
-        } => Deed::Revoking(Revocation {
-            place,
-            grantor: user,
-            grantee,
-            kind,
-            table,
-        }),
-    }
-}
-
-/// The deed that a statement makes at a place, if its body completes.
-pub(crate) fn deed_of(place: Place, statement: &Statement) -> Option<Deed>
-    ensures { result ≡ deed_of place statement.now.user statement.now.form }
-{
-    match &statement.form {
-        Form::Run {
-            deed: Some(deed),
-            ..
-        }
-        | Form::Deed(deed) => Some(deed_at(place, statement.user, deed)),
-        Form::Run { deed: None, .. } | Form::Create { .. } => None,
-    }
-}
 
 /// Whether a grant of this place is among the grants.
 fn is_among(place: Place, grants: &[Grant]) -> bool

@@ -6,7 +6,7 @@ ghost use Rattle.model_base.specs.Privileges.{kept};
 ghost use Rattle.body.specs.Premises.{IsRunnable};
 ghost use Rattle.model.specs.State.{world_of};
 
-use crate::deeds::{deed_of, make};
+use crate::deeds::make;
 use crate::needs::{first_missing, needs};
 use crate::replay::{cause, kept};
 use body::{BodyEnd, RowMap, run_on};
@@ -74,7 +74,7 @@ impl State {
         let (end, outputs) = run_on(statement, &mut self.rows)?;
         match end {
             BodyEnd::Completed => {
-                let deed = deed_of(place, statement);
+                let deed = statement.deed_at(place);
                 let deed = make(alloc, owners, grants, &mut self.deeds, deed)?;
                 Ok(Outcome::Done { outputs, deed })
             }

@@ -1,8 +1,8 @@
 //! The statements of a log.
 
-use crate::deed::{Kind, Kinds};
+use crate::deed::{Deed, Grant, Kind, Kinds, Revocation};
 use crate::list::Items;
-use crate::name::{RowNumber, Table, User};
+use crate::name::{Place, RowNumber, Table, User};
 use crate::row::Key;
 use std::marker::Model;
 
@@ -144,6 +144,43 @@ pub enum DeedForm {
     },
 }
 
+impl DeedForm {
+    ghost use Rattle.std.specs.Prelude.{◌≡◌};
+    ghost use Rattle.model_base.specs.Outcomes.{deed_at};
+
+    /// The deed of a user at a place.
+    pub fn at(&self, place: Place, user: User) -> Deed
+        ensures { result ≡ deed_at place user self.now }
+    {
+        match *self {
+            DeedForm::Grant {
+                kind,
+                table,
+                grantee,
+                option,
+            } => Deed::Granting(Grant {
+                place,
+                grantor: user,
+                grantee,
+                kind,
+                table,
+                option,
+            }),
+            DeedForm::Revoke {
+                kind,
+                table,
+                grantee,
+            } => Deed::Revoking(Revocation {
+                place,
+                grantor: user,
+                grantee,
+                kind,
+                table,
+            }),
+        }
+    }
+}
+
 /// What a statement asks for.
 #[derive(Debug, Drop)]
 pub enum Form {
@@ -164,4 +201,23 @@ pub enum Form {
 pub struct Statement {
     pub user: User,
     pub form: Form,
+}
+
+impl Statement {
+    ghost use Rattle.std.specs.Prelude.{◌≡◌};
+    ghost use Rattle.model_base.specs.Outcomes.{deed_of};
+
+    /// The deed that the statement makes at a place, if its body completes.
+    pub fn deed_at(&self, place: Place) -> Option<Deed>
+        ensures { result ≡ deed_of place self.now.user self.now.form }
+    {
+        match &self.form {
+            Form::Run {
+                deed: Some(deed),
+                ..
+            }
+            | Form::Deed(deed) => Some(deed.at(place, self.user)),
+            Form::Run { deed: None, .. } | Form::Create { .. } => None,
+        }
+    }
 }
