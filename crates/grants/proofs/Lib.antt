@@ -11,3 +11,4 @@ pub mod CutLaws
 pub mod SlotEnds
 pub mod Parts
 pub mod ShownLaws
+pub mod LossLaws

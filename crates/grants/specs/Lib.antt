@@ -1,3 +1,4 @@
 pub mod View
 pub mod Pass
 pub mod Book
+pub mod Loss

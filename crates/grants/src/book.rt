@@ -85,7 +85,7 @@ impl Book {
 
     /// Adds a table last, which its creator owns, and answers its number. The place has to lie above all of the book. On
     /// `Err` memory was refused, and the book is as it was.
-    #[tactic(auto, using(crate::proofs::BookLaws::sound_table))]
+    #[tactic(auto, using(crate::proofs::BookLaws::sound_table, crate::proofs::LaterLaws::later_table))]
     pub fn add_table(&mut self, owner: User, place: Place) -> Result<Table, AllocError>
         requires room { length self.old.tables < 65536 }
         requires later { IsLater self.old place }
@@ -93,6 +93,7 @@ impl Book {
         ensures ok { OnOk result (self.new ≡ with_table self.old (record { owner = owner; place = place })) }
         ensures after { OnOk result ((owners more : List ℕ) (deeds : List Deed) → ShowsBook self.old owners deeds
             → owners ≡ owners_of self.new.tables ++ more → ShowsBook self.new owners deeds) }
+        ensures later { OnOk result ((next : ℕ) → place < next → IsLater self.new next) }
         ensures err { OnErr result (self.new ≡ self.old) }
     {
         let number = self.tables.len();
@@ -103,7 +104,7 @@ impl Book {
     /// Adds a grant last. The place has to lie above all of the book, the table to be one of its tables, and the grantor to
     /// hold the kind with the option, as `holds_option` tells by the book's view. On `Err` memory was refused, and the book
     /// is as it was.
-    #[tactic(auto, using(crate::proofs::GrantLaws::sound_grant, crate::proofs::GrantLaws::shows_grant))]
+    #[tactic(auto, using(crate::proofs::GrantLaws::sound_grant, crate::proofs::GrantLaws::shows_grant, crate::proofs::LaterLaws::later_grant))]
     pub fn grant(&mut self, grant: Grant) -> Result<(), AllocError>
         requires later { IsLater self.old grant.place }
         requires table { grant.table < length self.old.tables }
@@ -111,6 +112,7 @@ impl Book {
         ensures ok { OnOk result (self.new ≡ with_grant self.old grant) }
         ensures after { OnOk result ((owners : List ℕ) (deeds : List Deed) → ShowsBook self.old owners deeds
             → All (λ deed. place_of deed < grant.place) deeds → ShowsBook self.new owners (deeds ++ Granting grant ∷ [])) }
+        ensures later { OnOk result ((next : ℕ) → grant.place < next → IsLater self.new next) }
         ensures err { OnErr result (self.new ≡ self.old) }
     {
         self.records.push(Record { grant, end: None })?;
@@ -156,6 +158,7 @@ impl Book {
         ensures ok { IfOk result (λ ends. self.new ≡ with_ends self.old revocation.now.place ends.items) }
         ensures after { OnOk result ((owners : List ℕ) (deeds : List Deed) → ShowsBook self.old owners deeds
             → All (λ deed. place_of deed < revocation.now.place) deeds → ShowsBook self.new owners (deeds ++ Revoking revocation.now ∷ [])) }
+        ensures later { OnOk result ((next : ℕ) → revocation.now.place < next → IsLater self.new next) }
         ensures err { OnErr result (self.new ≡ self.old) }
     {
         let ended = self.to_end(alloc, revocation)?;

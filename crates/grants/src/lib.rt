@@ -9,12 +9,18 @@ mod book;
 mod cascade;
 mod holding;
 mod laws;
+mod loss;
+#[cfg(test)]
+mod loss_tests;
 mod records;
+#[cfg(test)]
+mod refused;
 #[cfg(test)]
 mod tests;
 
 pub use book::{Book, BookView, Creation, End};
 pub use cascade::to_end;
 pub use holding::{holds, holds_option};
-pub use laws::shown_books_are_sound;
+pub use laws::{shown_books_are_sound, shown_views_tell};
+pub use loss::last_loss;
 pub use records::Records;
