@@ -1,0 +1,115 @@
+-- What the first need is that a view doesn't show as held.
+use Rattle.std.proofs.Common.{◌≡◌, ℕ, suc, drop, drop-cons, add-one, slice_index_or, ◌+◌, ◌<◌, true, false, not, List, [], ◌∷◌, ◌++◌, Option, Some, None, map, length, refl, sym, ◌∙◌, ap}
+use Rattle.std.specs.Prelude.{All, IsSome, IsTrue, is_some}
+use Rattle.std.specs.List.{find}
+use Rattle.std.proofs.lemmas.Bool.{true≢false}
+use Rattle.std.proofs.lemmas.List.{map-append}
+use Rattle.std.proofs.lemmas.List.Folds.{find-append}
+use Rattle.std.proofs.lemmas.List.Elements.{All-cons, All-head, All-nil, All-tail}
+use Rattle.model_base.specs.declared.deed.Deed.{Deed}
+use Rattle.model_base.specs.declared.deed.Kind.{Kind}
+use Rattle.model_base.specs.declared.deed.Kind.TheVariants.{Read, Insert, Update, Delete}
+use Rattle.model_base.specs.declared.deed.Need.{Need}
+use Rattle.model_base.specs.declared.statement.Access.{Access}
+use Rattle.model_base.specs.Outcomes.{kind_if, need_of, needs_of_access}
+use Rattle.model_base.specs.Privileges.{has_kind, holds}
+use Rattle.model_base.proofs.Replay.{by_cases}
+use Rattle.grants.specs.View.{Shows, View, covers, holds_in}
+use Rattle.grants.proofs.ViewLaws.{held_after}
+use Rattle.checker.specs.Missing.{Covers, first_lacking, lacks}
+
+-- the needs of one kind
+abbrev pub of_kind : Access → Kind → List Need
+of_kind access kind = map (need_of access) (kind_if access.kinds kind)
+
+-- the needs of an access, kind by kind
+pub by_kinds : (access : Access) → needs_of_access access ≡ of_kind access Read ++ (of_kind access Insert ++ (of_kind access Update ++ of_kind access Delete))
+by_kinds access =
+    map-append (need_of access) (kind_if access.kinds Read) (kind_if access.kinds Insert ++ (kind_if access.kinds Update ++ kind_if access.kinds Delete))
+    ∙ ap (λ later. of_kind access Read ++ later)
+    (map-append (need_of access) (kind_if access.kinds Insert) (kind_if access.kinds Update ++ kind_if access.kinds Delete)
+    ∙ ap (λ later. of_kind access Insert ++ later) (map-append (need_of access) (kind_if access.kinds Update) (kind_if access.kinds Delete)))
+
+-- what is there is so
+pub some_is : {X : Type 0} (o : Option X) → IsTrue (is_some o) → IsSome o
+some_is (Some x) is = refl
+some_is None is = absurd (true≢false (sym is))
+
+module _ (view : View) where
+  -- what is covered is so in both parts of a list
+  pub covers_left : (xs ys : List Need) → Covers view (xs ++ ys) → Covers view xs
+  covers_left [] ys covered = All-nil (λ (need : Need). IsTrue (covers view need.table))
+  covers_left (x ∷ xs) ys covered =
+      let P : Need → Type 0 = λ need. IsTrue (covers view need.table) in
+      All-cons P x xs (All-head P x (xs ++ ys) covered) (covers_left xs ys (All-tail P x (xs ++ ys) covered))
+
+  pub covers_right : (xs ys : List Need) → Covers view (xs ++ ys) → Covers view ys
+  covers_right [] ys covered = covered
+  covers_right (x ∷ xs) ys covered = covers_right xs ys (All-tail (λ (need : Need). IsTrue (covers view need.table)) x (xs ++ ys) covered)
+
+  -- the table of an access is covered, if it declares a kind
+  pub covers_kind : (access : Access) (kind : Kind) → has_kind access.kinds kind ≡ true → Covers view (of_kind access kind) → IsSome (view.owner access.key.table)
+  covers_kind access kind declared covered =
+      let here : Covers view (need_of access kind ∷ []) = rw declared at covered in
+      some_is (view.owner access.key.table) (All-head (λ (need : Need). IsTrue (covers view need.table)) (need_of access kind) [] here)
+
+  -- the table of a need is covered
+  pub covers_one : (need : Need) → Covers view (need ∷ []) → IsSome (view.owner need.table)
+  covers_one need covered = some_is (view.owner need.table) (All-head (λ (n : Need). IsTrue (covers view n.table)) need [] covered)
+
+  module _ (user : ℕ) where
+    -- the first of two lists is one of the first list, or else of the second
+    pub first-left : (xs ys : List Need) (need : Need) → first_lacking view user xs ≡ Some need → first_lacking view user (xs ++ ys) ≡ Some need
+    first-left xs ys need is = find-append (lacks view user) xs ys ∙ rw is refl
+
+    pub first-right : (xs ys : List Need) → first_lacking view user xs ≡ None → first_lacking view user (xs ++ ys) ≡ first_lacking view user ys
+    first-right xs ys none = find-append (lacks view user) xs ys ∙ rw none refl
+
+    -- where none is missing, each is held
+    pub none_missing : (needed : List Need) → first_lacking view user needed ≡ None → All (λ need. holds_in view user need ≡ true) needed
+    none_missing [] none = All-nil (λ need. holds_in view user need ≡ true)
+    none_missing (need ∷ needed) none =
+        let Held : Need → Type 0 = λ n. holds_in view user n ≡ true in
+        by_cases (holds_in view user need)
+        (λ held. All-cons Held need needed held (none_missing needed (rw held at none)))
+        (λ lost. absurd (other (rw lost at none)))
+      where
+        other : Some need ≡ None → ⊥
+        other e = cc
+
+    -- the one that is missing isn't held, and its table is covered
+    pub missing_is : (needed : List Need) (need : Need) → first_lacking view user needed ≡ Some need → Covers view needed
+        → (holds_in view user need ≡ false) × IsSome (view.owner need.table)
+    missing_is [] need is covered = absurd (cc)
+    missing_is (first ∷ needed) need is covered =
+        let P : Need → Type 0 = λ n. IsTrue (covers view n.table) in
+        by_cases (holds_in view user first)
+        (λ held. missing_is needed need (rw held at is) (All-tail P first needed covered))
+        (λ lost.
+        let same : Some first ≡ Some need = rw lost at is in
+        let here : first ≡ need = cc in
+        rw (← here) (lost, some_is (view.owner first.table) (All-head P first needed covered)))
+
+    -- the view's first missing need is that after the deeds that it shows
+    pub first_shown : (owners : List ℕ) (deeds : List Deed) → Shows view owners deeds → (needed : List Need) → Covers view needed
+        → first_lacking view user needed ≡ find (λ need. not (holds owners deeds user need)) needed
+    first_shown owners deeds shows [] covered = refl
+    first_shown owners deeds shows (need ∷ needed) covered =
+        let P : Need → Type 0 = λ n. IsTrue (covers view n.table) in
+        let same = held_after view owners deeds user need shows (some_is (view.owner need.table) (All-head P need needed covered)) in
+        rw (same, first_shown owners deeds shows needed (All-tail P need needed covered)) refl
+
+-- the accesses from an index on are the one of the index and the later ones
+pub from_access : (accesses : List Access) (i : ℕ) (access : Access) → i < length accesses → access ≡ slice_index_or accesses i access
+    → drop i accesses ≡ access ∷ drop (i + 1) accesses
+from_access accesses i access within is =
+    rw (add-one i) (drop-cons accesses i access within ∙ ap (λ first. first ∷ drop (suc i) accesses) (sym is))
+
+-- a found value, or none
+pub is_some_at : {X : Type 0} (o : Option X) → is_some o ≡ true → (x : X) × (o ≡ Some x)
+is_some_at (Some x) is = (x, refl)
+is_some_at None is = absurd (true≢false (sym is))
+
+pub is_none_at : {X : Type 0} (o : Option X) → is_some o ≡ false → o ≡ None
+is_none_at (Some x) is = absurd (true≢false is)
+is_none_at None is = refl

@@ -1,0 +1,17 @@
+-- Which needs a view of the records doesn't show as held.
+use Rattle.std.specs.Prelude.{ℕ, not, All, Bool, IsTrue, Option, List}
+use Rattle.std.specs.List.{find}
+use Rattle.model_base.specs.declared.deed.Need.{Need}
+use Rattle.grants.specs.View.{View, covers, holds_in}
+
+-- whether the user doesn't hold the need by the records of the view
+abbrev pub lacks : View → ℕ → Need → Bool
+lacks view user need = not (holds_in view user need)
+
+-- the first of the needs that the user doesn't hold by the records of the view
+abbrev pub first_lacking : View → ℕ → List Need → Option Need
+first_lacking view user needed = find (lacks view user) needed
+
+-- the view covers the tables of the needs
+abbrev pub Covers : View → List Need → Type 0
+Covers view needed = All (λ (need : Need). IsTrue (covers view need.table)) needed

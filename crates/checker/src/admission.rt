@@ -1,0 +1,50 @@
+//! Whether a statement is admitted.
+
+ghost use Rattle.std.specs.Prelude.{◌≡◌, ℕ, List, All, true};
+ghost use Rattle.model_base.specs.Outcomes.{needs};
+ghost use Rattle.model_base.specs.declared.deed.Deed.{Deed};
+ghost use Rattle.model_base.specs.declared.deed.Need.{Need};
+ghost use Rattle.grants.specs.View.{Shows, holds_in};
+ghost use Rattle.checker.specs.Admission.{admission, told_if};
+ghost use Rattle.checker.specs.Missing.{Covers, first_lacking};
+ghost use Rattle.checker.specs.declared.admission.Admission.TheVariants.{Admitted};
+
+use crate::missing::first_missing;
+use grants::{Records, last_loss};
+use model_base::{Cause, Need, Statement};
+
+/// Whether a statement may run.
+#[derive(Clone, Copy, PartialEq, Eq, Debug)]
+pub enum Admission {
+    /// Its user holds each privilege that it needs.
+    Admitted,
+    /// Its user doesn't hold this one, the first in the order in which they are checked.
+    Denied {
+        need: Need,
+        /// The revocation that last took it, or that it never was held.
+        cause: Cause,
+    },
+}
+
+/// Whether the statement's user holds each privilege that it needs, at the view's place: the kinds of each access in order,
+/// and for a grant its kind with the option. The first that isn't held denies, with its cause. A need that stands twice is
+/// looked up as it stands. It takes no memory; each need costs one look at each slot of the view, and a denial one more.
+pub fn admit<V: Records>(statement: &Statement, view: &mut V) -> Admission
+    requires covered { Covers (V.shown view.old) (needs statement.now.form) }
+    ensures value { (owners : List ℕ) (deeds : List Deed) → Shows (V.shown view.old) owners deeds
+        → result ≡ admission owners deeds statement.now.user statement.now.form }
+    ensures told { result ≡ told_if (V.shown view.old) statement.now.user
+        (first_lacking (V.shown view.old) statement.now.user (needs statement.now.form)) }
+    ensures held { result ≡ Admitted
+        → All (λ (need : Need). holds_in (V.shown view.old) statement.now.user need ≡ true) (needs statement.now.form) }
+    ensures same { V.shown view.new ≡ V.shown view.old }
+{
+    let Some(need) = first_missing(view, statement.user, &statement.form) else {
+        return Admission::Admitted;
+    };
+    let cause = match last_loss(view, statement.user, &need) {
+        Some(place) => Cause::Taken(place),
+        None => Cause::Never,
+    };
+    Admission::Denied { need, cause }
+}
