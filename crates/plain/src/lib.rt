@@ -1,0 +1,7 @@
+//! The plain run of a log, one statement after another: each is admitted or denied by the book of grants, its body runs over
+//! the rows of all tables, and its deed changes the book.
+#![tactic(auto)]
+
+mod state;
+
+pub use state::State;
