@@ -4,10 +4,10 @@ use Rattle.std.specs.Option.{option_map, option_map_or}
 use Rattle.clap.specs.Words.{App, IsAmong, Kinds, Row, Shape, Text, first_of, new_app, new_rule, with_rule, with_subcommand}
 use Rattle.clap.specs.declared.error.kind.ErrorKind.{ErrorKind}
 use denote.Ref.{Bor}
+use Rattle.bohm_base.specs.declared.fault.EngineFault.{EngineFault}
 use Rattle.bohm.specs.declared.words.Command.{Command}
 use Rattle.bohm.specs.declared.words.ProgramFault.{ProgramFault}
 use Rattle.bohm.specs.declared.words.Usage.{Usage}
-use Rattle.bohm.specs.declared.fault.EngineFault.{EngineFault}
 
 -- whether an error of this kind is told so: help and the version as help, any other as a fault of the words
 abbrev pub Tells : Usage → ErrorKind → Type 0

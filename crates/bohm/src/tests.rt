@@ -1,6 +1,3 @@
-//! The worked logs with their reports, readers and writers that fail, and the words of the command line.
+//! The words of the command line, and the ends of a run.
 
-mod deeds;
-mod doubles;
-mod reports;
 mod usage;

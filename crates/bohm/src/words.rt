@@ -4,7 +4,7 @@ ghost use Rattle.std.specs.Prelude.{◌≡◌, [], IfOk, IfErr, OnOk};
 ghost use Rattle.clap.specs.Words.{app_of, fault_of, kind_of, subcommand_of, subcommand_rows_of, with_subcommand};
 ghost use Rattle.bohm.specs.Words.{Asks, Tells, TellsOneOf, bohm_app, message_of, run_shape, serial_shape, status_of, texts_of};
 
-use crate::fault::EngineFault;
+use bohm_base::EngineFault;
 use clap::error::ErrorKind;
 use clap::{Arg, ArgMatches, Error};
 use std::alloc::{AllocError, Global};

@@ -1,7 +1,7 @@
 //! The words of the command line, and the ends of a run.
 
-use crate::fault::EngineFault;
 use crate::words::{Command, ProgramFault, Usage, ending, read_words};
+use bohm_base::EngineFault;
 
 #[test]
 fn reads_the_words_of_a_run(rt: HostRuntime) {

@@ -1,0 +1,92 @@
+-- The report so far, as the writer holds it.
+use Rattle.std.proofs.Common.{◌≡◌, ℕ, ◌+◌, ◌<◌, List, [], ◌∷◌, ◌++◌, length, get_or, take, drop, Option, Some, None, ap, sym, ◌∙◌, subst, append_assoc, add-one, drop-cons}
+use Rattle.std.specs.Prelude.{IfSome}
+use Rattle.std.specs.Io.KnownBytes.{Appends, Keeps}
+use Rattle.std.proofs.lemmas.List.{take-append-drop}
+use Rattle.log_text_base.specs.Known.{AppendsFront, HasBegun, MovesOut}
+use Rattle.log_text_base.proofs.Written.{appends_none, appends_then, appends_kept, appends_front}
+use Rattle.sequencer.specs.Log.{Accepted}
+use Rattle.report.specs.Report.{IsReport}
+use Rattle.report.proofs.Readings.{IsTotal, some_report}
+use Rattle.bohm_base.specs.declared.collecting.Became.{Became}
+use Rattle.bohm_base.specs.Collecting.{Collects, became_text, log_text, places_of, report_text}
+use Rattle.bohm_base.proofs.Logs.{report_is}
+
+-- the line of an index of the log's lines is pending too
+pub moves_on : (o n : Option (List ℕ)) (log : Accepted) (lines : List Became) (index place places : ℕ) (d : Became) (pending more text : List ℕ)
+    → MovesOut o n (log_text log lines) (pending ++ report_text log.statements log.names.tables (index + 1) place (drop index lines))
+    → index < length lines → places ≡ places_of (get_or lines index d)
+    → more ≡ pending ++ text → text ≡ became_text log.statements log.names.tables (index + 1) place (get_or lines index d)
+    → MovesOut o n (log_text log lines) (more ++ report_text log.statements log.names.tables (index + 1 + 1) (place + places) (drop (index + 1) lines))
+moves_on o n log lines index place places d pending more text moves low places_is more_is text_is =
+    let line : Became = get_or lines index d in
+    let rest : ℕ → List ℕ = λ next. report_text log.statements log.names.tables (index + 1 + 1) next (drop (index + 1) lines) in
+    let split : drop index lines ≡ line ∷ drop (index + 1) lines =
+    drop-cons lines index d low ∙ ap (λ (k : ℕ). line ∷ drop k lines) (sym (add-one index)) in
+    let same : more ++ rest (place + places) ≡ pending ++ report_text log.statements log.names.tables (index + 1) place (drop index lines) =
+    ap (λ (w : List ℕ). w ++ rest (place + places)) (more_is ∙ ap (λ (t : List ℕ). pending ++ t) text_is)
+    ∙ append_assoc pending (became_text log.statements log.names.tables (index + 1) place line) (rest (place + places))
+    ∙ ap (λ (k : ℕ). pending ++ (became_text log.statements log.names.tables (index + 1) place line ++ rest (place + k))) places_is
+    ∙ ap (λ (ls : List Became). pending ++ report_text log.statements log.names.tables (index + 1) place ls) (sym split) in
+    subst (MovesOut o n (log_text log lines)) (sym same) moves
+
+-- a front of what was pending is written
+pub moves_then : (o n m : Option (List ℕ)) (whole pending less rest : List ℕ) → MovesOut o n whole (pending ++ rest) → MovesOut n m pending less
+    → MovesOut o m whole (less ++ rest)
+moves_then o n m whole pending less rest first then = (
+  first.0 ++ then.0,
+  appends_then o n m first.0 then.0 first.1 then.1,
+  append_assoc first.0 then.0 (less ++ rest)
+      ∙ ap (λ (w : List ℕ). first.0 ++ w) (sym (append_assoc then.0 less rest) ∙ ap (λ (w : List ℕ). w ++ rest) then.2)
+      ∙ first.2,
+)
+
+-- a front of what was pending is written, and the rest of it is lost
+pub begun_lost : (o n m : Option (List ℕ)) (whole pending less rest : List ℕ) → MovesOut o n whole (pending ++ rest) → AppendsFront n m pending → less ≡ []
+    → HasBegun o m less whole
+begun_lost o n m whole pending less rest moves front none =
+    let left : List ℕ = drop front.0 pending in
+    let moved : MovesOut o m whole (left ++ rest) = moves_then o n m whole pending left rest moves (take front.0 pending, front.1, take-append-drop front.0 pending) in
+    (left ++ rest, subst (λ (w : List ℕ). MovesOut o m whole (w ++ (left ++ rest))) (sym none) moved)
+
+-- what was pending at the end is written, or a front of it
+front_written : (o n m : Option (List ℕ)) (whole pending : List ℕ) → HasBegun o n pending whole → AppendsFront n m pending → AppendsFront o m whole
+front_written o n m whole pending begun front =
+    let left : List ℕ = drop front.0 pending ++ begun.0 in
+    let moved : MovesOut o m whole left =
+    moves_then o n m whole pending (drop front.0 pending) begun.0 begun.1 (take front.0 pending, front.1, take-append-drop front.0 pending) in
+    appends_front o m moved.0 left whole moved.1 moved.2
+
+-- before the log is read and run, nothing is written
+pub nothing_written : IsTotal → (i o : Option (List ℕ)) → IfSome i (λ input. (text : List ℕ) × (IsReport input text × AppendsFront o o text))
+nothing_written total None o = tt
+nothing_written total (Some input) o = let report = some_report total input in (report.0, (report.1, (0, appends_none o report.0)))
+
+module _ (i : Option (List ℕ)) (log : Accepted) (lines : List Became) where
+  -- a beginning of the report is written
+  pub some_written : (o n m : Option (List ℕ)) (pending : List ℕ) → IfSome i (λ input. Collects input log lines)
+      → HasBegun o n pending (log_text log lines) → AppendsFront n m pending
+      → IfSome i (λ input. (text : List ℕ) × (IsReport input text × AppendsFront o m text))
+  some_written o n m pending collects begun front = some_written_if i collects
+    where
+      some_written_if : (known : Option (List ℕ)) → IfSome known (λ input. Collects input log lines)
+          → IfSome known (λ input. (text : List ℕ) × (IsReport input text × AppendsFront o m text))
+      some_written_if None _ = tt
+      some_written_if (Some input) c = (log_text log lines, (report_is input log lines c, front_written o n m (log_text log lines) pending begun front))
+
+  -- the whole report is written
+  pub all_written : (o n m k : Option (List ℕ)) (pending : List ℕ) → IfSome i (λ input. Collects input log lines)
+      → MovesOut o n (log_text log lines) pending → Appends n m pending → Keeps m k
+      → IfSome i (λ input. (text : List ℕ) × (IsReport input text × Appends o k text))
+  all_written o n m k pending collects moves appends keeps = all_written_if i collects
+    where
+      all_written_if : (known : Option (List ℕ)) → IfSome known (λ input. Collects input log lines)
+          → IfSome known (λ input. (text : List ℕ) × (IsReport input text × Appends o k text))
+      all_written_if None _ = tt
+      all_written_if (Some input) c = (
+        log_text log lines,
+        (
+          report_is input log lines c,
+          subst (Appends o k) moves.2 (appends_kept o m k (moves.0 ++ pending) (appends_then o n m moves.0 pending moves.1 appends) keeps),
+        ),
+      )

@@ -1,0 +1,9 @@
+pub mod Admitted
+pub mod Named
+pub mod Logs
+pub mod LinesRead
+pub mod Beginnings
+pub mod WholeLogs
+pub mod Reporting
+pub mod Reached
+pub mod Taking

@@ -1,0 +1,4 @@
+pub mod Run
+pub mod Collecting
+pub mod Faults
+pub mod Progress

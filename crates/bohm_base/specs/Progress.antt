@@ -1,0 +1,81 @@
+-- What one line adds to a report.
+use Rattle.std.specs.Prelude.{◌≡◌, ℕ, ◌+◌, ◌++◌, ⊤, Option, Some, None, List, length}
+use Rattle.std.specs.Io.KnownBytes.{Appends}
+use Rattle.log_text_base.specs.Lines.{lines_of}
+use Rattle.model_base.specs.Outcomes.{creator, empty_world, owners, world_after}
+use Rattle.model_base.specs.declared.deed.Deed.{Deed}
+use Rattle.model_base.specs.declared.statement.Statement.{Statement}
+use Rattle.model_base.specs.declared.outcome.Outcome.{Outcome}
+use Rattle.log_text.specs.Statement.{Sentence}
+use Rattle.sequencer.specs.Catalog.{Names, no_names, numbered, with_statement}
+use Rattle.sequencer.specs.Refusal.{refusal}
+use Rattle.sequencer.specs.declared.refused.Refused.{Refused}
+use Rattle.grants.specs.Book.{IsLater, owners_of}
+use Rattle.plain.specs.State.{Leads, Stands, world_of}
+use Rattle.plain.specs.declared.state.State.{State}
+use Rattle.report.specs.Text.{IsNamed, fault_word, outcome_text, refused_text, refused_word}
+use Rattle.report.specs.Report.{AreReadings, Reading, read, faulty, log_of, names_after, report_from, report_of}
+use Rattle.bohm_base.specs.Run.{IsWithin}
+
+-- the state is that before the next place of a log with these names: its book has their owners, and stands for some deeds
+pub record IsAt (names : Names) (state : State) : Type 0 where
+  pub counted : length names.owners ≡ length names.tables
+  pub owned : owners_of state.book.tables ≡ names.owners
+  pub later : IsLater state.book names.places
+  pub deeds : List Deed
+  pub stands : Stands state names.places deeds
+
+-- the names are those after the statement of a place, before which the state stands
+pub record IsAfter (names : Names) (state : State) (place : ℕ) (statement : Statement) : Type 0 where
+  pub counted : length names.owners ≡ length names.tables
+  pub owned : owners_of state.book.tables ++ creator statement.user statement.form ≡ names.owners
+  pub places : names.places ≡ place + 1
+  pub within : IsWithin (length names.tables) statement
+  pub deeds : List Deed
+  pub stands : Stands state place deeds
+
+-- a statement at a place was executed, which led from the old state to the new one, and its line was put behind a text;
+-- the names are those after it
+pub record Reports (names : Names) (place : ℕ) (statement : Statement) (old : State) (text : List ℕ) (new : State) (longer : List ℕ) : Type 0 where
+  pub outcome : Outcome
+  pub leads : (deeds : List Deed) → Stands old place deeds → Leads old new place deeds statement outcome
+  pub owned : owners_of new.book.tables ≡ names.owners
+  pub named : IsNamed (length names.tables) outcome
+  pub line : longer ≡ text ++ outcome_text names.tables place statement.form outcome
+
+-- a line that changes nothing was put behind a text
+abbrev pub Refuses : List ℕ → State → List ℕ → State → List ℕ → Type 0
+Refuses line old text new longer = (new ≡ old) × (longer ≡ text ++ line)
+
+-- a statement that the log takes or refuses was dealt with
+abbrev pub AdvancesIf : Names → State → ℕ → Sentence → Option Refused → List ℕ → State → List ℕ → Type 0
+AdvancesIf names old number sentence None text new longer =
+    Reports (with_statement names sentence) names.places (numbered names sentence) old text new longer
+AdvancesIf names old number sentence (Some refused) text new longer =
+    Refuses (refused_text number (refused_word refused)) old text new longer
+
+-- a line of this number that was read so was dealt with
+abbrev pub Advances : Names → State → ℕ → Reading → List ℕ → State → List ℕ → Type 0
+Advances names old number (read sentence) text new longer = AdvancesIf names old number sentence (refusal names sentence) text new longer
+Advances names old number (faulty fault) text new longer = Refuses (refused_text number (fault_word fault)) old text new longer
+
+-- the lines of the input up to what is still to come were read so, which led to these names and this state; and whatever
+-- the lines to come are read as, what was written is the report up to them
+pub record IsSoFar (input rest written : List ℕ) (number : ℕ) (names : Names) (state : State) (earlier : List Reading) : Type 0 where
+  pub named : names ≡ names_after no_names earlier
+  pub reads : (later : List Reading) → AreReadings (lines_of rest) later → AreReadings (lines_of input) (earlier ++ later)
+  pub deeds : List Deed
+  pub stands : Stands state names.places deeds
+  pub left : (later : List Reading)
+      → world_after (owners (log_of no_names (earlier ++ later))) 0 empty_world (log_of no_names earlier) ≡ world_of state deeds
+  pub text : (later : List Reading)
+      → written ++ report_from (log_of no_names (earlier ++ later)) (names_after no_names (earlier ++ later)).tables number names later
+      ≡ report_of (earlier ++ later)
+
+-- the reader's lines up to where it is now are reported behind what the writer held, the end of it still pending
+abbrev pub Reported : Option (List ℕ) → Option (List ℕ) → Option (List ℕ) → Option (List ℕ) → List ℕ → ℕ → Names → State → Type 0
+Reported None in_now out_old out_now pending number names state = ⊤
+Reported (Some input) None out_old out_now pending number names state = ⊥
+Reported (Some input) (Some rest) out_old out_now pending number names state =
+    (earlier : List Reading)
+    × ((front : List ℕ) × (Appends out_old out_now front × IsSoFar input rest (front ++ pending) number names state earlier))

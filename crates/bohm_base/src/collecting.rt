@@ -1,0 +1,128 @@
+//! The whole log, read to its end before any of it is run.
+
+ghost use Rattle.std.specs.Prelude.{◌≡◌, ◌≢◌, ◌<◌, ◌≤◌, ◌-◌, ◌^◌, IfOk, IfErr, IfSome, OnOk, Err};
+ghost use Rattle.log_text.specs.Statement.{IsInGrammar};
+ghost use Rattle.report.specs.Report.{Reading, read};
+ghost use Rattle.bohm_base.specs.Collecting.{Collects, ReadsAs, became, places_of, with_reading};
+ghost use Rattle.bohm_base.specs.Run.{IsReady};
+
+use crate::fault::EngineFault;
+use log_text::{LineFault, RawStatement, parse_line};
+use log_text_base::{Counted, LineReader};
+use sequencer::{Log, Refused};
+use std::alloc::Global;
+use std::io::Read;
+
+/// What a line of the log became.
+#[derive(Clone, Copy, Debug, PartialEq, Eq)]
+pub enum Became {
+    /// The next place of the log.
+    Accepted,
+    /// A line with this fault, which is no statement.
+    Faulty(LineFault),
+    /// A statement that the log refuses.
+    Refused(Refused),
+}
+
+impl Became {
+    /// How many places of the log the line has: one if its statement was accepted.
+    pub fn places(self) -> u64
+        ensures count { result ≡ places_of self }
+        ensures most { result ≤ 1 }
+    {
+        match self {
+            Became::Accepted => 1,
+            Became::Faulty(_) | Became::Refused(_) => 0,
+        }
+    }
+}
+
+/// A log that was read to its end: its statements, and two bytes or so for each of its lines.
+#[derive(Drop)]
+pub struct Collected {
+    /// The accepted statements.
+    pub log: Log,
+    /// What each line became, in the lines' order.
+    pub lines: Vec<Became>,
+}
+
+/// What the line of a refused statement became. Want of memory is no refusal, and ends the run.
+fn refused_line(refused: Refused) -> Result<Became, EngineFault>
+    ensures ok { IfOk result (λ line. (line ≡ Became.Refused refused) × (refused ≢ Refused.NoMemory)) }
+    ensures err { IfErr result (λ f. f ≡ EngineFault.NoMemory) }
+{
+    match refused {
+        Refused::NoMemory => Err(EngineFault::NoMemory),
+        other => Ok(Became::Refused(other)),
+    }
+}
+
+/// What a line with a fault became. Want of memory is no line's fault, and ends the run.
+fn faulty_line(fault: LineFault) -> Result<Became, EngineFault>
+    ensures ok { IfOk result (λ line. (line ≡ Became.Faulty fault) × (fault ≢ LineFault.NoMemory)) }
+    ensures err { IfErr result (λ f. f ≡ EngineFault.NoMemory) }
+{
+    match fault {
+        LineFault::NoMemory => Err(EngineFault::NoMemory),
+        other => Ok(Became::Faulty(other)),
+    }
+}
+
+/// Takes a statement into the log if it is not refused, and says what its line became. After an error the log is as it
+/// was.
+fn take_statement(log: &mut Log, statement: RawStatement) -> Result<Became, EngineFault>
+    requires { IsInGrammar statement }
+    ensures line { IfOk result (λ line. line ≡ became log.old.names (read statement)) }
+    ensures log { OnOk result (log.new ≡ with_reading log.old (read statement)) }
+    ensures ready { OnOk result (IsReady log.old → IsReady log.new) }
+    ensures err { IfErr result (λ f. f ≡ EngineFault.NoMemory) }
+{
+    match log.push(statement) {
+        Ok(_) => Ok(Became::Accepted),
+        Err(refused) => {
+            let line = refused_line(refused)?;
+            Ok(line)
+        }
+    }
+}
+
+/// Reads a line, takes its statement into the log if it is one that is not refused, and says what the line became. After
+/// an error the log is as it was.
+fn take_line(alloc: Global, log: &mut Log, line: &[u8]) -> Result<Became, EngineFault>
+    ensures line { IfOk result (λ line'. (reading : Reading) × (ReadsAs line.now reading
+        × ((line' ≡ became log.old.names reading) × (log.new ≡ with_reading log.old reading)))) }
+    ensures ready { OnOk result (IsReady log.old → IsReady log.new) }
+    ensures err { IfErr result (λ f. f ≡ EngineFault.NoMemory) }
+{
+    match parse_line(alloc, line) {
+        Ok(statement) => {
+            let line = take_statement(log, statement)?;
+            Ok(line)
+        }
+        Err(fault) => {
+            let line = faulty_line(fault)?;
+            Ok(line)
+        }
+    }
+}
+
+/// Reads lines to the end of what the reader gives. `NoMemory` comes where a growth was refused, `Read` where the reader
+/// failed; after either what was collected is gone.
+pub fn collect_lines<R: Read>(
+    alloc: Global,
+    reader: &mut Counted<R>,
+) -> Result<Collected, EngineFault>
+    ensures whole { IfOk result (λ collected. IfSome (R.remaining reader.old.inner) (λ input. Collects input collected.log collected.lines.items)) }
+    ensures ready { IfOk result (λ collected. IsReady collected.log) }
+    ensures read { result ≡ Err EngineFault.Read → reader.old.errors < 2 ^ 64 - 1 → reader.old.errors < reader.new.errors }
+    ensures err { IfErr result (λ f. f ≢ EngineFault.Write) }
+{
+    let mut reading = LineReader::new(alloc)?;
+    let mut log = Log::new(alloc);
+    let mut lines = Vec::new(alloc);
+    'lines: while reading.next_line(reader)? {
+        let line = take_line(alloc, &mut log, reading.line())?;
+        lines.push(line)?;
+    }
+    Ok(Collected { log, lines })
+}

@@ -1,0 +1,135 @@
+//! The serial path: the whole log is read, then run place by place, and then reported line by line.
+
+ghost use Rattle.std.specs.Prelude.{◌≡◌, ◌≢◌, ◌<◌, ◌≤◌, ◌++◌, ◌-◌, ◌^◌, ℕ, [], List, IfErr, IfSome, OnOk, Err, slice_get};
+ghost use Rattle.std.specs.Io.KnownBytes.{Appends};
+ghost use Rattle.log_text_base.specs.Known.{AppendsFront, HasBegun, MovesOut};
+ghost use Rattle.model_base.specs.Outcomes.{outcome};
+ghost use Rattle.report.specs.Report.{IsReport, place_text};
+ghost use Rattle.bohm_base.specs.Collecting.{became_text, log_text};
+ghost use Rattle.bohm_base.specs.Run.{IsReady};
+
+use crate::collecting::{Became, Collected, collect_lines};
+use crate::fault::EngineFault;
+use log_text_base::{Counted, flush, write_much, write_out};
+use model::serial;
+use model_base::{Outcome, Place};
+use report::{put_fault, put_outcome, put_refused};
+use sequencer::Log;
+use std::alloc::{AllocError, Global};
+use std::io::{Read, Write};
+
+/// Puts the report's line for a place behind the text, or nothing for a place that the log does not have.
+fn put_place(
+    text: &mut Vec<u8>,
+    log: &Log,
+    outcomes: &[Outcome],
+    place: Place,
+) -> Result<(), AllocError>
+    requires ready { IsReady log.now }
+    requires outcomes { (place : ℕ) → slice_get outcomes.now place ≡ outcome log.now.statements place }
+    ensures { OnOk result (text.new.items ≡ text.old.items ++ place_text log.now.statements log.now.names.tables place) }
+{
+    let index = place as usize;
+    let Some(statement) = log.statements().get(index) else {
+        return Ok(());
+    };
+    let Some(outcome) = outcomes.get(index) else {
+        return Ok(());
+    };
+    put_outcome(
+        text,
+        log.catalog().tables(),
+        place,
+        &statement.form,
+        outcome,
+    )
+}
+
+/// Puts the report's line for a line of this number behind the text. An accepted line has this place.
+fn put_line(
+    text: &mut Vec<u8>,
+    log: &Log,
+    outcomes: &[Outcome],
+    number: u64,
+    place: Place,
+    line: Became,
+) -> Result<(), AllocError>
+    requires ready { IsReady log.now }
+    requires outcomes { (place : ℕ) → slice_get outcomes.now place ≡ outcome log.now.statements place }
+    ensures { OnOk result (text.new.items ≡ text.old.items ++ became_text log.now.statements log.now.names.tables number place line) }
+{
+    match line {
+        Became::Accepted => put_place(text, log, outcomes, place),
+        Became::Faulty(fault) => put_fault(text, number, fault),
+        Became::Refused(refused) => put_refused(text, number, refused),
+    }
+}
+
+/// How many bytes of the report are gathered before they are written.
+pub(crate) const PENDING: usize = 65_536;
+
+/// Writes the report of a log by the outcomes of its places, the end of it still pending. After a fault whole lines are
+/// pending.
+fn report_lines<W: Write>(
+    alloc: Global,
+    writer: &mut Counted<W>,
+    collected: &Collected,
+    outcomes: &[Outcome],
+    pending: &mut Vec<u8>,
+) -> Result<(), EngineFault>
+    requires ready { IsReady collected.now.log }
+    requires outcomes { (place : ℕ) → slice_get outcomes.now place ≡ outcome collected.now.log.statements place }
+    requires empty { pending.old.items ≡ [] }
+    ensures done { OnOk result (MovesOut (W.contents writer.old.inner) (W.contents writer.new.inner)
+        (log_text collected.now.log collected.now.lines.items) pending.new.items) }
+    ensures begun { HasBegun (W.contents writer.old.inner) (W.contents writer.new.inner) pending.new.items
+        (log_text collected.now.log collected.now.lines.items) }
+    ensures err { IfErr result (λ f. f ≢ EngineFault.Read) }
+    ensures write { result ≡ Err EngineFault.Write → writer.old.errors < 2 ^ 64 - 1 → writer.old.errors < writer.new.errors }
+    ensures errors { writer.old.errors ≤ 2 ^ 64 - 1 → writer.old.errors ≤ writer.new.errors }
+{
+    let mut text = Vec::new(alloc);
+    let mut place = 0;
+    for (index, line) in collected.lines.iter().enumerate() {
+        let number = index as u64 + 1;
+        text.clear();
+        put_line(&mut text, &collected.log, outcomes, number, place, *line)?;
+        pending.extend_from_slice(&text)?;
+        place += line.places();
+        write_much(writer, pending)?;
+    }
+    Ok(())
+}
+
+/// Reads a log to its end, runs it by `model::serial`, and writes its report: one line for each line.
+///
+/// The log's statements, their outcomes and the rows are kept in memory, and two bytes or so for each line. `NoMemory`
+/// comes where a growth was refused, `Read` where the reader failed, `Write` where the writer failed, or took no byte of
+/// a piece that wasn't empty. After a fault a beginning of the report stands: nothing of it where the log was not read to
+/// its end or not run, which is so after each `Read`; the lines that were put where one found no memory; and after
+/// `Write` what the writer took.
+pub fn serial_text<R: Read, W: Write>(
+    alloc: Global,
+    reader: &mut Counted<R>,
+    writer: &mut Counted<W>,
+) -> Result<(), EngineFault>
+    // What was written is the report of what was read.
+    ensures done { OnOk result (IfSome (R.remaining reader.old.inner) (λ input. (text : List ℕ)
+        × (IsReport input text × Appends (W.contents writer.old.inner) (W.contents writer.new.inner) text))) }
+    // After a fault it is a beginning of it.
+    ensures begun { IfSome (R.remaining reader.old.inner) (λ input. (text : List ℕ)
+        × (IsReport input text × AppendsFront (W.contents writer.old.inner) (W.contents writer.new.inner) text)) }
+    // Read and Write come only where the reader or the writer failed.
+    ensures read { result ≡ Err EngineFault.Read → reader.old.errors < 2 ^ 64 - 1 → reader.old.errors < reader.new.errors }
+    ensures write { result ≡ Err EngineFault.Write → writer.old.errors < 2 ^ 64 - 1 → writer.old.errors < writer.new.errors }
+{
+    let mut pending = Vec::with_capacity(alloc, PENDING)?;
+    let collected = collect_lines(alloc, reader)?;
+    let outcomes = serial(alloc, collected.log.statements())?;
+    let ended = report_lines(alloc, writer, &collected, &outcomes, &mut pending);
+    let written = write_out(writer, pending.as_slice());
+    ended?;
+    written?;
+    flush(writer)?;
+    Ok(())
+}

@@ -1,0 +1,106 @@
+-- How the report spells what becomes of a line.
+use Rattle.std.specs.Prelude.{ℕ, ◌<◌, ℤ, List, [], ◌∷◌, ◌++◌, codes, unwrap_or, slice_get, if◌then◌else◌}
+use Rattle.std.specs.Fmt.{decimal, signed_decimal}
+use Rattle.std.specs.List.{flat_map}
+use Rattle.model_base.specs.declared.deed.Cause.{Cause}
+use Rattle.model_base.specs.declared.deed.Cause.TheVariants.{Never, Taken}
+use Rattle.model_base.specs.declared.deed.Need.{Need}
+use Rattle.model_base.specs.declared.statement.Form.{Form}
+use Rattle.model_base.specs.declared.outcome.Reason.{Reason}
+use Rattle.model_base.specs.declared.outcome.Reason.TheVariants.{NoRow, RowExists, Overflow, Check}
+use Rattle.model_base.specs.declared.outcome.DeedDone.{DeedDone}
+use Rattle.model_base.specs.declared.outcome.Outcome.{Outcome}
+use Rattle.log_text.specs.Statement.{kind_word}
+use Rattle.log_text.specs.declared.fault.LineFault.{LineFault}
+use Rattle.sequencer.specs.declared.refused.Refused.{Refused}
+
+-- the word of a line's fault; want of memory is no line's fault, and has none
+abbrev pub fault_word : LineFault → List ℕ
+fault_word LineFault.TooLong = codes "too-long"
+fault_word LineFault.NotAscii = codes "not-ascii"
+fault_word LineFault.Empty = codes "empty"
+fault_word LineFault.UnknownWord = codes "unknown-word"
+fault_word LineFault.BadNumber = codes "bad-number"
+fault_word LineFault.BadName = codes "bad-name"
+fault_word LineFault.TooManySteps = codes "too-many-steps"
+fault_word LineFault.TooManyAccesses = codes "too-many-accesses"
+fault_word LineFault.BadRegister = codes "bad-register"
+fault_word LineFault.NoMemory = []
+
+-- the word of the log's refusal; want of memory has none
+abbrev pub refused_word : Refused → List ℕ
+refused_word Refused.UnknownTable = codes "unknown-table"
+refused_word Refused.TableExists = codes "table-exists"
+refused_word Refused.BadColumns = codes "bad-columns"
+refused_word Refused.DuplicateAccess = codes "duplicate-access"
+refused_word Refused.BadColumnNumber = codes "bad-column-number"
+refused_word Refused.SkipPastEnd = codes "skip-past-end"
+refused_word Refused.LogFull = codes "log-full"
+refused_word Refused.TooManyNames = codes "too-many-names"
+refused_word Refused.NoMemory = []
+
+-- the report's line for a line of the log that isn't accepted
+abbrev pub refused_text : ℕ → List ℕ → List ℕ
+refused_text number word = codes "line " ++ decimal number ++ codes " refused " ++ word ++ codes "\n"
+
+-- the word of the reason for which a body was aborted
+abbrev pub reason_word : Reason → List ℕ
+reason_word NoRow = codes "no-row"
+reason_word RowExists = codes "row-exists"
+reason_word Overflow = codes "overflow"
+reason_word Check = codes "check"
+
+-- each number behind a space
+abbrev pub numbers_text : List ℤ → List ℕ
+numbers_text numbers = flat_map (λ n. 32 ∷ signed_decimal n) numbers
+
+-- each place behind a space
+abbrev pub places_text : List ℕ → List ℕ
+places_text places = flat_map (λ place. 32 ∷ decimal place) places
+
+-- what the deed of a transaction came to
+abbrev pub deed_text : DeedDone → List ℕ
+deed_text DeedDone.None = []
+deed_text DeedDone.Granted = codes " granted"
+deed_text (DeedDone.Revoked places) = codes " revoked" ++ places_text places
+
+-- a RUN that is done has its outputs, and a deed by itself only what it came to
+abbrev pub done_text : Form → List ℤ → DeedDone → List ℕ
+done_text (Form.Create table columns) outputs deed = codes " done" ++ numbers_text outputs ++ deed_text deed
+done_text (Form.Run accesses steps asked) outputs deed = codes " done" ++ numbers_text outputs ++ deed_text deed
+done_text (Form.Deed asked) outputs deed = deed_text deed
+
+-- the name of a table; `tables` has the names by number
+abbrev pub table_name : List (List ℕ) → ℕ → List ℕ
+table_name tables table = unwrap_or (slice_get tables table) []
+
+-- a need: the kind and the table, and whether it is with the option
+abbrev pub need_text : List (List ℕ) → Need → List ℕ
+need_text tables need =
+    kind_word need.kind ++ codes " " ++ table_name tables need.table ++ (if need.option then codes " option" else [])
+
+-- why a need isn't held
+abbrev pub cause_text : Cause → List ℕ
+cause_text Never = codes " never"
+cause_text (Taken place) = codes " taken " ++ decimal place
+
+-- what stands behind a place
+abbrev pub ending_text : List (List ℕ) → Form → Outcome → List ℕ
+ending_text tables form Outcome.Created = codes " created"
+ending_text tables form (Outcome.Done outputs deed) = done_text form outputs deed
+ending_text tables form (Outcome.Denied need cause) = codes " denied " ++ need_text tables need ++ cause_text cause
+ending_text tables form (Outcome.Aborted step reason) =
+    codes " aborted " ++ decimal step ++ codes " " ++ reason_word reason
+ending_text tables form (Outcome.Undeclared step) = codes " undeclared " ++ decimal step
+
+-- the report's line for a place of the log
+abbrev pub outcome_text : List (List ℕ) → ℕ → Form → Outcome → List ℕ
+outcome_text tables place form outcome = decimal place ++ ending_text tables form outcome ++ codes "\n"
+
+-- an outcome names no table but the first so many
+abbrev pub IsNamed : ℕ → Outcome → Type 0
+IsNamed tables (Outcome.Denied need cause) = need.table < tables
+IsNamed tables Outcome.Created = Unit {0}
+IsNamed tables (Outcome.Done outputs deed) = Unit {0}
+IsNamed tables (Outcome.Aborted step reason) = Unit {0}
+IsNamed tables (Outcome.Undeclared step) = Unit {0}

@@ -1,0 +1,8 @@
+//! The report of a log: what it says of each line, as a definition and as text.
+#![tactic(auto)]
+
+mod laws;
+mod text;
+
+pub use laws::each_text_has_one_report;
+pub use text::{put_fault, put_outcome, put_refused};
