@@ -1,0 +1,69 @@
+//! Why the program ends without success.
+
+ghost use Rattle.std.specs.Prelude.{◌≡◌};
+ghost use Rattle.guide.specs.declared.fault.GuideFault.TheVariants.{NoMemory};
+
+use bohm_base::EngineFault;
+use std::alloc::{AllocError, AllocFailed};
+use thiserror::Error;
+
+/// Why the program ends without success.
+#[derive(Clone, Copy, Debug, PartialEq, Eq, Error)]
+pub enum GuideFault {
+    /// The words of the command line aren't one file.
+    #[error("name one file")]
+    Words,
+    /// The file can't be opened.
+    #[error("cannot open file")]
+    Open,
+    /// Reading the file failed.
+    #[error("cannot read")]
+    Read,
+    /// The file is longer than a guide may be.
+    #[error("the file is too long")]
+    TooLong,
+    /// A growth was refused.
+    #[error("out of memory")]
+    NoMemory,
+    /// Standard output can't be written.
+    #[error("cannot write")]
+    Write,
+    /// A log or a report has no end.
+    #[error("a block is not ended")]
+    Unended,
+    /// A log has no report before the next log begins.
+    #[error("a log has no report")]
+    NoReport,
+    /// There is nothing to run.
+    #[error("there is no example")]
+    NoExample,
+    /// Some log has another report than the one that is told.
+    #[error("an example is not as told")]
+    NotAsTold,
+}
+
+impl From<AllocError> for GuideFault {
+    ghost from_gives = { λ _ e. e ≡ NoMemory };
+
+    fn from(_e: AllocError) -> GuideFault {
+        GuideFault::NoMemory
+    }
+}
+
+impl<T: Drop> From<AllocFailed<T>> for GuideFault {
+    ghost from_gives = { λ _ e. e ≡ NoMemory };
+
+    fn from(_e: AllocFailed<T>) -> GuideFault {
+        GuideFault::NoMemory
+    }
+}
+
+impl From<EngineFault> for GuideFault {
+    fn from(fault: EngineFault) -> GuideFault {
+        match fault {
+            EngineFault::NoMemory => GuideFault::NoMemory,
+            EngineFault::Read => GuideFault::Read,
+            EngineFault::Write => GuideFault::Write,
+        }
+    }
+}

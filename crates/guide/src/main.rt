@@ -1,0 +1,87 @@
+//! Runs each example of a guide: `guide FILE` finds the logs and the reports of the file, runs each log, and tells whether its
+//! report is as told.
+#![tactic(auto)]
+
+mod examples;
+mod fault;
+mod judging;
+#[cfg(test)]
+mod tests;
+
+use examples::{Example, examples};
+use fault::GuideFault;
+use judging::is_as_told;
+use std::alloc::Global;
+use std::io::Read;
+use std::process::ExitCode;
+use std::rt::{Env, Files};
+use std::{env, fs};
+
+/// How many bytes a guide may have.
+const MOST: usize = 1 << 20;
+
+/// The whole text of a guide. A text that is longer than a guide may be is a fault.
+fn read_guide(alloc: Global, file: impl Read + Drop) -> Result<Vec<u8>, GuideFault> {
+    let mut text = Vec::new(alloc);
+    if file.take(MOST as u64 + 1).read_to_end(&mut text).is_err() {
+        return Err(GuideFault::Read);
+    }
+    if text.len() > MOST {
+        return Err(GuideFault::TooLong);
+    }
+    Ok(text)
+}
+
+/// Runs the examples in order, and prints a line for each. Answers whether all are as told.
+fn tell_each<R: Print>(
+    rt: &R,
+    alloc: Global,
+    examples: &[Example<'_>],
+) -> Result<bool, GuideFault> {
+    let mut all = true;
+    for (index, example) in examples.iter().enumerate() {
+        let number = index + 1;
+        let told = is_as_told(alloc, example)?;
+        all = all && told;
+        let said = if told { "as told" } else { "NOT as told" };
+        println!(rt; "example {number}: {said}").map_err(|_| GuideFault::Write)?;
+    }
+    Ok(all)
+}
+
+/// Runs all examples of a text, and tells how many there are.
+fn tell<R: Print>(rt: &R, alloc: Global, text: &[u8]) -> Result<(), GuideFault> {
+    let found = examples(alloc, text)?;
+    if found.is_empty() {
+        return Err(GuideFault::NoExample);
+    }
+    let all = tell_each(rt, alloc, found.as_slice())?;
+    let count = found.len();
+    println!(rt; "{count} examples").map_err(|_| GuideFault::Write)?;
+    if all {
+        Ok(())
+    } else {
+        Err(GuideFault::NotAsTold)
+    }
+}
+
+/// Runs the examples of the file that the command line names.
+fn run<R: Env + Files + Print + AllocGlobal>(rt: &R) -> Result<(), GuideFault> {
+    let alloc = rt.alloc();
+    let words = env::args(rt).map_err(|_| GuideFault::NoMemory)?;
+    let words = words.collect::<Vec<String>>(alloc)?;
+    let [_, path] = words.as_slice() else {
+        return Err(GuideFault::Words);
+    };
+    let file = fs::open(rt, path.as_str()).map_err(|_| GuideFault::Open)?;
+    let text = read_guide(alloc, file)?;
+    tell(rt, alloc, text.as_slice())
+}
+
+fn main(rt: HostRuntime) -> ExitCode {
+    let Err(fault) = run(&rt) else {
+        return ExitCode::SUCCESS;
+    };
+    let _ = eprintln!(rt; "guide: {fault}");
+    ExitCode::FAILURE
+}
