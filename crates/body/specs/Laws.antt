@@ -1,11 +1,13 @@
 -- What a body leaves alone, and what its window shows afterwards.
-use Rattle.std.specs.Prelude.{◌≡◌, ℕ, ℤ, pos, ◌≤◌, Option, None, List, [], ◌∷◌, length, map, take}
+use Rattle.std.specs.Prelude.{◌≡◌, ℕ, ℤ, pos, ◌≤◌, false, Option, None, List, [], ◌∷◌, length, map, take}
 use Rattle.std.specs.List.{find}
 use Rattle.model_base.specs.declared.statement.Access.{Access}
 use Rattle.model_base.specs.declared.statement.Form.{Form}
+use Rattle.model_base.specs.declared.statement.Statement.{Statement}
 use Rattle.model_base.specs.Rows.{Rows}
 use Rattle.model_base.specs.Body.{completed, is_of}
 use Rattle.model_base.specs.Outcomes.{body}
+use Rattle.model_base.specs.References.{declares_write}
 use Rattle.model_base.specs.Versions.{accesses_of}
 use Rattle.body.specs.Shown.{with_rows}
 
@@ -23,6 +25,13 @@ abbrev pub LeavesOthers : Type 0
 LeavesOthers =
     (form : Form) (rows after : Rows) (outputs : List ℤ) (table row : ℕ)
     → body rows form ≡ completed after outputs → IsOther (accesses_of form) table row → after table row ≡ rows table row
+
+-- a completed body leaves each row alone for which its statement declares no kind that changes rows
+abbrev pub LeavesUnwritten : Type 0
+LeavesUnwritten =
+    (statement : Statement) (rows after : Rows) (outputs : List ℤ) (table row : ℕ)
+    → body rows statement.form ≡ completed after outputs → declares_write table row statement ≡ false
+    → after table row ≡ rows table row
 
 -- a map with the rows of a window at the declared keys has the window's row at each of them
 abbrev pub ShowsRows : Type 0

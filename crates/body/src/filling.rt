@@ -16,7 +16,7 @@ ghost use Rattle.body.specs.Room.{HasRoomFrom, IsLean, IsLeanBelow, IsLeanWhereA
 use crate::ending::BodyEnd;
 use crate::run;
 use crate::window::Window;
-use model_base::{Access, Form, Key, Outputs, Row, Statement};
+use model_base::{Access, Key, Outputs, Row, Statement};
 use std::alloc::AllocError;
 
 /// What holds the rows of all tables.
@@ -61,23 +61,13 @@ pub trait RowStore: RowSource {
         ensures no_more { (table row : ℕ) → has_room self.new table row → has_room self.old table row };
 }
 
-/// The accesses of a statement; one that creates a table, or only makes a deed, has none.
-pub fn accesses(statement: &Statement) -> &[Access]
-    ensures { result.now ≡ accesses_of statement.now.form }
-{
-    match &statement.form {
-        Form::Run { accesses, .. } => accesses.as_slice(),
-        Form::Create { .. } | Form::Deed(_) => &[],
-    }
-}
-
 /// The window of the rows that the statement's accesses have in the source. It has no output.
 pub fn filled<S: RowSource>(statement: &Statement, source: &S) -> Window
     requires { length (accesses_of statement.now.form) ≤ 16 }
     ensures shows { Shows (accesses_of statement.now.form) result (S.rows source.now) }
     ensures fresh { result.outputs ≡ [] }
 {
-    let accesses = accesses(statement);
+    let accesses = statement.accesses();
     let mut window = Window::new(statement);
     for (place, access) in accesses.iter().enumerate() {
         window.set(place, source.row(access.key));
@@ -159,7 +149,7 @@ pub fn write_back<S: RowStore>(
     ensures err { OnErr result (S.rows store.new ≡ S.rows store.old) }
     ensures lean { IsLean (S.has_room store.old) (S.rows store.old) → IsLean (S.has_room store.new) (S.rows store.new) }
 {
-    let accesses = accesses(statement);
+    let accesses = statement.accesses();
     let reserved = reserve_rows(accesses, window, store);
     if reserved.is_ok() {
         put_rows(accesses, window, store);

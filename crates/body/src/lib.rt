@@ -21,10 +21,10 @@ mod window;
 
 pub use ending::BodyEnd;
 pub use filling::{
-    RowSource, RowStore, accesses, filled, put_rows, release_absent, release_rows, reserve_rows,
-    run_on, write_back,
+    RowSource, RowStore, filled, put_rows, release_absent, release_rows, reserve_rows, run_on,
+    write_back,
 };
-pub use laws::{keeps_others, leaves_others, shows_rows};
+pub use laws::{keeps_others, leaves_others, leaves_unwritten, shows_rows};
 use model_base::{Form, Statement};
 pub use row_map::RowMap;
 use steps::run_steps;

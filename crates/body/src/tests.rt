@@ -5,8 +5,8 @@ ghost use Rattle.std.specs.List.{sum_by};
 ghost use Rattle.body.specs.Premises.{IsNarrow, IsRunnable, outputs_of};
 
 use crate::{
-    BodyEnd, RowMap, RowSource, RowStore, Window, accesses, filled, keeps_others, leaves_others,
-    run, run_on, shows_rows, write_back,
+    BodyEnd, RowMap, RowSource, RowStore, Window, filled, keeps_others, leaves_others,
+    leaves_unwritten, run, run_on, shows_rows, write_back,
 };
 use model_base::{
     Access, Form, Items, Key, Kinds, Outputs, Reason, Register, Row, RowName, Statement, Step,
@@ -454,7 +454,7 @@ fn windows_are_filled_run_and_written_back(rt: HostRuntime) -> Result<(), Fail> 
         Step::Out { of },
     ]?;
     let statement = statement(alloc, steps)?;
-    assert!(rt; accesses(&statement).len() <= 16);
+    assert!(rt; statement.accesses().len() <= 16);
     let mut window = filled(&statement, &store);
     assert_eq!(rt; window.row(1), Some(row));
     assert_eq!(rt; run(&statement, &mut window), BodyEnd::Completed);
@@ -474,6 +474,7 @@ fn windows_are_filled_run_and_written_back(rt: HostRuntime) -> Result<(), Fail> 
     assert_eq!(rt; run(&create, &mut idle), BodyEnd::Completed);
     assert_eq!(rt; idle.row(0), Some(row));
     leaves_others();
+    leaves_unwritten();
     shows_rows();
     keeps_others();
     Ok(())
@@ -503,10 +504,10 @@ fn refused_memory_leaves_the_store(rt: HostRuntime) {
     for place in 0..16 {
         window.set(place, Some(Row::new()));
     }
-    assert!(rt; accesses(&statement).len() <= 16);
+    assert!(rt; statement.accesses().len() <= 16);
     let mut store = RowMap::new(alloc);
     let written = write_back(&statement, &window, &mut store).is_ok();
-    for access in accesses(&statement) {
+    for access in statement.accesses() {
         assert_eq!(rt; store.row(access.key).is_some(), written);
     }
 }

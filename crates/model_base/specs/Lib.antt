@@ -4,6 +4,7 @@ pub mod Privileges
 pub mod Body
 pub mod Outcomes
 pub mod Versions
+pub mod References
 pub mod Laws
 pub mod Paths
 pub mod Records

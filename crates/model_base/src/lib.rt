@@ -10,6 +10,7 @@ mod list;
 mod name;
 mod outcome;
 mod record_laws;
+mod reference;
 mod row;
 mod statement;
 
@@ -28,5 +29,6 @@ pub use record_laws::{
     records_rise, records_tell_of_logs, records_tell_what_revocations_end, records_were_authorised,
     unended_records_are_in_force,
 };
+pub use reference::Reference;
 pub use row::{Key, Outputs, Row, Values};
 pub use statement::{Access, DeedForm, Form, Register, RowName, Statement, Step};

@@ -147,6 +147,16 @@ pub enum DeedForm {
 impl DeedForm {
     ghost use Rattle.std.specs.Prelude.{◌≡◌};
     ghost use Rattle.model_base.specs.Outcomes.{deed_at};
+    ghost use Rattle.model_base.specs.References.{table_of};
+
+    /// The table on which the deed is.
+    pub fn table(&self) -> Table
+        ensures { result ≡ table_of self.now }
+    {
+        match self {
+            DeedForm::Grant { table, .. } | DeedForm::Revoke { table, .. } => *table,
+        }
+    }
 
     /// The deed of a user at a place.
     pub fn at(&self, place: Place, user: User) -> Deed
@@ -204,8 +214,34 @@ pub struct Statement {
 }
 
 impl Statement {
-    ghost use Rattle.std.specs.Prelude.{◌≡◌};
+    ghost use Rattle.std.specs.Prelude.{◌≡◌, option_to_list};
     ghost use Rattle.model_base.specs.Outcomes.{deed_of};
+    ghost use Rattle.model_base.specs.References.{deed_tables};
+    ghost use Rattle.model_base.specs.Versions.{accesses_of};
+
+    /// Its accesses; a statement that creates a table, or only makes a deed, has none.
+    pub fn accesses(&self) -> &[Access]
+        ensures { result.now ≡ accesses_of self.now.form }
+    {
+        match &self.form {
+            Form::Run { accesses, .. } => accesses.as_slice(),
+            Form::Create { .. } | Form::Deed(_) => &[],
+        }
+    }
+
+    /// The table on which its deed is, if it has one.
+    pub fn deed_table(&self) -> Option<Table>
+        ensures { option_to_list result ≡ deed_tables self.now.form }
+    {
+        match &self.form {
+            Form::Run {
+                deed: Some(deed),
+                ..
+            }
+            | Form::Deed(deed) => Some(deed.table()),
+            Form::Run { deed: None, .. } | Form::Create { .. } => None,
+        }
+    }
 
     /// The deed that the statement makes at a place, if its body completes.
     pub fn deed_at(&self, place: Place) -> Option<Deed>

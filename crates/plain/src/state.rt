@@ -11,8 +11,7 @@ ghost use Rattle.grants.specs.Book.{IsLater, owners_of};
 ghost use Rattle.plain.specs.State.{Finishes, IsMade, Leads, MayMake, NamesTables, Stands, world_of};
 
 use body::{
-    BodyEnd, RowMap, Window, accesses, filled, put_rows, release_absent, release_rows,
-    reserve_rows, run,
+    BodyEnd, RowMap, Window, filled, put_rows, release_absent, release_rows, reserve_rows, run,
 };
 use checker::{Admission, admit};
 use grants::Book;
@@ -83,7 +82,7 @@ impl State {
         ensures kept_rows { OnErr result (rows_of self.new.rows ≡ rows_of self.old.rows) }
         ensures kept_book { OnErr result (self.new.book ≡ self.old.book) }
     {
-        let accesses = accesses(statement);
+        let accesses = statement.accesses();
         let reserved = reserve_rows(accesses, window, &mut self.rows);
         let done = match reserved {
             Ok(()) => make(alloc, &mut self.book, place, statement),
