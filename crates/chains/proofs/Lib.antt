@@ -1,0 +1,4 @@
+pub mod Order
+pub mod Newest
+pub mod Serial
+pub mod Right

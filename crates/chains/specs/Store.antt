@@ -1,0 +1,62 @@
+-- The versions of rows over many batches. BOHM keeps for each key the versions that transactions made, and a reader takes
+-- the newest one that is older than itself (J. M. Faleiro and D. J. Abadi, "Rethinking Serializable Multiversion
+-- Concurrency Control", PVLDB 8, 2015, section 3).
+use Rattle.std.specs.Prelude.{◌≡◌, ◌≤◌, ◌<◌, ◌+◌, ◌-◌, ◌==◌, ◌&&◌, nat_lt, ℕ, ℤ, Bool, Option, None, List, [], ◌∷◌, ◌++◌, fold, map, slice_get, if◌then◌else◌}
+use Rattle.std.specs.List.{flat_map, range_with_len}
+use Rattle.std.specs.Option.{option_map_or}
+use Rattle.model_base.specs.declared.row.Key.{Key}
+use Rattle.model_base.specs.declared.statement.Access.{Access}
+use Rattle.model_base.specs.declared.statement.Statement.{Statement}
+use Rattle.model_base.specs.Outcomes.{rows_before}
+use Rattle.model_base.specs.Versions.{writes_of}
+use Rattle.chains.specs.declared.version.Version.{Version}
+
+-- the versions in the order of their places; the place below which the rows before a place aren't kept; and the place up
+-- to which the versions go
+pub record Store : Type 0 where
+  pub versions : List Version
+  pub mark : ℕ
+  pub end : ℕ
+
+-- the store that has no version yet
+abbrev pub empty_store : Store
+empty_store = record { versions = []; mark = 0; end = 0 }
+
+-- whether the version is of the key and older than the place
+abbrev pub is_older : ℕ → Key → Version → Bool
+is_older place key version =
+    nat_lt version.place place && ((version.key.table == key.table) && (version.key.row == key.row))
+
+-- the row of the newest version of the key that is older than the place, or absent: each such version takes the place of
+-- those before it
+abbrev pub newest : List Version → ℕ → Key → Option (List ℤ)
+newest versions place key =
+    fold (λ row (version : Version). if is_older place key version then version.row else row) None versions
+
+-- the versions stand in the order of their places, from the first place to below the end
+abbrev pub AreBetween : ℕ → ℕ → List Version → Type 0
+AreBetween first end [] = first ≤ end
+AreBetween first end (version ∷ versions) =
+    (first ≤ version.place) × (version.place < end) × AreBetween version.place end versions
+
+-- the store with the versions of more places, up to a new end
+abbrev pub appended : Store → List Version → ℕ → Store
+appended store versions end = record { versions = store.versions ++ versions; mark = store.mark; end = end }
+
+-- the versions that a place of the log leaves, whatever its outcome: for each access that may change its row, in order, the
+-- row after the place
+abbrev pub versions_at : List Statement → ℕ → List Version
+versions_at log place =
+    map (λ (access : Access). record { place = place; key = access.key; row = rows_before log (place + 1) access.key.table access.key.row })
+    (option_map_or writes_of (slice_get log place) [])
+
+-- the versions that the places of the log from the first to below the end leave, in order
+abbrev pub versions_between : List Statement → ℕ → ℕ → List Version
+versions_between log first end = flat_map (versions_at log) (range_with_len first (end - first))
+
+-- the store is right for the log: before each place from its mark to its end, each key has the row that it has by the
+-- serial run
+abbrev pub IsRight : List Statement → Store → Type 0
+IsRight log store =
+    (place : ℕ) (key : Key) → store.mark ≤ place → place ≤ store.end
+    → newest store.versions place key ≡ rows_before log place key.table key.row
