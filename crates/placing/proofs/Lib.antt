@@ -1,0 +1,6 @@
+pub mod Ends
+pub mod Last
+pub mod Once
+pub mod Writers
+pub mod Placed
+pub mod Merged

@@ -1,0 +1,38 @@
+use Rattle.std.proofs.Common.{◌≡◌, ◌≤◌, ◌<◌, ◌+◌, ◌-◌, ◌++◌, ℕ, suc, List, Some, fold, length, map, sym, ◌∙◌, ap, arith, slice_get}
+use Rattle.std.specs.List.{range_with_len}
+use Rattle.std.proofs.lemmas.Option.{slice_get-get_or}
+use Rattle.model_base.specs.References.{tables_of}
+use Rattle.model_base.specs.Versions.{accesses_of}
+use Rattle.placing.specs.Latest.{own_prior, own_writer}
+use Rattle.placing.specs.Parts.{PartOf, own_references, with_place}
+use Rattle.placing.proofs.Placed.{passed}
+use Rattle.placing.proofs.Writers.{latest_next}
+use Rattle.placing.proofs.placer.place.Goals as goal
+
+pub loop-place-preserved : goal.loop-place-preserved
+loop-place-preserved c =
+    let statements = c.statements-statements.result.now in
+    let first = c.args.range.start in
+    let place = c.loop-place.place in
+    let statement = c.index-statements-place.result in
+    let latest = c.loop-place.latest in
+    let above : first ≤ place = omega arith in
+    let within : place < length statements = omega (arith, ap length c.statements-statements.ensures, c.requires.within) in
+    let at : slice_get statements place ≡ Some statement = slice_get-get_or statements place statement within ∙ ap Some (sym c.index-statements-place.is) in
+    let own : map (own_writer latest) (accesses_of statement.form) ++ map (own_prior latest) (tables_of statement.form) ≡ own_references c.args.partitions statements first c.args.partition place =
+    passed latest statements first place c.loop-place.invariant.latest statement at
+    ∙ ap (λ p. own_references p statements first latest.partition place) c.loop-place.invariant.partitions
+    ∙ ap (λ p. own_references c.args.partitions statements first p place) c.loop-place.invariant.partition in
+    let rest : c.args.range.end - place ≡ suc (c.args.range.end - (place + 1)) = omega arith in
+    let later : List ℕ = range_with_len (place + 1) (c.args.range.end - (place + 1)) in
+    let found = own_references c.args.partitions statements first c.args.partition in
+    record {
+      part =
+          ap (λ (part : PartOf). fold with_place part (map found later)) (c.in_ok-place_statement.ensures.found ∙ ap (with_place c.loop-place.part) own)
+          ∙ ap (λ n. fold with_place c.loop-place.part (map found (range_with_len place n))) (sym rest)
+          ∙ c.loop-place.invariant.part;
+      latest = latest_next latest c.place_statement.new.latest statements first place statement above at c.loop-place.invariant.latest c.in_ok-place_statement.ensures.notes;
+      partition = c.in_ok-place_statement.ensures.notes.partition ∙ c.loop-place.invariant.partition;
+      partitions = c.in_ok-place_statement.ensures.notes.partitions ∙ c.loop-place.invariant.partitions;
+      count = omega (arith, c.in_ok-place_statement.ensures.count);
+    }

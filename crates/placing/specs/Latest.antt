@@ -1,0 +1,62 @@
+-- The last places so far that may change the rows of one partition, and that have a deed on its tables.
+use Rattle.std.specs.Prelude.{◌≡◌, ◌==◌, ℕ, Option, Some, None, List, if◌then◌else◌}
+use Rattle.std.specs.BTreeMap.{get}
+use Rattle.std.specs.Ordering.{nat_cmp, ordering_then}
+use Rattle.std.specs.declared.cmp.Ordering.{Ordering}
+use Rattle.model_base.specs.declared.reference.Reference.{Reference}
+use Rattle.model_base.specs.declared.reference.Reference.TheVariants.{Base, At}
+use Rattle.model_base.specs.declared.row.Key.{Key}
+use Rattle.model_base.specs.declared.statement.Access.{Access}
+use Rattle.model_base.specs.declared.statement.Statement.{Statement}
+use Rattle.model_base.specs.References.{declares_write, has_deed_on, last_before}
+use Rattle.placing.specs.declared.latest.Latest.{Latest}
+use Rattle.placing.specs.Parts.{key_partition, table_partition}
+
+-- the order of keys: by table, and in a table by the row's number
+abbrev pub key_cmp : Key → Key → Ordering
+key_cmp a b = ordering_then (nat_cmp a.table b.table) (nat_cmp a.row b.row)
+
+-- a place, or the base where there is none
+abbrev pub reference_to : Option ℕ → Reference
+reference_to None = Base
+reference_to (Some place) = At place
+
+-- the last writer of a row that is kept
+abbrev pub writer_in : Latest → ℕ → ℕ → Reference
+writer_in latest table row = reference_to (get key_cmp latest.writers (record { table = table; row = row }))
+
+-- the last place with a deed on a table that is kept
+abbrev pub prior_in : Latest → ℕ → Reference
+prior_in latest table = reference_to (get nat_cmp latest.deeds table)
+
+-- the last writer of an access's row, if the row is of the partition
+abbrev pub own_writer : Latest → Access → Reference
+own_writer latest access =
+    if key_partition latest.partitions access.key.table access.key.row == latest.partition
+    then writer_in latest access.key.table access.key.row
+    else Base
+
+-- the last place with a deed on a table, if the table is of the partition
+abbrev pub own_prior : Latest → ℕ → Reference
+own_prior latest table =
+    if table_partition latest.partitions table == latest.partition then prior_in latest table else Base
+
+-- of its partition, the last places of the batch below this one are kept
+pub record IsLatest (latest : Latest) (log : List Statement) (first place : ℕ) : Type 0 where
+  pub writers :
+      (table row : ℕ) → key_partition latest.partitions table row ≡ latest.partition
+      → writer_in latest table row ≡ last_before (declares_write table row) log first place
+  pub deeds :
+      (table : ℕ) → table_partition latest.partitions table ≡ latest.partition
+      → prior_in latest table ≡ last_before (has_deed_on table) log first place
+
+-- the partition is the same, and of it what is kept has changed by the statement at the place
+pub record Notes (old new : Latest) (statement : Statement) (place : ℕ) : Type 0 where
+  pub partition : new.partition ≡ old.partition
+  pub partitions : new.partitions ≡ old.partitions
+  pub writers :
+      (table row : ℕ) → key_partition old.partitions table row ≡ old.partition
+      → writer_in new table row ≡ (if declares_write table row statement then At place else writer_in old table row)
+  pub deeds :
+      (table : ℕ) → table_partition old.partitions table ≡ old.partition
+      → prior_in new table ≡ (if has_deed_on table statement then At place else prior_in old table)

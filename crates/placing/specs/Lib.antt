@@ -1,0 +1,5 @@
+pub mod Parts
+pub mod Latest
+pub mod Tables
+pub mod Refs
+pub mod Laws
