@@ -1,0 +1,77 @@
+-- Words of the law of src/law.rt: that the machine gives each place what the serial run gives it, which is the correctness
+-- of BOHM's execution (J. M. Faleiro and D. J. Abadi, "Rethinking Serializable Multiversion Concurrency Control", PVLDB 8,
+-- 2015, section 3), here for what each place is shown, its words, the ends of records, and the rows and deeds at the end.
+use Rattle.std.specs.Prelude.{◌≡◌, ◌≢◌, ◌<◌, ◌+◌, ◌++◌, ℕ, true, Option, Some, None, List, [], ◌∷◌, length}
+use Rattle.bohm_core_base.specs.declared.event.Event.{Event}
+use Rattle.bohm_core_base.specs.declared.event.Event.TheVariants.{Place, Claim, Fill, End, Finish, GiveBack}
+use Rattle.bohm_core_base.specs.declared.hold.Hold.TheVariants.{Done}
+use Rattle.bohm_core_base.specs.Deeds.{made_before}
+use Rattle.bohm_core_base.specs.Batch.{Batch, deeds_of, references, slots_of, was_done, writer}
+use Rattle.bohm_core_base.specs.Serial.{records_in, rows_at, serial_ends, serial_words, world_before}
+use Rattle.bohm_core_base.specs.Machine.{State, all_past, all_ready, end_of, hold_of, must_end, own_of, records_seen, references_of, row_by, rows_seen, words_seen}
+
+-- who makes the event; a placer's has no actor
+abbrev pub actor_of : Event → Option ℕ
+actor_of (Place partition) = None
+actor_of (Claim actor index) = Some actor
+actor_of (Fill actor index) = Some actor
+actor_of (End actor index slot) = Some actor
+actor_of (Finish actor index) = Some actor
+actor_of (GiveBack actor index) = Some actor
+
+-- the place has the own words of the serial run, and each record that it ends there has it as its end
+pub record IsRight (batch : Batch) (state : State) (index : ℕ) : Type 0 where
+  pub words : own_of state index ≡ serial_words batch index
+  pub ends : (slot : ℕ) → slot < length (slots_of batch) → serial_ends batch index slot ≡ true
+      → end_of state slot ≡ Some (batch.first + index)
+
+-- the place is in the batch, every partition has placed it, and all its references are stored
+pub record HasReferences (batch : Batch) (state : State) (index : ℕ) : Type 0 where
+  pub within : index < batch.size
+  pub placed : all_past state index ≡ true
+  pub references : references_of state index ≡ references batch index
+
+-- what the place is shown, and what it must store, is what the serial run shows it and what it stores there
+pub record ShowsSerial (batch : Batch) (state : State) (index : ℕ) : Type 0 where
+  -- the rows at its accesses are those before it
+  pub rows : rows_seen batch state index ≡ rows_at (batch.accesses index) (world_before batch index).rows
+  -- the records on its tables are those before it
+  pub records : records_seen batch state index ≡ records_in batch index (world_before batch index)
+  -- its own words by what it is shown are those of the serial run
+  pub words : words_seen batch state index ≡ serial_words batch index
+  -- once its outcome word is stored, it must end the records that it ends there
+  pub ends : (slot : ℕ) → slot < length (slots_of batch) → 0 < length (own_of state index)
+      → must_end batch state index slot ≡ serial_ends batch index slot
+
+-- each word and each end of the first state stands in the second, and so does what was done and placed
+pub record Stands (before after : State) : Type 0 where
+  pub words : (index : ℕ) → (rest : List ℕ) × (own_of before index ++ rest ≡ own_of after index)
+  pub ends : (slot end : ℕ) → end_of before slot ≡ Some end → end_of after slot ≡ Some end
+  -- a place that is done stays done
+  pub holds : (index : ℕ) → hold_of before index ≡ Done → hold_of after index ≡ Done
+  -- a place that every partition has placed stays so, and keeps its references
+  pub placed : (index : ℕ) → all_past before index ≡ true → all_past after index ≡ true
+  pub references : (index : ℕ) → all_past before index ≡ true → references_of after index ≡ references_of before index
+  -- once all that such a place refers to is done, it stays so
+  pub ready : (index : ℕ) → all_past before index ≡ true → all_ready before index ≡ true → all_ready after index ≡ true
+
+-- the place is held and filled so far in the second state as in the first, is shown the same, and must store the same
+pub record SameTask (batch : Batch) (before after : State) (index : ℕ) : Type 0 where
+  pub hold : hold_of after index ≡ hold_of before index
+  pub own : own_of after index ≡ own_of before index
+  pub rows : rows_seen batch after index ≡ rows_seen batch before index
+  pub records : records_seen batch after index ≡ records_seen batch before index
+  pub words : words_seen batch after index ≡ words_seen batch before index
+  pub ends : (slot : ℕ) → slot < length (slots_of batch) → must_end batch after index slot ≡ must_end batch before index slot
+
+-- none of the events is the actor's
+abbrev pub NoneBy : ℕ → List Event → Type 0
+NoneBy actor [] = Unit {0}
+NoneBy actor (event ∷ events) = (actor_of event ≢ Some actor) × NoneBy actor events
+
+-- the rows and the deeds that the state stores are those after the serial run of the whole batch
+pub record IsWhole (batch : Batch) (state : State) : Type 0 where
+  -- the row of each key by the own words of its last writer, or else before the batch
+  pub rows : (key : ℕ) → row_by batch state key (writer batch batch.size key) ≡ (world_before batch batch.size).rows key
+  -- the deeds before the batch, and then in order those of the places whose own words say that they were done
+  pub deeds : made_before (deeds_of batch (λ index. was_done (own_of state index))) batch.size ≡ (world_before batch batch.size).deeds
