@@ -5,3 +5,5 @@ pub mod Running
 pub mod Frame
 pub mod Entries
 pub mod Lean
+pub mod Depending
+pub mod Shapes

@@ -1,11 +1,11 @@
 -- What a body leaves alone, and what its window shows afterwards.
-use Rattle.std.specs.Prelude.{◌≡◌, ℕ, ℤ, pos, ◌≤◌, false, Option, None, List, [], ◌∷◌, length, map, take}
+use Rattle.std.specs.Prelude.{◌≡◌, ℕ, ℤ, pos, ◌≤◌, false, is_some, true, Option, None, List, [], ◌∷◌, length, map, take}
 use Rattle.std.specs.List.{find}
 use Rattle.model_base.specs.declared.statement.Access.{Access}
 use Rattle.model_base.specs.declared.statement.Form.{Form}
 use Rattle.model_base.specs.declared.statement.Statement.{Statement}
 use Rattle.model_base.specs.Rows.{Rows}
-use Rattle.model_base.specs.Body.{completed, is_of}
+use Rattle.model_base.specs.Body.{Ending, aborted, completed, is_of, undeclared}
 use Rattle.model_base.specs.Outcomes.{body}
 use Rattle.model_base.specs.References.{declares_write}
 use Rattle.model_base.specs.Versions.{accesses_of}
@@ -32,6 +32,24 @@ LeavesUnwritten =
     (statement : Statement) (rows after : Rows) (outputs : List ℤ) (table row : ℕ)
     → body rows statement.form ≡ completed after outputs → declares_write table row statement ≡ false
     → after table row ≡ rows table row
+
+-- the two maps have the same row at each key that is declared
+abbrev pub AgreeAt : List Access → Rows → Rows → Type 0
+AgreeAt accesses rows others =
+    (table row : ℕ) → is_some (find (is_of table (pos row)) accesses) ≡ true → rows table row ≡ others table row
+
+-- the two bodies end in the same way: if they complete, with the same outputs and with the same rows at the declared keys
+abbrev pub SameEnding : List Access → Ending → Ending → Type 0
+SameEnding accesses (completed rows outputs) (completed others more) = AgreeAt accesses rows others × (outputs ≡ more)
+SameEnding accesses (aborted step reason) (aborted other why) = (step ≡ other) × (reason ≡ why)
+SameEnding accesses (undeclared step) (undeclared other) = step ≡ other
+SameEnding accesses _ _ = ⊥
+
+-- what a body comes to depends on no row but those that its statement declares
+abbrev pub DependsOnDeclared : Type 0
+DependsOnDeclared =
+    (form : Form) (rows others : Rows)
+    → AgreeAt (accesses_of form) rows others → SameEnding (accesses_of form) (body rows form) (body others form)
 
 -- a map with the rows of a window at the declared keys has the window's row at each of them
 abbrev pub ShowsRows : Type 0

@@ -5,3 +5,4 @@ pub mod Ending
 pub mod Room
 pub mod RowMap
 pub mod Laws
+pub mod Shape

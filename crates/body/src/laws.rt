@@ -1,6 +1,7 @@
 //! What every run of a body keeps.
 
-ghost use Rattle.body.specs.Laws.{KeepsOthers, LeavesOthers, LeavesUnwritten, ShowsRows};
+ghost use Rattle.body.specs.Laws.{DependsOnDeclared, KeepsOthers, LeavesOthers, LeavesUnwritten, ShowsRows};
+ghost use Rattle.body.specs.Shape.{KeepsColumns, KeepsShape, LogsHaveShape};
 
 /// A completed body leaves each row alone that its statement does not declare.
 pub fn leaves_others()
@@ -10,6 +11,28 @@ pub fn leaves_others()
 /// A completed body leaves each row alone for which its statement declares no kind that changes rows.
 pub fn leaves_unwritten()
     ensures { LeavesUnwritten }
+{}
+
+/// What a body comes to depends on no row but those that its statement declares: over two maps that agree on these, it ends
+/// in the same way, with the same outputs, and with maps that agree on these again.
+pub fn depends_on_declared()
+    ensures { DependsOnDeclared }
+{}
+
+/// A completed body whose constants have 64 bits, and whose inserted rows have the columns of their tables, leaves rows of
+/// that shape behind if it finds such, and its outputs have 64 bits.
+pub fn keeps_shape()
+    ensures { KeepsShape }
+{}
+
+/// Whatever the numbers of the rows, such a body leaves rows with the columns of their tables, if it finds such.
+pub fn keeps_columns()
+    ensures { KeepsColumns }
+{}
+
+/// Before each place of a log of such statements, each row has the columns of its table, and its numbers have 64 bits.
+pub fn logs_have_shape()
+    ensures { LogsHaveShape }
 {}
 
 /// A map with the rows of a window at the declared keys has the window's row at each of them, if no two are one key.

@@ -24,7 +24,10 @@ pub use filling::{
     RowSource, RowStore, filled, put_rows, release_absent, release_rows, reserve_rows, run_on,
     write_back,
 };
-pub use laws::{keeps_others, leaves_others, leaves_unwritten, shows_rows};
+pub use laws::{
+    depends_on_declared, keeps_columns, keeps_others, keeps_shape, leaves_others, leaves_unwritten,
+    logs_have_shape, shows_rows,
+};
 use model_base::{Form, Statement};
 pub use row_map::RowMap;
 use steps::run_steps;

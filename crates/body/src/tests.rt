@@ -5,8 +5,9 @@ ghost use Rattle.std.specs.List.{sum_by};
 ghost use Rattle.body.specs.Premises.{IsNarrow, IsRunnable, outputs_of};
 
 use crate::{
-    BodyEnd, RowMap, RowSource, RowStore, Window, filled, keeps_others, leaves_others,
-    leaves_unwritten, run, run_on, shows_rows, write_back,
+    BodyEnd, RowMap, RowSource, RowStore, Window, depends_on_declared, filled, keeps_columns,
+    keeps_others, keeps_shape, leaves_others, leaves_unwritten, logs_have_shape, run, run_on,
+    shows_rows, write_back,
 };
 use model_base::{
     Access, Form, Items, Key, Kinds, Outputs, Reason, Register, Row, RowName, Statement, Step,
@@ -473,10 +474,14 @@ fn windows_are_filled_run_and_written_back(rt: HostRuntime) -> Result<(), Fail> 
     idle.set(0, Some(row));
     assert_eq!(rt; run(&create, &mut idle), BodyEnd::Completed);
     assert_eq!(rt; idle.row(0), Some(row));
+    depends_on_declared();
     leaves_others();
     leaves_unwritten();
     shows_rows();
     keeps_others();
+    keeps_columns();
+    keeps_shape();
+    logs_have_shape();
     Ok(())
 }
 
