@@ -1,11 +1,12 @@
 -- What holds in every reached state.
-use Rattle.std.proofs.Common.{◌≡◌, ◌≢◌, ◌<◌, ◌≤◌, ◌+◌, ℕ, suc, zero, Bool, true, false, Option, Some, None, is_none, List, [], ◌∷◌, ◌++◌, length, get_or, set, map, refl, sym, ◌∙◌, ap, arith, inl, inr, append_assoc, ◌-◌}
+use Rattle.std.proofs.Common.{◌≡◌, ◌≢◌, ◌<◌, ◌≤◌, ◌+◌, ℕ, suc, zero, Bool, true, false, Option, Some, None, is_none, List, [], ◌∷◌, ◌++◌, length, get_or, set, drop, map, refl, sym, ◌∙◌, ap, arith, inl, inr, append_assoc, ◌-◌}
 use Rattle.std.specs.Prelude.{nat_lt, All}
 use Rattle.std.proofs.lemmas.Bool.{eqb-true, and_parts, ltb-true, lt-ltb, le-ltb, cases_lt}
-use Rattle.std.proofs.lemmas.List.{length-replicate, append-nil, length_push, get_or_push, get_or_append_left, get_or_past, get_or-set_other, length-map, get_or-map}
+use Rattle.std.proofs.lemmas.List.{length-replicate, append-nil, length_push, get_or_push, get_or_append_left, get_or_past, get_or-set_other, length-map, get_or-map, take-append-drop}
 use Rattle.std.specs.Option.{option_or}
 use Rattle.model_base.specs.declared.deed.Deed.{Deed}
 use Rattle.model_base.specs.declared.deed.Grant.{Grant}
+use Rattle.model_base.specs.declared.row.Key.{Key}
 use Rattle.model_base.specs.Records.{end_after}
 use Rattle.model_base.specs.Privileges.{place_of}
 use Rattle.model_base.proofs.Records.{end-append}
@@ -156,6 +157,13 @@ module _ (b : Batch) (sound : IsSound b) where
         words = done-words b sound (reach b es) kept n is;
         ends = λ j. kept.finished_ends n j is;
       }
+
+  -- the words of a place so far are a beginning of the serial run's
+  pub words-begun : (es : List Event) (n : ℕ) → (rest : List ℕ) × (own_of (reach b es) n ++ rest ≡ serial_words b n)
+  words-begun es n =
+      let own = own_of (reach b es) n in
+      let rest = drop (length own) (serial_words b n) in
+      (rest, ap (λ ws. ws ++ rest) ((reach-keeps es).begun n) ∙ take-append-drop (length own) (serial_words b n))
 
   -- every end that is set is the serial run's
   pub ends-right : (es : List Event) (j q : ℕ) → end_of (reach b es) j ≡ Some q → whole_end b j ≡ Some q
@@ -440,7 +448,7 @@ module _ (b : Batch) (sound : IsSound b) where
       }
 
   -- where all places below one are done, so is the last of them that may change the row of a key
-  writer-ready : (s : State) (n key : ℕ) → ((i : ℕ) → i < n → hold_of s i ≡ Done) → is_ready s (writer b n key) ≡ true
+  writer-ready : (s : State) (n : ℕ) (key : Key) → ((i : ℕ) → i < n → hold_of s i ≡ Done) → is_ready s (writer b n key) ≡ true
   writer-ready s zero key all = refl
   writer-ready s (suc n) key all =
       by_cases (declares_write (b.accesses n) key)
@@ -454,16 +462,15 @@ module _ (b : Batch) (sound : IsSound b) where
   made-same first second (suc n) same =
       rw (same n (omega arith), made-same first second n (λ i less. same i (omega arith))) refl
 
-  -- once every place is done, the rows and deeds are those after the serial run
-  pub whole-right : (es : List Event) → ((i : ℕ) → i < b.size → hold_of (reach b es) i ≡ Done) → IsWhole b (reach b es)
-  whole-right es all =
+  -- once every place below one is done, the rows and deeds by these places are those after the serial run of them
+  pub whole-right : (es : List Event) (n : ℕ) → ((i : ℕ) → i < n → hold_of (reach b es) i ≡ Done) → IsWhole b (reach b es) n
+  whole-right es n all =
       let s = reach b es in
       let kept = reach-keeps es in
       record {
-        rows = λ key.
-            row-seen b sound s kept key (writer b b.size key) (writer-ready s b.size key all) ∙ sym (row-right b sound b.size key);
+        rows = λ key. row-seen b sound s kept key (writer b n key) (writer-ready s n key all) ∙ sym (row-right b sound n key);
         deeds =
-            made-same (λ i. was_done (own_of s i)) (λ i. was_done (serial_words b i)) b.size
+            made-same (λ i. was_done (own_of s i)) (λ i. was_done (serial_words b i)) n
             (λ i less. ap was_done (done-words b sound s kept i (rw (all i less) refl)))
-            ∙ sym (deeds-made b sound b.size);
+            ∙ sym (deeds-made b sound n);
       }

@@ -9,6 +9,7 @@ use Rattle.model_base.specs.declared.deed.Deed.{Deed}
 use Rattle.model_base.specs.declared.deed.Deed.TheVariants.{Granting, Revoking}
 use Rattle.model_base.specs.declared.deed.Grant.{Grant}
 use Rattle.model_base.specs.declared.deed.Revocation.{Revocation}
+use Rattle.model_base.specs.declared.row.Key.{Key}
 use Rattle.model_base.specs.Records.{end_after, covered, end_below}
 use Rattle.model_base.proofs.Ends.{is_ended}
 use Rattle.model_base.proofs.Replay.{by_cases}
@@ -84,7 +85,7 @@ module _ (b : Batch) (sound : IsSound b) (s : State) (kept : IsKept b s) where
   outcome-right n some = ap was_done (kept.begun n) ∙ first-outcome (length (own_of s n)) (serial_words b n) some
 
   -- the row that a reference shows, once its place is done, is that of the serial run
-  pub row-seen : (key word : ℕ) → is_ready s word ≡ true → row_by b s key word ≡ final_row b key word
+  pub row-seen : (key : Key) (word : ℕ) → is_ready s word ≡ true → row_by b s key word ≡ final_row b key word
   row-seen key zero ready = refl
   row-seen key (suc n) ready = ap (λ own. cell b n own key) (done-words n ready)
 

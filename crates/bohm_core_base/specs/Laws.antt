@@ -1,7 +1,9 @@
 -- Words of the law of src/law.rt: that the machine gives each place what the serial run gives it, which is the correctness
 -- of BOHM's execution (J. M. Faleiro and D. J. Abadi, "Rethinking Serializable Multiversion Concurrency Control", PVLDB 8,
--- 2015, section 3), here for what each place is shown, its words, the ends of records, and the rows and deeds at the end.
+-- 2015, section 3), here for what each place is shown, its words, the ends of records, and the rows and deeds after a
+-- beginning of the batch.
 use Rattle.std.specs.Prelude.{◌≡◌, ◌≢◌, ◌<◌, ◌+◌, ◌++◌, ℕ, true, Option, Some, None, List, [], ◌∷◌, length}
+use Rattle.model_base.specs.declared.row.Key.{Key}
 use Rattle.bohm_core_base.specs.declared.event.Event.{Event}
 use Rattle.bohm_core_base.specs.declared.event.Event.TheVariants.{Place, Claim, Fill, End, Finish, GiveBack}
 use Rattle.bohm_core_base.specs.declared.hold.Hold.TheVariants.{Done}
@@ -69,9 +71,9 @@ abbrev pub NoneBy : ℕ → List Event → Type 0
 NoneBy actor [] = Unit {0}
 NoneBy actor (event ∷ events) = (actor_of event ≢ Some actor) × NoneBy actor events
 
--- the rows and the deeds that the state stores are those after the serial run of the whole batch
-pub record IsWhole (batch : Batch) (state : State) : Type 0 where
-  -- the row of each key by the own words of its last writer, or else before the batch
-  pub rows : (key : ℕ) → row_by batch state key (writer batch batch.size key) ≡ (world_before batch batch.size).rows key
-  -- the deeds before the batch, and then in order those of the places whose own words say that they were done
-  pub deeds : made_before (deeds_of batch (λ index. was_done (own_of state index))) batch.size ≡ (world_before batch batch.size).deeds
+-- the rows and deeds that the state stores for the places below a count are those after the serial run of these places
+pub record IsWhole (batch : Batch) (state : State) (count : ℕ) : Type 0 where
+  -- the row of each key by the own words of its last writer below the count, or else before the batch
+  pub rows : (key : Key) → row_by batch state key (writer batch count key) ≡ (world_before batch count).rows key
+  -- the deeds before the batch, then in order those of the places below the count whose own words say that they were done
+  pub deeds : made_before (deeds_of batch (λ index. was_done (own_of state index))) count ≡ (world_before batch count).deeds

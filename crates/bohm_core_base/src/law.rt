@@ -3,28 +3,32 @@
 ghost use Rattle.std.specs.Prelude.{◌≡◌, ◌≢◌, ◌<◌, ◌++◌, ℕ, List, Some, length, true};
 ghost use Rattle.bohm_core_base.specs.Batch.{Batch, IsSound, slots_of};
 ghost use Rattle.bohm_core_base.specs.Laws.{HasReferences, IsRight, IsWhole, NoneBy, SameTask, ShowsSerial, Stands};
-ghost use Rattle.bohm_core_base.specs.Machine.{all_past, all_ready, end_of, hold_of, reach};
-ghost use Rattle.bohm_core_base.specs.Serial.{whole_end};
+ghost use Rattle.bohm_core_base.specs.Machine.{all_past, all_ready, end_of, hold_of, own_of, reach};
+ghost use Rattle.bohm_core_base.specs.Serial.{serial_words, whole_end};
 ghost use Rattle.bohm_core_base.specs.declared.event.Event.{Event};
 ghost use Rattle.bohm_core_base.specs.declared.hold.Hold.TheVariants.{Done, Free, Held};
 
-/// Whatever the events, each place that is done has the words and ends of the serial run. An end that is set, before the
-/// batch or by it, is the one that its record has after the serial run of the whole batch, and once all places are done no
-/// end is missing, and the last versions of the rows and the deeds of the places that were done are those after the serial
-/// run. What is stored stays, and what is done stays done. A place that is held or done has all its references, and once all
-/// that it refers to is done, it is shown what the serial run shows it. Where an actor holds a place and all that it refers
-/// to is done, the events of others change neither what it is shown nor what it has to store next.
+/// Whatever the events, each place that is done has the words and ends of the serial run, and the words that any place
+/// has so far are a beginning of the serial run's. An end that is set, before the batch or by it, is the one that its
+/// record has after the serial run of the whole batch, and once all places are done no end is missing. Once all places of
+/// a beginning of the batch are done, the last versions of the rows by these places, and the deeds of those of them that
+/// were done, are those after the serial run of the beginning; the whole batch is one. What is stored stays, and what is
+/// done stays done. A place that is held or done has all its references, and once all that it refers to is done, it is
+/// shown what the serial run shows it. Where an actor holds a place and all that it refers to is done, the events of
+/// others change neither what it is shown nor what it has to store next.
 pub fn done_places_are_serial()
     ensures done { (batch : Batch) (events : List Event) (index : ℕ)
         → IsSound batch → hold_of (reach batch events) index ≡ Done → IsRight batch (reach batch events) index }
+    ensures begun { (batch : Batch) (events : List Event) (index : ℕ)
+        → IsSound batch → (rest : List ℕ) × (own_of (reach batch events) index ++ rest ≡ serial_words batch index) }
     ensures ended { (batch : Batch) (events : List Event) (slot end : ℕ)
         → IsSound batch → end_of (reach batch events) slot ≡ Some end → whole_end batch slot ≡ Some end }
     ensures kept_ends { (batch : Batch) (events : List Event) (slot : ℕ)
         → IsSound batch → ((index : ℕ) → index < batch.size → hold_of (reach batch events) index ≡ Done)
         → slot < length (slots_of batch) → end_of (reach batch events) slot ≡ whole_end batch slot }
-    ensures finished { (batch : Batch) (events : List Event)
-        → IsSound batch → ((index : ℕ) → index < batch.size → hold_of (reach batch events) index ≡ Done)
-        → IsWhole batch (reach batch events) }
+    ensures finished { (batch : Batch) (events : List Event) (count : ℕ)
+        → IsSound batch → ((index : ℕ) → index < count → hold_of (reach batch events) index ≡ Done)
+        → IsWhole batch (reach batch events) count }
     ensures stands { (batch : Batch) (events later : List Event)
         → IsSound batch → Stands (reach batch events) (reach batch (events ++ later)) }
     ensures placed { (batch : Batch) (events : List Event) (index : ℕ)
