@@ -1,0 +1,38 @@
+-- Words put behind the others keep the padding.
+use Rattle.std.proofs.Common.{◌≡◌, ℕ, suc, ◌+◌, ◌-◌, ◌<◌, ◌≤◌, List, [], ◌∷◌, ◌++◌, length, take, set, refl, sym, ◌∙◌, ap, arith, append_assoc, length-append, length-set}
+use Rattle.std.specs.Prelude.{replicate}
+use Rattle.std.proofs.Math.Seq.{set-append_seam, take-append_seam}
+use Rattle.std.proofs.lemmas.List.{length-take-le}
+use Rattle.own_words.specs.Room.{IsPadded}
+
+-- what stands behind some numbers that stand in front of the array
+pub take_front : (n : ℕ) (front rest : List ℕ) → length front ≡ n → take n (front ++ rest) ≡ front
+take_front n front rest long = ap (λ k. take k (front ++ rest)) (sym long) ∙ take-append_seam front rest
+
+module _ (n : ℕ) (xs : List ℕ) (within : n ≤ 156) (whole : length xs ≡ 156) (zeros : xs ≡ take n xs ++ replicate (156 - n) 0) where
+  front-length : length (take n xs) ≡ n
+  front-length = length-take-le n xs (omega arith)
+
+  -- one more word
+  module _ (x : ℕ) (below : n < 156) where
+    abbrev rest : List ℕ
+    rest = replicate (156 - (n + 1)) 0
+
+    split : xs ≡ take n xs ++ 0 ∷ rest
+    split = let e : 156 - n ≡ suc (156 - (n + 1)) = omega arith in zeros ∙ rw e refl
+
+    set_split : set xs n x ≡ take n xs ++ x ∷ rest
+    set_split =
+        ap (λ ys. set ys n x) split ∙ ap (λ k. set (take n xs ++ 0 ∷ rest) k x) (sym front-length) ∙ set-append_seam (take n xs) 0 rest x
+
+    pub take_more : take (n + 1) (set xs n x) ≡ take n xs ++ x ∷ []
+    take_more =
+        let long : length (take n xs ++ x ∷ []) ≡ n + 1 = length-append (take n xs) (x ∷ []) ∙ rw front-length refl in
+        ap (take (n + 1)) (set_split ∙ sym (append_assoc (take n xs) (x ∷ []) rest)) ∙ take_front (n + 1) (take n xs ++ x ∷ []) rest long
+
+    pub padded_more : IsPadded (record { len = n + 1; words = set xs n x })
+    padded_more = record {
+      within = omega arith;
+      whole = length-set xs n x ∙ whole;
+      zeros = set_split ∙ sym (append_assoc (take n xs) (x ∷ []) rest) ∙ ap (λ ys. ys ++ rest) (sym take_more);
+    }

@@ -1,0 +1,78 @@
+//! The header of an outcome: words 0 to 3 and the outputs.
+
+ghost use Rattle.std.specs.Prelude.{◌≡◌, ◌<◌, ◌^◌, length};
+ghost use Rattle.model_base.specs.Outcomes.{needs};
+ghost use Rattle.own_words.specs.Words.{cause_word, first_detail, outcome_word, outputs_told, reason_word, second_detail};
+
+use crate::numbering::need_number;
+use model_base::{Cause, Form, Outcome, Outputs, Reason};
+
+/// Which kind of outcome it is.
+pub(crate) fn outcome_word(outcome: &Outcome) -> u64
+    ensures { result ≡ outcome_word outcome.now }
+{
+    match outcome {
+        Outcome::Done { .. } => 1,
+        Outcome::Created => 2,
+        Outcome::Denied { .. } => 3,
+        Outcome::Aborted { .. } => 4,
+        Outcome::Undeclared { .. } => 5,
+    }
+}
+
+/// The number of the need, or the step.
+pub(crate) fn first_detail(form: &Form, outcome: &Outcome) -> u64
+    requires { length (needs form.now) < 2 ^ 64 }
+    ensures { result ≡ first_detail form.now outcome.now }
+{
+    match outcome {
+        Outcome::Denied { need, .. } => need_number(form, need),
+        Outcome::Aborted { step, .. } | Outcome::Undeclared { step } => *step,
+        Outcome::Done { .. } | Outcome::Created => 0,
+    }
+}
+
+/// The word for why a need isn't held.
+fn cause_word(cause: Cause) -> u64
+    requires { cause_word cause < 2 ^ 64 }
+    ensures { result ≡ cause_word cause }
+{
+    match cause {
+        Cause::Never => 0,
+        Cause::Taken(place) => place + 1,
+    }
+}
+
+/// The word for why a body was aborted.
+fn reason_word(reason: Reason) -> u64
+    ensures { result ≡ reason_word reason }
+{
+    match reason {
+        Reason::NoRow => 0,
+        Reason::RowExists => 1,
+        Reason::Overflow => 2,
+        Reason::Check => 3,
+    }
+}
+
+/// The cause, or the reason.
+pub(crate) fn second_detail(outcome: &Outcome) -> u64
+    requires { second_detail outcome.now < 2 ^ 64 }
+    ensures { result ≡ second_detail outcome.now }
+{
+    match outcome {
+        Outcome::Denied { cause, .. } => cause_word(*cause),
+        Outcome::Aborted { reason, .. } => reason_word(*reason),
+        Outcome::Done { .. } | Outcome::Created | Outcome::Undeclared { .. } => 0,
+    }
+}
+
+/// The outputs of a place; only a done one has any.
+pub(crate) fn outputs_told(outcome: &Outcome) -> Outputs
+    ensures { result ≡ outputs_told outcome.now }
+{
+    match outcome {
+        Outcome::Done { outputs, .. } => *outputs,
+        _ => Outputs::new(),
+    }
+}

@@ -1,0 +1,150 @@
+//! An outcome, and the row of a version cell, from their words.
+
+ghost use Rattle.std.specs.Prelude.{◌≡◌, ◌≤◌, ◌-◌, drop, length, map, slice_get, slice_index, take};
+ghost use Rattle.std.specs.List.{flat_map};
+ghost use Rattle.model_base.specs.Outcomes.{kind_if, kinds_in, need_of, needs, needs_of_access, needs_of_deed};
+ghost use Rattle.own_words.specs.Words.{aborted_from, cause_from, deed_form, deed_told, denied_from, done_from, numbers_from, outcome_from, row_of, signed};
+
+use crate::bits::value_of;
+use crate::numbering::need_at;
+use model_base::{Cause, DeedDone, DeedForm, Form, Items, Outcome, Place, Reason, Row, Values};
+
+/// A word, or 0 past the last.
+fn word(words: &[u64], index: usize) -> u64
+    ensures { result ≡ slice_index words.now index }
+{
+    if index < words.len() { words[index] } else { 0 }
+}
+
+/// The words behind the first few.
+fn behind(words: &[u64], first: usize) -> &[u64]
+    ensures { result.now ≡ drop first words.now }
+{
+    if first <= words.len() {
+        &words[first..]
+    } else {
+        &[]
+    }
+}
+
+/// So many of the words, or all if there are fewer.
+fn front(words: &[u64], count: usize) -> &[u64]
+    ensures { result.now ≡ take count words.now }
+{
+    if count <= words.len() {
+        &words[..count]
+    } else {
+        words
+    }
+}
+
+/// So many whole numbers, from the words behind the first few.
+fn numbers_from(first: usize, count: usize, words: &[u64]) -> Values
+    requires { count ≤ 8 }
+    ensures { result ≡ numbers_from first count words.now }
+{
+    let mut numbers = Values::new();
+    let words = front(behind(words, first), count);
+    for word in words {
+        numbers.push(value_of(*word));
+    }
+    numbers
+}
+
+/// The row of a version cell of a table with so many columns, of which any first word but 1 says that it is absent. Words that
+/// are missing give no numbers. It takes no memory.
+pub fn row_of(columns: u8, words: &[u64]) -> Option<Row>
+    requires { columns ≤ 8 }
+    ensures { result ≡ row_of columns words.now }
+{
+    if word(words, 0) == 1 {
+        Some(numbers_from(1, columns as usize, words))
+    } else {
+        None
+    }
+}
+
+/// What a deed comes to, by the places that its revocation ended.
+fn deed_told(ended: Items<Place>, deed: Option<DeedForm>) -> DeedDone
+    ensures { result ≡ deed_told ended deed }
+{
+    match deed {
+        None => DeedDone::None,
+        Some(DeedForm::Grant { .. }) => DeedDone::Granted,
+        Some(DeedForm::Revoke { .. }) => DeedDone::Revoked(ended),
+    }
+}
+
+/// The deed of a statement, as it names it.
+fn deed_form(form: &Form) -> Option<DeedForm>
+    ensures { result ≡ deed_form form.now }
+{
+    match form {
+        Form::Create { .. } => None,
+        Form::Run { deed, .. } => *deed,
+        Form::Deed(deed) => Some(*deed),
+    }
+}
+
+/// A completed transaction.
+fn done_from(form: &Form, words: &[u64], ended: Items<Place>) -> Outcome
+    ensures { result ≡ done_from form.now words.now ended }
+{
+    let count = word(words, 3).min(8);
+    Outcome::Done {
+        outputs: numbers_from(4, count as usize, words),
+        deed: deed_told(ended, deed_form(form)),
+    }
+}
+
+/// The cause of this word.
+fn cause_from(word: u64) -> Cause
+    ensures { result ≡ cause_from word }
+{
+    if word == 0 {
+        Cause::Never
+    } else {
+        Cause::Taken(word - 1)
+    }
+}
+
+/// A denial by the need of this number, if the statement has so many.
+fn denied_from(form: &Form, number: u64, cause: Cause) -> Outcome
+    ensures { result ≡ denied_from number cause (slice_get (needs form.now) number) }
+{
+    match need_at(form, number) {
+        Some(need) => Outcome::Denied { need, cause },
+        None => Outcome::Undeclared { step: number },
+    }
+}
+
+/// A body that was aborted at this step, if the word is that of a reason.
+fn aborted_from(step: u64, word: u64) -> Outcome
+    ensures { result ≡ aborted_from step word }
+{
+    let reason = match word {
+        0 => Reason::NoRow,
+        1 => Reason::RowExists,
+        2 => Reason::Overflow,
+        3 => Reason::Check,
+        _ => return Outcome::Undeclared { step },
+    };
+    Outcome::Aborted { step, reason }
+}
+
+/// The outcome that a place's words tell; the places that its revocation ended are given, since the words don't have them.
+/// Words that are missing read as 0. Where word 0 is none of the five, where a denial has a number that no need of the
+/// statement has, and where an abortion has no reason, the outcome is undeclared at the step of word 1. More than eight
+/// outputs are cut to eight. It takes no memory.
+pub fn decoded(form: &Form, words: &[u64], ended: Items<Place>) -> Outcome
+    ensures { result ≡ outcome_from form.now words.now ended }
+{
+    let detail = word(words, 1);
+    match word(words, 0) {
+        1 => done_from(form, words, ended),
+        2 => Outcome::Created,
+        3 => denied_from(form, detail, cause_from(word(words, 2))),
+        4 => aborted_from(detail, word(words, 2)),
+        _ => Outcome::Undeclared { step: detail },
+    }
+}

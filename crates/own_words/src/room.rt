@@ -1,0 +1,129 @@
+//! The words of one place, kept in the value itself.
+
+use crate::bits::bits_of;
+use crate::coding::{first_detail, outcome_word, outputs_told, second_detail};
+use crate::numbering::outputs_of;
+use model_base::{Form, Outcome, Row};
+use std::marker::Model;
+
+/// A place's own words, at most 156, kept in the value itself, so that they take no memory.
+#[derive(Clone, Copy, PartialEq, Eq, Debug)]
+pub struct OwnWords {
+    len: u8,
+    words: [u64; 156],
+}
+
+impl Model for OwnWords {
+    ghost use Rattle.std.specs.Prelude.{List, ℕ};
+
+    ghost Value = { List ℕ };
+
+    ghost use Rattle.own_words.specs.Room.{words_in, IsPadded, padded, padded-undoes};
+
+    ghost view = { words_in };
+
+    ghost invariant = { IsPadded };
+
+    ghost inverse = { padded };
+
+    ghost inverse_ok = { padded-undoes };
+}
+
+impl OwnWords {
+    ghost use Rattle.std.specs.Prelude.{◌≡◌, ◌<◌, ◌≤◌, ◌+◌, ◌^◌, ◌++◌, ◌∷◌, [], length, map, replicate};
+    ghost use Rattle.std.specs.Option.{ForSome, option_copied};
+    ghost use Rattle.model_base.specs.Outcomes.{needs};
+    ghost use Rattle.own_words.specs.Words.{bits, header, outputs_of, row_words, second_detail};
+
+    /// No word.
+    pub(crate) fn new() -> Self
+        ensures { result ≡ [] }
+    {
+        OwnWords {
+            len: 0,
+            words: [0; 156],
+        }
+    }
+
+    /// How many there are.
+    pub fn len(&self) -> usize
+        ensures { result ≡ length self.now }
+    {
+        usize::from(self.len)
+    }
+
+    /// The words, in order.
+    pub fn as_slice(&self) -> &[u64]
+        ensures { result.now ≡ self.now }
+    {
+        &self.words[..self.len as usize]
+    }
+
+    /// Puts a word behind the others.
+    pub(crate) fn push(&mut self, word: u64)
+        requires { length self.old < 156 }
+        ensures { self.new ≡ self.old ++ word ∷ [] }
+    {
+        self.words[self.len as usize] = word;
+        self.len += 1;
+    }
+
+    /// Puts so many words 0 behind the others.
+    pub(crate) fn push_zeros(&mut self, count: u8)
+        requires { length self.old + count ≤ 156 }
+        ensures { self.new ≡ self.old ++ replicate count 0 }
+    {
+        self.len += count;
+    }
+
+    /// Puts a word for each number behind the others.
+    pub(crate) fn push_numbers(&mut self, numbers: &[i64])
+        requires { length self.old + length numbers.now ≤ 156 }
+        ensures { self.new ≡ self.old ++ map bits numbers.now }
+    {
+        for number in numbers {
+            self.push(bits_of(*number));
+        }
+    }
+
+    /// The words 0 to 3 of an outcome of a statement, and behind them its outputs, with 0 in the room for those that it didn't
+    /// give. The statement has at most eight OUT steps, and the place of a revocation that took a need lies below 2^64 - 1. A
+    /// need is told only if it is one of the statement's. It takes no memory.
+    pub fn header(form: &Form, outcome: &Outcome) -> OwnWords
+        requires outputs { outputs_of form.now ≤ 8 }
+        requires needs { length (needs form.now) < 2 ^ 64 }
+        requires detail { second_detail outcome.now < 2 ^ 64 }
+        ensures { result ≡ header form.now outcome.now }
+    {
+        let outputs = outputs_told(outcome);
+        let count = outputs.len() as u8;
+        let room = outputs_of(form) as u8;
+        let mut words = OwnWords::new();
+        words.push(outcome_word(outcome));
+        words.push(first_detail(form, outcome));
+        words.push(second_detail(outcome));
+        words.push(u64::from(count));
+        words.push_numbers(outputs.as_slice());
+        words.push_zeros(room.saturating_sub(count));
+        words
+    }
+
+    /// Puts a version cell behind the others: the row of a table with so many columns, or that there is none. There has to be
+    /// room for it, and a row has a number for each column. It takes no memory.
+    pub fn push_row(&mut self, columns: u8, row: Option<&Row>)
+        requires room { length self.old + (1 + columns) ≤ 156 }
+        requires columns { ForSome row (λ numbers. length numbers.now ≡ columns) }
+        ensures { self.new ≡ self.old ++ row_words columns (option_copied row.entry) }
+    {
+        match row {
+            Some(row) => {
+                self.push(1);
+                self.push_numbers(row.as_slice());
+            }
+            None => {
+                self.push(0);
+                self.push_zeros(columns);
+            }
+        }
+    }
+}
