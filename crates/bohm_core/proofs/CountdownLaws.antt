@@ -1,0 +1,110 @@
+-- What the small batch of the tests computes to.
+use Rattle.std.proofs.Common.{◌≡◌, ◌≢◌, ◌==◌, ◌&&◌, ◌-◌, ◌+◌, ℕ, suc, zero, Bool, true, false, Option, Some, None, is_none, List, [], ◌∷◌, length, get_or, set, take, refl, ap, arith}
+use Rattle.std.specs.Prelude.{nat_lt}
+use Rattle.std.proofs.lemmas.Bool.{eqb-true, lt-ltb}
+use Rattle.model_base.specs.Privileges.{has, names, owns}
+use Rattle.model_base.specs.Records.{end_below}
+use Rattle.model_base.proofs.Replay.{by_cases}
+use Rattle.bohm_core_base.specs.Deeds.{is_made}
+use Rattle.bohm_core_base.specs.Batch.{cell, deed_ends, deeds_of, records_shown, references, slots_of, was_done, words_by, words_length}
+use Rattle.bohm_core_base.specs.Machine.{State, end_of, must_end, next_word, own_of, placed_references, records_seen, references_of, rows_by, rows_seen, start, stored, words_seen}
+use Rattle.bohm_core.specs.Countdown.{countdown, is_open, number_by, number_in, number_of, old_grant, revocation_of, word_at}
+
+-- different numbers fail the test whether they are the same
+never : (a b : ℕ) → a ≢ b → (a == b) ≡ false
+never a b different = by_cases (a == b) (λ same. absurd (different (eqb-true a b same))) (λ other. other)
+
+-- a place refers to the one before it, for its row and for its table
+pub references_told : (index : ℕ) → references countdown index ≡ index ∷ index ∷ []
+unfolding references
+references_told zero = refl
+references_told (suc index) = refl
+
+-- the own words of a place, by the row that it is shown
+pub words_told : (state : State) (index : ℕ) → words_seen countdown state index ≡ 1 ∷ 1 ∷ (number_in (rows_seen countdown state index) - 1) ∷ []
+unfolding words_seen words_by
+words_told state index = refl
+
+-- three own words
+pub length_told : (index : ℕ) → words_length countdown index ≡ 3
+unfolding words_length
+length_told index = refl
+
+-- the number in a version cell
+pub cell_told : (index : ℕ) (own : List ℕ) → number_in (cell countdown index own (record { table = 0; row = 7 }) ∷ []) ≡ number_of own
+unfolding cell
+cell_told index [] = refl
+cell_told index (_ ∷ []) = refl
+cell_told index (_ ∷ zero ∷ _) = refl
+cell_told index (_ ∷ suc _ ∷ []) = refl
+cell_told index (_ ∷ suc _ ∷ number ∷ _) = refl
+
+-- the number that a place is shown
+pub number_told : (state : State) (index : ℕ) → number_in (rows_seen countdown state index) ≡ number_by state (references_of state index)
+unfolding rows_seen
+number_told state index = by_references (references_of state index)
+  where
+    by_references : (found : List ℕ) → number_in (rows_by countdown state (countdown.accesses index) found) ≡ number_by state found
+    by_references [] = refl
+    by_references (zero ∷ found) = refl
+    by_references (suc other ∷ found) = cell_told other (own_of state other)
+
+-- a place stores next the word of this position
+pub word_told : (state : State) (index : ℕ)
+    → next_word countdown state index ≡ word_at (length (own_of state index)) (number_by state (references_of state index))
+word_told state index = rw (words_told state index, number_told state index) (by_position (length (own_of state index)) _)
+  where
+    by_position : (position number : ℕ) → get_or (1 ∷ 1 ∷ (number - 1) ∷ []) position 0 ≡ word_at position number
+    by_position zero number = refl
+    by_position (suc zero) number = refl
+    by_position (suc (suc zero)) number = refl
+    by_position (suc (suc (suc position))) number = refl
+
+-- the revocation of a place ends the grant if its record has no end yet
+one_ends : (index place : ℕ) (end : Option ℕ)
+    → deed_ends (0 ∷ []) (Some (revocation_of index)) (record { grant = old_grant; end = end } ∷ []) place ≡ (is_none end && (2 == place))
+unfolding names has owns
+one_ends index place None = by_cases (2 == place) (λ same. rw same refl) (λ other. rw other refl)
+one_ends index place (Some _) = refl
+
+-- the same by the records that the place is shown
+shown_ends : (index place : ℕ) (made : ℕ → Bool) (ends : List (Option ℕ)) → made 2 ≡ true
+    → deed_ends (0 ∷ []) (Some (revocation_of index)) (records_shown (0 ∷ []) (3 + index) made (old_grant ∷ []) ends) place
+    ≡ ((nat_lt 0 (length ends) && is_none (end_below (3 + index) (get_or ends 0 None))) && (2 == place))
+shown_ends index place made [] told = refl
+shown_ends index place made (end ∷ ends) told =
+    let below : nat_lt 2 (3 + index) ≡ true = lt-ltb 2 (3 + index) (omega arith) in
+    let some : nat_lt 0 (suc (length ends)) ≡ true = lt-ltb 0 (suc (length ends)) (omega arith) in
+    rw (below, told, some) (one_ends index place (end_below (3 + index) end))
+
+-- a place must end the record of the grant, unless it is ended below it
+pub end_told : (state : State) (index slot : ℕ)
+    → must_end countdown state index slot ≡ (was_done (own_of state index) && (is_open state index && (slot == 0)))
+unfolding must_end records_seen slots_of is_made
+end_told state index zero =
+    ap (λ ends. was_done (own_of state index) && ends)
+    (shown_ends index 2 (is_made (deeds_of countdown (λ other. was_done (own_of state other)))) state.ends refl)
+end_told state index (suc slot) =
+    rw (never (suc slot) 0 (omega arith))
+    (ap (λ ends. was_done (own_of state index) && ends)
+    (shown_ends index 0 (is_made (deeds_of countdown (λ other. was_done (own_of state other)))) state.ends refl))
+
+-- no record has an end before the batch
+pub ends_told : (slot : ℕ) → end_of (start countdown) slot ≡ None
+unfolding slots_of
+ends_told zero = refl
+ends_told (suc slot) = refl
+
+-- the references with those into one partition stored, as a write
+pub set_told : (partition index : ℕ) (old : List ℕ) → stored partition (0 ∷ 1 ∷ []) (index ∷ index ∷ []) old ≡ set (take 2 old) partition index
+set_told partition index [] = refl
+set_told zero index (x ∷ []) = refl
+set_told (suc partition) index (x ∷ []) = rw (never 0 (suc partition) (omega arith)) refl
+set_told zero index (x ∷ y ∷ _) = refl
+set_told (suc zero) index (x ∷ y ∷ _) = refl
+set_told (suc (suc partition)) index (x ∷ y ∷ _) = rw (never 0 (suc (suc partition)) (omega arith), never 1 (suc (suc partition)) (omega arith)) refl
+
+-- the same of a partition's next place
+pub stored_told : (state : State) (partition index : ℕ)
+    → placed_references countdown state partition index ≡ set (take 2 (references_of state index)) partition index
+stored_told state partition index = rw (references_told index) (set_told partition index (references_of state index))

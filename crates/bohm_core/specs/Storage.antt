@@ -1,0 +1,26 @@
+-- How the state of a batch is stored: for each place a vector of references and one of own words, beside who holds it.
+-- What the state is, is said by Machine.antt of `bohm_core_base`, after J. M. Faleiro and D. J. Abadi, "Rethinking
+-- Serializable Multiversion Concurrency Control", PVLDB 8 (2015), section 3.
+use Rattle.std.specs.Prelude.{◌≡◌, ℕ, Bool, true, false, List, map}
+use Rattle.std.specs.declared.vec.Vec.{Vec}
+use Rattle.std.specs.declared.alloc.Global.{Global}
+use Rattle.bohm_core_base.specs.declared.event.Event.{Event}
+use Rattle.bohm_core_base.specs.declared.event.Event.TheVariants.{Place, Claim, Fill, End, Finish, GiveBack}
+
+-- there are one hold and one list of own words for each list of references
+pub record OneEach (references holds own : ℕ) : Type 0 where
+  pub holds_too : holds ≡ references
+  pub own_too : own ≡ references
+
+-- the lists that the vectors hold
+abbrev pub lists_of : List (Vec ℕ Global) → List (List ℕ)
+lists_of vectors = map (λ (vector : Vec ℕ Global). vector.items) vectors
+
+-- whether an event may be refused for want of memory; an actor takes a place and gives it back without any
+abbrev pub takes_memory : Event → Bool
+takes_memory (Place partition) = true
+takes_memory (Claim actor index) = false
+takes_memory (Fill actor index) = true
+takes_memory (End actor index slot) = true
+takes_memory (Finish actor index) = true
+takes_memory (GiveBack actor index) = false

@@ -1,0 +1,217 @@
+//! One event, and lists of events.
+
+ghost use Rattle.std.specs.Prelude.{◌≡◌, ◌<◌, ◌^◌, ℕ, ◌+◌, Bool, true, false, not, IfOk, IsTrue, OnErr, OnOk, length, if◌then◌else◌};
+ghost use Rattle.bohm_core_base.specs.Machine.{all_below, all_ended, all_filled, can_claim, can_give_back, effect, end_of, hold_of, is_held_by, reach, run_from, with_hold};
+ghost use Rattle.bohm_core_base.specs.Serial.{is_end};
+ghost use Rattle.bohm_core.specs.Storage.{takes_memory};
+
+use crate::state::State;
+use crate::statements::Statements;
+use bohm_core_base::{Event, Hold};
+use model_base::Place;
+use std::alloc::{AllocError, Global};
+
+/// Whether the actor holds the place.
+fn is_held(state: &State, actor: u64, index: usize) -> bool
+    ensures value { result ≡ is_held_by actor (hold_of state.now index) }
+    ensures within { IsTrue result → index < length state.now.holds }
+    ensures small { IsTrue result → index < 2 ^ 63 }
+{
+    if index < state.places() {
+        match state.hold(index) {
+            Hold::Held { actor: other } => other == actor,
+            _ => false,
+        }
+    } else {
+        false
+    }
+}
+
+/// Whether the place has all its own words.
+fn is_filled<S: Statements>(statements: &S, state: &State, index: usize) -> bool
+    ensures { result ≡ all_filled (S.batch statements.now) state.now index }
+{
+    state.own(index).len() == statements.words_length(index)
+}
+
+/// Whether all ends that the place must set are set; `place` is where it stands in the log.
+fn has_ended<S: Statements>(
+    statements: &S,
+    state: &State,
+    index: usize,
+    place: Place,
+) -> Result<bool, AllocError>
+    requires { place ≡ (S.batch statements.now).first + index }
+    ensures { IfOk result (λ ended. ended ≡ all_ended (S.batch statements.now) state.now index) }
+{
+    for slot in 0..state.slots() {
+        if !state.is_ended_by(slot, place) && statements.must_end(state, index, slot)? {
+            return Ok(false);
+        }
+    }
+    Ok(true)
+}
+
+/// Whether no record is ended by the place of the log.
+fn has_none(state: &State, place: Place) -> bool
+    ensures { result ≡ all_below (λ slot. not (is_end place (end_of state.now slot))) (length state.now.ends) }
+{
+    for slot in 0..state.slots() {
+        if state.is_ended_by(slot, place) {
+            return false;
+        }
+    }
+    true
+}
+
+/// The partition stores the references into it of its next place.
+fn place_next<S: Statements>(
+    statements: &S,
+    state: &mut State,
+    partition: usize,
+) -> Result<(), AllocError>
+    ensures ok { OnOk result (state.new ≡ effect (S.batch statements.now) state.old (Event.Place partition)) }
+    ensures err { OnErr result (state.new ≡ state.old) }
+{
+    if state.has_next(partition) {
+        let references = statements.stored(state, partition)?;
+        state.place_next(partition, references);
+    }
+    Ok(())
+}
+
+/// The actor takes the place.
+fn claim(state: &mut State, actor: u64, index: usize)
+    ensures { state.new ≡ (if can_claim state.old index then with_hold state.old index (Hold.Held actor) else state.old) }
+{
+    let is_free = matches!(state.hold(index), Hold::Free);
+    if is_free && index < state.places() && state.all_past(index) {
+        state.set_hold(index, Hold::Held { actor });
+    }
+}
+
+/// The actor stores the next own word of the place.
+fn fill<S: Statements>(
+    statements: &S,
+    state: &mut State,
+    actor: u64,
+    index: usize,
+) -> Result<(), AllocError>
+    ensures ok { OnOk result (state.new ≡ effect (S.batch statements.now) state.old (Event.Fill actor index)) }
+    ensures err { OnErr result (state.new ≡ state.old) }
+{
+    let is_short = state.own(index).len() < statements.words_length(index);
+    if is_held(state, actor, index) && state.all_ready(index) && is_short {
+        let word = statements.next_word(state, index)?;
+        state.push_word(index, word)?;
+    }
+    Ok(())
+}
+
+/// The actor ends the record of the slot by the place.
+fn end<S: Statements>(
+    statements: &S,
+    state: &mut State,
+    actor: u64,
+    index: usize,
+    slot: usize,
+) -> Result<(), AllocError>
+    ensures ok { OnOk result (state.new ≡ effect (S.batch statements.now) state.old (Event.End actor index slot)) }
+    ensures err { OnErr result (state.new ≡ state.old) }
+{
+    if is_held(state, actor, index)
+        && state.all_ready(index)
+        && is_filled(statements, state, index)
+        && slot < state.slots()
+    {
+        let must = statements.must_end(state, index, slot)?;
+        if must && state.end(slot).is_none() {
+            state.set_end(slot, statements.first() + index as u64);
+        }
+    }
+    Ok(())
+}
+
+/// The actor is done with the place.
+fn finish<S: Statements>(
+    statements: &S,
+    state: &mut State,
+    actor: u64,
+    index: usize,
+) -> Result<(), AllocError>
+    ensures ok { OnOk result (state.new ≡ effect (S.batch statements.now) state.old (Event.Finish actor index)) }
+    ensures err { OnErr result (state.new ≡ state.old) }
+{
+    if is_held(state, actor, index) && is_filled(statements, state, index) {
+        let place = statements.first() + index as u64;
+        if has_ended(statements, state, index, place)? {
+            state.set_hold(index, Hold::Done);
+        }
+    }
+    Ok(())
+}
+
+/// The actor gives the place back.
+fn give_back<S: Statements>(statements: &S, state: &mut State, actor: u64, index: usize)
+    ensures { state.new ≡ (if can_give_back (S.batch statements.now) state.old actor index then with_hold state.old index Hold.Free else state.old) }
+{
+    if is_held(state, actor, index) && state.own(index).is_empty() {
+        let place = statements.first() + index as u64;
+        if has_none(state, place) {
+            state.set_hold(index, Hold::Free);
+        }
+    }
+}
+
+/// Makes one event; one whose guard fails changes nothing. An error is want of memory, after which the state is as it was; an
+/// actor takes a place and gives it back without any.
+pub fn apply<S: Statements>(
+    statements: &S,
+    state: &mut State,
+    event: &Event,
+) -> Result<(), AllocError>
+    ensures ok { OnOk result (state.new ≡ effect (S.batch statements.now) state.old event.now) }
+    ensures err { OnErr result (state.new ≡ state.old) }
+    ensures memory { OnErr result (takes_memory event.now ≡ true) }
+{
+    match *event {
+        Event::Place { partition } => place_next(statements, state, partition),
+        Event::Claim { actor, index } => {
+            claim(state, actor, index);
+            Ok(())
+        }
+        Event::Fill { actor, index } => fill(statements, state, actor, index),
+        Event::End { actor, index, slot } => end(statements, state, actor, index, slot),
+        Event::Finish { actor, index } => finish(statements, state, actor, index),
+        Event::GiveBack { actor, index } => {
+            give_back(statements, state, actor, index);
+            Ok(())
+        }
+    }
+}
+
+/// Makes the events one after another. An error is want of memory.
+pub fn run_events<S: Statements>(
+    statements: &S,
+    mut state: State,
+    events: &[Event],
+) -> Result<State, AllocError>
+    ensures { IfOk result (λ reached. reached ≡ run_from (S.batch statements.now) state events.now) }
+{
+    for event in events {
+        apply(statements, &mut state, event)?;
+    }
+    Ok(state)
+}
+
+/// The state that the events reach, from the first state of the batch. An error is want of memory.
+pub fn reached<S: Statements>(
+    alloc: Global,
+    statements: &S,
+    events: &[Event],
+) -> Result<State, AllocError>
+    ensures { IfOk result (λ reached. reached ≡ reach (S.batch statements.now) events.now) }
+{
+    let state = State::new(alloc, statements)?;
+    run_events(statements, state, events)
+}
