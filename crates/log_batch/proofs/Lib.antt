@@ -1,0 +1,13 @@
+pub mod SoundWords
+pub mod SoundRows
+pub mod SoundTables
+pub mod SoundDeeds
+pub mod Sound
+pub mod SoundReferences
+pub mod SerialNumbers
+pub mod SerialRows
+pub mod SerialNeeds
+pub mod SerialPlaces
+pub mod SerialPlace
+pub mod SerialRuns
+pub mod LogsRight
