@@ -21,8 +21,8 @@ pub trait Statements {
     fn partitions(&self) -> usize
         ensures { result ≡ (batch self.now).partitions };
 
-    /// The place of the log of the batch's first statement. Memory holds fewer than 2^63 statements, so that one more batch
-    /// can be counted.
+    /// The place of the log of the batch's first statement. Fewer than 2^63 statements stand before a batch, so that the
+    /// place of every index fits 64 bits.
     fn first(&self) -> Place
         ensures value { result ≡ (batch self.now).first }
         ensures small { result < 2 ^ 63 };
