@@ -115,9 +115,9 @@ row_words columns (Some row) = 1 ∷ map bits row
 abbrev pub numbers_from : ℕ → ℕ → List ℕ → List ℤ
 numbers_from first count words = map signed (take count (drop first words))
 
--- the row of a version cell, of which any first word but 1 says that it is absent
+-- the row of a version cell, of which a first word 0 says that it is absent
 abbrev pub row_of : ℕ → List ℕ → Option (List ℤ)
-row_of columns words = if slice_index words 0 == 1 then Some (numbers_from 1 columns words) else None
+row_of columns words = if slice_index words 0 == 0 then None else Some (numbers_from 1 columns words)
 
 -- the deed of a statement, as it names it
 abbrev pub deed_form : Form → Option DeedForm

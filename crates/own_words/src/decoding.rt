@@ -51,16 +51,16 @@ fn numbers_from(first: usize, count: usize, words: &[u64]) -> Values
     numbers
 }
 
-/// The row of a version cell of a table with so many columns, of which any first word but 1 says that it is absent. Words that
-/// are missing give no numbers. It takes no memory.
+/// The row of a version cell of a table with so many columns, of which a first word 0 says that it is absent. Words that are
+/// missing give no numbers. It takes no memory.
 pub fn row_of(columns: u8, words: &[u64]) -> Option<Row>
     requires { columns ≤ 8 }
     ensures { result ≡ row_of columns words.now }
 {
-    if word(words, 0) == 1 {
-        Some(numbers_from(1, columns as usize, words))
-    } else {
+    if word(words, 0) == 0 {
         None
+    } else {
+        Some(numbers_from(1, columns as usize, words))
     }
 }
 

@@ -22,7 +22,7 @@ fn count_outputs(steps: &[Step]) -> usize
 }
 
 /// How many outputs the statement has room for.
-pub(crate) fn outputs_of(form: &Form) -> usize
+pub fn outputs_of(form: &Form) -> usize
     ensures { result ≡ outputs_of form.now }
 {
     match form {

@@ -45,7 +45,7 @@ fn add_needs(tables: &mut Vec<Table>, accesses: &[Access]) -> Result<(), AllocEr
 
 /// Puts the tables of a statement's needs and of its deed into an empty list, each once, in the order in which they first
 /// stand. On `Err` memory was refused, and some may stand in it.
-pub(crate) fn find_tables(tables: &mut Vec<Table>, statement: &Statement) -> Result<(), AllocError>
+pub fn find_tables(tables: &mut Vec<Table>, statement: &Statement) -> Result<(), AllocError>
     requires { tables.old.items ≡ [] }
     ensures tables { OnOk result (tables.new.items ≡ tables_of statement.now.form) }
     ensures count { OnOk result (vec_len tables.new ≤ length (accesses_of statement.now.form) + 1) }
