@@ -1,12 +1,15 @@
 -- What the small batch of the tests computes to.
-use Rattle.std.proofs.Common.{◌≡◌, ◌≢◌, ◌==◌, ◌&&◌, ◌-◌, ◌+◌, ℕ, suc, zero, Bool, true, false, Option, Some, None, is_none, List, [], ◌∷◌, length, get_or, set, take, refl, ap, arith}
+use Rattle.std.proofs.Common.{◌≡◌, ◌≢◌, ◌<◌, subst, ◌==◌, ◌&&◌, ◌-◌, ◌+◌, ℕ, suc, zero, Bool, true, false, Option, Some, None, is_none, List, [], ◌∷◌, length, get_or, set, take, refl, ap, arith}
 use Rattle.std.specs.Prelude.{nat_lt}
 use Rattle.std.proofs.lemmas.Bool.{eqb-true, lt-ltb}
-use Rattle.model_base.specs.Privileges.{has, names, owns}
+use Rattle.std.proofs.lemmas.List.Elements.{All-nil, All-push}
+use Rattle.model_base.specs.declared.deed.Deed.{Deed}
+use Rattle.model_base.specs.declared.deed.Deed.TheVariants.{Granting}
+use Rattle.model_base.specs.Privileges.{MayFollow, has, names, owns, place_of}
 use Rattle.model_base.specs.Records.{end_below}
 use Rattle.model_base.proofs.Replay.{by_cases}
 use Rattle.bohm_core_base.specs.Deeds.{is_made}
-use Rattle.bohm_core_base.specs.Batch.{cell, deed_ends, deeds_of, records_shown, references, slots_of, was_done, words_by, words_length}
+use Rattle.bohm_core_base.specs.Batch.{IsSound, cell, deed_ends, deeds_of, is_listed, records_shown, references, slots_of, was_done, words_by, words_length}
 use Rattle.bohm_core_base.specs.Machine.{State, end_of, must_end, next_word, own_of, placed_references, records_seen, references_of, rows_by, rows_seen, start, stored, words_seen}
 use Rattle.bohm_core.specs.Countdown.{countdown, is_open, number_by, number_in, number_of, old_grant, revocation_of, word_at}
 
@@ -108,3 +111,37 @@ set_told (suc (suc partition)) index (x ∷ y ∷ _) = rw (never 0 (suc (suc par
 pub stored_told : (state : State) (partition index : ℕ)
     → placed_references countdown state partition index ≡ set (take 2 (references_of state index)) partition index
 stored_told state partition index = rw (references_told index) (set_told partition index (references_of state index))
+
+-- each of its deeds is a revocation at its place
+deed_is : (index : ℕ) (deed : Deed) → Some (revocation_of index) ≡ Some deed → revocation_of index ≡ deed
+deed_is index deed is = cc
+
+-- a table of a deed is the one that is declared
+listed_told : (table : ℕ) → (0 == table) ≡ true → is_listed (0 ∷ []) table ≡ true
+listed_told table same = rw same refl
+
+-- the partitions are 0 and 1
+partition_told : (reference : ℕ) → reference < 2 → get_or (0 ∷ 1 ∷ []) reference 0 < 2
+partition_told zero low = omega arith
+partition_told (suc zero) low = omega arith
+partition_told (suc (suc reference)) low = absurd (omega arith)
+
+-- the small batch is one that the law speaks of
+pub countdown_sound : IsSound countdown
+unfolding references has owns
+countdown_sound = record {
+  header = λ index rows entries. refl;
+  outcome = λ index. omega arith;
+  base_fits = λ key. refl;
+  new_rows = λ index rows entries same fit. (refl, (refl, tt));
+  deed_table = λ index table on. listed_told table on;
+  placed = record {
+    earlier = All-push (λ deed. place_of deed < 3) [] (Granting old_grant) (All-nil (λ deed. place_of deed < 3)) (omega arith);
+    here = λ index deed is. rw (← deed_is index deed is) refl;
+  };
+  proper = ((All-nil (λ deed. place_of deed < 2), refl), tt);
+  may = λ index rows deeds deed proper below done is.
+      subst (MayFollow (0 ∷ []) deeds) (deed_is index deed is) below;
+  same_length = λ index. ap length (references_told index);
+  within = λ index reference low. partition_told reference low;
+}

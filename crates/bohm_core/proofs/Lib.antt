@@ -1,3 +1,4 @@
 pub mod Below
 pub mod CountdownLaws
+pub mod Reached
 pub mod Vectors

@@ -1,15 +1,18 @@
-//! One event, and lists of events.
+//! What one event does.
 
-ghost use Rattle.std.specs.Prelude.{◌≡◌, ◌<◌, ◌^◌, ℕ, ◌+◌, Bool, true, false, not, IfOk, IsTrue, OnErr, OnOk, length, if◌then◌else◌};
-ghost use Rattle.bohm_core_base.specs.Machine.{all_below, all_ended, all_filled, can_claim, can_give_back, effect, end_of, hold_of, is_held_by, reach, run_from, with_hold};
+ghost use Rattle.std.specs.Prelude.{◌≡◌, ◌<◌, ◌^◌, ℕ, ◌+◌, Bool, true, false, nat_lt, not, IfOk, IsTrue, OnErr, OnOk, length, if◌then◌else◌};
+ghost use Rattle.bohm_core_base.specs.Batch.{slots_of, words_length};
+ghost use Rattle.bohm_core_base.specs.Laws.{ShowsSerial};
+ghost use Rattle.bohm_core_base.specs.Machine.{all_below, all_ended, all_filled, can_claim, can_give_back, effect, end_of, hold_of, is_held_by, own_of, with_hold};
 ghost use Rattle.bohm_core_base.specs.Serial.{is_end};
+ghost use Rattle.bohm_core.specs.Running.{IsReached};
 ghost use Rattle.bohm_core.specs.Storage.{takes_memory};
 
 use crate::state::State;
 use crate::statements::Statements;
 use bohm_core_base::{Event, Hold};
 use model_base::Place;
-use std::alloc::{AllocError, Global};
+use std::alloc::AllocError;
 
 /// Whether the actor holds the place.
 fn is_held(state: &State, actor: u64, index: usize) -> bool
@@ -29,9 +32,18 @@ fn is_held(state: &State, actor: u64, index: usize) -> bool
 
 /// Whether the place has all its own words.
 fn is_filled<S: Statements>(statements: &S, state: &State, index: usize) -> bool
+    requires { index < (S.batch statements.now).size }
     ensures { result ≡ all_filled (S.batch statements.now) state.now index }
 {
     state.own(index).len() == statements.words_length(index)
+}
+
+/// Whether a further own word of the place is due.
+fn is_due<S: Statements>(statements: &S, state: &State, index: usize) -> bool
+    requires { index < (S.batch statements.now).size }
+    ensures { result ≡ nat_lt (length (own_of state.now index)) (words_length (S.batch statements.now) index) }
+{
+    state.own(index).len() < statements.words_length(index)
 }
 
 /// Whether all ends that the place must set are set; `place` is where it stands in the log.
@@ -41,7 +53,10 @@ fn has_ended<S: Statements>(
     index: usize,
     place: Place,
 ) -> Result<bool, AllocError>
-    requires { place ≡ (S.batch statements.now).first + index }
+    requires place { place ≡ (S.batch statements.now).first + index }
+    requires within { index < (S.batch statements.now).size }
+    requires slots { length state.now.ends ≡ length (slots_of (S.batch statements.now)) }
+    requires shown { ShowsSerial (S.batch statements.now) state.now index }
     ensures { IfOk result (λ ended. ended ≡ all_ended (S.batch statements.now) state.now index) }
 {
     for slot in 0..state.slots() {
@@ -70,6 +85,7 @@ fn place_next<S: Statements>(
     state: &mut State,
     partition: usize,
 ) -> Result<(), AllocError>
+    requires { IsReached (S.batch statements.now) state.old }
     ensures ok { OnOk result (state.new ≡ effect (S.batch statements.now) state.old (Event.Place partition)) }
     ensures err { OnErr result (state.new ≡ state.old) }
 {
@@ -97,11 +113,11 @@ fn fill<S: Statements>(
     actor: u64,
     index: usize,
 ) -> Result<(), AllocError>
+    requires { IsReached (S.batch statements.now) state.old }
     ensures ok { OnOk result (state.new ≡ effect (S.batch statements.now) state.old (Event.Fill actor index)) }
     ensures err { OnErr result (state.new ≡ state.old) }
 {
-    let is_short = state.own(index).len() < statements.words_length(index);
-    if is_held(state, actor, index) && state.all_ready(index) && is_short {
+    if is_held(state, actor, index) && state.all_ready(index) && is_due(statements, state, index) {
         let word = statements.next_word(state, index)?;
         state.push_word(index, word)?;
     }
@@ -116,6 +132,7 @@ fn end<S: Statements>(
     index: usize,
     slot: usize,
 ) -> Result<(), AllocError>
+    requires { IsReached (S.batch statements.now) state.old }
     ensures ok { OnOk result (state.new ≡ effect (S.batch statements.now) state.old (Event.End actor index slot)) }
     ensures err { OnErr result (state.new ≡ state.old) }
 {
@@ -133,12 +150,14 @@ fn end<S: Statements>(
 }
 
 /// The actor is done with the place.
+#[tactic(auto, using(crate::proofs::Reached::one_end_each))]
 fn finish<S: Statements>(
     statements: &S,
     state: &mut State,
     actor: u64,
     index: usize,
 ) -> Result<(), AllocError>
+    requires { IsReached (S.batch statements.now) state.old }
     ensures ok { OnOk result (state.new ≡ effect (S.batch statements.now) state.old (Event.Finish actor index)) }
     ensures err { OnErr result (state.new ≡ state.old) }
 {
@@ -165,11 +184,12 @@ fn give_back<S: Statements>(statements: &S, state: &mut State, actor: u64, index
 
 /// Makes one event; one whose guard fails changes nothing. An error is want of memory, after which the state is as it was; an
 /// actor takes a place and gives it back without any.
-pub fn apply<S: Statements>(
+pub(crate) fn apply<S: Statements>(
     statements: &S,
     state: &mut State,
     event: &Event,
 ) -> Result<(), AllocError>
+    requires { IsReached (S.batch statements.now) state.old }
     ensures ok { OnOk result (state.new ≡ effect (S.batch statements.now) state.old event.now) }
     ensures err { OnErr result (state.new ≡ state.old) }
     ensures memory { OnErr result (takes_memory event.now ≡ true) }
@@ -188,30 +208,4 @@ pub fn apply<S: Statements>(
             Ok(())
         }
     }
-}
-
-/// Makes the events one after another. An error is want of memory.
-pub fn run_events<S: Statements>(
-    statements: &S,
-    mut state: State,
-    events: &[Event],
-) -> Result<State, AllocError>
-    ensures { IfOk result (λ reached. reached ≡ run_from (S.batch statements.now) state events.now) }
-{
-    for event in events {
-        apply(statements, &mut state, event)?;
-    }
-    Ok(state)
-}
-
-/// The state that the events reach, from the first state of the batch. An error is want of memory.
-pub fn reached<S: Statements>(
-    alloc: Global,
-    statements: &S,
-    events: &[Event],
-) -> Result<State, AllocError>
-    ensures { IfOk result (λ reached. reached ≡ reach (S.batch statements.now) events.now) }
-{
-    let state = State::new(alloc, statements)?;
-    run_events(statements, state, events)
 }

@@ -5,7 +5,8 @@
 //! section 3.
 #![tactic(auto)]
 
-pub mod apply;
+mod apply;
+mod machine;
 mod start;
 mod state;
 mod statements;
@@ -13,5 +14,6 @@ mod statements;
 mod tests;
 
 pub use bohm_core_base::{Event, Hold, done_places_are_serial};
+pub use machine::Machine;
 pub use state::State;
 pub use statements::Statements;

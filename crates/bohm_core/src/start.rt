@@ -1,6 +1,6 @@
 //! The lists of a state at first.
 
-ghost use Rattle.std.specs.Prelude.{◌≡◌, ℕ, IfOk, [], replicate};
+ghost use Rattle.std.specs.Prelude.{◌≡◌, ◌≤◌, ℕ, IfOk, [], replicate};
 ghost use Rattle.bohm_core_base.specs.Batch.{Batch};
 ghost use Rattle.bohm_core_base.specs.Machine.{empty_references, start};
 ghost use Rattle.bohm_core_base.specs.declared.hold.Hold.TheVariants.{Free};
@@ -31,6 +31,7 @@ pub fn no_references<S: Statements>(
     statements: &S,
     places: usize,
 ) -> Result<Vec<Vec<usize>>, AllocError>
+    requires { places ≤ (S.batch statements.now).size }
     ensures { IfOk result (λ references. lists_of references.items ≡ empty_references (S.batch statements.now) places) }
 {
     let mut references = Vec::with_capacity(alloc, places)?;

@@ -6,7 +6,7 @@ ghost use Rattle.bohm_core_base.specs.Batch.{was_done};
 ghost use Rattle.bohm_core_base.specs.Machine.{references_of};
 ghost use Rattle.bohm_core.specs.Countdown.{countdown, is_open, number_by, number_of, word_at};
 
-use crate::apply::{reached, run_events};
+use crate::machine::Machine;
 use crate::state::State;
 use crate::statements::Statements;
 use bohm_core_base::{Event, Hold};
@@ -90,6 +90,7 @@ fn all_three(first: bool, second: bool, third: bool) -> bool
 impl Statements for Countdown {
     ghost batch = { λ _. countdown };
 
+    #[tactic(auto, using(crate::proofs::CountdownLaws::countdown_sound))]
     fn places(&self) -> usize {
         2
     }
@@ -149,10 +150,11 @@ impl Statements for Countdown {
 }
 
 /// The batch, its two places placed in both partitions, after these events.
-fn after(alloc: Global, events: &[Event]) -> Result<State, AllocError> {
-    let statements = Countdown { alloc };
-    let state = reached(alloc, &statements, &PLACES)?;
-    run_events(&statements, state, events)
+fn after(alloc: Global, events: &[Event]) -> Result<Machine<Countdown>, AllocError> {
+    let mut machine = Machine::new(alloc, Countdown { alloc })?;
+    machine.run_events(&PLACES)?;
+    machine.run_events(events)?;
+    Ok(machine)
 }
 
 const PLACES: [Event; 4] = [
@@ -180,28 +182,28 @@ fn whole(actor: u64, index: usize) -> [Event; 6] {
 
 #[test]
 fn an_unplaced_place_stays_free(rt: HostRuntime) -> Result<(), Fail> {
-    let events = [
-        Event::Place { partition: 0 },
-        Event::Claim { actor: 1, index: 0 },
-    ];
-    let state = reached(rt.alloc(), &Countdown { alloc: rt.alloc() }, &events)?;
-    assert_eq!(rt; state.hold(0), Hold::Free);
+    let alloc = rt.alloc();
+    let mut machine = Machine::new(alloc, Countdown { alloc })?;
+    machine.apply(&Event::Place { partition: 0 })?;
+    machine.apply(&Event::Claim { actor: 1, index: 0 })?;
+    assert_eq!(rt; machine.state().hold(0), Hold::Free);
+    assert_eq!(rt; machine.statements().places(), 2);
     Ok(())
 }
 
 #[test]
 fn a_later_place_waits(rt: HostRuntime) -> Result<(), Fail> {
-    let state = after(rt.alloc(), &whole(1, 1))?;
-    assert_eq!(rt; state.hold(1), Hold::Held { actor: 1 });
-    assert_eq!(rt; state.own(1).len(), 0);
+    let machine = after(rt.alloc(), &whole(1, 1))?;
+    assert_eq!(rt; machine.state().hold(1), Hold::Held { actor: 1 });
+    assert_eq!(rt; machine.state().own(1).len(), 0);
     Ok(())
 }
 
 #[test]
 fn places_take_one_each(rt: HostRuntime) -> Result<(), Fail> {
-    let alloc = rt.alloc();
-    let first = after(alloc, &whole(1, 0))?;
-    let state = run_events(&Countdown { alloc }, first, &whole(2, 1))?;
+    let mut machine = after(rt.alloc(), &whole(1, 0))?;
+    machine.run_events(&whole(2, 1))?;
+    let state = machine.state();
     assert_eq!(rt; state.own(0), [1, 1, 8].as_slice());
     assert_eq!(rt; state.own(1), [1, 1, 7].as_slice());
     assert_eq!(rt; state.hold(1), Hold::Done);
@@ -219,8 +221,8 @@ fn only_an_untouched_place_is_given_back(rt: HostRuntime) -> Result<(), Fail> {
         Event::GiveBack { actor: 2, index: 0 },
         Event::Fill { actor: 1, index: 0 },
     ];
-    let state = after(rt.alloc(), &events)?;
-    assert_eq!(rt; state.hold(0), Hold::Held { actor: 2 });
-    assert_eq!(rt; state.own(0), [1].as_slice());
+    let machine = after(rt.alloc(), &events)?;
+    assert_eq!(rt; machine.state().hold(0), Hold::Held { actor: 2 });
+    assert_eq!(rt; machine.state().own(0), [1].as_slice());
     Ok(())
 }

@@ -21,7 +21,7 @@ use Rattle.bohm_core_base.specs.Deeds.{made_before}
 use Rattle.bohm_core_base.specs.Batch.{Batch, declares_write, references, writer, was_done, slots_of, place_at, deeds_of, IsSound}
 use Rattle.bohm_core_base.specs.Serial.{serial_words, serial_ends, whole_end}
 use Rattle.bohm_core_base.specs.Machine.{State, front_of, references_of, placed_references, hold_of, own_of, end_of, is_free, is_held_by, is_done, is_ready, all_ready, words_seen, must_end, all_filled, all_past, guard, with_hold, change, effect, run_from, empty_references, start, reach}
-use Rattle.bohm_core_base.specs.Laws.{actor_of, HasReferences, IsRight, IsWhole, ShowsSerial, Stands, SameTask, NoneBy}
+use Rattle.bohm_core_base.specs.Laws.{HasSizes, actor_of, HasReferences, IsRight, IsWhole, ShowsSerial, Stands, SameTask, NoneBy}
 use Rattle.bohm_core_base.proofs.Slots.{made-split}
 use Rattle.bohm_core_base.proofs.Whole.{no_grant, deeds-made, serial-placed, serial-ends-from, serial-only}
 use Rattle.bohm_core_base.proofs.Lists.{replicate-same, set-cases, list_all-weaker, list_all-set, list_all-get, chosen-none}
@@ -430,6 +430,28 @@ module _ (b : Batch) (sound : IsSound b) where
       let kept = reach-keeps es in
       let past = kept.claimed n (busy-not_free (hold_of s n) busy) in
       record { within = past.0; placed = past.1; references = placed-all b sound s kept n past.0 past.1 }
+
+  -- a place with a word has all its references, and all that it refers to is done
+  pub word-rests : (es : List Event) (n : ℕ) → 0 < length (own_of (reach b es) n)
+      → HasReferences b (reach b es) n × (all_ready (reach b es) n ≡ true)
+  word-rests es n some =
+      let s = reach b es in
+      let kept = reach-keeps es in
+      let past = kept.claimed n (kept.busy n some) in
+      let here = placed-all b sound s kept n past.0 past.1 in
+      (record { within = past.0; placed = past.1; references = here }, rw here (kept.resting n some))
+
+  -- what is stored has its lengths
+  pub has-sizes : (es : List Event) → HasSizes b (reach b es)
+  has-sizes es =
+      let kept = reach-keeps es in
+      record {
+        fronts = kept.fronts_length;
+        references = kept.references_length;
+        holds = kept.holds_length;
+        own = kept.own_length;
+        ends = kept.ends_length;
+      }
 
   -- once all that a place refers to is done, it is shown what the serial run shows it
   pub shown-serial : (es : List Event) (n : ℕ) → n < b.size → all_past (reach b es) n ≡ true → all_ready (reach b es) n ≡ true

@@ -33,6 +33,14 @@ pub record HasReferences (batch : Batch) (state : State) (index : ℕ) : Type 0 
   pub placed : all_past state index ≡ true
   pub references : references_of state index ≡ references batch index
 
+-- the state stores a front for each partition, references, a hold and own words for each place, and an end for each slot
+pub record HasSizes (batch : Batch) (state : State) : Type 0 where
+  pub fronts : length state.fronts ≡ batch.partitions
+  pub references : length state.references ≡ batch.size
+  pub holds : length state.holds ≡ batch.size
+  pub own : length state.own ≡ batch.size
+  pub ends : length state.ends ≡ length (slots_of batch)
+
 -- what the place is shown, and what it must store, is what the serial run shows it and what it stores there
 pub record ShowsSerial (batch : Batch) (state : State) (index : ℕ) : Type 0 where
   -- the rows at its accesses are those before it

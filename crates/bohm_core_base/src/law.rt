@@ -2,20 +2,20 @@
 
 ghost use Rattle.std.specs.Prelude.{◌≡◌, ◌≢◌, ◌<◌, ◌++◌, ℕ, List, Some, length, true};
 ghost use Rattle.bohm_core_base.specs.Batch.{Batch, IsSound, slots_of};
-ghost use Rattle.bohm_core_base.specs.Laws.{HasReferences, IsRight, IsWhole, NoneBy, SameTask, ShowsSerial, Stands};
+ghost use Rattle.bohm_core_base.specs.Laws.{HasReferences, HasSizes, IsRight, IsWhole, NoneBy, SameTask, ShowsSerial, Stands};
 ghost use Rattle.bohm_core_base.specs.Machine.{all_past, all_ready, end_of, hold_of, own_of, reach};
 ghost use Rattle.bohm_core_base.specs.Serial.{serial_words, whole_end};
 ghost use Rattle.bohm_core_base.specs.declared.event.Event.{Event};
 ghost use Rattle.bohm_core_base.specs.declared.hold.Hold.TheVariants.{Done, Free, Held};
 
-/// Whatever the events, each place that is done has the words and ends of the serial run, and the words that any place
-/// has so far are a beginning of the serial run's. An end that is set, before the batch or by it, is the one that its
-/// record has after the serial run of the whole batch, and once all places are done no end is missing. Once all places of
-/// a beginning of the batch are done, the last versions of the rows by these places, and the deeds of those of them that
-/// were done, are those after the serial run of the beginning; the whole batch is one. What is stored stays, and what is
-/// done stays done. A place that is held or done has all its references, and once all that it refers to is done, it is
-/// shown what the serial run shows it. Where an actor holds a place and all that it refers to is done, the events of
-/// others change neither what it is shown nor what it has to store next.
+/// Whatever the events, each place that is done has the words and ends of the serial run, and the words that any place has
+/// so far are a beginning of the serial run's. An end that is set, before the batch or by it, is the one that its record has
+/// after the serial run of the whole batch, and once all places are done no end is missing. Once all places of a beginning
+/// of the batch are done, the last versions of the rows by these places, and the deeds of those of them that were done, are
+/// those after the serial run of the beginning; the whole batch is one. What is stored stays, and what is done stays done. A
+/// place that is held or done has all its references, and one that has a word is held or done, and all that it refers to is
+/// done. Once that is so, a place is shown what the serial run shows it. Where an actor holds a place and all that it refers
+/// to is done, the events of others change neither what it is shown nor what it has to store next.
 pub fn done_places_are_serial()
     ensures done { (batch : Batch) (events : List Event) (index : ℕ)
         → IsSound batch → hold_of (reach batch events) index ≡ Done → IsRight batch (reach batch events) index }
@@ -33,6 +33,10 @@ pub fn done_places_are_serial()
         → IsSound batch → Stands (reach batch events) (reach batch (events ++ later)) }
     ensures placed { (batch : Batch) (events : List Event) (index : ℕ)
         → IsSound batch → hold_of (reach batch events) index ≢ Free → HasReferences batch (reach batch events) index }
+    ensures rested { (batch : Batch) (events : List Event) (index : ℕ)
+        → IsSound batch → 0 < length (own_of (reach batch events) index)
+        → HasReferences batch (reach batch events) index × (all_ready (reach batch events) index ≡ true) }
+    ensures sized { (batch : Batch) (events : List Event) → IsSound batch → HasSizes batch (reach batch events) }
     ensures shown { (batch : Batch) (events : List Event) (index : ℕ)
         → IsSound batch → index < batch.size → all_past (reach batch events) index ≡ true
         → all_ready (reach batch events) index ≡ true → ShowsSerial batch (reach batch events) index }

@@ -15,7 +15,7 @@ returns-then-branch g c =
     let must : must_end batch state index slot ≡ true = cc (c.in_ok-must_end.ensures, c.if-branch.true) in
     let open_yet : is_end c.args.place (end_of state slot) ≡ false = search rules in
     let fails : (if must_end batch state index slot then is_end (batch.first + index) (end_of state slot) else true) ≡ false =
-    rw (must, ← c.requires, open_yet) refl in
+    rw (must, ← c.requires.place, open_yet) refl in
     sym
     (all_below_fails (λ slot. if must_end batch state index slot then is_end (batch.first + index) (end_of state slot) else true)
     (length state.ends) slot within fails)
