@@ -12,3 +12,4 @@ pub mod SlotEnds
 pub mod Parts
 pub mod ShownLaws
 pub mod LossLaws
+pub mod LawfulViews
