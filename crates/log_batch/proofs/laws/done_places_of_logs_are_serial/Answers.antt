@@ -6,8 +6,8 @@ use Rattle.log_batch.proofs.laws.done_places_of_logs_are_serial.Goals as goal
 
 pub returns : goal.returns
 returns c = record {
-  told = λ range events index statement found is done at comes.
-      done_tells range is events index statement found (done-right (batch_of range) (batches_are_sound range is) events index done) at comes;
+  told = λ range events index statement is done at.
+      done_tells range is events index statement (done-right (batch_of range) (batches_are_sound range is) events index done) at;
   finished = λ range events count is done.
       whole_log range is events count (whole-right (batch_of range) (batches_are_sound range is) events count done);
 }
