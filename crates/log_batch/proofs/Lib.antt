@@ -11,3 +11,5 @@ pub mod SerialPlaces
 pub mod SerialPlace
 pub mod SerialRuns
 pub mod LogsRight
+pub mod SlotsEnded
+pub mod LogsEnded
