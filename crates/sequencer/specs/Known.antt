@@ -1,5 +1,5 @@
 -- What a catalog shows, and room for a statement.
-use Rattle.std.specs.Prelude.{◌≡◌, ◌≤◌, [], length, vec_capacity}
+use Rattle.std.specs.Prelude.{◌≡◌, ◌≤◌, [], All, length, vec_capacity}
 use Rattle.log_text.specs.declared.statement.RawForm.{RawForm}
 use Rattle.log_text.specs.declared.statement.RawForm.TheVariants.{Create, Run, Deed}
 use Rattle.sequencer.specs.Catalog.{Names}
@@ -16,10 +16,11 @@ names_of inside = record {
   places = inside.places;
 }
 
--- each table has an owner and a number of columns
+-- each table has an owner and a number of columns, which is eight at most
 pub record IsConsistent (inside : Inside) : Type 0 where
   pub owners : length inside.owners.items ≡ length inside.tables
   pub columns : length inside.columns.items ≡ length inside.tables
+  pub narrow : All (λ count. count ≤ 8) inside.columns.items
   pub places : inside.places ≤ 4294967295
 
 -- the room is empty, and each access and step of the statement finds a place in it

@@ -3,3 +3,4 @@ pub mod Catalog
 pub mod Refusal
 pub mod Known
 pub mod Log
+pub mod Taken

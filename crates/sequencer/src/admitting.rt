@@ -4,6 +4,7 @@ ghost use Rattle.std.specs.Prelude.{◌≡◌, ◌<◌, None, Some, option_map, 
 ghost use Rattle.sequencer.specs.Names.{number_of, with_name};
 ghost use Rattle.sequencer.specs.Catalog.{numbered, numbered_deed, with_grantee, with_statement, with_user};
 ghost use Rattle.sequencer.specs.Known.{HasRoom};
+ghost use Rattle.sequencer.specs.Taken.{HasFilledRows, IsTaken};
 ghost use Rattle.sequencer.specs.Refusal.{IsRefusal, deed_refusal, or_else, refusal, users_refusal};
 
 use crate::catalog::{Catalog, MOST_PLACES};
@@ -166,6 +167,8 @@ impl Catalog {
     #[tactic(auto, using(crate::proofs::RefusalLemmas::refusal_of_test))]
     pub fn admit(&mut self, statement: RawStatement) -> Result<Statement, Refused>
         ensures ok { IfOk result (λ s. s ≡ numbered self.old statement) }
+        ensures taken { IfOk result (λ s. IsTaken self.new s) }
+        ensures filled { IfOk result (λ s. HasFilledRows s.form) }
         ensures passes { OnOk result (refusal self.old statement ≡ None) }
         ensures names { OnOk result (self.new ≡ with_statement self.old statement) }
         ensures refused { IfErr result (λ r. IsRefusal r (refusal self.old statement)) }

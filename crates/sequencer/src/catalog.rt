@@ -34,7 +34,7 @@ impl Model for Catalog {
 }
 
 impl Catalog {
-    ghost use Rattle.std.specs.Prelude.{◌≡◌, ◌<◌, ◌≤◌, length, slice_get, Some};
+    ghost use Rattle.std.specs.Prelude.{◌≡◌, ◌<◌, ◌≤◌, length, slice_get, All, Some};
     ghost use Rattle.sequencer.specs.Names.{known_number};
     ghost use Rattle.sequencer.specs.Catalog.{no_names};
 
@@ -87,8 +87,18 @@ impl Catalog {
     /// How many columns a table of this catalog has.
     pub fn columns(&self, table: Table) -> u8
         requires { table < length self.now.tables }
-        ensures { slice_get self.now.columns table ≡ Some result }
+        ensures value { slice_get self.now.columns table ≡ Some result }
+        ensures most { result ≤ 8 }
     {
         self.columns[table.0 as usize]
+    }
+
+    /// How many columns each table has, by the tables' numbers.
+    pub fn all_columns(&self) -> &[u8]
+        ensures value { result.now ≡ self.now.columns }
+        ensures narrow { All (λ count. count ≤ 8) self.now.columns }
+        ensures each { length self.now.columns ≡ length self.now.tables }
+    {
+        self.columns.as_slice()
     }
 }

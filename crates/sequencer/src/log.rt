@@ -15,23 +15,25 @@ pub struct Log {
 }
 
 impl Model for Log {
-    ghost use Rattle.std.specs.Prelude.{◌≡◌, length};
     ghost use Rattle.sequencer.specs.Log.{Accepted};
+    ghost use Rattle.sequencer.specs.Taken.{IsKept};
 
     ghost Value = { Accepted };
 
     ghost view = { λ log. record { names = log.catalog; statements = log.statements.items } };
 
-    ghost invariant = { λ log. log.catalog.places ≡ length log.statements.items };
+    ghost invariant = { λ log. IsKept record { names = log.catalog; statements = log.statements.items } };
 }
 
 impl Log {
-    ghost use Rattle.std.specs.Prelude.{◌≡◌, ◌<◌, ◌≤◌, None, Some, length, slice_get, IfOk, IfErr, OnOk, OnErr};
+    ghost use Rattle.std.specs.Prelude.{◌≡◌, ◌<◌, ◌≤◌, None, Some, length, slice_get, All, IfOk, IfErr, OnOk, OnErr};
     ghost use Rattle.sequencer.specs.Names.{known_number};
     ghost use Rattle.sequencer.specs.Refusal.{IsRefusal, refusal};
     ghost use Rattle.sequencer.specs.Log.{empty_log, with_accepted};
+    ghost use Rattle.sequencer.specs.Taken.{IsWhole};
 
     /// The log without statements. It takes no memory.
+    #[tactic(auto, using(crate::proofs::WholeLogs::kept_empty))]
     pub fn new(alloc: Global) -> Self
         ensures { result ≡ empty_log }
     {
@@ -56,7 +58,7 @@ impl Log {
         let place = self.catalog.places();
         match self.catalog.admit(statement) {
             Ok(statement) => {
-                self.statements.push(statement).unwrap();
+                self.statements.push_reserved(statement);
                 Ok(place)
             }
             Err(refused) => Err(refused),
@@ -73,7 +75,8 @@ impl Log {
 
     /// The accepted statements, in order.
     pub fn statements(&self) -> &[Statement]
-        ensures { result.now ≡ self.now.statements }
+        ensures value { result.now ≡ self.now.statements }
+        ensures whole { IsWhole self.now }
     {
         self.statements.as_slice()
     }
@@ -96,9 +99,19 @@ impl Log {
     /// How many columns a table of this log has.
     pub fn columns(&self, table: Table) -> u8
         requires { table < length self.now.names.tables }
-        ensures { slice_get self.now.names.columns table ≡ Some result }
+        ensures value { slice_get self.now.names.columns table ≡ Some result }
+        ensures most { result ≤ 8 }
     {
         self.catalog.columns(table)
+    }
+
+    /// How many columns each table has, by the tables' numbers.
+    pub fn all_columns(&self) -> &[u8]
+        ensures value { result.now ≡ self.now.names.columns }
+        ensures narrow { All (λ count. count ≤ 8) self.now.names.columns }
+        ensures each { length self.now.names.columns ≡ length self.now.names.tables }
+    {
+        self.catalog.all_columns()
     }
 
     /// The name of a user of this log.

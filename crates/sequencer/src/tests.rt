@@ -219,6 +219,7 @@ fn a_log_names_users_and_tables(rt: HostRuntime) -> Result<(), Fail> {
     assert_eq!(rt; log.table_name(table), "t");
     assert_eq!(rt; log.owner(table), User(0));
     assert_eq!(rt; log.columns(table), 2);
+    assert_eq!(rt; log.all_columns(), [2].as_slice());
     assert_eq!(rt; log.catalog().users().len(), 2);
     assert_eq!(rt; log.user_name(User(0)), "alice");
     assert_eq!(rt; log.user_name(User(1)), "carol");
@@ -259,6 +260,7 @@ fn a_catalog_numbers_names(rt: HostRuntime) -> Result<(), Fail> {
     assert_eq!(rt; catalog.places(), 3);
     assert_eq!(rt; catalog.owner(Table(1)), User(1));
     assert_eq!(rt; catalog.columns(Table(1)), 1);
+    assert_eq!(rt; catalog.all_columns(), [8, 1].as_slice());
     Ok(())
 }
 

@@ -1,0 +1,23 @@
+use Rattle.std.proofs.Common.{sym, ◌∙◌}
+use Rattle.sequencer.proofs.WholeLogs.{taken_parts}
+use Rattle.sequencer.proofs.catalog.Catalog.admit.Goals as goal
+
+pub returns-in-Create-clause-taken : goal.returns-in-Create-clause-taken
+returns-in-Create-clause-taken c =
+    (taken_parts _ _ c.args.statement _ _ _ c.into_parts-user.ensures.grammar c.into_parts-user.ensures.user (sym c.in-Create.is ∙ c.into_parts-user.ensures.form)
+    c.admit_create.ensures.ok c.admit_create.ensures.passes c.admit_create.ensures.names).0
+
+pub returns-in-Run-clause-taken : goal.returns-in-Run-clause-taken
+returns-in-Run-clause-taken c =
+    (taken_parts _ _ c.args.statement _ _ _ c.into_parts-user.ensures.grammar c.into_parts-user.ensures.user (sym c.in-Run.is ∙ c.into_parts-user.ensures.form)
+    c.admit_run.ensures.ok c.admit_run.ensures.passes c.admit_run.ensures.names).0
+
+pub returns-in-Run-clause-filled : goal.returns-in-Run-clause-filled
+returns-in-Run-clause-filled c =
+    (taken_parts _ _ c.args.statement _ _ _ c.into_parts-user.ensures.grammar c.into_parts-user.ensures.user (sym c.in-Run.is ∙ c.into_parts-user.ensures.form)
+    c.admit_run.ensures.ok c.admit_run.ensures.passes c.admit_run.ensures.names).1
+
+pub returns-in-Deed-clause-taken : goal.returns-in-Deed-clause-taken
+returns-in-Deed-clause-taken c =
+    (taken_parts _ _ c.args.statement _ _ _ c.into_parts-user.ensures.grammar c.into_parts-user.ensures.user (sym c.in-Deed.is ∙ c.into_parts-user.ensures.form)
+    c.admit_deed.ensures.ok c.admit_deed.ensures.passes c.admit_deed.ensures.names).0
