@@ -1,0 +1,4 @@
+pub mod Executing
+pub mod Denying
+pub mod Cells
+pub mod Room
