@@ -4,3 +4,4 @@ pub mod Once
 pub mod Writers
 pub mod Placed
 pub mod Merged
+pub mod Few

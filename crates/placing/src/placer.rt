@@ -1,7 +1,6 @@
 //! The placer of one partition, which goes once through a batch.
 
-ghost use Rattle.std.specs.Prelude.{◌≡◌, ◌<◌, ◌≤◌, ◌+◌, ◌-◌, ◌*◌, ◌^◌, ◌++◌, ℕ, List, All, Some, fold, length, map, slice_get, vec_len, IfOk, OnOk};
-ghost use Rattle.model_base.specs.declared.statement.Statement.{Statement};
+ghost use Rattle.std.specs.Prelude.{◌≡◌, ◌<◌, ◌≤◌, ◌+◌, ◌-◌, ◌*◌, ◌^◌, ◌++◌, ℕ, List, Some, fold, length, map, slice_get, vec_len, IfOk, OnOk};
 ghost use Rattle.model_base.specs.References.{tables_of};
 ghost use Rattle.model_base.specs.Versions.{accesses_of};
 ghost use Rattle.placing.specs.Latest.{IsLatest, Notes, own_prior, own_writer};
@@ -77,7 +76,6 @@ pub fn place(
 ) -> Result<Part, AllocError>
     requires partitions { 0 < partitions }
     requires within { range.end ≤ length log.now.statements }
-    requires few { All (λ (statement : Statement). length (accesses_of statement.form) ≤ 16) log.now.statements }
     ensures { IfOk result (λ part. part ≡ part_of partitions log.now.statements range.start (range.end - range.start) partition) }
 {
     let mut latest = Latest::new(alloc, partition, partitions);

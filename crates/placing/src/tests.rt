@@ -1,13 +1,9 @@
 //! The references of six places, by partitions of several numbers, and each call once. Where memory is refused once, the
 //! same call is made again.
 
-ghost use Rattle.std.specs.Prelude.{◌≤◌, All, IsTrue, length};
-ghost use Rattle.model_base.specs.Versions.{accesses_of};
-ghost use Rattle.model_base.specs.declared.statement.Statement.{Statement};
-
 use crate::{Part, Refs, merge, partition_of, partition_of_table, place, references_are_last};
 use log_text::{LineFault, RawStatement, parse_line};
-use model_base::{Key, Place, Reference, Statement, Table};
+use model_base::{Key, Place, Reference, Table};
 use sequencer::Log;
 use std::alloc::{AllocError, Global};
 use std::process::Abort;
@@ -32,15 +28,6 @@ fn log_of(alloc: Global, lines: &[&str]) -> Result<Log, Fail> {
     Ok(log)
 }
 
-/// No statement has more than sixteen accesses.
-fn are_few(statements: &[Statement]) -> bool
-    ensures { IsTrue result → All (λ (statement : Statement). length (accesses_of statement.form) ≤ 16) statements.now }
-{
-    statements
-        .iter()
-        .all(|statement| statement.accesses().len() <= 16)
-}
-
 /// What one partition's placer finds. Where memory is refused, it goes through the batch again.
 fn placed(
     rt: &impl Abort,
@@ -51,7 +38,6 @@ fn placed(
     partitions: usize,
 ) -> Result<Part, AllocError> {
     assert!(rt; 0 < partitions);
-    assert!(rt; are_few(log.statements()));
     let end = log.len();
     match place(alloc, log, first..end, partition, partitions) {
         Err(_) => place(alloc, log, first..end, partition, partitions),

@@ -1,13 +1,24 @@
-use Rattle.std.proofs.Common.{◌≡◌, ◌≤◌, ◌<◌, ◌+◌, ◌-◌, ◌++◌, ℕ, suc, List, Some, fold, length, map, sym, ◌∙◌, ap, arith, slice_get}
+use Rattle.std.proofs.Common.{◌≡◌, ◌≤◌, ◌<◌, ◌+◌, ◌-◌, ◌++◌, ℕ, suc, List, Some, fold, get_or, length, map, sym, ◌∙◌, ap, arith, slice_get, subst}
 use Rattle.std.specs.List.{range_with_len}
 use Rattle.std.proofs.lemmas.Option.{slice_get-get_or}
+use Rattle.model_base.specs.declared.statement.Statement.{Statement}
 use Rattle.model_base.specs.References.{tables_of}
 use Rattle.model_base.specs.Versions.{accesses_of}
 use Rattle.placing.specs.Latest.{own_prior, own_writer}
 use Rattle.placing.specs.Parts.{PartOf, own_references, with_place}
+use Rattle.placing.proofs.Few.{few_accesses}
 use Rattle.placing.proofs.Placed.{passed}
 use Rattle.placing.proofs.Writers.{latest_next}
 use Rattle.placing.proofs.placer.place.Goals as goal
+
+pub place_statement-requires-clause-few : goal.place_statement-requires-clause-few
+place_statement-requires-clause-few c =
+    let place = c.loop-place.place in
+    let statement = c.index-statements-place.result in
+    let low : place < length c.args.log.now.statements = omega (arith, c.requires.within) in
+    let is : statement ≡ get_or c.args.log.now.statements place statement =
+    c.index-statements-place.is ∙ ap (λ (ss : List Statement). get_or ss place statement) c.statements-statements.ensures.value in
+    subst (λ (s : Statement). length (accesses_of s.form) ≤ 16) (sym is) (few_accesses c.args.log.now c.statements-statements.ensures.whole place statement low)
 
 pub loop-place-preserved : goal.loop-place-preserved
 loop-place-preserved c =
@@ -17,7 +28,7 @@ loop-place-preserved c =
     let statement = c.index-statements-place.result in
     let latest = c.loop-place.latest in
     let above : first ≤ place = omega arith in
-    let within : place < length statements = omega (arith, ap length c.statements-statements.ensures, c.requires.within) in
+    let within : place < length statements = omega (arith, ap length c.statements-statements.ensures.value, c.requires.within) in
     let at : slice_get statements place ≡ Some statement = slice_get-get_or statements place statement within ∙ ap Some (sym c.index-statements-place.is) in
     let own : map (own_writer latest) (accesses_of statement.form) ++ map (own_prior latest) (tables_of statement.form) ≡ own_references c.args.partitions statements first c.args.partition place =
     passed latest statements first place c.loop-place.invariant.latest statement at
