@@ -49,7 +49,8 @@ impl Chains {
 
     /// The first place before which the rows are kept.
     pub fn mark(&self) -> Place
-        ensures { result ≡ self.now.mark }
+        ensures value { result ≡ self.now.mark }
+        ensures within { self.now.mark ≤ self.now.end }
     {
         self.mark
     }

@@ -1,0 +1,2 @@
+pub mod Supplied
+pub mod Named

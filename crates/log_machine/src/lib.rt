@@ -1,0 +1,10 @@
+//! The machine over the statements of a log: a range of the log as a batch, with the rows and grants that stand before it, and
+//! what each of its places stores and ends by what the machine's state shows it.
+//!
+//! After J. M. Faleiro and D. J. Abadi, "Rethinking Serializable Multiversion Concurrency Control", PVLDB 8 (2015),
+//! section 3.
+#![tactic(auto)]
+
+mod batch;
+
+pub use batch::LogBatch;
