@@ -1,4 +1,4 @@
-pub mod Admitted
+pub mod Runnable
 pub mod Named
 pub mod Logs
 pub mod LinesRead

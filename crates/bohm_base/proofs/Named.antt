@@ -3,7 +3,7 @@ use Rattle.std.proofs.Common.{◌≡◌, ℕ, zero, suc, ◌<◌, Bool, true, fa
 use Rattle.std.specs.Prelude.{All, IfSome, slice_get}
 use Rattle.std.specs.List.{find}
 use Rattle.std.specs.Option.{option_map}
-use Rattle.std.proofs.lemmas.List.Elements.{All-head, All-tail}
+use Rattle.std.proofs.lemmas.List.Elements.{All-head, All-tail, All-weaker}
 use Rattle.std.proofs.lemmas.Option.{slice_get-get_or}
 use Rattle.model_base.specs.declared.deed.Deed.{Deed}
 use Rattle.model_base.specs.declared.deed.Need.{Need}
@@ -13,8 +13,16 @@ use Rattle.model_base.specs.declared.statement.Statement.{Statement}
 use Rattle.model_base.specs.Body.{Ending, completed, aborted, undeclared}
 use Rattle.model_base.specs.Outcomes.{World, at_place, ended, judged, missing, needs, outcome, owners, step_form, world_before}
 use Rattle.sequencer.specs.Log.{Accepted}
+use Rattle.sequencer.specs.Taken.{IsTaken, IsWhole}
 use Rattle.report.specs.Text.{IsNamed}
-use Rattle.bohm_base.specs.Run.{AreWithin, IsReady, IsWithin}
+
+-- the needs are of no table but the first so many
+abbrev pub AreWithin : ℕ → List Need → Type 0
+AreWithin tables needed = All (λ (need : Need). need.table < tables) needed
+
+-- the statement needs nothing of a table but the first so many
+abbrev pub IsWithin : ℕ → Statement → Type 0
+IsWithin tables statement = AreWithin tables (needs statement.form)
 
 -- what holds of each element holds of the one that is found
 found_if : {A : Type 0} (P : A → Type 0) (b : Bool) (x : A) (rest : Option A) → P x → IfSome rest P → IfSome (cond b (Some x) rest) P
@@ -56,12 +64,14 @@ module _ (tables : ℕ) (own : List ℕ) (place : ℕ) (world : World) where
   some-named (Some statement) within = form-named statement statement.form within
 
 -- the outcome of each place of the log names a table of the log
-pub outcome-named : (log : Accepted) (place : ℕ) (found_is : Outcome) → IsReady log → outcome log.statements place ≡ Some found_is → IsNamed (length log.names.tables) found_is
-outcome-named log place found_is ready is =
+pub outcome-named : (log : Accepted) (place : ℕ) (found_is : Outcome) → IsWhole log → outcome log.statements place ≡ Some found_is → IsNamed (length log.names.tables) found_is
+outcome-named log place found_is whole is =
     let P : Option Outcome → Type 0 = λ o. IfSome o (IsNamed (length log.names.tables)) in
+    let within : All (IsWithin (length log.names.tables)) log.statements =
+    All-weaker (IsTaken log.names) (IsWithin (length log.names.tables)) (λ statement taken. taken.needs) log.statements whole.taken in
     subst P is
     (some-named (length log.names.tables) (owners log.statements) place (world_before log.statements place) (slice_get log.statements place)
-    (got (IsWithin (length log.names.tables)) log.statements place ready.within))
+    (got (IsWithin (length log.names.tables)) log.statements place within))
 
 -- the element that a look-up answered
 pub looked_up : {A : Type 0} (xs : List A) (i : ℕ) (x : A) → i < length xs → ((d : A) → x ≡ get_or xs i d) → slice_get xs i ≡ Some x

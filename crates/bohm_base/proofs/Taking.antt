@@ -1,23 +1,19 @@
 -- What a statement that the log takes finds, and what it leaves.
-use Rattle.std.proofs.Common.{◌≡◌, ℕ, ◌<◌, Bool, true, false, not, List, [], ◌∷◌, ◌++◌, length, map, Option, Some, None, refl, ap, sym, ◌∙◌, subst, arith, length-append, inl, inr}
-use Rattle.std.specs.Prelude.{All, IfSome, ◌||◌, nat_lt}
-use Rattle.std.specs.List.{list_any}
+use Rattle.std.proofs.Common.{◌≡◌, ℕ, ◌<◌, Bool, true, false, not, List, [], ◌∷◌, ◌++◌, length, Option, Some, None, refl, ap, sym, ◌∙◌, subst, arith, length-append, inl, inr}
+use Rattle.std.specs.Prelude.{IfSome, ◌||◌, nat_lt}
 use Rattle.std.specs.Option.{option_map}
 use Rattle.std.proofs.lemmas.Bool.{ltb-true, or_cases, true≢false}
 use Rattle.std.proofs.lemmas.List.{append-nil, length-map}
-use Rattle.std.proofs.lemmas.List.Elements.{All-cons, All-nil}
 use Rattle.model_base.specs.declared.deed.Deed.{Deed}
-use Rattle.model_base.specs.declared.statement.Access.{Access}
 use Rattle.model_base.specs.declared.statement.Statement.{Statement}
 use Rattle.model_base.specs.declared.outcome.Outcome.{Outcome}
 use Rattle.model_base.specs.Outcomes.{World, creator}
 use Rattle.log_text.specs.Statement.{Sentence}
-use Rattle.log_text.specs.declared.access.RawAccess.{RawAccess}
 use Rattle.log_text.specs.declared.statement.RawDeed.{RawDeed}
 use Rattle.log_text.specs.declared.statement.RawForm.{RawForm}
 use Rattle.sequencer.specs.Names.{is_known, number_of, with_name}
-use Rattle.sequencer.specs.Catalog.{Names, no_names, numbered, numbered_access, numbered_deed, numbered_form, with_form, with_statement}
-use Rattle.sequencer.specs.Refusal.{access_refusal, accesses_refusal, create_refusal, deed_refusal, form_refusal, name_refusal, refusal, steps_refusal, table_refusal, unless}
+use Rattle.sequencer.specs.Catalog.{Names, no_names, numbered, numbered_deed, numbered_form, with_form, with_statement}
+use Rattle.sequencer.specs.Refusal.{accesses_refusal, create_refusal, deed_refusal, form_refusal, name_refusal, refusal, steps_refusal, table_refusal, unless}
 use Rattle.sequencer.specs.declared.refused.Refused.{Refused}
 use Rattle.grants.specs.Book.{IsLater, owners_of}
 use Rattle.grants.specs.declared.book.Creation.{Creation}
@@ -25,29 +21,18 @@ use Rattle.plain.specs.State.{Leads, NamesTables, Stands, table_of, world_of}
 use Rattle.plain.specs.declared.state.State.{State}
 use Rattle.report.specs.Text.{IsNamed}
 use Rattle.bohm_base.specs.Progress.{AdvancesIf, IsAfter, IsAt, Reports}
-use Rattle.bohm_base.specs.Run.{IsWithin}
-use Rattle.bohm_base.proofs.Admitted.{both_none, known-below, more-within, more_tables, passes, within}
-use Rattle.bohm_base.proofs.Named.{place-named}
+use Rattle.sequencer.specs.Taken.{IsTaken}
+use Rattle.sequencer.proofs.KnownTables.{accesses-below}
+use Rattle.sequencer.proofs.Passed.{both_none, known-table, passes}
+use Rattle.bohm_base.proofs.Named.{IsWithin, place-named}
 
--- the accesses that the log takes are to its tables
-known_accesses : (names : Names) (users : List (List ℕ)) (earlier accesses : List RawAccess) → accesses_refusal names earlier accesses ≡ None
-    → All (λ (access : Access). access.key.table < length names.tables) (map (numbered_access (record names { users = users })) accesses)
-known_accesses names users earlier [] e = All-nil (λ (access : Access). access.key.table < length names.tables)
-known_accesses names users earlier (access ∷ accesses) e =
-    let named : Names = record names { users = users } in
-    let parts = both_none (access_refusal names earlier access) (accesses_refusal names (earlier ++ access ∷ []) accesses) e in
-    let first = both_none (unless (is_known names.tables access.table) Refused.UnknownTable) (unless (not (list_any _ earlier)) Refused.DuplicateAccess) parts.0 in
-    All-cons (λ (a : Access). a.key.table < length names.tables) (numbered_access named access) (map (numbered_access named) accesses)
-    (known-below names.tables access.table (passes (is_known names.tables access.table) Refused.UnknownTable first.0))
-    (known_accesses names users (earlier ++ access ∷ []) accesses parts.1)
-
--- and so is the table of a deed
+-- the table of a deed that the log takes is known
 known_deed : (names : Names) (users : List (List ℕ)) (deed : RawDeed) → deed_refusal names (Some deed) ≡ None
     → table_of (numbered_deed (record names { users = users }) deed) < length names.tables
 known_deed names users (RawDeed.Grant kind table grantee option) e =
-    known-below names.tables table (passes (is_known names.tables table) Refused.UnknownTable e)
+    known-table names table e
 known_deed names users (RawDeed.Revoke kind table grantee) e =
-    known-below names.tables table (passes (is_known names.tables table) Refused.UnknownTable e)
+    known-table names table e
 
 known_last : (names : Names) (users : List (List ℕ)) (deed : Option RawDeed) → deed_refusal names deed ≡ None
     → IfSome (option_map (numbered_deed (record names { users = users })) deed) (λ d. table_of d < length names.tables)
@@ -73,7 +58,7 @@ tables_form names users (RawForm.Create table columns) e few = room names table 
 tables_form names users (RawForm.Run accesses steps deed) e few =
     let first = both_none (accesses_refusal names [] accesses) _ e in
     let rest = both_none (steps_refusal names steps) (deed_refusal names deed) first.1 in
-    (known_accesses names users [] accesses first.0, known_last names users deed rest.1)
+    (accesses-below names users [] accesses first.0, known_last names users deed rest.1)
 tables_form names users (RawForm.Deed deed) e few = known_deed names users deed e
 
 -- the tables of a statement that the log takes
@@ -101,16 +86,15 @@ owned_form names users user (RawForm.Run accesses steps deed) owners same = appe
 owned_form names users user (RawForm.Deed deed) owners same = append-nil owners ∙ same
 
 -- the names after a statement that the log takes
-pub taken_after : (names : Names) (state : State) (sentence : Sentence) → refusal names sentence ≡ None → IsAt names state
+pub taken_after : (names : Names) (state : State) (sentence : Sentence) → IsTaken (with_statement names sentence) (numbered names sentence) → IsAt names state
     → IsAfter (with_statement names sentence) state names.places (numbered names sentence)
-taken_after names state sentence passed at =
+taken_after names state sentence taken at =
     let user = number_of names.users sentence.user in
     record {
       counted = counted_form names user sentence.form at.counted;
       owned = owned_form names (with_name names.users sentence.user) user sentence.form (owners_of state.book.tables) at.owned;
       places = refl;
-      within = more-within (length names.tables) (length (with_statement names sentence).tables) (more_tables names user sentence.form)
-          (numbered names sentence) (within names sentence passed);
+      within = taken.needs;
       deeds = at.deeds;
       stands = at.stands;
     }

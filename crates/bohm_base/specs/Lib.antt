@@ -1,4 +1,3 @@
-pub mod Run
 pub mod Collecting
 pub mod Faults
 pub mod Progress

@@ -1,9 +1,10 @@
 -- What one line adds to a report.
-use Rattle.std.specs.Prelude.{◌≡◌, ℕ, ◌+◌, ◌++◌, ⊤, Option, Some, None, List, length}
+use Rattle.std.specs.Prelude.{◌≡◌, ℕ, ◌+◌, ◌<◌, ◌++◌, ⊤, Option, Some, None, List, All, length}
 use Rattle.std.specs.Io.KnownBytes.{Appends}
 use Rattle.log_text_base.specs.Lines.{lines_of}
-use Rattle.model_base.specs.Outcomes.{creator, empty_world, owners, world_after}
+use Rattle.model_base.specs.Outcomes.{creator, empty_world, needs, owners, world_after}
 use Rattle.model_base.specs.declared.deed.Deed.{Deed}
+use Rattle.model_base.specs.declared.deed.Need.{Need}
 use Rattle.model_base.specs.declared.statement.Statement.{Statement}
 use Rattle.model_base.specs.declared.outcome.Outcome.{Outcome}
 use Rattle.log_text.specs.Statement.{Sentence}
@@ -15,7 +16,6 @@ use Rattle.plain.specs.State.{Leads, Stands, world_of}
 use Rattle.plain.specs.declared.state.State.{State}
 use Rattle.report.specs.Text.{IsNamed, fault_word, outcome_text, refused_text, refused_word}
 use Rattle.report.specs.Report.{AreReadings, Reading, read, faulty, log_of, names_after, report_from, report_of}
-use Rattle.bohm_base.specs.Run.{IsWithin}
 
 -- the state is that before the next place of a log with these names: its book has their owners, and stands for some deeds
 pub record IsAt (names : Names) (state : State) : Type 0 where
@@ -30,7 +30,7 @@ pub record IsAfter (names : Names) (state : State) (place : ℕ) (statement : St
   pub counted : length names.owners ≡ length names.tables
   pub owned : owners_of state.book.tables ++ creator statement.user statement.form ≡ names.owners
   pub places : names.places ≡ place + 1
-  pub within : IsWithin (length names.tables) statement
+  pub within : All (λ (need : Need). need.table < length names.tables) (needs statement.form)
   pub deeds : List Deed
   pub stands : Stands state place deeds
 

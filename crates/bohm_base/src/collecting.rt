@@ -4,7 +4,6 @@ ghost use Rattle.std.specs.Prelude.{◌≡◌, ◌≢◌, ◌<◌, ◌≤◌, �
 ghost use Rattle.log_text.specs.Statement.{IsInGrammar};
 ghost use Rattle.report.specs.Report.{Reading, read};
 ghost use Rattle.bohm_base.specs.Collecting.{Collects, ReadsAs, became, places_of, with_reading};
-ghost use Rattle.bohm_base.specs.Run.{IsReady};
 
 use crate::fault::EngineFault;
 use log_text::{LineFault, RawStatement, parse_line};
@@ -74,7 +73,6 @@ fn take_statement(log: &mut Log, statement: RawStatement) -> Result<Became, Engi
     requires { IsInGrammar statement }
     ensures line { IfOk result (λ line. line ≡ became log.old.names (read statement)) }
     ensures log { OnOk result (log.new ≡ with_reading log.old (read statement)) }
-    ensures ready { OnOk result (IsReady log.old → IsReady log.new) }
     ensures err { IfErr result (λ f. f ≡ EngineFault.NoMemory) }
 {
     match log.push(statement) {
@@ -91,7 +89,6 @@ fn take_statement(log: &mut Log, statement: RawStatement) -> Result<Became, Engi
 fn take_line(alloc: Global, log: &mut Log, line: &[u8]) -> Result<Became, EngineFault>
     ensures line { IfOk result (λ line'. (reading : Reading) × (ReadsAs line.now reading
         × ((line' ≡ became log.old.names reading) × (log.new ≡ with_reading log.old reading)))) }
-    ensures ready { OnOk result (IsReady log.old → IsReady log.new) }
     ensures err { IfErr result (λ f. f ≡ EngineFault.NoMemory) }
 {
     match parse_line(alloc, line) {
@@ -113,7 +110,6 @@ pub fn collect_lines<R: Read>(
     reader: &mut Counted<R>,
 ) -> Result<Collected, EngineFault>
     ensures whole { IfOk result (λ collected. IfSome (R.remaining reader.old.inner) (λ input. Collects input collected.log collected.lines.items)) }
-    ensures ready { IfOk result (λ collected. IsReady collected.log) }
     ensures read { result ≡ Err EngineFault.Read → reader.old.errors < 2 ^ 64 - 1 → reader.old.errors < reader.new.errors }
     ensures err { IfErr result (λ f. f ≢ EngineFault.Write) }
 {

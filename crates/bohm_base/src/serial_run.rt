@@ -6,7 +6,6 @@ ghost use Rattle.log_text_base.specs.Known.{AppendsFront, HasBegun, MovesOut};
 ghost use Rattle.model_base.specs.Outcomes.{outcome};
 ghost use Rattle.report.specs.Report.{IsReport, place_text};
 ghost use Rattle.bohm_base.specs.Collecting.{became_text, log_text};
-ghost use Rattle.bohm_base.specs.Run.{IsReady};
 
 use crate::collecting::{Became, Collected, collect_lines};
 use crate::fault::EngineFault;
@@ -25,7 +24,6 @@ fn put_place(
     outcomes: &[Outcome],
     place: Place,
 ) -> Result<(), AllocError>
-    requires ready { IsReady log.now }
     requires outcomes { (place : ℕ) → slice_get outcomes.now place ≡ outcome log.now.statements place }
     ensures { OnOk result (text.new.items ≡ text.old.items ++ place_text log.now.statements log.now.names.tables place) }
 {
@@ -54,7 +52,6 @@ fn put_line(
     place: Place,
     line: Became,
 ) -> Result<(), AllocError>
-    requires ready { IsReady log.now }
     requires outcomes { (place : ℕ) → slice_get outcomes.now place ≡ outcome log.now.statements place }
     ensures { OnOk result (text.new.items ≡ text.old.items ++ became_text log.now.statements log.now.names.tables number place line) }
 {
@@ -77,7 +74,6 @@ fn report_lines<W: Write>(
     outcomes: &[Outcome],
     pending: &mut Vec<u8>,
 ) -> Result<(), EngineFault>
-    requires ready { IsReady collected.now.log }
     requires outcomes { (place : ℕ) → slice_get outcomes.now place ≡ outcome collected.now.log.statements place }
     requires empty { pending.old.items ≡ [] }
     ensures done { OnOk result (MovesOut (W.contents writer.old.inner) (W.contents writer.new.inner)

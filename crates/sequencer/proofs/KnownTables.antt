@@ -33,7 +33,7 @@ abbrev pub AreBelow : ℕ → List ℕ → Type 0
 AreBelow tables numbers = All (λ table. table < tables) numbers
 
 -- whoever the users are, the accesses that the log takes are to its tables
-accesses-below : (names : Names) (users : List (List ℕ)) (earlier accesses : List RawAccess) → accesses_refusal names earlier accesses ≡ None
+pub accesses-below : (names : Names) (users : List (List ℕ)) (earlier accesses : List RawAccess) → accesses_refusal names earlier accesses ≡ None
     → AreAccessesBelow (length names.tables) (map (numbered_access (record names { users = users })) accesses)
 accesses-below names users earlier [] e = All-nil (λ (access : Access). access.key.table < length names.tables)
 accesses-below names users earlier (access ∷ accesses) e =

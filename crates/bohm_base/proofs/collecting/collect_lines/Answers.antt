@@ -1,13 +1,11 @@
 use Rattle.std.proofs.Common.{refl, ◌∙◌, rules}
 use Rattle.log_text_base.specs.Ahead.{found_line}
-use Rattle.bohm_base.proofs.Admitted.{ready_empty}
 use Rattle.bohm_base.proofs.LinesRead.{collect_start, collect_step, collect_end}
 use Rattle.bohm_base.proofs.collecting.collect_lines.Goals as goal
 
 pub lines-init : goal.lines-init
 lines-init g c = record {
   collected = rw (c.new-log.ensures, c.new-lines.ensures.items) (collect_start _ _ c.in_ok-reading.ensures.ahead);
-  ready = rw c.new-log.ensures ready_empty;
   bounded = search rules;
   read_errors = refl;
 }
@@ -18,7 +16,6 @@ lines-preserved g c =
     record {
       collected = collect_step _ _ _ _ _ _ _ (found_line c.next_line.new.self) _ c.lines.invariant.collected
           (rw c.if-branch.true at c.in_ok-next_line.ensures.line) (rw c.line.ensures at c.in_ok-line.ensures.line) c.in_ok-push.ensures.items;
-      ready = c.in_ok-line.ensures.ready c.lines.invariant.ready;
       bounded = λ _. given.1;
       read_errors = c.in_ok-next_line.ensures.other (λ e. cc) ∙ c.lines.invariant.read_errors;
     }

@@ -12,14 +12,14 @@ put_outcome-requires c =
     let found = c.in-Some-get.ensures.lookup.3 in
     let is : outcome c.args.log.now.statements c.args.place ≡ Some c.in-Some-get.outcome.now =
     sym (c.requires.outcomes c.args.place) ∙ looked_up c.args.outcomes.now c.args.place c.in-Some-get.outcome.now found.0 found.1 in
-    rw (c.tables.ensures.names, c.catalog.ensures) (outcome-named c.args.log.now c.args.place c.in-Some-get.outcome.now c.requires.ready is)
+    rw (c.tables.ensures.names, c.catalog.ensures) (outcome-named c.args.log.now c.args.place c.in-Some-get.outcome.now c.statements.ensures.whole is)
 
 pub returns : goal.returns
 returns c =
     let found = c.in-Some-get.ensures.lookup.3 in
     let is : outcome c.args.log.now.statements c.args.place ≡ Some c.in-Some-get.outcome.now =
     sym (c.requires.outcomes c.args.place) ∙ looked_up c.args.outcomes.now c.args.place c.in-Some-get.outcome.now found.0 found.1 in
-    let stood = rw c.statements.ensures at c.in-Some.ensures.lookup.3 in
+    let stood = rw c.statements.ensures.value at c.in-Some.ensures.lookup.3 in
     let stands : slice_get c.args.log.now.statements c.args.place ≡ Some c.in-Some.statement.now =
     looked_up c.args.log.now.statements c.args.place c.in-Some.statement.now stood.0 stood.1 in
     let spelled =

@@ -1,7 +1,11 @@
 use Rattle.log_text.proofs.Total.{total}
 use Rattle.log_text_base.proofs.Written.{front_kept}
 use Rattle.bohm_base.proofs.Beginnings.{all_written, nothing_written, some_written}
+use Rattle.bohm_base.proofs.Runnable.{runnable_log}
 use Rattle.bohm_base.proofs.serial_run.serial_text.Goals as goal
+
+pub serial-requires : goal.serial-requires
+serial-requires g c = rw c.statements.ensures.value (runnable_log c.in_ok-collected.collected.log c.statements.ensures.whole)
 
 pub returns-in_err-pending-clause-begun : goal.returns-in_err-pending-clause-begun
 returns-in_err-pending-clause-begun g c = nothing_written total _ _
