@@ -8,6 +8,8 @@
 
 mod judging;
 mod revoking;
+#[cfg(test)]
+mod tests;
 mod words;
 
 pub use revoking::ended;
