@@ -1,3 +1,4 @@
+pub mod Apart
 pub mod Bodies
 pub mod KnownTables
 pub mod NameLemmas

@@ -22,6 +22,7 @@ use Rattle.sequencer.specs.Log.{Accepted, empty_log, with_accepted}
 use Rattle.sequencer.specs.Refusal.{create_refusal, form_refusal, refusal, unless}
 use Rattle.sequencer.specs.Taken.{HasFilledRows, IsFilled, IsKept, IsTaken, columns_by}
 use Rattle.sequencer.specs.declared.refused.Refused.{Refused}
+use Rattle.sequencer.proofs.Apart.{apart_accesses}
 use Rattle.sequencer.proofs.Bodies.{sound_body}
 use Rattle.sequencer.proofs.KnownTables.{known_names}
 use Rattle.sequencer.proofs.Passed.{both_none, form_passes, passes}
@@ -95,6 +96,7 @@ taken_stays names more longer statement filled taken =
       accesses = All-weaker (λ (access : Access). access.key.table < few) (λ (access : Access). access.key.table < many) (λ access low. up access.key.table low)
           (accesses_of statement.form) taken.accesses;
       tables = All-weaker (λ table. table < few) (λ table. table < many) up (tables_of statement.form) taken.tables;
+      apart = taken.apart;
     }
 
 all_stay : (names more : Names) → IsLonger names more → (statements : List Statement) → All (λ (statement : Statement). HasFilledRows statement.form) statements
@@ -111,7 +113,14 @@ taken_before : (names : Names) (sentence : Sentence) → IsInGrammar sentence �
 taken_before names sentence h e =
     let body = sound_body names sentence h e in
     let known = known_names names sentence e in
-    record { runnable = body.runnable; fits = body.fits; needs = known.needs; accesses = known.accesses; tables = known.tables }
+    record {
+      runnable = body.runnable;
+      fits = body.fits;
+      needs = known.needs;
+      accesses = known.accesses;
+      tables = known.tables;
+      apart = apart_accesses names sentence e;
+    }
 
 pub filled_rows : (names : Names) (sentence : Sentence) → IsInGrammar sentence → refusal names sentence ≡ None → HasFilledRows (numbered names sentence).form
 filled_rows names sentence h e = (sound_body names sentence h e).filled

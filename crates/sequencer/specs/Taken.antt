@@ -8,6 +8,7 @@ use Rattle.model_base.specs.declared.statement.Step.{Step}
 use Rattle.model_base.specs.Outcomes.{needs, owners}
 use Rattle.model_base.specs.References.{tables_of}
 use Rattle.model_base.specs.Versions.{accesses_of}
+use Rattle.body.specs.Laws.{AreApart}
 use Rattle.body.specs.Premises.{IsRunnable}
 use Rattle.body.specs.Shape.{FormFits}
 use Rattle.sequencer.specs.Catalog.{Names}
@@ -18,13 +19,14 @@ abbrev pub columns_by : Names → ℕ → ℕ
 columns_by names table = slice_index_or names.columns table 0
 
 -- what an accepted statement is: its body fits a window, its constants have 64 bits and its inserted rows the columns of
--- their tables, and what it names is of known tables
+-- their tables, what it names is of known tables, and no two of its accesses name one row
 pub record IsTaken (names : Names) (statement : Statement) : Type 0 where
   pub runnable : IsRunnable statement
   pub fits : FormFits (columns_by names) statement.form
   pub needs : All (λ (need : Need). need.table < length names.tables) (needs statement.form)
   pub accesses : All (λ (access : Access). access.key.table < length names.tables) (accesses_of statement.form)
   pub tables : All (λ table. table < length names.tables) (tables_of statement.form)
+  pub apart : AreApart (accesses_of statement.form)
 
 -- what holds of each log
 pub record IsWhole (log : Accepted) : Type 0 where
