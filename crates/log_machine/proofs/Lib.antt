@@ -1,2 +1,3 @@
 pub mod Before
 pub mod Named
+pub mod Stores

@@ -6,5 +6,6 @@
 #![tactic(auto)]
 
 mod batch;
+mod stored;
 
 pub use batch::LogBatch;
