@@ -1,2 +1,3 @@
 pub mod Supplied
 pub mod Named
+pub mod Seen

@@ -1,13 +1,13 @@
 //! A range of a log as a batch.
 
-ghost use Rattle.std.specs.Prelude.{◌≡◌, ◌<◌, ◌≤◌, ◌+◌, ◌-◌, ◌++◌, ℕ, List, Some, length, slice_get, slice_index_or, IfOk, OnOk};
-ghost use Rattle.std.specs.Option.{option_to_list};
+ghost use Rattle.std.specs.Prelude.{◌≡◌, ◌<◌, ◌≤◌, ◌+◌, ◌-◌, ◌++◌, ℕ, List, None, Some, length, slice_get, slice_index_or, IfOk, OnOk};
+ghost use Rattle.std.specs.Option.{MatchOption, option_to_list};
 ghost use Rattle.model_base.specs.Records.{grants_of};
 ghost use Rattle.model_base.specs.Outcomes.{deeds_before, owners, rows_before};
 ghost use Rattle.model_base.specs.References.{batch_references, references};
 ghost use Rattle.grants.specs.Book.{ShowsBook};
 ghost use Rattle.chains.specs.Store.{IsRight};
-ghost use Rattle.sequencer.specs.Taken.{IsWhole};
+ghost use Rattle.sequencer.specs.Taken.{IsTaken, IsWhole};
 ghost use Rattle.bohm_core_base.specs.Batch.{slots_of};
 ghost use Rattle.bohm_core_base.specs.Machine.{end_of, start};
 ghost use Rattle.log_batch.specs.Laws.{IsOfLog};
@@ -154,9 +154,25 @@ impl<'a> LogBatch<'a> {
     /// The statement of an index.
     pub fn statement(&self, index: usize) -> &Statement
         requires { index < self.now.size }
-        ensures { slice_get self.now.log.statements (self.now.first + index) ≡ Some result.now }
+        ensures at { slice_get self.now.log.statements (self.now.first + index) ≡ Some result.now }
+        ensures taken { IsTaken self.now.log.names result.now }
+        ensures of_log { IsOfLog (range_of self.now) }
     {
         &self.log.statements()[self.first as usize + index]
+    }
+
+    /// The statement of an index, also past the batch, if the log has one there.
+    pub(crate) fn find(&self, index: usize) -> Option<&Statement>
+        ensures { MatchOption result (slice_get self.now.log.statements (self.now.first + index) ≡ None)
+            (λ found. (slice_get self.now.log.statements (self.now.first + index) ≡ Some found.now) × IsTaken self.now.log.names found.now) }
+    {
+        let statements = self.log.statements();
+        let behind = &statements[self.first as usize..];
+        if index < behind.len() {
+            Some(&behind[index])
+        } else {
+            None
+        }
     }
 
     /// What an index is referred to.

@@ -5,7 +5,12 @@
 //! section 3.
 #![tactic(auto)]
 
+mod answers;
 mod batch;
+mod records;
+mod rows;
+mod statements;
 mod stored;
 
 pub use batch::LogBatch;
+pub use records::ShownRecords;
