@@ -1,6 +1,7 @@
 pub mod Before
 pub mod Cells
 pub mod Counted
+pub mod Finished
 pub mod Named
 pub mod Seen
 pub mod Stores

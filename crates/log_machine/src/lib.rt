@@ -7,10 +7,12 @@
 
 mod answers;
 mod batch;
+mod done;
 mod records;
 mod rows;
 mod statements;
 mod stored;
 
 pub use batch::LogBatch;
+pub use done::{done_ends, done_words};
 pub use records::ShownRecords;

@@ -1,0 +1,27 @@
+use Rattle.std.proofs.Common.{◌<◌, ◌++◌, ◌+◌, length, ap, arith, drop, sym, ◌∙◌}
+use Rattle.std.proofs.lemmas.List.{append-nil}
+use Rattle.bohm_core_base.specs.Batch.{slots_of}
+use Rattle.log_batch.specs.Laws.{ended_places}
+use Rattle.log_machine.specs.Supplied.{batch_in}
+use Rattle.log_machine.proofs.Finished.{ended_more, ended_past}
+use Rattle.log_machine.proofs.done.ended_at.Goals as goal
+
+pub loop-slot-preserved : goal.loop-slot-preserved
+loop-slot-preserved c =
+    let grants = slots_of (batch_in c.args.batch.now) in
+    let ends = c.args.state.now.ends in
+    let slot = c.loop-slot.slot in
+    let first : slot < length grants = omega (arith, c.slot_count.ensures, c.slots.ensures, c.min-slot-end.ensures) in
+    let second : slot < length ends = omega (arith, c.slot_count.ensures, c.slots.ensures, c.min-slot-end.ensures) in
+    ap (λ places. places ++ ended_places (drop (slot + 1) grants) (drop (slot + 1) ends) c.args.place) c.in_ok-push_ended.ensures
+    ∙ ended_more grants ends c.args.place slot c.loop-slot.places.items c.grant.result c.is_ended_by.result first second c.grant.ensures c.is_ended_by.ensures
+    ∙ c.loop-slot.invariant
+
+pub returns : goal.returns
+returns c =
+    let grants = slots_of (batch_in c.args.batch.now) in
+    let ends = c.args.state.now.ends in
+    let slot = c.loop-slot.slot in
+    let past = ended_past grants ends c.args.place slot
+    (λ low. omega (arith, c.slot_count.ensures, c.slots.ensures, c.min-slot-end.ensures, c.loop-slot.auto.slot-end)) in
+    sym (append-nil c.loop-slot.places.items) ∙ ap (λ rest. c.loop-slot.places.items ++ rest) (sym past) ∙ c.loop-slot.invariant

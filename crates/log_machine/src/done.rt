@@ -1,0 +1,85 @@
+//! What the machine over a log tells of a place that is done.
+
+ghost use Rattle.std.specs.Prelude.{◌≡◌, ◌≢◌, ◌+◌, ◌++◌, ◌∷◌, [], IfOk, OnOk, Some, if◌then◌else◌};
+ghost use Rattle.std.specs.Option.{MatchOption};
+ghost use Rattle.model_base.specs.Outcomes.{outcome};
+ghost use Rattle.model_base.specs.declared.outcome.Outcome.{Outcome};
+ghost use Rattle.own_words.specs.Places.{words_at};
+ghost use Rattle.own_words.specs.Words.{ended_in};
+ghost use Rattle.sequencer.specs.Taken.{columns_by};
+ghost use Rattle.bohm_core_base.specs.Batch.{slots_of};
+ghost use Rattle.bohm_core_base.specs.Machine.{hold_of};
+ghost use Rattle.bohm_core_base.specs.declared.hold.Hold.TheVariants.{Done};
+ghost use Rattle.log_batch.specs.Laws.{ended_places};
+ghost use Rattle.log_machine.specs.Supplied.{batch_in};
+
+use crate::batch::LogBatch;
+use bohm_core::{Hold, Machine, State};
+use model_base::{Grant, Place};
+use std::alloc::{AllocError, Global};
+
+/// The own words of a place that is done, whatever the events were: those of its outcome in the log, and its version cells.
+pub fn done_words<'a>(machine: &'a Machine<LogBatch<'_>>, index: usize) -> Option<&'a [u64]>
+    ensures { MatchOption result (hold_of machine.now.state index ≢ Done) (λ words.
+        words.now ≡ words_at (columns_by machine.now.statements.log.names) machine.now.statements.log.statements (machine.now.statements.first + index)) }
+{
+    let _log = machine.statements().log();
+    let state = machine.state();
+    match state.hold(index) {
+        Hold::Done => Some(state.own(index)),
+        _ => None,
+    }
+}
+
+/// Puts the grant's place behind the others, if its record ended.
+fn push_ended(places: &mut Vec<Place>, ended: bool, grant: &Grant) -> Result<(), AllocError>
+    ensures { OnOk result (places.new.items ≡ places.old.items ++ (if ended then grant.now.place ∷ [] else [])) }
+{
+    if ended {
+        places.push(grant.place)?;
+    }
+    Ok(())
+}
+
+/// The places of the grants of slots whose records ended at the place of the log, in order.
+fn ended_at(
+    alloc: Global,
+    batch: &LogBatch<'_>,
+    state: &State,
+    place: Place,
+) -> Result<Vec<Place>, AllocError>
+    ensures { IfOk result (λ places. places.items ≡ ended_places (slots_of (batch_in batch.now)) state.now.ends place) }
+{
+    let mut places = Vec::new(alloc);
+    for slot in 0..batch.slot_count().min(state.slots()) {
+        push_ended(
+            &mut places,
+            state.is_ended_by(slot, place),
+            &batch.grant(slot),
+        )?;
+    }
+    Ok(places)
+}
+
+/// The places of the grants that the revocation of a place ended, if the place is done: those of its outcome in the log, and
+/// none where it has no revocation, or wasn't done. An error is want of memory.
+pub fn done_ends(
+    alloc: Global,
+    machine: &Machine<LogBatch<'_>>,
+    index: usize,
+) -> Result<Option<Vec<Place>>, AllocError>
+    ensures { IfOk result (λ told. MatchOption told (hold_of machine.now.state index ≢ Done) (λ places. (found : Outcome)
+        → outcome machine.now.statements.log.statements (machine.now.statements.first + index) ≡ Some found → places.items ≡ ended_in found)) }
+{
+    let state = machine.state();
+    let batch = machine.statements();
+    let _log = batch.log();
+    match state.hold(index) {
+        Hold::Done => {
+            let place = batch.first_place() + index as u64;
+            let places = ended_at(alloc, batch, state, place)?;
+            Ok(Some(places))
+        }
+        _ => Ok(None),
+    }
+}
