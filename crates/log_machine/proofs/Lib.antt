@@ -1,8 +1,10 @@
 pub mod Before
 pub mod Cells
 pub mod Counted
+pub mod Empty
 pub mod Finished
 pub mod Named
+pub mod Runnable
 pub mod Seen
 pub mod Stores
 pub mod Told
