@@ -4,7 +4,6 @@ pub mod Counted
 pub mod Empty
 pub mod Finished
 pub mod Named
-pub mod Runnable
 pub mod Seen
 pub mod Stores
 pub mod Told
