@@ -12,6 +12,7 @@ mod order;
 
 use crate::batch::LogBatch;
 use bohm_core::Machine;
+use bohm_core_base::Event;
 use chains::Chains;
 use grants::Book;
 use log_text::parse_line;
@@ -68,6 +69,14 @@ pub(crate) fn batch_of<'a>(
         partitions,
         references,
     )
+}
+
+/// Makes the event, and once more where memory was refused, after which nothing has changed.
+pub(crate) fn make(machine: &mut Machine<LogBatch<'_>>, event: &Event) -> Result<(), AllocError> {
+    match machine.apply(event) {
+        Ok(()) => Ok(()),
+        Err(_) => machine.apply(event),
+    }
 }
 
 /// The machine over the whole log, before any event.

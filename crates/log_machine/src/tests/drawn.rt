@@ -4,7 +4,7 @@
 ghost use Rattle.std.specs.Prelude.{◌≡◌, ◌<◌, []};
 ghost use Rattle.chains.specs.Store.{IsRight};
 
-use super::{log_of, machine_of};
+use super::{log_of, machine_of, make};
 use crate::batch::LogBatch;
 use crate::done::{done_ends, done_words};
 use bohm_core::{Machine, State};
@@ -117,7 +117,7 @@ fn place_all(machine: &mut Machine<LogBatch<'_>>) -> Result<(), AllocError> {
 fn run_drawn(machine: &mut Machine<LogBatch<'_>>, draws: &mut Draws) -> Result<(), AllocError> {
     for _ in 0..EVENTS {
         let event = drawn_event(draws, machine.state());
-        machine.apply(&event)?;
+        make(machine, &event)?;
     }
     Ok(())
 }

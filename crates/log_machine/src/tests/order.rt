@@ -3,7 +3,7 @@
 ghost use Rattle.std.specs.Prelude.{◌≡◌, ◌<◌, []};
 ghost use Rattle.chains.specs.Store.{IsRight};
 
-use super::{log_of, machine_of};
+use super::{log_of, machine_of, make};
 use crate::batch::LogBatch;
 use bohm_core::{Machine, State, Statements};
 use bohm_core_base::{Event, Hold};
@@ -26,7 +26,7 @@ const LINES: [&str; 5] = [
 /// Each partition places its next place.
 fn place_next(machine: &mut Machine<LogBatch<'_>>, partitions: usize) -> Result<(), AllocError> {
     for partition in 0..partitions {
-        machine.apply(&Event::Place { partition })?;
+        make(machine, &Event::Place { partition })?;
     }
     Ok(())
 }
@@ -39,7 +39,7 @@ fn fill(
     count: usize,
 ) -> Result<(), AllocError> {
     for _ in 0..count {
-        machine.apply(&Event::Fill { actor, index })?;
+        make(machine, &Event::Fill { actor, index })?;
     }
     Ok(())
 }
@@ -53,9 +53,9 @@ fn make_whole(
 ) -> Result<(), AllocError> {
     assert!(rt; index < machine.statements().size());
     let count = machine.statements().words_length(index);
-    machine.apply(&Event::Claim { actor, index })?;
+    make(machine, &Event::Claim { actor, index })?;
     fill(machine, actor, index, count)?;
-    machine.apply(&Event::Finish { actor, index })?;
+    make(machine, &Event::Finish { actor, index })?;
     assert_eq!(rt; machine.state().hold(index), Hold::Done, "at {index}");
     Ok(())
 }
@@ -73,7 +73,7 @@ fn expect_after(
     index: usize,
     want: (Hold, usize, Option<Place>),
 ) -> Result<(), AllocError> {
-    machine.apply(&event)?;
+    make(machine, &event)?;
     assert_eq!(rt; shown(machine.state(), index), want, "after {event:?}");
     Ok(())
 }
