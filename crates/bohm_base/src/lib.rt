@@ -1,13 +1,13 @@
-//! The runs of a log, from bytes to report.
+//! The runs of a log, from bytes to report, and the words with which a program is started.
 #![tactic(auto)]
 
 mod collecting;
+mod command_line;
 mod fault;
 mod plain_run;
 mod serial_run;
-#[cfg(test)]
-mod tests;
 
+pub use command_line::{ArgumentFault, argument_fault, arguments};
 pub use fault::EngineFault;
 pub use plain_run::plain_text;
 pub use serial_run::serial_text;

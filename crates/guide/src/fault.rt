@@ -1,15 +1,19 @@
 //! Why the program ends without success.
 
-ghost use Rattle.std.specs.Prelude.{◌≡◌};
+ghost use Rattle.std.specs.Prelude.{◌≡◌, ◌↔◌};
+ghost use Rattle.bohm_base.specs.declared.command_line.ArgumentFault.{ArgumentFault};
 ghost use Rattle.guide.specs.declared.fault.GuideFault.TheVariants.{NoMemory};
 
-use bohm_base::EngineFault;
+use bohm_base::{ArgumentFault, EngineFault};
 use std::alloc::{AllocError, AllocFailed};
 use thiserror::Error;
 
 /// Why the program ends without success.
 #[derive(Clone, Copy, Debug, PartialEq, Eq, Error)]
 pub enum GuideFault {
+    /// An argument isn't text.
+    #[error("an argument isn't valid UTF-8")]
+    NotUtf8,
     /// The words of the command line aren't one file.
     #[error("name one file")]
     Words,
@@ -55,6 +59,17 @@ impl<T: Drop> From<AllocFailed<T>> for GuideFault {
 
     fn from(_e: AllocFailed<T>) -> GuideFault {
         GuideFault::NoMemory
+    }
+}
+
+impl From<ArgumentFault> for GuideFault {
+    ghost from_gives = { λ fault e. (e ≡ NoMemory) ↔ (fault ≡ ArgumentFault.NoMemory) };
+
+    fn from(fault: ArgumentFault) -> GuideFault {
+        match fault {
+            ArgumentFault::NotUtf8 => GuideFault::NotUtf8,
+            ArgumentFault::NoMemory => GuideFault::NoMemory,
+        }
     }
 }
 

@@ -8,14 +8,15 @@ mod judging;
 #[cfg(test)]
 mod tests;
 
+use bohm_base::arguments;
 use examples::{Example, examples};
 use fault::GuideFault;
 use judging::is_as_told;
 use std::alloc::Global;
+use std::fs;
 use std::io::Read;
 use std::process::ExitCode;
 use std::rt::{Env, Files};
-use std::{env, fs};
 
 /// How many bytes a guide may have.
 const MOST: usize = 1 << 20;
@@ -68,8 +69,7 @@ fn tell<R: Print>(rt: &R, alloc: Global, text: &[u8]) -> Result<(), GuideFault> 
 /// Runs the examples of the file that the command line names.
 fn run<R: Env + Files + Print + AllocGlobal>(rt: &R) -> Result<(), GuideFault> {
     let alloc = rt.alloc();
-    let words = env::args(rt).map_err(|_| GuideFault::NoMemory)?;
-    let words = words.collect::<Vec<String>>(alloc)?;
+    let words = arguments(rt)?;
     let [_, path] = words.as_slice() else {
         return Err(GuideFault::Words);
     };

@@ -1,3 +1,0 @@
-//! The words of the command line, and the ends of a run.
-
-mod usage;

@@ -1,0 +1,39 @@
+-- What an error of the words is told as, and what words that are taken name.
+use Rattle.std.proofs.Common.{◌≡◌, List, Option, Some, None, refl, ap, sym, ◌∙◌, inl, inr}
+use Rattle.std.specs.Prelude.{Box, option_map, unwrap_or}
+use Rattle.std.specs.Borrow.{Bor}
+use Rattle.std.specs.Box.{box_value}
+use Rattle.clap.specs.Words.{HasKind, Kinds, Row, Text, kind_of, subcommand_name_of, subcommand_rows, subcommand_rows_of}
+use Rattle.clap.specs.declared.parser.matches.ArgMatches.{ArgMatches}
+use Rattle.clap.specs.declared.parser.matches.ArgMatches.TheViews.{out-ArgMatches, out-SubCommand}
+use Rattle.clap.specs.declared.parser.matches.SubCommand.{SubCommand}
+use Rattle.clap.specs.declared.error.Error.{Error}
+use Rattle.clap.specs.declared.error.kind.ErrorKind.{ErrorKind}
+use Rattle.command_line.specs.declared.words.Usage.{Usage}
+use Rattle.command_line.specs.Words.{Tells, TellsOneOf}
+
+-- an error is told as one of the kinds that it may have, or as want of memory
+pub told : (kinds : Kinds) (error : Error) (usage : Usage) → HasKind kinds error
+    → (kind_of error ≡ ErrorKind.OutOfMemory → usage ≡ Usage.NoMemory) → Tells usage (kind_of error) → TellsOneOf kinds usage
+told kinds error usage has memory tells =
+    elim has [
+      | inl out ↦ inl (memory out)
+      | inr among ↦ inr (kind_of error, (among, tells))
+    ]
+
+-- the name of what was entered
+names_same : {Z : Type 0} (o : Option (Box SubCommand Z)) → option_map (λ b. (out-SubCommand (box_value b)).name.now) o ≡ option_map (λ p. p.0) (subcommand_rows o)
+names_same None = refl
+names_same (Some b) = refl
+
+both : (o : Option (Text × List Row)) (name : Text) (rows : List Row) → Some name ≡ option_map (λ p. p.0) o → Some rows ≡ option_map (λ p. p.1) o → o ≡ Some (name, rows)
+both None name rows n r = cc
+both (Some p) name rows n r =
+    let first : name ≡ p.0 = cc in
+    let second : rows ≡ p.1 = cc in
+    ap (λ (t : Text). Some (t, p.1)) (sym first) ∙ ap (λ (rs : List Row). Some (name, rs)) (sym second)
+
+-- what was entered, by its name and its rows
+pub entered : (matches : ArgMatches) (name : Text) (rows : List Row) → Some name ≡ subcommand_name_of matches → Some rows ≡ option_map (λ p. p.1) (subcommand_rows_of matches)
+    → subcommand_rows_of matches ≡ Some (name, rows)
+entered matches name rows n r = both (subcommand_rows_of matches) name rows (n ∙ names_same (out-ArgMatches matches).subcommand) r
