@@ -7,7 +7,7 @@ use Rattle.std.specs.Option.{option_or}
 use Rattle.model_base.specs.declared.deed.Deed.{Deed}
 use Rattle.model_base.specs.declared.deed.Grant.{Grant}
 use Rattle.model_base.specs.declared.row.Key.{Key}
-use Rattle.model_base.specs.Records.{end_after}
+use Rattle.model_base.specs.Records.{end_below, end_after}
 use Rattle.model_base.specs.Privileges.{place_of}
 use Rattle.model_base.proofs.Records.{end-append}
 use Rattle.model_base.proofs.Ends.{end-within}
@@ -18,7 +18,7 @@ use Rattle.bohm_core_base.specs.declared.event.Event.TheVariants.{Place, Claim, 
 use Rattle.bohm_core_base.specs.declared.hold.Hold.TheVariants.{Free, Held, Done}
 use Rattle.bohm_core_base.specs.declared.hold.Hold.{Hold}
 use Rattle.bohm_core_base.specs.Deeds.{made_before}
-use Rattle.bohm_core_base.specs.Batch.{Batch, declares_write, references, writer, was_done, slots_of, place_at, deeds_of, IsSound}
+use Rattle.bohm_core_base.specs.Batch.{Batch, has_deed_on, is_listed, table_at, declares_write, references, writer, was_done, slots_of, place_at, deeds_of, IsSound}
 use Rattle.bohm_core_base.specs.Serial.{serial_words, serial_ends, whole_end}
 use Rattle.bohm_core_base.specs.Machine.{State, front_of, references_of, placed_references, hold_of, own_of, end_of, is_free, is_held_by, is_done, is_ready, all_ready, words_seen, must_end, all_filled, all_past, guard, with_hold, change, effect, run_from, empty_references, start, reach}
 use Rattle.bohm_core_base.specs.Laws.{HasSizes, actor_of, HasReferences, IsRight, IsWhole, ShowsSerial, Stands, SameTask, NoneBy}
@@ -27,7 +27,7 @@ use Rattle.bohm_core_base.proofs.Whole.{no_grant, deeds-made, serial-placed, ser
 use Rattle.bohm_core_base.proofs.Lists.{replicate-same, set-cases, list_all-weaker, list_all-set, list_all-get, chosen-none}
 use Rattle.bohm_core_base.proofs.Kept.{IsKept, rests}
 use Rattle.bohm_core_base.proofs.Rows.{row-right}
-use Rattle.bohm_core_base.proofs.View.{words-right, records-right, rows-right, row-seen, must-right, done-words}
+use Rattle.bohm_core_base.proofs.View.{filled-words, table-ready, rests-tables, deeds-done, end-seen, words-right, records-right, rows-right, row-seen, must-right, done-words}
 use Rattle.bohm_core_base.proofs.Steps.{busy-not_free, done-is, placed-all, stands, claim-keeps, finish-keeps, give_back-keeps, fill-keeps, end-keeps, place-keeps, held-not_free, held-not_done, free-not_done}
 
 module _ (b : Batch) (sound : IsSound b) where
@@ -496,3 +496,38 @@ module _ (b : Batch) (sound : IsSound b) where
             (λ i less. ap was_done (done-words b sound s kept i (rw (all i less) refl)))
             ∙ sym (deeds-made b sound n);
       }
+
+  -- a place with a word isn't free
+  pub word-busy : (es : List Event) (n : ℕ) → 0 < length (own_of (reach b es) n) → hold_of (reach b es) n ≢ Free
+  word-busy es n some free = contrary (is_free (hold_of (reach b es) n)) (rw free refl) ((reach-keeps es).busy n some)
+
+  -- a place that every partition has placed has its references
+  pub past-references : (es : List Event) (n : ℕ) → n < b.size → all_past (reach b es) n ≡ true
+      → references_of (reach b es) n ≡ references b n
+  past-references es n size past = placed-all b sound (reach b es) (reach-keeps es) n size past
+
+  -- once all that a place refers to is done, each earlier place with a deed on one of its tables is done
+  pub deeds-settled : (es : List Event) (n i t : ℕ) → n < b.size → all_past (reach b es) n ≡ true
+      → all_ready (reach b es) n ≡ true → is_listed (b.tables n) t ≡ true → i < n → has_deed_on b i t ≡ true
+      → hold_of (reach b es) i ≡ Done
+  deeds-settled es n i t size past ready listed less deed =
+      let s = reach b es in
+      let kept = reach-keeps es in
+      let rest : rests b s n ≡ true = rw (placed-all b sound s kept n size past) at ready in
+      done-is (hold_of s i) (deeds-done b sound s kept n t (table-ready b sound s kept n t (b.tables n) (rests-tables b sound s kept n rest) listed) i less deed)
+
+  -- and the ends of the slots on its tables are, below it, those of the serial run
+  pub end-told : (es : List Event) (n k : ℕ) → n < b.size → all_past (reach b es) n ≡ true
+      → all_ready (reach b es) n ≡ true → is_listed (b.tables n) (table_at b k) ≡ true → k < length (slots_of b)
+      → end_below (b.first + n) (end_of (reach b es) k) ≡ end_below (b.first + n) (whole_end b k)
+  end-told es n k size past ready listed slot =
+      let s = reach b es in
+      let kept = reach-keeps es in
+      let rest : rests b s n ≡ true = rw (placed-all b sound s kept n size past) at ready in
+      end-seen b sound s kept n k slot
+      (deeds-done b sound s kept n (table_at b k) (table-ready b sound s kept n (table_at b k) (b.tables n) (rests-tables b sound s kept n rest) listed))
+
+  -- a place at which a record ended has all its words
+  pub ender-words : (es : List Event) (k n : ℕ) → end_of (reach b es) k ≡ Some (b.first + n)
+      → own_of (reach b es) n ≡ serial_words b n
+  ender-words es k n set = filled-words b sound (reach b es) (reach-keeps es) n ((reach-keeps es).ended_filled k n set)
