@@ -11,6 +11,6 @@ mod store;
 mod tests;
 mod version;
 
-pub use laws::{versions_have_the_cells, versions_of_logs_are_in_order};
+pub use laws::{right_stores_stay_right, versions_have_the_cells, versions_of_logs_are_in_order};
 pub use store::{Chains, Trimmed};
 pub use version::Version;

@@ -17,3 +17,4 @@ pub mod Logs
 pub mod Owners
 pub mod MoreOwners
 pub mod Unended
+pub mod Growing

@@ -8,3 +8,4 @@ pub mod References
 pub mod Laws
 pub mod Paths
 pub mod Records
+pub mod Growing

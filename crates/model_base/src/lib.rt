@@ -5,6 +5,7 @@
 #![tactic(auto)]
 
 mod deed;
+mod growing_laws;
 mod laws;
 mod list;
 mod name;
@@ -15,6 +16,7 @@ mod row;
 mod statement;
 
 pub use deed::{Cause, Deed, Grant, Kind, Kinds, Need, Record, Revocation};
+pub use growing_laws::earlier_places_stand;
 pub use laws::{
     causes_are_last_losses, causes_are_revocations, deeds_before_are_proper,
     ended_grants_stay_ended, fewer_grants_keep_fewer, grants_end_none, held_needs_have_paths,

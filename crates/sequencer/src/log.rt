@@ -27,6 +27,7 @@ impl Model for Log {
 
 impl Log {
     ghost use Rattle.std.specs.Prelude.{◌≡◌, ◌<◌, ◌≤◌, None, Some, length, slice_get, All, IfOk, IfErr, OnOk, OnErr};
+    ghost use Rattle.model_base.specs.Growing.{NeedsOwnTables};
     ghost use Rattle.sequencer.specs.Names.{known_number};
     ghost use Rattle.sequencer.specs.Refusal.{IsRefusal, refusal};
     ghost use Rattle.sequencer.specs.Log.{empty_log, with_accepted};
@@ -77,6 +78,7 @@ impl Log {
     pub fn statements(&self) -> &[Statement]
         ensures value { result.now ≡ self.now.statements }
         ensures whole { IsWhole self.now }
+        ensures own_tables { NeedsOwnTables self.now.statements }
     {
         self.statements.as_slice()
     }
