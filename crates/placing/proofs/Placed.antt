@@ -1,6 +1,5 @@
 -- What a partition's placer passes at a place is what there is of the partition.
-use Rattle.std.proofs.Common.{◌≡◌, ℕ, Some, List, [], ◌∷◌, ◌++◌, map, refl, sym, ◌∙◌, ap, arith, ◌==◌, slice_get}
-use Rattle.std.proofs.lemmas.Bool.Decides.{nat_tests}
+use Rattle.std.proofs.Common.{◌≡◌, ℕ, Some, List, [], ◌∷◌, ◌++◌, map, refl, sym, ◌∙◌, ap, slice_get}
 use Rattle.std.proofs.lemmas.List.{map-append}
 use Rattle.model_base.proofs.Replay.{by_cases}
 use Rattle.model_base.specs.declared.statement.Access.{Access}
@@ -8,20 +7,20 @@ use Rattle.model_base.specs.declared.statement.Statement.{Statement}
 use Rattle.model_base.specs.References.{tables_of}
 use Rattle.model_base.specs.Versions.{accesses_of}
 use Rattle.placing.specs.declared.latest.Latest.{Latest}
-use Rattle.placing.specs.Latest.{IsLatest, own_prior, own_writer}
-use Rattle.placing.specs.Parts.{access_slot, key_partition, own_reference, own_references, table_partition, table_slot}
+use Rattle.placing.specs.Latest.{IsLatest, is_own_row, is_own_table, own_prior, own_writer}
+use Rattle.placing.specs.Parts.{access_slot, own_reference, own_references, table_slot}
 
 module _ (latest : Latest) (log : List Statement) (first place : ℕ) (is_latest : IsLatest latest log first place) where
   writer-own : (access : Access) → own_writer latest access ≡ own_reference latest.partition (access_slot latest.partitions log first place access)
   writer-own access =
-      by_cases (key_partition latest.partitions access.key.table access.key.row == latest.partition)
-      (λ mine. let at : key_partition latest.partitions access.key.table access.key.row ≡ latest.partition = grind (arith, nat_tests) in rw mine (is_latest.writers access.key.table access.key.row at))
+      by_cases (is_own_row latest access.key.table access.key.row)
+      (λ mine. rw mine (rw mine at (is_latest.writers access.key.table access.key.row)))
       (λ other. rw other refl)
 
   prior-own : (table : ℕ) → own_prior latest table ≡ own_reference latest.partition (table_slot latest.partitions log first place table)
   prior-own table =
-      by_cases (table_partition latest.partitions table == latest.partition)
-      (λ mine. let at : table_partition latest.partitions table ≡ latest.partition = grind (arith, nat_tests) in rw mine (is_latest.deeds table at))
+      by_cases (is_own_table latest table)
+      (λ mine. rw mine (rw mine at (is_latest.deeds table)))
       (λ other. rw other refl)
 
   writers-own : (accesses : List Access) → map (own_writer latest) accesses ≡ map (own_reference latest.partition) (map (access_slot latest.partitions log first place) accesses)

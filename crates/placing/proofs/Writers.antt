@@ -6,6 +6,7 @@ use Rattle.std.specs.Map.{lookup}
 use Rattle.std.specs.Ordering.{is_eq, nat_cmp, ordering_then}
 use Rattle.std.specs.declared.cmp.Ordering.{Ordering}
 use Rattle.std.specs.declared.cmp.Ordering.TheVariants.{Less, Equal, Greater}
+use Rattle.std.proofs.lemmas.Bool.{and_parts, and_right, eqb-true}
 use Rattle.std.proofs.lemmas.Bool.Decides.{nat_tests}
 use Rattle.model_base.proofs.Replay.{by_cases}
 use Rattle.model_base.specs.declared.reference.Reference.{Reference}
@@ -13,12 +14,11 @@ use Rattle.model_base.specs.declared.reference.Reference.TheVariants.{Base, At}
 use Rattle.model_base.specs.declared.row.Key.{Key}
 use Rattle.model_base.specs.declared.statement.Access.{Access}
 use Rattle.model_base.specs.declared.statement.Statement.{Statement}
-use Rattle.model_base.specs.References.{declares_write, has_deed_on, is_write_to}
+use Rattle.model_base.specs.References.{declares_write, has_deed_on, is_write_to, last_before}
 use Rattle.model_base.specs.Versions.{is_writing}
 use Rattle.placing.proofs.Last.{last_before-next}
 use Rattle.placing.specs.declared.latest.Latest.{Latest}
-use Rattle.placing.specs.Latest.{IsLatest, Notes, key_cmp, prior_in, reference_to, writer_in}
-use Rattle.placing.specs.Parts.{key_partition, table_partition}
+use Rattle.placing.specs.Latest.{IsLatest, Notes, is_own_row, is_own_table, key_cmp, prior_in, reference_to, writer_in}
 
 is_eq-nat_cmp : (x y : ℕ) → is_eq (nat_cmp x y) ≡ eqb x y
 is_eq-nat_cmp x y =
@@ -41,14 +41,38 @@ at_key t r u s =
     ∙ ap (λ b. b && is_eq (nat_cmp r s)) (is_eq-nat_cmp t u)
     ∙ ap (λ b. eqb t u && b) (is_eq-nat_cmp r s)
 
-module _ (place : ℕ) where
-  -- one access changes the last writer, and then the rest
-  passed : (writes later : Bool) (before : Reference) → cond later (At place) (cond writes (At place) before) ≡ cond (writes || later) (At place) before
-  passed true true before = refl
-  passed true false before = refl
-  passed false later before = refl
+-- an access writes to its own row alone, so which rows are meant needs to be known of that one
+pub at_own_row : (own : ℕ → ℕ → Bool) (access : Access) (b : Bool) → own access.key.table access.key.row ≡ b
+    → (t r : ℕ) → (own t r && is_write_to t r access) ≡ (b && is_write_to t r access)
+at_own_row own access b known t r =
+    by_cases (is_write_to t r access)
+    (λ writes.
+    let same = (and_parts (access.key.table == t) (access.key.row == r) (and_parts (is_writing access) ((access.key.table == t) && (access.key.row == r)) writes).1) in
+    let here : own t r ≡ b = ap (λ x. own x r) (sym (eqb-true access.key.table t same.0)) ∙ ap (λ y. own access.key.table y) (sym (eqb-true access.key.row r same.1)) ∙ known in
+    ap (λ own. own && is_write_to t r access) here)
+    (λ reads. and_right (own t r) (is_write_to t r access) reads ∙ sym (and_right b (is_write_to t r access) reads))
 
-  -- an access that writes to a key of the partition
+-- and a deed is on its own table alone
+pub on_own_table : (own : ℕ → Bool) (of_deed : ℕ) → own of_deed ≡ true → (t : ℕ) → (of_deed == t) ≡ (own t && list_any (λ deed. deed == t) (of_deed ∷ []))
+on_own_table own of_deed mine t =
+    by_cases (of_deed == t)
+    (λ same. let here : own t ≡ true = ap own (sym (eqb-true of_deed t same)) ∙ mine in rw (here, same) refl)
+    (λ other. rw other (sym (and_right (own t) false refl)))
+
+module _ (place : ℕ) where
+  -- one access changes the last writer of a row of the partition, and then the rest
+  passed : (own writes later : Bool) (before : Reference) → cond (own && later) (At place) (cond (own && writes) (At place) before) ≡ cond (own && (writes || later)) (At place) before
+  passed false writes later before = refl
+  passed true true true before = refl
+  passed true true false before = refl
+  passed true false later before = refl
+
+  -- a place more
+  one_more : (own writes : Bool) (before : Reference) → cond (own && writes) (At place) (cond own before Base) ≡ cond own (cond writes (At place) before) Base
+  one_more false writes before = refl
+  one_more true writes before = refl
+
+  -- the place of an access is put into the map
   pub writer_put : (old new : Latest) (access : Access) → is_writing access ≡ true
       → ((q : Key) → get key_cmp new.writers q ≡ cond (is_at (key_cmp access.key) q) (Some place) (get key_cmp old.writers q))
       → (t r : ℕ) → writer_in new t r ≡ cond (is_write_to t r access) (At place) (writer_in old t r)
@@ -56,21 +80,18 @@ module _ (place : ℕ) where
       ap reference_to (puts (key t r) ∙ ap (λ b. cond b (Some place) (get key_cmp old.writers (key t r))) (at_key access.key.table access.key.row t r))
       ∙ rw writing (by_cases ((access.key.table == t) && (access.key.row == r)) (λ yes. rw yes refl) (λ no. rw no refl))
 
--- an access to another partition's key writes to none of this one's
-pub elsewhere : (partitions partition : ℕ) (access : Access) → (key_partition partitions access.key.table access.key.row ≡ partition → ⊥)
-    → (t r : ℕ) → key_partition partitions t r ≡ partition → is_write_to t r access ≡ false
-elsewhere partitions partition access other t r mine =
-    by_cases (is_writing access)
-    (λ writing. by_cases (access.key.table == t)
-    (λ table. by_cases (access.key.row == r)
-    (λ row. let e : access.key.table ≡ t = grind (arith, nat_tests) in let f : access.key.row ≡ r = grind (arith, nat_tests) in let same : key_partition partitions access.key.table access.key.row ≡ partition = ap (λ x. key_partition partitions x access.key.row) e ∙ ap (λ x. key_partition partitions t x) f ∙ mine in absurd (other same))
-    (λ row. rw (writing, table, row) refl))
-    (λ table. rw (writing, table) refl))
-    (λ reading. rw reading refl)
+  -- the place of a deed is put into the map
+  pub prior_put : (old new : Latest) (of_deed : ℕ)
+      → ((q : ℕ) → get nat_cmp new.deeds q ≡ cond (is_at (nat_cmp of_deed) q) (Some place) (get nat_cmp old.deeds q))
+      → (t : ℕ) → prior_in new t ≡ cond (of_deed == t) (At place) (prior_in old t)
+  prior_put old new of_deed puts t =
+      ap reference_to (puts t ∙ ap (λ b. cond b (Some place) (get nat_cmp old.deeds t)) (is_eq-nat_cmp of_deed t))
+      ∙ by_cases (of_deed == t) (λ yes. rw yes refl) (λ no. rw no refl)
 
 -- one access more, in the pass over the accesses of a place
-pub pass_on : (place : ℕ) (t r : ℕ) (access : Access) (later : List Access) (now next : Reference) → next ≡ cond (is_write_to t r access) (At place) now → cond (list_any (is_write_to t r) later) (At place) next ≡ cond (list_any (is_write_to t r) (access ∷ later)) (At place) now
-pass_on place t r access later now next is = rw is (passed place (is_write_to t r access) (list_any (is_write_to t r) later) now)
+pub pass_on : (place : ℕ) (own : Bool) (t r : ℕ) (access : Access) (later : List Access) (now next : Reference) → next ≡ cond (own && is_write_to t r access) (At place) now
+    → cond (own && list_any (is_write_to t r) later) (At place) next ≡ cond (own && list_any (is_write_to t r) (access ∷ later)) (At place) now
+pass_on place own t r access later now next is = rw is (passed place own (is_write_to t r access) (list_any (is_write_to t r) later) now)
 
 -- before the first place of the batch the map of the last writers is empty
 pub no_writer : (latest : Latest) → latest.writers.entries ≡ [] → (t r : ℕ) → writer_in latest t r ≡ Base
@@ -79,17 +100,26 @@ no_writer latest empty t r = ap (λ entries. reference_to (lookup (is_at (key_cm
 pub no_prior : (latest : Latest) → latest.deeds.entries ≡ [] → (t : ℕ) → prior_in latest t ≡ Base
 no_prior latest empty t = ap (λ entries. reference_to (lookup (is_at (nat_cmp t)) entries)) empty
 
+-- nothing is kept, so nothing of another partition
+pub none_kept : (own : Bool) (kept before : Reference) → kept ≡ Base → before ≡ Base → kept ≡ cond own before Base
+none_kept true kept before nothing none = nothing ∙ sym none
+none_kept false kept before nothing none = nothing
+
 -- what is noted of a place makes what is kept the last places below the next
 pub latest_next : (old new : Latest) (log : List Statement) (first place : ℕ) (statement : Statement) → first ≤ place → slice_get log place ≡ Some statement → IsLatest old log first place → Notes old new statement place → IsLatest new log first (place + 1)
 latest_next old new log first place statement above at latest notes = record {
-  writers = λ t r mine.
-      let of_old : key_partition old.partitions t r ≡ old.partition = ap (λ p. key_partition p t r) (sym notes.partitions) ∙ mine ∙ notes.partition in
-      notes.writers t r of_old
-      ∙ ap (λ before. cond (declares_write t r statement) (At place) before) (latest.writers t r of_old)
-      ∙ sym (last_before-next (declares_write t r) log first place statement above at);
-  deeds = λ t mine.
-      let of_old = ap (λ p. table_partition p t) (sym notes.partitions) ∙ mine ∙ notes.partition in
-      notes.deeds t of_old
-      ∙ ap (λ before. cond (has_deed_on t statement) (At place) before) (latest.deeds t of_old)
-      ∙ sym (last_before-next (has_deed_on t) log first place statement above at);
+  writers = λ t r.
+      let own : is_own_row old t r ≡ is_own_row new t r = rw (notes.partition, notes.partitions) refl in
+      notes.writers t r
+      ∙ ap (λ before. cond (is_own_row old t r && declares_write t r statement) (At place) before) (latest.writers t r)
+      ∙ one_more place (is_own_row old t r) (declares_write t r statement) (last_before (declares_write t r) log first place)
+      ∙ ap (λ last. cond (is_own_row old t r) last Base) (sym (last_before-next (declares_write t r) log first place statement above at))
+      ∙ ap (λ b. cond b (last_before (declares_write t r) log first (place + 1)) Base) own;
+  deeds = λ t.
+      let own : is_own_table old t ≡ is_own_table new t = rw (notes.partition, notes.partitions) refl in
+      notes.deeds t
+      ∙ ap (λ before. cond (is_own_table old t && has_deed_on t statement) (At place) before) (latest.deeds t)
+      ∙ one_more place (is_own_table old t) (has_deed_on t statement) (last_before (has_deed_on t) log first place)
+      ∙ ap (λ last. cond (is_own_table old t) last Base) (sym (last_before-next (has_deed_on t) log first place statement above at))
+      ∙ ap (λ b. cond b (last_before (has_deed_on t) log first (place + 1)) Base) own;
 }

@@ -1,5 +1,5 @@
 -- The last places so far that may change the rows of one partition, and that have a deed on its tables.
-use Rattle.std.specs.Prelude.{◌≡◌, ◌==◌, ℕ, Option, Some, None, List, if◌then◌else◌}
+use Rattle.std.specs.Prelude.{◌≡◌, ◌==◌, ◌&&◌, ℕ, Bool, Option, Some, None, List, if◌then◌else◌}
 use Rattle.std.specs.BTreeMap.{get}
 use Rattle.std.specs.Ordering.{nat_cmp, ordering_then}
 use Rattle.std.specs.declared.cmp.Ordering.{Ordering}
@@ -29,34 +29,40 @@ writer_in latest table row = reference_to (get key_cmp latest.writers (record { 
 abbrev pub prior_in : Latest → ℕ → Reference
 prior_in latest table = reference_to (get nat_cmp latest.deeds table)
 
+-- whether the row is of the partition
+abbrev pub is_own_row : Latest → ℕ → ℕ → Bool
+is_own_row latest table row = key_partition latest.partitions table row == latest.partition
+
+-- whether the deeds on the table are of the partition
+abbrev pub is_own_table : Latest → ℕ → Bool
+is_own_table latest table = table_partition latest.partitions table == latest.partition
+
 -- the last writer of an access's row, if the row is of the partition
 abbrev pub own_writer : Latest → Access → Reference
 own_writer latest access =
-    if key_partition latest.partitions access.key.table access.key.row == latest.partition
-    then writer_in latest access.key.table access.key.row
-    else Base
+    if is_own_row latest access.key.table access.key.row then writer_in latest access.key.table access.key.row else Base
 
 -- the last place with a deed on a table, if the table is of the partition
 abbrev pub own_prior : Latest → ℕ → Reference
-own_prior latest table =
-    if table_partition latest.partitions table == latest.partition then prior_in latest table else Base
+own_prior latest table = if is_own_table latest table then prior_in latest table else Base
 
--- of its partition, the last places of the batch below this one are kept
+-- of its partition, the last places of the batch below this one are kept, and of other partitions nothing
 pub record IsLatest (latest : Latest) (log : List Statement) (first place : ℕ) : Type 0 where
   pub writers :
-      (table row : ℕ) → key_partition latest.partitions table row ≡ latest.partition
-      → writer_in latest table row ≡ last_before (declares_write table row) log first place
+      (table row : ℕ) → writer_in latest table row
+      ≡ (if is_own_row latest table row then last_before (declares_write table row) log first place else Base)
   pub deeds :
-      (table : ℕ) → table_partition latest.partitions table ≡ latest.partition
-      → prior_in latest table ≡ last_before (has_deed_on table) log first place
+      (table : ℕ) → prior_in latest table
+      ≡ (if is_own_table latest table then last_before (has_deed_on table) log first place else Base)
 
--- the partition is the same, and of it what is kept has changed by the statement at the place
+-- the partition is the same; a row of it that the statement declares to write is kept with the place, as is a table of it
+-- that the statement has a deed on, and each other row and table stays as it was
 pub record Notes (old new : Latest) (statement : Statement) (place : ℕ) : Type 0 where
   pub partition : new.partition ≡ old.partition
   pub partitions : new.partitions ≡ old.partitions
   pub writers :
-      (table row : ℕ) → key_partition old.partitions table row ≡ old.partition
-      → writer_in new table row ≡ (if declares_write table row statement then At place else writer_in old table row)
+      (table row : ℕ) → writer_in new table row
+      ≡ (if is_own_row old table row && declares_write table row statement then At place else writer_in old table row)
   pub deeds :
-      (table : ℕ) → table_partition old.partitions table ≡ old.partition
-      → prior_in new table ≡ (if has_deed_on table statement then At place else prior_in old table)
+      (table : ℕ) → prior_in new table
+      ≡ (if is_own_table old table && has_deed_on table statement then At place else prior_in old table)

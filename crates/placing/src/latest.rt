@@ -9,7 +9,7 @@ use std::alloc::{AllocError, Global};
 use std::collections::BTreeMap;
 
 /// Of the places of the batch so far, the last that may change each row of one partition, and the last that has a deed on
-/// each of its tables.
+/// each of its tables. Of other partitions nothing is kept.
 #[derive(Drop)]
 pub(crate) struct Latest {
     partition: usize,
@@ -27,13 +27,12 @@ fn is_writing(access: &Access) -> bool
 }
 
 impl Latest {
-    ghost use Rattle.std.specs.Prelude.{◌≡◌, ◌<◌, ◌==◌, OnOk, ℕ, List, option_to_list, if◌then◌else◌};
+    ghost use Rattle.std.specs.Prelude.{◌≡◌, ◌<◌, ◌==◌, ◌&&◌, OnOk, ℕ, List, option_to_list, if◌then◌else◌};
     ghost use Rattle.std.specs.List.{list_any};
     ghost use Rattle.model_base.specs.declared.reference.Reference.TheVariants.{At};
     ghost use Rattle.model_base.specs.declared.statement.Statement.{Statement};
     ghost use Rattle.model_base.specs.References.{has_deed_on, is_write_to};
-    ghost use Rattle.placing.specs.Parts.{key_partition, table_partition};
-    ghost use Rattle.placing.specs.Latest.{IsLatest, Notes, own_prior, own_writer, prior_in, reference_to, writer_in};
+    ghost use Rattle.placing.specs.Latest.{IsLatest, Notes, is_own_row, is_own_table, own_prior, own_writer, prior_in, reference_to, writer_in};
 
     /// Before the first place of the batch nothing is kept. It takes no memory.
     pub(crate) fn new(alloc: Global, partition: usize, partitions: usize) -> Self
@@ -86,9 +85,8 @@ impl Latest {
     fn note_writes(&mut self, accesses: &[Access], place: Place) -> Result<(), AllocError>
         ensures partition { self.new.partition ≡ self.old.partition }
         ensures partitions { self.new.partitions ≡ self.old.partitions }
-        ensures writers { OnOk result ((table row : ℕ) → key_partition self.old.partitions table row ≡ self.old.partition
-            → writer_in self.new table row
-            ≡ (if list_any (is_write_to table row) accesses.now then At place else writer_in self.old table row)) }
+        ensures writers { OnOk result ((table row : ℕ) → writer_in self.new table row
+            ≡ (if is_own_row self.old table row && list_any (is_write_to table row) accesses.now then At place else writer_in self.old table row)) }
         ensures deeds { OnOk result ((table : ℕ) → prior_in self.new table ≡ prior_in self.old table) }
     {
         for access in accesses {
@@ -104,9 +102,8 @@ impl Latest {
         ensures partition { self.new.partition ≡ self.old.partition }
         ensures partitions { self.new.partitions ≡ self.old.partitions }
         ensures writers { OnOk result ((table row : ℕ) → writer_in self.new table row ≡ writer_in self.old table row) }
-        ensures deeds { OnOk result ((on : ℕ) → table_partition self.old.partitions on ≡ self.old.partition
-            → prior_in self.new on
-            ≡ (if list_any (λ of_deed. of_deed == on) (option_to_list table) then At place else prior_in self.old on)) }
+        ensures deeds { OnOk result ((on : ℕ) → prior_in self.new on
+            ≡ (if is_own_table self.old on && list_any (λ of_deed. of_deed == on) (option_to_list table) then At place else prior_in self.old on)) }
     {
         if let Some(table) = table
             && partition_of_table(table, self.partitions) == self.partition

@@ -1,9 +1,8 @@
-use Rattle.std.proofs.Common.{◌≡◌, ℕ, drop, if◌then◌else◌}
+use Rattle.std.proofs.Common.{◌≡◌, ℕ, ◌&&◌, drop, if◌then◌else◌}
 use Rattle.std.specs.List.{list_any}
 use Rattle.model_base.specs.declared.reference.Reference.TheVariants.{At}
 use Rattle.model_base.specs.References.{is_write_to}
-use Rattle.placing.specs.Parts.{key_partition}
-use Rattle.placing.specs.Latest.{prior_in, writer_in}
+use Rattle.placing.specs.Latest.{is_own_row, prior_in, writer_in}
 use Rattle.placing.proofs.latest.Latest.note_writes.Given as goal
 
 -- with the rest of the accesses, the last writers come to what they come to with all
@@ -12,8 +11,8 @@ invariant-loop-access l = record {
   partition : l.self.partition ≡ l.initial.self.partition;
   partitions : l.self.partitions ≡ l.initial.self.partitions;
   writers :
-      (table row : ℕ) → key_partition l.initial.self.partitions table row ≡ l.initial.self.partition
-      → (if list_any (is_write_to table row) (drop l.access-index l.accesses) then At l.place else writer_in l.self table row)
-      ≡ (if list_any (is_write_to table row) l.accesses then At l.place else writer_in l.initial.self table row);
+      (table row : ℕ)
+      → (if is_own_row l.initial.self table row && list_any (is_write_to table row) (drop l.access-index l.accesses) then At l.place else writer_in l.self table row)
+      ≡ (if is_own_row l.initial.self table row && list_any (is_write_to table row) l.accesses then At l.place else writer_in l.initial.self table row);
   deeds : (table : ℕ) → prior_in l.self table ≡ prior_in l.initial.self table;
 }
