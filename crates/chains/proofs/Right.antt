@@ -11,14 +11,14 @@ use Rattle.model_base.specs.Outcomes.{rows_before}
 use Rattle.model_base.specs.References.{declares_write}
 use Rattle.model_base.specs.Versions.{accesses_of}
 use Rattle.chains.specs.declared.version.Version.{Version}
-use Rattle.chains.specs.Store.{AreBetween, IsRight, newest, versions_at, versions_between}
+use Rattle.chains.specs.Store.{AreBetween, Gains, IsRight, Store, newest_or, row_in, versions_at, versions_between}
 use Rattle.chains.proofs.Order.{between-range}
-use Rattle.chains.proofs.Newest.{newest_from, newest-late, newest-early, newest-one, stepped}
+use Rattle.chains.proofs.Newest.{newest-late, newest-early, newest-one, stepped}
 use Rattle.chains.proofs.Serial.{rows_before-unwritten}
 
 -- the row before a place and the place's versions give the row after it
 at-one : (log : List Statement) (at place : ℕ) (key : Key) → at < place
-    → newest_from (rows_before log at key.table key.row) (versions_at log at) place key ≡ rows_before log (at + 1) key.table key.row
+    → newest_or (rows_before log at key.table key.row) (versions_at log at) place key ≡ rows_before log (at + 1) key.table key.row
 at-one log at place key less = by_statement (slice_get log at) refl
   where
     settled : (writes : Bool) → (writes ≡ false → rows_before log (at + 1) key.table key.row ≡ rows_before log at key.table key.row)
@@ -27,7 +27,7 @@ at-one log at place key less = by_statement (slice_get log at) refl
     settled false keeps = sym (keeps refl)
 
     by_statement : (found : Option Statement) → slice_get log at ≡ found
-        → newest_from (rows_before log at key.table key.row) (versions_at log at) place key ≡ rows_before log (at + 1) key.table key.row
+        → newest_or (rows_before log at key.table key.row) (versions_at log at) place key ≡ rows_before log (at + 1) key.table key.row
     by_statement None is =
         rw is (sym (rows_before-unwritten log at key.table key.row (ap (λ (found : Option Statement). option_map_or (declares_write key.table key.row) found false) is)))
     by_statement (Some statement) is =
@@ -38,7 +38,7 @@ at-one log at place key less = by_statement (slice_get log at) refl
 
 -- the row before the first place and the versions of some places give the row before each place up to their end
 range-right : (log : List Statement) (first count place : ℕ) (key : Key) → first ≤ place → place ≤ first + count
-    → newest_from (rows_before log first key.table key.row) (flat_map (versions_at log) (range_with_len first count)) place key ≡ rows_before log place key.table key.row
+    → newest_or (rows_before log first key.table key.row) (flat_map (versions_at log) (range_with_len first count)) place key ≡ rows_before log place key.table key.row
 range-right log first zero place key low high =
     let same : first ≡ place = omega arith in ap (λ (at : ℕ). rows_before log at key.table key.row) same
 range-right log first (suc count) place key low high =
@@ -47,37 +47,50 @@ range-right log first (suc count) place key low high =
       | inr early ↦ at_first (omega arith)
     ]
   where
-    at_first : first ≡ place → newest_from (rows_before log first key.table key.row) (flat_map (versions_at log) (range_with_len first (suc count))) place key ≡ rows_before log place key.table key.row
+    at_first : first ≡ place → newest_or (rows_before log first key.table key.row) (flat_map (versions_at log) (range_with_len first (suc count))) place key ≡ rows_before log place key.table key.row
     at_first same =
         newest-late (rows_before log first key.table key.row) first (first + suc count) place key (flat_map (versions_at log) (range_with_len first (suc count)))
         (between-range log first (suc count)) (omega arith)
         ∙ ap (λ (at : ℕ). rows_before log at key.table key.row) same
 
-    behind : first < place → newest_from (rows_before log (first + 1) key.table key.row) (flat_map (versions_at log) (range_with_len (first + 1) count)) place key ≡ rows_before log place key.table key.row
-        → newest_from (rows_before log first key.table key.row) (flat_map (versions_at log) (range_with_len first (suc count))) place key ≡ rows_before log place key.table key.row
+    behind : first < place → newest_or (rows_before log (first + 1) key.table key.row) (flat_map (versions_at log) (range_with_len (first + 1) count)) place key ≡ rows_before log place key.table key.row
+        → newest_or (rows_before log first key.table key.row) (flat_map (versions_at log) (range_with_len first (suc count))) place key ≡ rows_before log place key.table key.row
     behind less later =
         let rest = flat_map (versions_at log) (range_with_len (first + 1) count) in
         fold-append (stepped place key) (rows_before log first key.table key.row) (versions_at log first) rest
-        ∙ ap (λ row. newest_from row rest place key) (at-one log first place key less)
+        ∙ ap (λ row. newest_or row rest place key) (at-one log first place key less)
         ∙ later
 
--- a store that is right for a log stays so with the versions of further places
-pub append-right : (log : List Statement) (versions more : List Version) (mark end new_end : ℕ) → mark ≤ end → AreBetween 0 end versions → AreBetween end new_end more
-    → IsRight log (record { versions = versions; mark = mark; end = end }) → more ≡ versions_between log end new_end
-    → IsRight log (record { versions = versions ++ more; mark = mark; end = new_end })
-append-right log versions more mark end new_end known before after right are place key low high =
-    elim (cases_lt end place) [
+-- versions behind the others are what a store gains
+pub append-gains : (store : Store) (more : List Version) (new_end : ℕ) → AreBetween 0 store.end store.versions → AreBetween store.end new_end more
+    → Gains store (record { versions = store.versions ++ more; mark = store.mark; end = new_end }) more new_end
+append-gains store more new_end before after = record {
+  mark = refl;
+  end = refl;
+  kept = λ place key low high.
+      fold-append (stepped place key) None store.versions more ∙ newest-late (row_in store place key) store.end new_end place key more after high;
+  gained = λ place key low high.
+      let whole : store.end ≤ store.end = omega arith in
+      fold-append (stepped place key) None store.versions more
+      ∙ ap (λ row. newest_or row more place key) (newest-early None 0 store.end place store.end key store.versions before low whole);
+}
+
+-- a store that is right for a log stays so when it gains the versions of the log's further places
+pub gains-right : (log : List Statement) (old new : Store) (cells : List Version) (new_end : ℕ) → old.mark ≤ old.end → old.end ≤ new_end
+    → Gains old new cells new_end → IsRight log old → cells ≡ versions_between log old.end new_end → IsRight log new
+gains-right log old new cells new_end known further gains right are place key low high =
+    elim (cases_lt old.end place) [
       | inl late ↦ behind late
-      | inr early ↦ fold-append (stepped place key) None versions more
-          ∙ newest-late (newest versions place key) end new_end place key more after early
-          ∙ right place key low early
+      | inr early ↦ gains.kept place key from early ∙ right place key from early
     ]
   where
-    behind : end < place → newest (versions ++ more) place key ≡ rows_before log place key.table key.row
+    from : old.mark ≤ place
+    from = omega (arith, low, gains.mark)
+
+    behind : old.end < place → row_in new place key ≡ rows_before log place key.table key.row
     behind less =
-        let at_end : newest versions place key ≡ rows_before log end key.table key.row =
-        newest-early None 0 end place end key versions before (omega arith) (omega arith) ∙ right end key known (omega arith) in
-        fold-append (stepped place key) None versions more
-        ∙ ap (λ row. newest_from row more place key) at_end
-        ∙ ap (λ (cells : List Version). newest_from (rows_before log end key.table key.row) cells place key) are
-        ∙ range-right log end (new_end - end) place key (omega arith) (omega arith)
+        let up_to : place ≤ new_end = omega (arith, high, gains.end) in
+        gains.gained place key (omega arith) up_to
+        ∙ ap (λ row. newest_or row cells place key) (right old.end key known (omega arith))
+        ∙ ap (λ (vs : List Version). newest_or (rows_before log old.end key.table key.row) vs place key) are
+        ∙ range-right log old.end (new_end - old.end) place key (omega arith) (omega arith)

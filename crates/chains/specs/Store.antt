@@ -1,7 +1,7 @@
 -- The versions of rows over many batches. BOHM keeps for each key the versions that transactions made, and a reader takes
 -- the newest one that is older than itself (J. M. Faleiro and D. J. Abadi, "Rethinking Serializable Multiversion
 -- Concurrency Control", PVLDB 8, 2015, section 3).
-use Rattle.std.specs.Prelude.{◌≡◌, ◌≤◌, ◌<◌, ◌+◌, ◌-◌, ◌==◌, ◌&&◌, nat_lt, ℕ, ℤ, Bool, Option, None, List, [], ◌∷◌, ◌++◌, fold, map, slice_get, if◌then◌else◌}
+use Rattle.std.specs.Prelude.{◌≡◌, ◌≤◌, ◌<◌, ◌+◌, ◌-◌, ◌==◌, ◌&&◌, nat_lt, ℕ, ℤ, Bool, Option, None, List, [], ◌∷◌, fold, map, slice_get, if◌then◌else◌}
 use Rattle.std.specs.List.{flat_map, range_with_len}
 use Rattle.std.specs.Option.{option_map_or}
 use Rattle.model_base.specs.declared.row.Key.{Key}
@@ -18,20 +18,20 @@ pub record Store : Type 0 where
   pub mark : ℕ
   pub end : ℕ
 
--- the store that has no version yet
-abbrev pub empty_store : Store
-empty_store = record { versions = []; mark = 0; end = 0 }
-
 -- whether the version is of the key and older than the place
 abbrev pub is_older : ℕ → Key → Version → Bool
 is_older place key version =
     nat_lt version.place place && ((version.key.table == key.table) && (version.key.row == key.row))
 
--- the row of the newest version of the key that is older than the place, or absent: each such version takes the place of
--- those before it
-abbrev pub newest : List Version → ℕ → Key → Option (List ℤ)
-newest versions place key =
-    fold (λ row (version : Version). if is_older place key version then version.row else row) None versions
+-- the row of the newest version of the key that is older than the place, or else this row: each such version takes the place
+-- of what came before it
+abbrev pub newest_or : Option (List ℤ) → List Version → ℕ → Key → Option (List ℤ)
+newest_or before versions place key =
+    fold (λ row (version : Version). if is_older place key version then version.row else row) before versions
+
+-- what the store tells of a key before a place: the row of the newest version that is older, or absent
+abbrev pub row_in : Store → ℕ → Key → Option (List ℤ)
+row_in store place key = newest_or None store.versions place key
 
 -- the versions stand in the order of their places, from the first place to below the end
 abbrev pub AreBetween : ℕ → ℕ → List Version → Type 0
@@ -39,9 +39,15 @@ AreBetween first end [] = first ≤ end
 AreBetween first end (version ∷ versions) =
     (first ≤ version.place) × (version.place < end) × AreBetween version.place end versions
 
--- the store with the versions of more places, up to a new end
-abbrev pub appended : Store → List Version → ℕ → Store
-appended store versions end = record { versions = store.versions ++ versions; mark = store.mark; end = end }
+-- the store has gained these versions, up to a new end: before the places from its mark to its old end it tells what it told,
+-- and before those from there to the new end the newest of these versions, or where none is older what it told at its old end
+pub record Gains (old new : Store) (cells : List Version) (new_end : ℕ) : Type 0 where
+  pub mark : new.mark ≡ old.mark
+  pub end : new.end ≡ new_end
+  pub kept : (place : ℕ) (key : Key) → old.mark ≤ place → place ≤ old.end → row_in new place key ≡ row_in old place key
+  pub gained :
+      (place : ℕ) (key : Key) → old.end ≤ place → place ≤ new_end
+      → row_in new place key ≡ newest_or (row_in old old.end key) cells place key
 
 -- the versions that a place of the log leaves, whatever its outcome: for each access that may change its row, in order, the
 -- row after the place
@@ -59,4 +65,4 @@ versions_between log first end = flat_map (versions_at log) (range_with_len firs
 abbrev pub IsRight : List Statement → Store → Type 0
 IsRight log store =
     (place : ℕ) (key : Key) → store.mark ≤ place → place ≤ store.end
-    → newest store.versions place key ≡ rows_before log place key.table key.row
+    → row_in store place key ≡ rows_before log place key.table key.row

@@ -30,14 +30,17 @@ impl Model for Chains {
 }
 
 impl Chains {
-    ghost use Rattle.std.specs.Prelude.{◌≡◌, ◌≤◌, List, IfOk, OnErr, OnOk, is_err, nat_lt};
+    ghost use Rattle.std.specs.Prelude.{◌≡◌, ◌≤◌, ℕ, List, IfOk, OnErr, OnOk, is_err, nat_lt};
+    ghost use Rattle.model_base.specs.declared.row.Key.{Key};
     ghost use Rattle.model_base.specs.declared.statement.Statement.{Statement};
     ghost use Rattle.model_base.specs.Outcomes.{rows_before};
-    ghost use Rattle.chains.specs.Store.{AreBetween, IsRight, appended, empty_store, newest, versions_between};
+    ghost use Rattle.chains.specs.Store.{AreBetween, Gains, IsRight, row_in, versions_between};
 
     /// The store before the first place. It takes no memory.
     pub fn new(alloc: Global) -> Self
-        ensures empty { result ≡ empty_store }
+        ensures mark { result.mark ≡ 0 }
+        ensures end { result.end ≡ 0 }
+        ensures none { (place : ℕ) (key : Key) → row_in result place key ≡ None }
         ensures right { (log : List Statement) → IsRight log result }
     {
         Chains {
@@ -66,7 +69,7 @@ impl Chains {
     /// order, whatever its outcome. On `Err` memory was refused, and the store is as it was.
     pub fn append(&mut self, mut cells: Vec<Version>, new_end: Place) -> Result<(), AllocError>
         requires { AreBetween self.old.end new_end cells.items }
-        ensures ok { OnOk result (self.new ≡ appended self.old cells.items new_end) }
+        ensures ok { OnOk result (Gains self.old self.new cells.items new_end) }
         ensures right { OnOk result ((log : List Statement) → IsRight log self.old
             → cells.items ≡ versions_between log self.old.end new_end → IsRight log self.new) }
         ensures err { OnErr result (self.new ≡ self.old) }
@@ -78,7 +81,7 @@ impl Chains {
 
     /// The row of the newest version of the key that is older than the place.
     fn newest(&self, place: Place, key: Key) -> Option<Row>
-        ensures { result ≡ newest self.now.versions place key }
+        ensures { result ≡ row_in self.now place key }
     {
         for index in (0..self.versions.len()).rev() {
             let version = self.versions[index];
@@ -95,7 +98,7 @@ impl Chains {
     pub fn row_before(&self, place: Place, key: Key) -> Result<Option<Row>, Trimmed>
         requires { place ≤ self.now.end }
         ensures trimmed { is_err result ≡ nat_lt place self.now.mark }
-        ensures value { IfOk result (λ row. row ≡ newest self.now.versions place key) }
+        ensures value { IfOk result (λ row. row ≡ row_in self.now place key) }
         ensures right { IfOk result (λ row. (log : List Statement) → IsRight log self.now
             → row ≡ rows_before log place key.table key.row) }
     {

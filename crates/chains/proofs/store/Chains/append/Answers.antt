@@ -1,8 +1,8 @@
-use Rattle.std.proofs.Common.{◌≤◌, List, arith, subst, sym, ap, ◌∙◌}
+use Rattle.std.proofs.Common.{◌≤◌, List, arith, subst, sym}
 use Rattle.chains.proofs.Order.{between-append, between-bound}
-use Rattle.chains.proofs.Right.{append-right}
+use Rattle.chains.proofs.Right.{append-gains, gains-right}
 use Rattle.chains.specs.declared.version.Version.{Version}
-use Rattle.chains.specs.Store.{Store, AreBetween, IsRight, versions_between}
+use Rattle.chains.specs.Store.{Store, AreBetween, Gains}
 use Rattle.chains.proofs.store.Chains.append.Goals as goal
 
 pub invariant_of-self-2 : goal.invariant_of-self-2
@@ -15,11 +15,17 @@ invariant_of-self-2 c =
           (between-append 0 inside.end c.args.new_end inside.versions.items c.args.cells.items c.self.invariant.1 more),
     )
 
+pub returns-clause-ok : goal.returns-clause-ok
+returns-clause-ok c =
+    let inside = c.self.inside in
+    let store : Store = record { versions = inside.versions.items; mark = inside.mark; end = inside.end } in
+    let more : AreBetween inside.end c.args.new_end c.args.cells.items = subst (λ (store : Store). AreBetween store.end c.args.new_end c.args.cells.items) (sym c.self.view_is) c.requires in
+    let gained = append-gains store c.args.cells.items c.args.new_end c.self.invariant.1 more in
+    subst (λ (old : Store). Gains old (record { versions = c.append.new.self.items; mark = inside.mark; end = c.args.new_end }) c.args.cells.items c.args.new_end) c.self.view_is
+    (rw c.in_ok-append.ensures.items gained)
+
 pub returns-clause-right : goal.returns-clause-right
 returns-clause-right c = λ log right are.
-    let inside = c.self.inside in
-    let known : inside.mark ≤ inside.end = c.self.invariant.0 in
-    let more : AreBetween inside.end c.args.new_end c.args.cells.items = subst (λ (store : Store). AreBetween store.end c.args.new_end c.args.cells.items) (sym c.self.view_is) c.requires in
-    subst (λ (versions : List Version). IsRight log (record { versions = versions; mark = inside.mark; end = c.args.new_end })) (sym c.in_ok-append.ensures.items)
-    (append-right log inside.versions.items c.args.cells.items inside.mark inside.end c.args.new_end known c.self.invariant.1 more (subst (IsRight log) (sym c.self.view_is) right)
-    (are ∙ ap (λ (store : Store). versions_between log store.end c.args.new_end) (sym c.self.view_is)))
+    let old = c.args.self.now in
+    let known : old.mark ≤ old.end = subst (λ (store : Store). store.mark ≤ store.end) c.self.view_is c.self.invariant.0 in
+    gains-right log old _ c.args.cells.items c.args.new_end known (between-bound old.end c.args.new_end c.args.cells.items c.requires) (returns-clause-ok c) right are
