@@ -15,8 +15,6 @@ mod laws;
 mod registers;
 mod row_map;
 mod steps;
-#[cfg(test)]
-mod tests;
 mod window;
 
 pub use ending::BodyEnd;

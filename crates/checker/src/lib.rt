@@ -4,7 +4,5 @@
 
 mod admission;
 mod missing;
-#[cfg(test)]
-mod tests;
 
 pub use admission::{Admission, admit};

@@ -11,8 +11,6 @@ mod parsing;
 mod printing;
 mod statement;
 mod step_name;
-#[cfg(test)]
-mod tests;
 mod word_list;
 
 pub use access::RawAccess;

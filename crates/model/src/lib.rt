@@ -13,8 +13,6 @@ mod deeds;
 mod needs;
 mod replay;
 mod state;
-#[cfg(test)]
-mod tests;
 
 pub use model_base::{
     Access, Cause, Deed, DeedDone, DeedForm, Form, Grant, Items, Key, Kind, Kinds, Need, Outcome,

@@ -8,6 +8,7 @@ mod doubles;
 mod failing;
 mod fault;
 mod long;
+mod spelling;
 mod worked;
 
 use beginnings::tell_beginnings;
@@ -15,6 +16,7 @@ use bohm_base::arguments;
 use failing::tell_failures;
 use fault::TrialFault;
 use long::tell_long_logs;
+use spelling::{tell_parts, tell_spellings};
 use std::process::ExitCode;
 use std::rt::{Env, Files};
 use worked::tell_worked;
@@ -25,6 +27,8 @@ fn tell<R: Env + Files + Print + AllocGlobal>(rt: &R) -> Result<(), TrialFault> 
     for name in names.iter().skip(1) {
         tell_worked(rt, name.as_str())?;
     }
+    tell_spellings(rt, "spellings.txt")?;
+    tell_parts(rt)?;
     tell_beginnings(rt)?;
     tell_long_logs(rt)?;
     tell_failures(rt)

@@ -8,7 +8,7 @@ use std::io::Read;
 use std::rt::Files;
 
 /// The bytes of a file.
-fn read_file<R: Files>(rt: &R, alloc: Global, path: &str) -> Result<Vec<u8>, TrialFault> {
+pub fn read_file<R: Files>(rt: &R, alloc: Global, path: &str) -> Result<Vec<u8>, TrialFault> {
     let mut text = Vec::new(alloc);
     fs::open(rt, path)?.take(1 << 20).read_to_end(&mut text)?;
     Ok(text)

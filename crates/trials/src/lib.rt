@@ -9,3 +9,5 @@ mod deeds;
 mod generator;
 #[cfg(test)]
 mod logs;
+#[cfg(test)]
+mod refused;
