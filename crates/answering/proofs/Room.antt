@@ -41,7 +41,7 @@ counted_from (step ∷ steps) count =
     ap (λ more. fold (λ n other. n + cond (is_out other) 1 0) (count + more) steps) (one_if_out step)
     ∙ counted_from steps (count + outputs_of_step step)
 
-outputs_counted : (steps : List Step) → count_by is_out steps ≡ sum_by outputs_of_step steps
+pub outputs_counted : (steps : List Step) → count_by is_out steps ≡ sum_by outputs_of_step steps
 outputs_counted steps = counted_from steps 0
 
 -- a statement has at most eight outputs

@@ -1,3 +1,4 @@
 pub mod Answering
 pub mod Judged
+pub mod Keeping
 pub mod Examples

@@ -7,10 +7,12 @@
 #![tactic(auto)]
 
 mod judging;
+mod laws;
 mod revoking;
 #[cfg(test)]
 mod tests;
 mod words;
 
+pub use laws::{outcomes_fit_their_forms, words_tell_outcomes};
 pub use revoking::ended;
 pub use words::own_words;

@@ -7,3 +7,4 @@ pub mod Entries
 pub mod Lean
 pub mod Depending
 pub mod Shapes
+pub mod Within

@@ -6,3 +6,4 @@ pub mod Room
 pub mod RowMap
 pub mod Laws
 pub mod Shape
+pub mod Steps

@@ -1,7 +1,11 @@
 //! What every run of a body keeps.
 
+ghost use Rattle.model_base.specs.Outcomes.{body};
+ghost use Rattle.model_base.specs.Rows.{Rows};
+ghost use Rattle.model_base.specs.declared.statement.Form.{Form};
 ghost use Rattle.body.specs.Laws.{DependsOnDeclared, KeepsOthers, LeavesOthers, LeavesUnwritten, ShowsRows};
 ghost use Rattle.body.specs.Shape.{KeepsColumns, KeepsShape, LogsHaveShape};
+ghost use Rattle.body.specs.Steps.{EndsWithin, steps_of};
 
 /// A completed body leaves each row alone that its statement does not declare.
 pub fn leaves_others()
@@ -43,4 +47,9 @@ pub fn shows_rows()
 /// A map with the rows of a window at the declared keys has at every other key the row that it had.
 pub fn keeps_others()
     ensures { KeepsOthers }
+{}
+
+/// A completed body gives no more outputs than it has OUT steps, and any other ends at one of its steps.
+pub fn ends_within_steps()
+    ensures { (form : Form) (rows : Rows) → EndsWithin (steps_of form) (body rows form) }
 {}

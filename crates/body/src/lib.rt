@@ -23,8 +23,8 @@ pub use filling::{
     write_back,
 };
 pub use laws::{
-    depends_on_declared, keeps_columns, keeps_others, keeps_shape, leaves_others, leaves_unwritten,
-    logs_have_shape, shows_rows,
+    depends_on_declared, ends_within_steps, keeps_columns, keeps_others, keeps_shape,
+    leaves_others, leaves_unwritten, logs_have_shape, shows_rows,
 };
 use model_base::{Form, Statement};
 pub use row_map::RowMap;

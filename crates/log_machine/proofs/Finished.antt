@@ -1,15 +1,18 @@
 -- What holds of a place of a log's batch that is done, in a state that some events reach.
-use Rattle.std.proofs.Common.{◌≡◌, ◌≢◌, ◌<◌, ◌≤◌, ◌+◌, ◌++◌, ◌∷◌, ℕ, zero, suc, Bool, List, [], Option, Some, None, add-one, append_assoc, drop, get_or, length, refl, sym, ap, ◌∙◌, subst, arith}
-use Rattle.std.specs.Prelude.{slice_get, if◌then◌else◌}
+use Rattle.std.proofs.Common.{◌≡◌, ◌≢◌, ◌<◌, ◌≤◌, ◌+◌, ◌^◌, ◌++◌, ◌∷◌, ℕ, zero, suc, Bool, true, List, [], Option, Some, None, add-one, append_assoc, drop, get_or, length, refl, sym, ap, ◌∙◌, subst, arith}
+use Rattle.std.specs.Prelude.{Err, Ok, OnErr, Result, slice_get, if◌then◌else◌}
+use Rattle.std.specs.Option.{option_map}
 use Rattle.std.proofs.lemmas.Option.{slice_get-get_or}
 use Rattle.model_base.specs.declared.deed.Grant.{Grant}
 use Rattle.model_base.specs.declared.outcome.Outcome.{Outcome}
 use Rattle.model_base.specs.declared.statement.Statement.{Statement}
-use Rattle.model_base.specs.Outcomes.{outcome}
+use Rattle.model_base.specs.Outcomes.{at_place, outcome, owners, world_before}
 use Rattle.model_base.proofs.Replay.{by_cases}
+use Rattle.body.specs.Steps.{steps_of}
 use Rattle.own_words.specs.Places.{words_at}
-use Rattle.own_words.specs.Words.{ended_in}
-use Rattle.sequencer.specs.Taken.{columns_by}
+use Rattle.own_words.specs.Words.{ended_in, outcome_from}
+use Rattle.answering.proofs.Fitting.{words_tell}
+use Rattle.sequencer.specs.Taken.{IsTaken, columns_by}
 use Rattle.bohm_core_base.specs.declared.hold.Hold.{Hold}
 use Rattle.bohm_core_base.specs.declared.hold.Hold.TheVariants.{Done, Free}
 use Rattle.bohm_core_base.specs.Batch.{slots_of}
@@ -66,6 +69,43 @@ module _ (ranged : Ranged) (is : IsOfLog (range_of ranged)) (within : ranged.fir
           done_tells (range_of ranged) is reached.events index statement
           (done-right (batch_in ranged) reached.sound reached.events index there) at
 
+  -- it has an outcome
+  outcome-there : (index : ℕ) → hold_of state index ≡ Done → (found : Outcome) × (outcome ranged.log.statements (ranged.first + index) ≡ Some found)
+  outcome-there index done =
+      let inside = done-within index done in
+      by_statement (slice_get ranged.log.statements (ranged.first + index)) refl (omega arith)
+    where
+      by_statement : (one : Option Statement) → slice_get ranged.log.statements (ranged.first + index) ≡ one → ranged.first + index < length ranged.log.statements
+          → (found : Outcome) × (outcome ranged.log.statements (ranged.first + index) ≡ Some found)
+      by_statement None at low = absurd (some-there ranged.log.statements (ranged.first + index) low at)
+      by_statement (Some statement) at low = (
+        _,
+        ap (option_map (λ (one : Statement). (at_place (owners ranged.log.statements) (ranged.first + index) (world_before ranged.log.statements (ranged.first + index)) one).0)) at,
+      )
+
+  -- where some slot's record ended at it, its revocation ended some
+  pub ended-done : (index : ℕ) → hold_of state index ≡ Done → ended_places (slots_of (batch_in ranged)) state.ends (ranged.first + index) ≢ []
+      → (found : Outcome) × (outcome ranged.log.statements (ranged.first + index) ≡ Some found) × (ended_in found ≢ [])
+  ended-done index done some =
+      let there = outcome-there index done in
+      (there.0, there.1, λ none. some (ends-done index there.0 done there.1 ∙ none))
+
+  -- and its own words, with the places that its revocation ended, tell its outcome
+  pub outcome-done : (index : ℕ) (statement : Statement) (ended : List ℕ) → hold_of state index ≡ Done
+      → slice_get ranged.log.statements (ranged.first + index) ≡ Some statement → IsTaken ranged.log.names statement → ranged.first + ranged.size ≤ 4294967295
+      → ((found : Outcome) → outcome ranged.log.statements (ranged.first + index) ≡ Some found → ended ≡ ended_in found)
+      → outcome ranged.log.statements (ranged.first + index) ≡ Some (outcome_from statement.form (own_of state index) ended)
+  outcome-done index statement ended done at taken few ends =
+      let there = outcome-there index done in
+      let inside = done-within index done in
+      let short : length (steps_of statement.form) < 2 ^ 64 = omega (arith, taken.steps) in
+      let low : ranged.first + index < 2 ^ 64 = omega arith in
+      let words = words_at (columns_by ranged.log.names) ranged.log.statements (ranged.first + index) in
+      let told : outcome_from statement.form (own_of state index) ended ≡ there.0 =
+      ap (λ own. outcome_from statement.form own ended) (words-done index done) ∙ ap (outcome_from statement.form words) (ends there.0 there.1)
+      ∙ words_tell (columns_by ranged.log.names) ranged.log.statements (ranged.first + index) statement there.0 at there.1 is.fits taken.runnable short low in
+      there.1 ∙ ap Some (sym told)
+
 -- the places that slots tell, one slot more
 pub ended_step : (grants : List Grant) (ends : List (Option ℕ)) (place slot : ℕ) (other : Grant) (past : Option ℕ) → slot < length grants → slot < length ends
     → ended_places (drop slot grants) (drop slot ends) place
@@ -104,3 +144,22 @@ ended_more grants ends place slot places grant ended a b at is =
     (ap (λ hit. (if hit then grant.place ∷ [] else []) ++ ended_places (drop (suc slot) grants) (drop (suc slot) ends) place) is
     ∙ ap (λ (one : Grant). (if is_end place (get_or ends slot None) then one.place ∷ [] else []) ++ ended_places (drop (suc slot) grants) (drop (suc slot) ends) place) (sym same)
     ∙ sym (ended_step grants ends place slot grant None a b)))
+
+-- a slot that ended at the place is one of them
+nonempty : (front : List ℕ) (place : ℕ) (rest : List ℕ) → front ++ place ∷ rest ≢ []
+nonempty [] place rest = λ gone. cc
+nonempty (first ∷ front) place rest = λ gone. cc
+
+pub ended_some : (grants : List Grant) (ends : List (Option ℕ)) (place slot : ℕ) (places : List ℕ) (grant : Grant) → slot < length grants → slot < length ends
+    → is_end place (get_or ends slot None) ≡ true → places ++ ended_places (drop slot grants) (drop slot ends) place ≢ []
+ended_some grants ends place slot places grant a b is =
+    let rest : List ℕ = ended_places (drop (suc slot) grants) (drop (suc slot) ends) place in
+    let own : ℕ = (get_or grants slot grant).place in
+    let more : ended_places (drop slot grants) (drop slot ends) place ≡ own ∷ rest =
+    ended_step grants ends place slot grant None a b ∙ ap (λ hit. (if hit then own ∷ [] else []) ++ rest) is in
+    λ gone. nonempty places own rest (ap (λ later. places ++ later) (sym more) ∙ gone)
+
+-- what holds anyway holds of an error
+pub on_err : {T E P : Type 0} (result : Result T E) → P → OnErr result P
+on_err (Ok value) holds = tt
+on_err (Err error) holds = holds

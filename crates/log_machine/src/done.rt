@@ -1,6 +1,6 @@
 //! What the machine over a log tells of a place that is done.
 
-ghost use Rattle.std.specs.Prelude.{◌≡◌, ◌≢◌, ◌+◌, ◌++◌, ◌∷◌, [], IfOk, OnOk, Some, if◌then◌else◌};
+ghost use Rattle.std.specs.Prelude.{◌≡◌, ◌≢◌, ◌+◌, ◌++◌, ◌∷◌, [], IfOk, IfSome, IsTrue, OnErr, OnOk, Some, if◌then◌else◌};
 ghost use Rattle.std.specs.Option.{MatchOption};
 ghost use Rattle.model_base.specs.Outcomes.{outcome};
 ghost use Rattle.model_base.specs.declared.outcome.Outcome.{Outcome};
@@ -15,7 +15,8 @@ ghost use Rattle.log_machine.specs.Supplied.{batch_in};
 
 use crate::batch::LogBatch;
 use bohm_core::{Hold, Machine, State};
-use model_base::{Grant, Place};
+use model_base::{Grant, Items, Outcome, Place};
+use own_words::decoded;
 use std::alloc::{AllocError, Global};
 
 /// The own words of a place that is done, whatever the events were: those of its outcome in the log, and its version cells.
@@ -31,9 +32,10 @@ pub fn done_words<'a>(machine: &'a Machine<LogBatch<'_>>, index: usize) -> Optio
     }
 }
 
-/// Puts the grant's place behind the others, if its record ended.
+/// Puts the grant's place behind the others, if its record ended. Otherwise it takes no memory.
 fn push_ended(places: &mut Vec<Place>, ended: bool, grant: &Grant) -> Result<(), AllocError>
-    ensures { OnOk result (places.new.items ≡ places.old.items ++ (if ended then grant.now.place ∷ [] else [])) }
+    ensures pushed { OnOk result (places.new.items ≡ places.old.items ++ (if ended then grant.now.place ∷ [] else [])) }
+    ensures memory { OnErr result (IsTrue ended) }
 {
     if ended {
         places.push(grant.place)?;
@@ -41,14 +43,16 @@ fn push_ended(places: &mut Vec<Place>, ended: bool, grant: &Grant) -> Result<(),
     Ok(())
 }
 
-/// The places of the grants of slots whose records ended at the place of the log, in order.
+/// The places of the grants of slots whose records ended at the place of the log, in order. Where there are none it takes no
+/// memory.
 fn ended_at(
     alloc: Global,
     batch: &LogBatch<'_>,
     state: &State,
     place: Place,
 ) -> Result<Vec<Place>, AllocError>
-    ensures { IfOk result (λ places. places.items ≡ ended_places (slots_of (batch_in batch.now)) state.now.ends place) }
+    ensures value { IfOk result (λ places. places.items ≡ ended_places (slots_of (batch_in batch.now)) state.now.ends place) }
+    ensures memory { OnErr result (ended_places (slots_of (batch_in batch.now)) state.now.ends place ≢ []) }
 {
     let mut places = Vec::new(alloc);
     for slot in 0..batch.slot_count().min(state.slots()) {
@@ -62,14 +66,17 @@ fn ended_at(
 }
 
 /// The places of the grants that the revocation of a place ended, if the place is done: those of its outcome in the log, and
-/// none where it has no revocation, or wasn't done. An error is want of memory.
+/// none where it has no revocation, or wasn't done. An error is want of memory, and comes only where there are some.
 pub fn done_ends(
     alloc: Global,
     machine: &Machine<LogBatch<'_>>,
     index: usize,
 ) -> Result<Option<Vec<Place>>, AllocError>
-    ensures { IfOk result (λ told. MatchOption told (hold_of machine.now.state index ≢ Done) (λ places. (found : Outcome)
+    ensures told { IfOk result (λ told. MatchOption told (hold_of machine.now.state index ≢ Done) (λ places. (found : Outcome)
         → outcome machine.now.statements.log.statements (machine.now.statements.first + index) ≡ Some found → places.items ≡ ended_in found)) }
+    ensures done { IfOk result (λ told. IfSome told (λ _. hold_of machine.now.state index ≡ Done)) }
+    ensures memory { OnErr result ((found : Outcome)
+        × (outcome machine.now.statements.log.statements (machine.now.statements.first + index) ≡ Some found) × (ended_in found ≢ [])) }
 {
     let state = machine.state();
     let batch = machine.statements();
@@ -81,5 +88,31 @@ pub fn done_ends(
             Ok(Some(places))
         }
         _ => Ok(None),
+    }
+}
+
+/// The outcome of a place that is done, whatever the events were: what its own words tell, with the places of the grants that
+/// its revocation ended. The list of these places is all that takes memory, so an error comes only where there are some.
+pub fn done_outcome(
+    alloc: Global,
+    machine: &Machine<LogBatch<'_>>,
+    index: usize,
+) -> Result<Option<Outcome>, AllocError>
+    ensures told { IfOk result (λ told. MatchOption told (hold_of machine.now.state index ≢ Done) (λ found.
+        (hold_of machine.now.state index ≡ Done)
+        × (outcome machine.now.statements.log.statements (machine.now.statements.first + index) ≡ Some found))) }
+    ensures memory { OnErr result ((found : Outcome)
+        × (outcome machine.now.statements.log.statements (machine.now.statements.first + index) ≡ Some found) × (ended_in found ≢ [])) }
+{
+    let state = machine.state();
+    let batch = machine.statements();
+    let _log = batch.log();
+    let _first = batch.first_place();
+    match done_ends(alloc, machine, index)? {
+        Some(ended) => {
+            let form = &batch.statement(index).form;
+            Ok(Some(decoded(form, state.own(index), Items::new(ended))))
+        }
+        None => Ok(None),
     }
 }

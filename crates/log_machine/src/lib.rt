@@ -16,5 +16,5 @@ mod stored;
 mod tests;
 
 pub use batch::LogBatch;
-pub use done::{done_ends, done_words};
+pub use done::{done_ends, done_outcome, done_words};
 pub use records::ShownRecords;

@@ -1,5 +1,5 @@
--- The body of a statement that the log takes: it fits a window and the columns of the tables.
-use Rattle.std.proofs.Common.{◌≡◌, ℕ, ◌+◌, ℤ, pos, negsuc, true, List, [], ◌∷◌, length, map, None, refl, ap, sym, ◌∙◌, arith}
+-- The body of a statement that the log takes: it fits a window and the columns of the tables, and has at most 64 steps.
+use Rattle.std.proofs.Common.{◌≡◌, ◌≤◌, ℕ, ◌+◌, ℤ, pos, negsuc, true, List, [], ◌∷◌, length, map, None, refl, ap, sym, ◌∙◌, arith}
 use Rattle.std.specs.Prelude.{IsTrue, ◌==◌}
 use Rattle.std.specs.List.{sum_by, AllByRecursion}
 use Rattle.std.proofs.lemmas.Bool.{eqb-true}
@@ -11,6 +11,7 @@ use Rattle.model_base.specs.declared.statement.Step.{Step}
 use Rattle.model_base.specs.Body.{fits}
 use Rattle.body.specs.Premises.{IsNarrow, IsRunnable, outputs_of}
 use Rattle.body.specs.Shape.{FitsColumns, FormFits}
+use Rattle.body.specs.Steps.{steps_of}
 use Rattle.log_text.specs.Statement.{IsFormInGrammar, IsInGrammar, IsStep, Sentence, outs_of}
 use Rattle.log_text.specs.Words.{fits_64_bits}
 use Rattle.log_text.specs.declared.statement.RawForm.{RawForm}
@@ -88,12 +89,13 @@ steps-outputs names (step ∷ steps) =
 -- the body of a statement that the log takes
 pub record HasSoundBody (names : Names) (user : ℕ) (form : Form) : Type 0 where
   pub runnable : IsRunnable (record { user = user; form = form })
+  pub steps : length (steps_of form) ≤ 64
   pub fits : FormFits (columns_by names) form
   pub filled : HasFilledRows form
 
 form_sound : (names : Names) (users : List (List ℕ)) (user : ℕ) (form : RawForm) → IsFormInGrammar form → form_refusal names form ≡ None
     → HasSoundBody names user (numbered_form (record names { users = users }) form)
-form_sound names users user (RawForm.Create table columns) h e = record { runnable = tt; fits = tt; filled = tt }
+form_sound names users user (RawForm.Create table columns) h e = record { runnable = tt; steps = omega arith; fits = tt; filled = tt }
 form_sound names users user (RawForm.Run accesses steps deed) h e =
     let named : Names = record names { users = users } in
     let found : List Step = map (numbered_step named) steps in
@@ -106,10 +108,11 @@ form_sound names users user (RawForm.Run accesses steps deed) h e =
         columns = All-weaker (IsSound names) IsNarrow (λ step is. is.narrow) found sound;
         outputs = omega (arith, h, steps-outputs named steps);
       };
+      steps = omega (arith, h, length-map steps (numbered_step named));
       fits = All-weaker (IsSound names) (FitsColumns (columns_by names)) (λ step is. is.fits) found sound;
       filled = All-weaker (IsSound names) IsFilled (λ step is. is.filled) found sound;
     }
-form_sound names users user (RawForm.Deed deed) h e = record { runnable = tt; fits = tt; filled = tt }
+form_sound names users user (RawForm.Deed deed) h e = record { runnable = tt; steps = omega arith; fits = tt; filled = tt }
 
 pub sound_body : (names : Names) (sentence : Sentence) → IsInGrammar sentence → refusal names sentence ≡ None
     → HasSoundBody names (numbered names sentence).user (numbered names sentence).form

@@ -91,6 +91,7 @@ taken_stays names more longer statement filled taken =
     let up : (table : ℕ) → table < few → table < many = λ table low. omega (arith, low, longer.tables) in
     record {
       runnable = taken.runnable;
+      steps = taken.steps;
       fits = form_stays names more longer statement.form filled taken.fits;
       needs = All-weaker (λ (need : Need). need.table < few) (λ (need : Need). need.table < many) (λ need low. up need.table low) (needs statement.form) taken.needs;
       accesses = All-weaker (λ (access : Access). access.key.table < few) (λ (access : Access). access.key.table < many) (λ access low. up access.key.table low)
@@ -115,6 +116,7 @@ taken_before names sentence h e =
     let known = known_names names sentence e in
     record {
       runnable = body.runnable;
+      steps = body.steps;
       fits = body.fits;
       needs = known.needs;
       accesses = known.accesses;

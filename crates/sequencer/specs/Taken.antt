@@ -11,6 +11,7 @@ use Rattle.model_base.specs.Versions.{accesses_of}
 use Rattle.body.specs.Laws.{AreApart}
 use Rattle.body.specs.Premises.{IsRunnable}
 use Rattle.body.specs.Shape.{FormFits}
+use Rattle.body.specs.Steps.{steps_of}
 use Rattle.sequencer.specs.Catalog.{Names}
 use Rattle.sequencer.specs.Log.{Accepted}
 
@@ -18,10 +19,11 @@ use Rattle.sequencer.specs.Log.{Accepted}
 abbrev pub columns_by : Names → ℕ → ℕ
 columns_by names table = slice_index_or names.columns table 0
 
--- what an accepted statement is: its body fits a window, its constants have 64 bits and its inserted rows the columns of
--- their tables, what it names is of known tables, and no two of its accesses name one row
+-- what an accepted statement is: its body fits a window and has at most 64 steps, its constants have 64 bits and its inserted
+-- rows the columns of their tables, what it names is of known tables, and no two of its accesses name one row
 pub record IsTaken (names : Names) (statement : Statement) : Type 0 where
   pub runnable : IsRunnable statement
+  pub steps : length (steps_of statement.form) ≤ 64
   pub fits : FormFits (columns_by names) statement.form
   pub needs : All (λ (need : Need). need.table < length names.tables) (needs statement.form)
   pub accesses : All (λ (access : Access). access.key.table < length names.tables) (accesses_of statement.form)

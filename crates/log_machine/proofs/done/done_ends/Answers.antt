@@ -4,7 +4,7 @@ use Rattle.bohm_core_base.specs.Batch.{slots_of}
 use Rattle.bohm_core_base.specs.Machine.{State, hold_of}
 use Rattle.log_batch.specs.Laws.{IsOfLog, ended_places}
 use Rattle.log_machine.specs.Supplied.{Ranged, batch_in, range_of}
-use Rattle.log_machine.proofs.Finished.{done-within, ends-done}
+use Rattle.log_machine.proofs.Finished.{done-within, ended-done, ends-done, on_err}
 use Rattle.log_machine.proofs.done.done_ends.Goals as goal
 
 pub overflow_add-place : goal.overflow_add-place
@@ -24,8 +24,8 @@ overflow_add-place c =
     let fits : c.first_place.result + index < 2 ^ 64 = omega arith in
     search rules
 
-pub returns-in_ok-places-in-Done : goal.returns-in_ok-places-in-Done
-returns-in_ok-places-in-Done c found comes =
+pub returns-in_ok-places-in-Done-clause-told : goal.returns-in_ok-places-in-Done-clause-told
+returns-in_ok-places-in-Done-clause-told c found comes =
     let ranged = c.args.machine.now.statements in
     let state = c.args.machine.now.state in
     let index = c.args.index in
@@ -35,8 +35,27 @@ returns-in_ok-places-in-Done c found comes =
     let done : hold_of state index ≡ Done =
     ap (λ (s : State). hold_of s index) (sym c.state-state.ensures.value) ∙ sym c.hold.ensures ∙ c.in-Done.is in
     let first : c.first_place.result ≡ ranged.first = c.first_place.ensures.value ∙ ap (λ (r : Ranged). r.first) same in
-    c.in_ok-places-in-Done.ensures
+    c.in_ok-places-in-Done.ensures.value
     ∙ ap (λ (r : Ranged). ended_places (slots_of (batch_in r)) c.state-state.result.now.ends (c.first_place.result + index)) same
     ∙ ap (λ (s : State). ended_places (slots_of (batch_in ranged)) s.ends (c.first_place.result + index)) c.state-state.ensures.value
     ∙ ap (λ at. ended_places (slots_of (batch_in ranged)) state.ends (at + index)) first
     ∙ ends-done ranged is within state c.state-state.ensures.reached index found done comes
+
+pub returns-in_err-places-in-Done-clause-memory : goal.returns-in_err-places-in-Done-clause-memory
+returns-in_err-places-in-Done-clause-memory c =
+    let ranged = c.args.machine.now.statements in
+    let state = c.args.machine.now.state in
+    let index = c.args.index in
+    let same = c.statements-batch.ensures in
+    let is = subst (λ (r : Ranged). IsOfLog (range_of r)) same c.log-log.ensures.of_log in
+    let within = subst (λ (r : Ranged). r.first + r.size ≤ length r.log.statements) same c.log-log.ensures.within in
+    let done : hold_of state index ≡ Done =
+    ap (λ (s : State). hold_of s index) (sym c.state-state.ensures.value) ∙ sym c.hold.ensures ∙ c.in-Done.is in
+    let first : c.first_place.result ≡ ranged.first = c.first_place.ensures.value ∙ ap (λ (r : Ranged). r.first) same in
+    let here : ended_places (slots_of (batch_in c.statements-batch.result.now)) c.state-state.result.now.ends (c.first_place.result + index)
+    ≡ ended_places (slots_of (batch_in ranged)) state.ends (ranged.first + index) =
+    ap (λ (r : Ranged). ended_places (slots_of (batch_in r)) c.state-state.result.now.ends (c.first_place.result + index)) same
+    ∙ ap (λ (s : State). ended_places (slots_of (batch_in ranged)) s.ends (c.first_place.result + index)) c.state-state.ensures.value
+    ∙ ap (λ at. ended_places (slots_of (batch_in ranged)) state.ends (at + index)) first in
+    on_err c.from_residual.result
+    (ended-done ranged is within state c.state-state.ensures.reached index done (λ none. c.in_err-places-in-Done.ensures.memory (here ∙ none)))
