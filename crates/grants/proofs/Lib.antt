@@ -13,3 +13,4 @@ pub mod Parts
 pub mod ShownLaws
 pub mod LossLaws
 pub mod LawfulViews
+pub mod ExtendLaws

@@ -52,7 +52,7 @@ impl Model for Book {
 }
 
 impl Book {
-    ghost use Rattle.grants.specs.Book.{IsLater, IsSound, ShowsBook, cut_book, extended, owners_of, table_of, view_of, with_ends, with_grant, with_table};
+    ghost use Rattle.grants.specs.Book.{Continues, IsLater, IsSound, ShowsBook, cut_book, extended, owners_of, table_of, view_of, with_ends, with_grant, with_table};
     ghost use Rattle.grants.specs.View.{Shows, holds_in};
 
     /// A book without tables and grants. It takes no memory.
@@ -180,7 +180,8 @@ impl Book {
     }
 
     /// Adds tables and grants behind the others, the grants without an end, and then ends records by their slots. What is
-    /// so put together has to be a book. On `Err` memory was refused, and the book is as it was.
+    /// so put together has to be a book. Where the book showed some deeds, and the grants and ends are what more deeds make
+    /// of their records, it then shows them all. On `Err` memory was refused, and the book is as it was.
     pub fn extend(
         &mut self,
         tables: &[Creation],
@@ -190,6 +191,8 @@ impl Book {
         requires slots { All (λ (end : End). end.slot < length self.old.records + length grants.now) ends.now }
         requires sound { IsSound (extended self.old tables.now grants.now ends.now) }
         ensures ok { OnOk result (self.new ≡ extended self.old tables.now grants.now ends.now) }
+        ensures shows { OnOk result ((owners others : List ℕ) (deeds more : List Deed) → ShowsBook self.old owners deeds
+            → Continues others deeds more (self.old.tables ++ tables.now) grants.now ends.now → ShowsBook self.new others (deeds ++ more)) }
         ensures err { OnErr result (self.new ≡ self.old) }
     {
         self.tables.reserve(tables.len())?;
