@@ -2,6 +2,7 @@
 //! the rows of all tables, and its deed changes the book.
 #![tactic(auto)]
 
+mod deeds;
 mod state;
 
 pub use state::State;

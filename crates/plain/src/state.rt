@@ -6,52 +6,31 @@ ghost use Rattle.model_base.specs.Outcomes.{creator, deed_of, empty_world};
 ghost use Rattle.model_base.specs.Versions.{accesses_of};
 ghost use Rattle.body.specs.Shown.{with_rows};
 ghost use Rattle.body.specs.Premises.{IsRunnable};
-ghost use Rattle.body.specs.RowMap.{rows_of};
+ghost use Rattle.body.specs.Room.{IsLean};
+ghost use Rattle.body.specs.RowMap.{HasEntry, rows_of};
 ghost use Rattle.grants.specs.Book.{IsLater, owners_of};
-ghost use Rattle.plain.specs.State.{Finishes, IsMade, Leads, MayMake, NamesTables, Stands, world_of};
 
+use crate::deeds::make;
 use body::{
     BodyEnd, RowMap, Window, filled, put_rows, release_absent, release_rows, reserve_rows, run,
 };
 use checker::{Admission, admit};
 use grants::Book;
-use model_base::{Deed, DeedDone, Form, Items, Outcome, Place, Statement};
+use model_base::{DeedDone, Form, Outcome, Place, Statement};
 use std::alloc::{AllocError, Global};
 
-/// What stands before a place of a log: the rows of all tables, and the book of the grants that were made.
+/// What stands before a place of a log: the rows of all tables, and the book of the grants that were made. The map of rows has
+/// an entry only for a row that is there.
 #[derive(Drop)]
 pub struct State {
     rows: RowMap,
     book: Book,
-}
-
-/// Makes the deed of a statement whose needs are all held, and says what it came to. On `Err` memory was refused, and the
-/// book is as it was.
-fn make(
-    alloc: Global,
-    book: &mut Book,
-    place: Place,
-    statement: &Statement,
-) -> Result<DeedDone, AllocError>
-    requires later { IsLater book.old place }
-    requires may { MayMake book.old place (deed_of place statement.now.user statement.now.form) }
-    ensures made { IfOk result (IsMade book.old book.new place (deed_of place statement.now.user statement.now.form)) }
-    ensures err { OnErr result (book.new ≡ book.old) }
-{
-    match statement.deed_at(place) {
-        None => Ok(DeedDone::None),
-        Some(Deed::Granting(grant)) => {
-            book.grant(grant)?;
-            Ok(DeedDone::Granted)
-        }
-        Some(Deed::Revoking(revocation)) => {
-            let ended = book.revoke(alloc, &revocation)?;
-            Ok(DeedDone::Revoked(Items::new(ended)))
-        }
-    }
+    ghost lean: { IsLean (HasEntry rows) (rows_of rows) },
 }
 
 impl State {
+    ghost use Rattle.plain.specs.State.{Finishes, IsMade, Leads, MayMake, NamesTables, Stands, world_of};
+
     /// Before the first place there is no row, no table and no grant. It takes no memory.
     pub fn new(alloc: Global) -> Self
         ensures tables { result.book.tables ≡ [] }
