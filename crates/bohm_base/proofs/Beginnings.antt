@@ -2,9 +2,9 @@
 use Rattle.std.proofs.Common.{◌≡◌, ℕ, ◌+◌, ◌<◌, List, [], ◌∷◌, ◌++◌, length, get_or, take, drop, Option, Some, None, ap, sym, ◌∙◌, subst, append_assoc, add-one, drop-cons}
 use Rattle.std.specs.Prelude.{IfSome}
 use Rattle.std.specs.Io.KnownBytes.{Appends, Keeps}
-use Rattle.std.proofs.lemmas.List.{take-append-drop}
+use Rattle.std.proofs.lemmas.List.{append-nil, take-append-drop}
 use Rattle.log_text_base.specs.Known.{AppendsFront, HasBegun, MovesOut}
-use Rattle.log_text_base.proofs.Written.{appends_none, appends_then, appends_kept, appends_front}
+use Rattle.log_text_base.proofs.Written.{appends_none, appends_then, appends_kept, appends_front, moved_none}
 use Rattle.sequencer.specs.Log.{Accepted}
 use Rattle.report.specs.Report.{IsReport}
 use Rattle.report.proofs.Readings.{IsTotal, some_report}
@@ -13,20 +13,20 @@ use Rattle.bohm_base.specs.Collecting.{Collects, became_text, log_text, places_o
 use Rattle.bohm_base.proofs.Logs.{report_is}
 
 -- the line of an index of the log's lines is pending too
-pub moves_on : (o n : Option (List ℕ)) (log : Accepted) (lines : List Became) (index place places : ℕ) (d : Became) (pending more text : List ℕ)
+pub moves_on : (o n : Option (List ℕ)) (log : Accepted) (lines : List Became) (index place places : ℕ) (d : Became) (pending : List ℕ)
     → MovesOut o n (log_text log lines) (pending ++ report_text log.statements log.names.tables (index + 1) place (drop index lines))
     → index < length lines → places ≡ places_of (get_or lines index d)
-    → more ≡ pending ++ text → text ≡ became_text log.statements log.names.tables (index + 1) place (get_or lines index d)
-    → MovesOut o n (log_text log lines) (more ++ report_text log.statements log.names.tables (index + 1 + 1) (place + places) (drop (index + 1) lines))
-moves_on o n log lines index place places d pending more text moves low places_is more_is text_is =
+    → MovesOut o n (log_text log lines) ((pending ++ became_text log.statements log.names.tables (index + 1) place (get_or lines index d))
+    ++ report_text log.statements log.names.tables (index + 1 + 1) (place + places) (drop (index + 1) lines))
+moves_on o n log lines index place places d pending moves low places_is =
     let line : Became = get_or lines index d in
+    let text : List ℕ = became_text log.statements log.names.tables (index + 1) place line in
     let rest : ℕ → List ℕ = λ next. report_text log.statements log.names.tables (index + 1 + 1) next (drop (index + 1) lines) in
     let split : drop index lines ≡ line ∷ drop (index + 1) lines =
     drop-cons lines index d low ∙ ap (λ (k : ℕ). line ∷ drop k lines) (sym (add-one index)) in
-    let same : more ++ rest (place + places) ≡ pending ++ report_text log.statements log.names.tables (index + 1) place (drop index lines) =
-    ap (λ (w : List ℕ). w ++ rest (place + places)) (more_is ∙ ap (λ (t : List ℕ). pending ++ t) text_is)
-    ∙ append_assoc pending (became_text log.statements log.names.tables (index + 1) place line) (rest (place + places))
-    ∙ ap (λ (k : ℕ). pending ++ (became_text log.statements log.names.tables (index + 1) place line ++ rest (place + k))) places_is
+    let same : (pending ++ text) ++ rest (place + places) ≡ pending ++ report_text log.statements log.names.tables (index + 1) place (drop index lines) =
+    append_assoc pending text (rest (place + places))
+    ∙ ap (λ (k : ℕ). pending ++ (text ++ rest (place + k))) places_is
     ∙ ap (λ (ls : List Became). pending ++ report_text log.statements log.names.tables (index + 1) place ls) (sym split) in
     subst (MovesOut o n (log_text log lines)) (sym same) moves
 
@@ -41,13 +41,28 @@ moves_then o n m whole pending less rest first then = (
       ∙ first.2,
 )
 
--- a front of what was pending is written, and the rest of it is lost
-pub begun_lost : (o n m : Option (List ℕ)) (whole pending less rest : List ℕ) → MovesOut o n whole (pending ++ rest) → AppendsFront n m pending → less ≡ []
+-- a beginning of what was pending is written, and then pending
+pub begun_then : (o n m : Option (List ℕ)) (whole pending less rest : List ℕ) → MovesOut o n whole (pending ++ rest) → HasBegun n m less pending
     → HasBegun o m less whole
-begun_lost o n m whole pending less rest moves front none =
+begun_then o n m whole pending less rest moves begun = (
+  begun.0 ++ rest,
+  subst (MovesOut o m whole) (append_assoc less begun.0 rest) (moves_then o n m whole pending (less ++ begun.0) rest moves begun.1),
+)
+
+-- all that was pending is written, or pending still
+pub begun_all : (n m : Option (List ℕ)) (pending less : List ℕ) → MovesOut n m pending less → HasBegun n m less pending
+begun_all n m pending less moves = ([], subst (MovesOut n m pending) (sym (append-nil less)) moves)
+
+-- nothing of a line is written or pending
+pub line_left : (n : Option (List ℕ)) (pending less line : List ℕ) → less ≡ pending → HasBegun n n less (pending ++ line)
+line_left n pending less line same =
+    (line, subst (λ (w : List ℕ). MovesOut n n (pending ++ line) (w ++ line)) (sym same) (moved_none n (pending ++ line)))
+
+-- a front of what was pending is written, and the rest of it is lost
+pub rest_lost : (n m : Option (List ℕ)) (pending less : List ℕ) → AppendsFront n m pending → less ≡ [] → HasBegun n m less pending
+rest_lost n m pending less front none =
     let left : List ℕ = drop front.0 pending in
-    let moved : MovesOut o m whole (left ++ rest) = moves_then o n m whole pending left rest moves (take front.0 pending, front.1, take-append-drop front.0 pending) in
-    (left ++ rest, subst (λ (w : List ℕ). MovesOut o m whole (w ++ (left ++ rest))) (sym none) moved)
+    (left, subst (λ (w : List ℕ). MovesOut n m pending (w ++ left)) (sym none) (take front.0 pending, front.1, take-append-drop front.0 pending))
 
 -- what was pending at the end is written, or a front of it
 front_written : (o n m : Option (List ℕ)) (whole pending : List ℕ) → HasBegun o n pending whole → AppendsFront n m pending → AppendsFront o m whole

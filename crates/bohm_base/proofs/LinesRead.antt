@@ -1,6 +1,6 @@
 -- The lines that were read, and what they became.
-use Rattle.std.proofs.Common.{◌≡◌, ℕ, ◌<◌, List, [], ◌∷◌, ◌++◌, length, take, Option, Some, None, refl, ap, sym, ◌∙◌, subst, inl, inr, arith, append_assoc}
-use Rattle.std.specs.Prelude.{IfSome}
+use Rattle.std.proofs.Common.{◌≡◌, ◌≢◌, ℕ, ◌<◌, List, [], ◌∷◌, ◌++◌, length, take, Option, Some, None, refl, ap, sym, ◌∙◌, subst, inl, inr, arith, append_assoc}
+use Rattle.std.specs.Prelude.{Result, Ok, Err, IfErr, IfOk, IfSome, OnOk}
 use Rattle.std.specs.Io.KnownBytes.{IsAtEnd, prepend_known}
 use Rattle.std.proofs.lemmas.List.{append-nil, take_all, length-take-le}
 use Rattle.std.proofs.lemmas.Bool.{cases_lt, cond-true, lt-ltb}
@@ -13,7 +13,7 @@ use Rattle.log_text.specs.declared.fault.LineFault.{LineFault}
 use Rattle.sequencer.specs.Log.{Accepted, empty_log}
 use Rattle.report.specs.Report.{AreReadings, IsReading, Reading}
 use Rattle.bohm_base.specs.declared.collecting.Became.{Became}
-use Rattle.bohm_base.specs.Collecting.{Collects, CollectsSoFar, LeadsTo, ReadsAs, became, with_reading}
+use Rattle.bohm_base.specs.Collecting.{Collects, CollectsSoFar, LeadsTo, ReadsAs, became, reading_of, with_reading}
 use Rattle.bohm_base.proofs.Logs.{log_step}
 
 too_long : (l : List ℕ) → 4096 < length l → line_fault l ≡ Some LineFault.TooLong
@@ -28,15 +28,22 @@ kept_fault l =
     ]
 
 -- and to read it
-pub kept_reading : (line whole : List ℕ) (sentence : Sentence) → Reads line sentence → line_fault line ≡ None → line ≡ take 4097 whole → Reads whole sentence
+kept_reading : (line whole : List ℕ) (sentence : Sentence) → Reads line sentence → line_fault line ≡ None → line ≡ take 4097 whole → Reads whole sentence
 kept_reading line whole sentence reads sound is =
     elim (cases_lt 4096 (length whole)) [
       | inl long ↦ let bad : Some LineFault.TooLong ≡ None = sym (too_long whole long) ∙ sym (kept_fault whole) ∙ ap line_fault (sym is) ∙ sound in cc
       | inr short ↦ subst (λ (l : List ℕ). Reads l sentence) (is ∙ take_all 4097 whole (omega arith)) reads
     ]
 
-pub kept_faulty : (line whole : List ℕ) (fault : LineFault) → line_fault line ≡ Some fault → line ≡ take 4097 whole → line_fault whole ≡ Some fault
+kept_faulty : (line whole : List ℕ) (fault : LineFault) → line_fault line ≡ Some fault → line ≡ take 4097 whole → line_fault whole ≡ Some fault
 kept_faulty line whole fault found is = sym (kept_fault whole) ∙ ap line_fault (sym is) ∙ found
+
+-- what the parser answers of 4,097 bytes of a line is how the line is read
+pub reads_as : (line : List ℕ) (found : Result Sentence LineFault) → IfOk found (λ sentence. Reads line sentence) → OnOk found (line_fault line ≡ None)
+    → IfErr found (λ fault. fault ≢ LineFault.NoMemory → line_fault line ≡ Some fault) → found ≢ Err LineFault.NoMemory → ReadsAs line (reading_of found)
+reads_as line (Ok sentence) reads sound faulty told = λ whole is. kept_reading line whole sentence reads sound is
+reads_as line (Err fault) reads sound faulty told = λ whole is.
+    kept_faulty line whole fault (faulty (λ same. told (let P : LineFault → Result Sentence LineFault = λ f. Err f in ap P same))) is
 
 -- at first no line is read
 pub collect_start : (i : Option (List ℕ)) (bytes : List ℕ) → bytes ≡ [] → CollectsSoFar i (prepend_known bytes i) empty_log []

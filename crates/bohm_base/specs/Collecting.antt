@@ -1,7 +1,9 @@
 -- What the lines of a log became, and the report of the log by that.
-use Rattle.std.specs.Prelude.{◌≡◌, ℕ, ◌+◌, ⊤, Option, Some, None, List, [], ◌∷◌, ◌++◌, take}
+use Rattle.std.specs.Prelude.{◌≡◌, ℕ, ◌+◌, ⊤, Result, Ok, Err, Option, Some, None, List, [], ◌∷◌, ◌++◌, take}
 use Rattle.model_base.specs.declared.statement.Statement.{Statement}
 use Rattle.log_text_base.specs.Lines.{lines_of}
+use Rattle.log_text.specs.Statement.{Sentence}
+use Rattle.log_text.specs.declared.fault.LineFault.{LineFault}
 use Rattle.sequencer.specs.Catalog.{Names, no_names}
 use Rattle.sequencer.specs.Log.{Accepted}
 use Rattle.sequencer.specs.Refusal.{refusal}
@@ -50,6 +52,11 @@ log_text log lines = report_text log.statements log.names.tables 1 0 lines
 -- a line of which at most 4,097 bytes are known is read so
 abbrev pub ReadsAs : List ℕ → Reading → Type 0
 ReadsAs known reading = (line : List ℕ) → known ≡ take 4097 line → IsReading line reading
+
+-- how a line was read, by what the parser answers
+abbrev pub reading_of : Result Sentence LineFault → Reading
+reading_of (Ok sentence) = read sentence
+reading_of (Err fault) = faulty fault
 
 -- the log after a line that was read so
 abbrev pub with_reading : Accepted → Reading → Accepted

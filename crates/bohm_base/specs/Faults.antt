@@ -1,7 +1,23 @@
--- A fault of reading, as a fault of the run.
+-- A fault of reading, as a fault of the run; and what a run's answer tells of its reader and its writer.
+use Rattle.std.specs.Prelude.{ℕ, Result, Ok, Err}
+use Rattle.log_text_base.specs.Known.{raised}
 use Rattle.log_text_base.specs.declared.fault.ReadFault.{ReadFault}
 use Rattle.bohm_base.specs.declared.fault.EngineFault.{EngineFault}
 
 abbrev pub of_reading : ReadFault → EngineFault
 of_reading ReadFault.NoMemory = EngineFault.NoMemory
 of_reading ReadFault.Read = EngineFault.Read
+
+-- the count of the reader's failures after an answer
+abbrev pub read_errors : {A : Type 0} → Result A EngineFault → ℕ → ℕ
+read_errors (Ok answer) errors = errors
+read_errors (Err EngineFault.NoMemory) errors = errors
+read_errors (Err EngineFault.Read) errors = raised errors
+read_errors (Err EngineFault.Write) errors = errors
+
+-- the count of the writer's failures after an answer
+abbrev pub write_errors : {A : Type 0} → Result A EngineFault → ℕ → ℕ
+write_errors (Ok answer) errors = errors
+write_errors (Err EngineFault.NoMemory) errors = errors
+write_errors (Err EngineFault.Read) errors = errors
+write_errors (Err EngineFault.Write) errors = raised errors

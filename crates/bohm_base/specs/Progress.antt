@@ -1,5 +1,5 @@
 -- What one line adds to a report.
-use Rattle.std.specs.Prelude.{◌≡◌, ℕ, ◌+◌, ◌<◌, ◌++◌, ⊤, Option, Some, None, List, All, length}
+use Rattle.std.specs.Prelude.{◌≡◌, ℕ, ◌+◌, ◌<◌, ◌≤◌, ◌^◌, ◌++◌, [], ⊤, Bool, true, false, Result, Ok, Option, Some, None, List, All, length}
 use Rattle.std.specs.Io.KnownBytes.{Appends}
 use Rattle.log_text_base.specs.Lines.{lines_of}
 use Rattle.model_base.specs.Outcomes.{creator, empty_world, needs, owners, world_after}
@@ -15,7 +15,10 @@ use Rattle.grants.specs.Book.{IsLater, owners_of}
 use Rattle.plain.specs.State.{Leads, Stands, world_of}
 use Rattle.plain.specs.declared.state.State.{State}
 use Rattle.report.specs.Text.{IsNamed, fault_word, outcome_text, refused_text, refused_word}
-use Rattle.report.specs.Report.{AreReadings, Reading, read, faulty, log_of, names_after, report_from, report_of}
+use Rattle.report.specs.Report.{AreReadings, Reading, read, faulty, log_of, names_after, names_with, report_from, report_of}
+use Rattle.bohm_base.specs.declared.fault.EngineFault.{EngineFault}
+use Rattle.bohm_base.specs.declared.plain_run.Dealt.{Dealt}
+use Rattle.bohm_base.specs.Pending.{HasBegunReport, HasReport}
 
 -- the state is that before the next place of a log with these names: its book has their owners, and stands for some deeds
 pub record IsAt (names : Names) (state : State) : Type 0 where
@@ -79,3 +82,50 @@ Reported (Some input) None out_old out_now pending number names state = ⊥
 Reported (Some input) (Some rest) out_old out_now pending number names state =
     (earlier : List Reading)
     × ((front : List ℕ) × (Appends out_old out_now front × IsSoFar input rest (front ++ pending) number names state earlier))
+
+-- a line that was read so was dealt with
+pub record DealsWith (reading : Reading) (old new : Dealt) : Type 0 where
+  pub advances : Advances old.catalog old.state old.number reading [] new.state new.text.items
+  pub names : new.catalog ≡ names_with old.catalog reading
+  pub number : new.number ≡ old.number + 1
+  pub at : IsAt new.catalog new.state
+
+-- where a run stands between two lines: what is still to come, how many bytes of it are ahead and how many the reader
+-- gave; what the writer holds, and what is pending; and what was dealt with
+pub record Standing : Type 0 where
+  pub rest : Option (List ℕ)
+  pub ahead : ℕ
+  pub given : ℕ
+  pub out : Option (List ℕ)
+  pub pending : List ℕ
+  pub dealt : Dealt
+
+-- a further line can be dealt with
+pub record IsReady (dealt : Dealt) (ahead given : ℕ) : Type 0 where
+  pub at : IsAt dealt.catalog dealt.state
+  pub bounded : 0 < ahead → given ≤ 2 ^ 62 + 65536
+  pub counted : dealt.number + ahead ≤ given + 1
+
+-- the lines of the input up to where the run stands are reported behind what the writer held
+abbrev pub ReportedTo : Option (List ℕ) → Option (List ℕ) → Standing → Type 0
+ReportedTo input out now =
+    Reported input now.rest out now.out now.pending now.dealt.number now.dealt.catalog now.dealt.state
+
+-- one more line was taken
+pub record TakesLine (old new : Standing) : Type 0 where
+  pub ready : IsReady new.dealt new.ahead new.given
+  pub forward : old.given + new.ahead < new.given + old.ahead
+  pub most : new.given ≤ 2 ^ 62 + 65536
+  pub reported : (input out : Option (List ℕ)) → ReportedTo input out old → ReportedTo input out new
+
+-- what a turn came to by its answer, whatever input is reported: one more line was taken, or there was none and the report
+-- is whole; and in any case a beginning of the report stands
+pub record Turn (result : Result Bool EngineFault) (old new : Standing) : Type 0 where
+  pub taken : result ≡ Ok true → TakesLine old new
+  pub ended : result ≡ Ok false → (input out : Option (List ℕ)) → ReportedTo input out old → HasReport input out new.out new.pending
+  pub begun : (input out : Option (List ℕ)) → ReportedTo input out old → HasBegunReport input out new.out new.pending
+
+-- what the turns to the end of the input came to, whatever input is reported
+pub record Ends (result : Result (Unit {0}) EngineFault) (old : Standing) (out_now : Option (List ℕ)) (pending : List ℕ) : Type 0 where
+  pub done : result ≡ Ok tt → (input out : Option (List ℕ)) → ReportedTo input out old → HasReport input out out_now pending
+  pub begun : (input out : Option (List ℕ)) → ReportedTo input out old → HasBegunReport input out out_now pending

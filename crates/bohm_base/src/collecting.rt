@@ -1,9 +1,11 @@
 //! The whole log, read to its end before any of it is run.
 
-ghost use Rattle.std.specs.Prelude.{◌≡◌, ◌≢◌, ◌<◌, ◌≤◌, ◌-◌, ◌^◌, IfOk, IfErr, IfSome, OnOk, Err};
+ghost use Rattle.std.specs.Prelude.{◌≡◌, ◌≢◌, ◌≤◌, IfOk, IfErr, IfSome, OnOk, Err};
+ghost use Rattle.std.specs.Result.{ForOk};
 ghost use Rattle.log_text.specs.Statement.{IsInGrammar};
 ghost use Rattle.report.specs.Report.{Reading, read};
-ghost use Rattle.bohm_base.specs.Collecting.{Collects, ReadsAs, became, places_of, with_reading};
+ghost use Rattle.bohm_base.specs.Faults.{read_errors};
+ghost use Rattle.bohm_base.specs.Collecting.{Collects, ReadsAs, became, places_of, reading_of, with_reading};
 
 use crate::fault::EngineFault;
 use log_text::{LineFault, RawStatement, parse_line};
@@ -48,7 +50,7 @@ pub struct Collected {
 /// What the line of a refused statement became. Want of memory is no refusal, and ends the run.
 fn refused_line(refused: Refused) -> Result<Became, EngineFault>
     ensures ok { IfOk result (λ line. (line ≡ Became.Refused refused) × (refused ≢ Refused.NoMemory)) }
-    ensures err { IfErr result (λ f. f ≡ EngineFault.NoMemory) }
+    ensures err { IfErr result (λ f. (f ≡ EngineFault.NoMemory) × (refused ≡ Refused.NoMemory)) }
 {
     match refused {
         Refused::NoMemory => Err(EngineFault::NoMemory),
@@ -59,7 +61,7 @@ fn refused_line(refused: Refused) -> Result<Became, EngineFault>
 /// What a line with a fault became. Want of memory is no line's fault, and ends the run.
 fn faulty_line(fault: LineFault) -> Result<Became, EngineFault>
     ensures ok { IfOk result (λ line. (line ≡ Became.Faulty fault) × (fault ≢ LineFault.NoMemory)) }
-    ensures err { IfErr result (λ f. f ≡ EngineFault.NoMemory) }
+    ensures err { IfErr result (λ f. (f ≡ EngineFault.NoMemory) × (fault ≡ LineFault.NoMemory)) }
 {
     match fault {
         LineFault::NoMemory => Err(EngineFault::NoMemory),
@@ -84,14 +86,16 @@ fn take_statement(log: &mut Log, statement: RawStatement) -> Result<Became, Engi
     }
 }
 
-/// Reads a line, takes its statement into the log if it is one that is not refused, and says what the line became. After
-/// an error the log is as it was.
-fn take_line(alloc: Global, log: &mut Log, line: &[u8]) -> Result<Became, EngineFault>
-    ensures line { IfOk result (λ line'. (reading : Reading) × (ReadsAs line.now reading
-        × ((line' ≡ became log.old.names reading) × (log.new ≡ with_reading log.old reading)))) }
+/// Takes the statement that a line was read as into the log if it is one that is not refused, and says what the line
+/// became. After an error the log is as it was.
+fn take_read(log: &mut Log, found: Result<RawStatement, LineFault>) -> Result<Became, EngineFault>
+    requires { ForOk found IsInGrammar }
+    ensures line { IfOk result (λ line. line ≡ became log.old.names (reading_of found)) }
+    ensures log { OnOk result (log.new ≡ with_reading log.old (reading_of found)) }
+    ensures told { OnOk result (found ≢ Err LineFault.NoMemory) }
     ensures err { IfErr result (λ f. f ≡ EngineFault.NoMemory) }
 {
-    match parse_line(alloc, line) {
+    match found {
         Ok(statement) => {
             let line = take_statement(log, statement)?;
             Ok(line)
@@ -103,6 +107,18 @@ fn take_line(alloc: Global, log: &mut Log, line: &[u8]) -> Result<Became, Engine
     }
 }
 
+/// Reads a line, takes its statement into the log if it is one that is not refused, and says what the line became. After
+/// an error the log is as it was.
+fn take_line(alloc: Global, log: &mut Log, line: &[u8]) -> Result<Became, EngineFault>
+    ensures line { IfOk result (λ line'. (reading : Reading) × (ReadsAs line.now reading
+        × ((line' ≡ became log.old.names reading) × (log.new ≡ with_reading log.old reading)))) }
+    ensures err { IfErr result (λ f. f ≡ EngineFault.NoMemory) }
+{
+    let found = parse_line(alloc, line);
+    let line = take_read(log, found)?;
+    Ok(line)
+}
+
 /// Reads lines to the end of what the reader gives. `NoMemory` comes where a growth was refused, `Read` where the reader
 /// failed; after either what was collected is gone.
 pub fn collect_lines<R: Read>(
@@ -110,7 +126,7 @@ pub fn collect_lines<R: Read>(
     reader: &mut Counted<R>,
 ) -> Result<Collected, EngineFault>
     ensures whole { IfOk result (λ collected. IfSome (R.remaining reader.old.inner) (λ input. Collects input collected.log collected.lines.items)) }
-    ensures read { result ≡ Err EngineFault.Read → reader.old.errors < 2 ^ 64 - 1 → reader.old.errors < reader.new.errors }
+    ensures reads { reader.new.errors ≡ read_errors result reader.old.errors }
     ensures err { IfErr result (λ f. f ≢ EngineFault.Write) }
 {
     let mut reading = LineReader::new(alloc)?;

@@ -4,6 +4,7 @@
 mod collecting;
 mod command_line;
 mod fault;
+mod pending;
 mod plain_run;
 mod serial_run;
 

@@ -1,20 +1,26 @@
 //! The plain path: each line is read, taken into the log, executed and reported, one after another.
 
-ghost use Rattle.std.specs.Prelude.{◌≡◌, ◌≢◌, ◌<◌, ◌≤◌, ◌-◌, ◌^◌, ℕ, [], List, IfOk, IfErr, IfSome, OnOk, Err, length};
-ghost use Rattle.std.specs.Io.KnownBytes.{Appends};
-ghost use Rattle.log_text_base.specs.Known.{AppendsFront, HasBegun, MovesOut};
+ghost use Rattle.std.specs.Prelude.{◌≡◌, ◌≢◌, ◌<◌, ◌-◌, ◌^◌, ℕ, [], List, IfOk, IfErr, IfSome, OnOk, Err, length};
+ghost use Rattle.std.specs.Io.KnownBytes.{Appends, prepend_known};
+ghost use Rattle.std.specs.Result.{ForOk};
+ghost use Rattle.log_text_base.specs.Ahead.{ahead};
+ghost use Rattle.log_text_base.specs.Known.{AppendsFront};
 ghost use Rattle.body.specs.Premises.{IsRunnable};
 ghost use Rattle.grants.specs.Book.{IsLater};
 ghost use Rattle.log_text.specs.Statement.{IsInGrammar};
-ghost use Rattle.plain.specs.State.{NamesTables};
+ghost use Rattle.model_base.specs.Outcomes.{empty_world};
+ghost use Rattle.plain.specs.State.{NamesTables, Stands, world_of};
+ghost use Rattle.sequencer.specs.Catalog.{no_names};
 ghost use Rattle.report.specs.Report.{IsReport, Reading, names_with, read};
-ghost use Rattle.bohm_base.specs.Collecting.{ReadsAs};
-ghost use Rattle.bohm_base.specs.Progress.{Advances, IsAt, IsAfter, Reports};
+ghost use Rattle.bohm_base.specs.Collecting.{ReadsAs, reading_of};
+ghost use Rattle.bohm_base.specs.Faults.{read_errors, write_errors};
+ghost use Rattle.bohm_base.specs.Pending.{HasBegunReport, HasReport};
+ghost use Rattle.bohm_base.specs.Progress.{Advances, DealsWith, IsAt, IsAfter, IsReady, Ends, Reports, Turn};
 
 use crate::fault::EngineFault;
-use crate::serial_run::PENDING;
+use crate::pending::{PENDING, put_out};
 use log_text::{LineFault, RawStatement, parse_line};
-use log_text_base::{Counted, LineReader, flush, write_much, write_out};
+use log_text_base::{Counted, LineReader, flush, write_out};
 use model_base::{Place, Statement};
 use plain::State;
 use report::{put_fault, put_outcome, put_refused};
@@ -43,6 +49,17 @@ fn put_accepted(
     Ok(())
 }
 
+/// The refusal of a statement that is refused. Want of memory is no statement's refusal, and ends the run.
+fn refusal_of(refused: Refused) -> Result<Refused, EngineFault>
+    ensures ok { IfOk result (λ r. (r ≡ refused) × (refused ≢ Refused.NoMemory)) }
+    ensures err { IfErr result (λ f. (f ≡ EngineFault.NoMemory) × (refused ≡ Refused.NoMemory)) }
+{
+    match refused {
+        Refused::NoMemory => Err(EngineFault::NoMemory),
+        other => Ok(other),
+    }
+}
+
 /// Takes a statement into the log, executes it, and puts its line behind the text; or the line of its refusal.
 fn put_statement(
     alloc: Global,
@@ -65,8 +82,8 @@ fn put_statement(
             put_accepted(alloc, catalog, state, place, &statement, text)?;
             Ok(())
         }
-        Err(Refused::NoMemory) => Err(EngineFault::NoMemory),
         Err(refused) => {
+            let refused = refusal_of(refused)?;
             put_refused(text, number, refused)?;
             Ok(())
         }
@@ -84,23 +101,24 @@ fn reported(fault: LineFault) -> Result<LineFault, EngineFault>
     }
 }
 
-/// Reads a line, and puts the report's line for it behind the text.
-fn put_line(
+/// Takes the statement that a line was read as, as `put_statement`; or puts the line of its fault behind the text.
+fn put_read(
     alloc: Global,
     catalog: &mut Catalog,
     state: &mut State,
     number: u64,
-    line: &[u8],
+    found: Result<RawStatement, LineFault>,
     text: &mut Vec<u8>,
 ) -> Result<(), EngineFault>
+    requires grammar { ForOk found IsInGrammar }
     requires at { IsAt catalog.old state.old }
-    ensures ok { OnOk result ((reading : Reading) × (ReadsAs line.now reading
-        × (Advances catalog.old state.old number reading text.old.items state.new text.new.items
-        × (catalog.new ≡ names_with catalog.old reading)))) }
+    ensures ok { OnOk result (Advances catalog.old state.old number (reading_of found) text.old.items state.new text.new.items) }
+    ensures names { OnOk result (catalog.new ≡ names_with catalog.old (reading_of found)) }
     ensures at { OnOk result (IsAt catalog.new state.new) }
+    ensures told { OnOk result (found ≢ Err LineFault.NoMemory) }
     ensures err { IfErr result (λ f. f ≡ EngineFault.NoMemory) }
 {
-    match parse_line(alloc, line) {
+    match found {
         Ok(statement) => {
             put_statement(alloc, catalog, state, number, statement, text)?;
             Ok(())
@@ -113,6 +131,123 @@ fn put_line(
     }
 }
 
+/// The lines that were dealt with: the names and the state that they led to, and the report's line for the last of them.
+#[derive(Drop)]
+struct Dealt {
+    catalog: Catalog,
+    state: State,
+    /// The number of the next line.
+    number: u64,
+    text: Vec<u8>,
+}
+
+impl Dealt {
+    /// Before the first line. It takes no memory.
+    fn new(alloc: Global) -> Self
+        ensures at { IsAt result.catalog result.state }
+        ensures names { result.catalog ≡ no_names }
+        ensures number { result.number ≡ 1 }
+        ensures stands { Stands result.state 0 [] }
+        ensures world { world_of result.state [] ≡ empty_world }
+    {
+        let catalog = Catalog::new(alloc);
+        let state = State::new(alloc);
+        Dealt {
+            catalog,
+            state,
+            number: 1,
+            text: Vec::new(alloc),
+        }
+    }
+}
+
+/// Reads a line, deals with it, and makes the report's line for it.
+fn put_line(alloc: Global, dealt: &mut Dealt, line: &[u8]) -> Result<(), EngineFault>
+    requires at { IsAt dealt.old.catalog dealt.old.state }
+    requires number { dealt.old.number < 2 ^ 64 - 1 }
+    ensures ok { OnOk result ((reading : Reading) × (ReadsAs line.now reading × DealsWith reading dealt.old dealt.new)) }
+    ensures err { IfErr result (λ f. f ≡ EngineFault.NoMemory) }
+{
+    dealt.text.clear();
+    let found = parse_line(alloc, line);
+    put_read(
+        alloc,
+        &mut dealt.catalog,
+        &mut dealt.state,
+        dealt.number,
+        found,
+        &mut dealt.text,
+    )?;
+    dealt.number += 1;
+    Ok(())
+}
+
+/// Takes the next line, puts its report behind what is pending, and writes what is pending if that is much. False at the
+/// end of the input. After a fault whole lines are pending.
+fn report_line<R: Read, W: Write>(
+    alloc: Global,
+    reader: &mut Counted<R>,
+    writer: &mut Counted<W>,
+    lines: &mut LineReader,
+    dealt: &mut Dealt,
+    pending: &mut Vec<u8>,
+) -> Result<bool, EngineFault>
+    requires { IsReady dealt.old (length (ahead lines.old)) reader.old.given }
+    ensures turn { Turn result
+        (record {
+          rest = prepend_known (ahead lines.old) (R.remaining reader.old.inner);
+          ahead = length (ahead lines.old);
+          given = reader.old.given;
+          out = W.contents writer.old.inner;
+          pending = pending.old.items;
+          dealt = dealt.old;
+        })
+        (record {
+          rest = prepend_known (ahead lines.new) (R.remaining reader.new.inner);
+          ahead = length (ahead lines.new);
+          given = reader.new.given;
+          out = W.contents writer.new.inner;
+          pending = pending.new.items;
+          dealt = dealt.new;
+        }) }
+    ensures reads { reader.new.errors ≡ read_errors result reader.old.errors }
+    ensures writes { writer.new.errors ≡ write_errors result writer.old.errors }
+{
+    if !lines.next_line(reader)? {
+        return Ok(false);
+    }
+    put_line(alloc, dealt, lines.line())?;
+    put_out(writer, pending, &dealt.text)?;
+    Ok(true)
+}
+
+/// Takes lines to the end of the input, as `report_line`.
+fn report_rest<R: Read, W: Write>(
+    alloc: Global,
+    reader: &mut Counted<R>,
+    writer: &mut Counted<W>,
+    lines: &mut LineReader,
+    dealt: &mut Dealt,
+    pending: &mut Vec<u8>,
+) -> Result<(), EngineFault>
+    requires { IsReady dealt.old (length (ahead lines.old)) reader.old.given }
+    ensures report { Ends result
+        (record {
+          rest = prepend_known (ahead lines.old) (R.remaining reader.old.inner);
+          ahead = length (ahead lines.old);
+          given = reader.old.given;
+          out = W.contents writer.old.inner;
+          pending = pending.old.items;
+          dealt = dealt.old;
+        })
+        (W.contents writer.new.inner) pending.new.items }
+    ensures reads { reader.new.errors ≡ read_errors result reader.old.errors }
+    ensures writes { writer.new.errors ≡ write_errors result writer.old.errors }
+{
+    'lines: while report_line(alloc, reader, writer, lines, dealt, pending)? {}
+    Ok(())
+}
+
 /// Reads lines to the end, and writes the report, the end of it still pending. After a fault whole lines are pending.
 fn report_lines<R: Read, W: Write>(
     alloc: Global,
@@ -121,34 +256,14 @@ fn report_lines<R: Read, W: Write>(
     pending: &mut Vec<u8>,
 ) -> Result<(), EngineFault>
     requires { pending.old.items ≡ [] }
-    ensures done { OnOk result (IfSome (R.remaining reader.old.inner) (λ input. (text : List ℕ)
-        × (IsReport input text × MovesOut (W.contents writer.old.inner) (W.contents writer.new.inner) text pending.new.items))) }
-    ensures begun { IfSome (R.remaining reader.old.inner) (λ input. (text : List ℕ)
-        × (IsReport input text × HasBegun (W.contents writer.old.inner) (W.contents writer.new.inner) pending.new.items text)) }
-    ensures read { result ≡ Err EngineFault.Read → reader.old.errors < 2 ^ 64 - 1 → reader.old.errors < reader.new.errors }
-    ensures write { result ≡ Err EngineFault.Write → writer.old.errors < 2 ^ 64 - 1 → writer.old.errors < writer.new.errors }
-    ensures errors { writer.old.errors ≤ 2 ^ 64 - 1 → writer.old.errors ≤ writer.new.errors }
+    ensures done { OnOk result (HasReport (R.remaining reader.old.inner) (W.contents writer.old.inner) (W.contents writer.new.inner) pending.new.items) }
+    ensures begun { HasBegunReport (R.remaining reader.old.inner) (W.contents writer.old.inner) (W.contents writer.new.inner) pending.new.items }
+    ensures reads { reader.new.errors ≡ read_errors result reader.old.errors }
+    ensures writes { writer.new.errors ≡ write_errors result writer.old.errors }
 {
     let mut lines = LineReader::new(alloc)?;
-    let mut catalog = Catalog::new(alloc);
-    let mut state = State::new(alloc);
-    let mut text = Vec::new(alloc);
-    let mut number = 1;
-    'lines: while lines.next_line(reader)? {
-        text.clear();
-        put_line(
-            alloc,
-            &mut catalog,
-            &mut state,
-            number,
-            lines.line(),
-            &mut text,
-        )?;
-        pending.extend_from_slice(&text)?;
-        number += 1;
-        write_much(writer, pending)?;
-    }
-    Ok(())
+    let mut dealt = Dealt::new(alloc);
+    report_rest(alloc, reader, writer, &mut lines, &mut dealt, pending)
 }
 
 /// Reads a log to its end, executes it statement by statement, and writes its report: one line for each line.
@@ -171,6 +286,8 @@ pub fn plain_text<R: Read, W: Write>(
     // Read and Write come only where the reader or the writer failed.
     ensures read { result ≡ Err EngineFault.Read → reader.old.errors < 2 ^ 64 - 1 → reader.old.errors < reader.new.errors }
     ensures write { result ≡ Err EngineFault.Write → writer.old.errors < 2 ^ 64 - 1 → writer.old.errors < writer.new.errors }
+    // Ok says that neither of them failed, in the flush at the end neither.
+    ensures whole { OnOk result ((reader.new.errors ≡ reader.old.errors) × (writer.new.errors ≡ writer.old.errors)) }
 {
     let mut pending = Vec::with_capacity(alloc, PENDING)?;
     let ended = report_lines(alloc, reader, writer, &mut pending);

@@ -1,15 +1,17 @@
 //! The serial path: the whole log is read, then run place by place, and then reported line by line.
 
-ghost use Rattle.std.specs.Prelude.{◌≡◌, ◌≢◌, ◌<◌, ◌≤◌, ◌++◌, ◌-◌, ◌^◌, ℕ, [], List, IfErr, IfSome, OnOk, Err, slice_get};
+ghost use Rattle.std.specs.Prelude.{◌≡◌, ◌≢◌, ◌<◌, ◌++◌, ◌-◌, ◌^◌, ℕ, [], List, IfErr, IfSome, OnOk, Err, slice_get};
 ghost use Rattle.std.specs.Io.KnownBytes.{Appends};
 ghost use Rattle.log_text_base.specs.Known.{AppendsFront, HasBegun, MovesOut};
 ghost use Rattle.model_base.specs.Outcomes.{outcome};
 ghost use Rattle.report.specs.Report.{IsReport, place_text};
 ghost use Rattle.bohm_base.specs.Collecting.{became_text, log_text};
+ghost use Rattle.bohm_base.specs.Faults.{write_errors};
 
 use crate::collecting::{Became, Collected, collect_lines};
 use crate::fault::EngineFault;
-use log_text_base::{Counted, flush, write_much, write_out};
+use crate::pending::{PENDING, put_out};
+use log_text_base::{Counted, flush, write_out};
 use model::serial;
 use model_base::{Outcome, Place};
 use report::{put_fault, put_outcome, put_refused};
@@ -62,8 +64,30 @@ fn put_line(
     }
 }
 
-/// How many bytes of the report are gathered before they are written.
-pub(crate) const PENDING: usize = 65_536;
+/// Puts the report's line for a line of this number behind what is pending, and writes what is pending if that is much.
+fn report_line<W: Write>(
+    writer: &mut Counted<W>,
+    pending: &mut Vec<u8>,
+    text: &mut Vec<u8>,
+    log: &Log,
+    outcomes: &[Outcome],
+    number: u64,
+    place: Place,
+    line: Became,
+) -> Result<(), EngineFault>
+    requires outcomes { (place : ℕ) → slice_get outcomes.now place ≡ outcome log.now.statements place }
+    ensures ok { OnOk result (MovesOut (W.contents writer.old.inner) (W.contents writer.new.inner)
+        (pending.old.items ++ became_text log.now.statements log.now.names.tables number place line) pending.new.items) }
+    ensures begun { HasBegun (W.contents writer.old.inner) (W.contents writer.new.inner) pending.new.items
+        (pending.old.items ++ became_text log.now.statements log.now.names.tables number place line) }
+    ensures errors { writer.new.errors ≡ write_errors result writer.old.errors }
+    ensures err { IfErr result (λ f. f ≢ EngineFault.Read) }
+{
+    text.clear();
+    put_line(text, log, outcomes, number, place, line)?;
+    put_out(writer, pending, text)?;
+    Ok(())
+}
 
 /// Writes the report of a log by the outcomes of its places, the end of it still pending. After a fault whole lines are
 /// pending.
@@ -80,19 +104,24 @@ fn report_lines<W: Write>(
         (log_text collected.now.log collected.now.lines.items) pending.new.items) }
     ensures begun { HasBegun (W.contents writer.old.inner) (W.contents writer.new.inner) pending.new.items
         (log_text collected.now.log collected.now.lines.items) }
+    ensures errors { writer.new.errors ≡ write_errors result writer.old.errors }
     ensures err { IfErr result (λ f. f ≢ EngineFault.Read) }
-    ensures write { result ≡ Err EngineFault.Write → writer.old.errors < 2 ^ 64 - 1 → writer.old.errors < writer.new.errors }
-    ensures errors { writer.old.errors ≤ 2 ^ 64 - 1 → writer.old.errors ≤ writer.new.errors }
 {
     let mut text = Vec::new(alloc);
     let mut place = 0;
     for (index, line) in collected.lines.iter().enumerate() {
         let number = index as u64 + 1;
-        text.clear();
-        put_line(&mut text, &collected.log, outcomes, number, place, *line)?;
-        pending.extend_from_slice(&text)?;
+        report_line(
+            writer,
+            pending,
+            &mut text,
+            &collected.log,
+            outcomes,
+            number,
+            place,
+            *line,
+        )?;
         place += line.places();
-        write_much(writer, pending)?;
     }
     Ok(())
 }
@@ -118,6 +147,8 @@ pub fn serial_text<R: Read, W: Write>(
     // Read and Write come only where the reader or the writer failed.
     ensures read { result ≡ Err EngineFault.Read → reader.old.errors < 2 ^ 64 - 1 → reader.old.errors < reader.new.errors }
     ensures write { result ≡ Err EngineFault.Write → writer.old.errors < 2 ^ 64 - 1 → writer.old.errors < writer.new.errors }
+    // Ok says that neither of them failed, in the flush at the end neither.
+    ensures whole { OnOk result ((reader.new.errors ≡ reader.old.errors) × (writer.new.errors ≡ writer.old.errors)) }
 {
     let mut pending = Vec::with_capacity(alloc, PENDING)?;
     let collected = collect_lines(alloc, reader)?;
