@@ -1,5 +1,6 @@
 -- How the report spells what becomes of a line.
-use Rattle.std.specs.Prelude.{ℕ, ◌<◌, ℤ, List, [], ◌∷◌, ◌++◌, codes, unwrap_or, slice_get, if◌then◌else◌}
+use Rattle.std.specs.Prelude.{ℕ, ◌+◌, ◌<◌, ℤ, List, [], ◌∷◌, ◌++◌, length, codes, unwrap_or, slice_get, if◌then◌else◌, Vec, vec_capacity, vec_len}
+use Rattle.std.specs.declared.alloc.Global.{Global}
 use Rattle.std.specs.Fmt.{decimal, signed_decimal}
 use Rattle.std.specs.List.{flat_map}
 use Rattle.model_base.specs.declared.deed.Cause.{Cause}
@@ -42,6 +43,10 @@ refused_word Refused.NoMemory = []
 -- the report's line for a line of the log that isn't accepted
 abbrev pub refused_text : ℕ → List ℕ → List ℕ
 refused_text number word = codes "line " ++ decimal number ++ codes " refused " ++ word ++ codes "\n"
+
+-- the text has no room for these bytes behind it
+abbrev pub LacksRoom : Vec ℕ Global → List ℕ → Type 0
+LacksRoom text bytes = vec_capacity text < vec_len text + length bytes
 
 -- the word of the reason for which a body was aborted
 abbrev pub reason_word : Reason → List ℕ

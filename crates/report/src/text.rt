@@ -1,8 +1,8 @@
 //! How the report spells what becomes of a line.
 
-ghost use Rattle.std.specs.Prelude.{◌≡◌, ◌<◌, ◌++◌, List, length, codes, OnOk};
+ghost use Rattle.std.specs.Prelude.{◌≡◌, ◌<◌, ◌≤◌, ◌++◌, List, length, codes, OnErr, OnOk, vec_capacity};
 ghost use Rattle.std.specs.Fmt.{decimal, signed_decimal};
-ghost use Rattle.report.specs.Text.{IsNamed, cause_text, deed_text, done_text, ending_text, fault_word, need_text, numbers_text, outcome_text, places_text, reason_word, refused_text, refused_word};
+ghost use Rattle.report.specs.Text.{IsNamed, LacksRoom, cause_text, deed_text, done_text, ending_text, fault_word, need_text, numbers_text, outcome_text, places_text, reason_word, refused_text, refused_word};
 
 use itoa::Buffer;
 use log_text::{LineFault, kind_word};
@@ -59,7 +59,9 @@ fn reason_word(reason: Reason) -> &'static str
 
 /// Puts a place, a step or a line's number behind the text.
 fn put_decimal(text: &mut Vec<u8>, number: u64) -> Result<(), AllocError>
-    ensures { OnOk result (text.new.items ≡ text.old.items ++ decimal number) }
+    ensures ok { OnOk result (text.new.items ≡ text.old.items ++ decimal number) }
+    ensures capacity { vec_capacity text.old ≤ vec_capacity text.new }
+    ensures full { OnErr result (LacksRoom text.old (decimal number)) }
 {
     let mut buffer = Buffer::new();
     text.extend_from_slice(buffer.format(number).as_bytes())
@@ -218,7 +220,8 @@ pub fn put_outcome(
 
 /// Puts the report's line for a line that isn't accepted.
 fn put_word(text: &mut Vec<u8>, number: u64, word: &str) -> Result<(), AllocError>
-    ensures { OnOk result (text.new.items ≡ text.old.items ++ refused_text number word.now) }
+    ensures ok { OnOk result (text.new.items ≡ text.old.items ++ refused_text number word.now) }
+    ensures full { OnErr result (LacksRoom text.old (refused_text number word.now)) }
 {
     text.extend_from_slice(b"line ")?;
     put_decimal(text, number)?;
@@ -227,16 +230,19 @@ fn put_word(text: &mut Vec<u8>, number: u64, word: &str) -> Result<(), AllocErro
     text.extend_from_slice(b"\n")
 }
 
-/// Puts the report's line for a line that has a fault.
+/// Puts the report's line for a line that has a fault. It is refused memory only where the text has no room for the line.
 pub fn put_fault(text: &mut Vec<u8>, number: u64, fault: LineFault) -> Result<(), AllocError>
-    ensures { OnOk result (text.new.items ≡ text.old.items ++ refused_text number (fault_word fault)) }
+    ensures ok { OnOk result (text.new.items ≡ text.old.items ++ refused_text number (fault_word fault)) }
+    ensures full { OnErr result (LacksRoom text.old (refused_text number (fault_word fault))) }
 {
     put_word(text, number, fault_word(fault))
 }
 
-/// Puts the report's line for a statement that the log refuses.
+/// Puts the report's line for a statement that the log refuses. It is refused memory only where the text has no room for the
+/// line.
 pub fn put_refused(text: &mut Vec<u8>, number: u64, refused: Refused) -> Result<(), AllocError>
-    ensures { OnOk result (text.new.items ≡ text.old.items ++ refused_text number (refused_word refused)) }
+    ensures ok { OnOk result (text.new.items ≡ text.old.items ++ refused_text number (refused_word refused)) }
+    ensures full { OnErr result (LacksRoom text.old (refused_text number (refused_word refused))) }
 {
     put_word(text, number, refused_word(refused))
 }
