@@ -1,5 +1,6 @@
 -- What the lines of a log became, and the report of the log by that.
-use Rattle.std.specs.Prelude.{◌≡◌, ℕ, ◌+◌, ⊤, Result, Ok, Err, Option, Some, None, List, [], ◌∷◌, ◌++◌, take}
+use Rattle.std.specs.Prelude.{◌≡◌, ◌≢◌, ℕ, ◌+◌, ⊤, Result, Ok, Err, Option, Some, None, List, [], ◌∷◌, ◌++◌, take, Vec}
+use Rattle.std.specs.declared.alloc.Global.{Global}
 use Rattle.model_base.specs.declared.statement.Statement.{Statement}
 use Rattle.log_text_base.specs.Lines.{lines_of}
 use Rattle.log_text.specs.Statement.{Sentence}
@@ -8,7 +9,7 @@ use Rattle.sequencer.specs.Catalog.{Names, no_names}
 use Rattle.sequencer.specs.Log.{Accepted}
 use Rattle.sequencer.specs.Refusal.{refusal}
 use Rattle.sequencer.specs.declared.refused.Refused.{Refused}
-use Rattle.report.specs.Text.{fault_word, refused_text, refused_word}
+use Rattle.report.specs.Text.{LacksRoom, fault_word, refused_text, refused_word}
 use Rattle.report.specs.Report.{AreReadings, IsReading, Reading, read, faulty, accepted, log_of, names_after, names_with, place_text}
 use Rattle.bohm_base.specs.declared.collecting.Became.{Became}
 
@@ -64,6 +65,19 @@ with_reading log reading = record {
   names = names_with log.names reading;
   statements = log.statements ++ accepted log.names reading;
 }
+
+-- memory may be refused while a line is read and taken that becomes so: it has no fault, and the log does not refuse it
+abbrev pub MayLackMemory : Became → Type 0
+MayLackMemory Became.Accepted = ⊤
+MayLackMemory (Became.Faulty fault) = fault ≡ LineFault.NoMemory
+MayLackMemory (Became.Refused refused) = ⊥
+
+-- memory may be refused for the report's line for a line that became so: where it has no place, the line finds no room
+-- behind the text
+abbrev pub MayLackRoom : ℕ → Vec ℕ Global → Became → Type 0
+MayLackRoom number text Became.Accepted = ⊤
+MayLackRoom number text (Became.Faulty fault) = fault ≢ LineFault.NoMemory → LacksRoom text (refused_text number (fault_word fault))
+MayLackRoom number text (Became.Refused refused) = LacksRoom text (refused_text number (refused_word refused))
 
 -- the log that some lines make, and what each of them became
 pub record IsLogOf (readings : List Reading) (log : Accepted) (lines : List Became) : Type 0 where

@@ -1,11 +1,11 @@
 //! The whole log, read to its end before any of it is run.
 
-ghost use Rattle.std.specs.Prelude.{◌≡◌, ◌≢◌, ◌≤◌, IfOk, IfErr, IfSome, OnOk, Err};
+ghost use Rattle.std.specs.Prelude.{◌≡◌, ◌≢◌, ◌≤◌, IfOk, IfErr, IfSome, OnErr, OnOk, Err};
 ghost use Rattle.std.specs.Result.{ForOk};
 ghost use Rattle.log_text.specs.Statement.{IsInGrammar};
 ghost use Rattle.report.specs.Report.{Reading, read};
 ghost use Rattle.bohm_base.specs.Faults.{read_errors};
-ghost use Rattle.bohm_base.specs.Collecting.{Collects, ReadsAs, became, places_of, reading_of, with_reading};
+ghost use Rattle.bohm_base.specs.Collecting.{Collects, MayLackMemory, ReadsAs, became, places_of, reading_of, with_reading};
 
 use crate::fault::EngineFault;
 use log_text::{LineFault, RawStatement, parse_line};
@@ -70,12 +70,13 @@ fn faulty_line(fault: LineFault) -> Result<Became, EngineFault>
 }
 
 /// Takes a statement into the log if it is not refused, and says what its line became. After an error the log is as it
-/// was.
+/// was, and the statement is not refused.
 fn take_statement(log: &mut Log, statement: RawStatement) -> Result<Became, EngineFault>
     requires { IsInGrammar statement }
     ensures line { IfOk result (λ line. line ≡ became log.old.names (read statement)) }
     ensures log { OnOk result (log.new ≡ with_reading log.old (read statement)) }
     ensures err { IfErr result (λ f. f ≡ EngineFault.NoMemory) }
+    ensures want { OnErr result (MayLackMemory (became log.old.names (read statement))) }
 {
     match log.push(statement) {
         Ok(_) => Ok(Became::Accepted),
@@ -87,13 +88,17 @@ fn take_statement(log: &mut Log, statement: RawStatement) -> Result<Became, Engi
 }
 
 /// Takes the statement that a line was read as into the log if it is one that is not refused, and says what the line
-/// became. After an error the log is as it was.
-fn take_read(log: &mut Log, found: Result<RawStatement, LineFault>) -> Result<Became, EngineFault>
+/// became. After an error the log is as it was, and the line is neither a faulty nor a refused one.
+fn take_read(
+    log: &mut Log,
+    found: Result<RawStatement, LineFault>,
+) -> Result<Became, EngineFault>
     requires { ForOk found IsInGrammar }
     ensures line { IfOk result (λ line. line ≡ became log.old.names (reading_of found)) }
     ensures log { OnOk result (log.new ≡ with_reading log.old (reading_of found)) }
     ensures told { OnOk result (found ≢ Err LineFault.NoMemory) }
     ensures err { IfErr result (λ f. f ≡ EngineFault.NoMemory) }
+    ensures want { OnErr result (MayLackMemory (became log.old.names (reading_of found))) }
 {
     match found {
         Ok(statement) => {

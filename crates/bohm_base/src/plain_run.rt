@@ -1,6 +1,6 @@
 //! The plain path: each line is read, taken into the log, executed and reported, one after another.
 
-ghost use Rattle.std.specs.Prelude.{◌≡◌, ◌≢◌, ◌<◌, ◌-◌, ◌^◌, ℕ, [], List, IfOk, IfErr, IfSome, OnOk, Err, length};
+ghost use Rattle.std.specs.Prelude.{◌≡◌, ◌≢◌, ◌<◌, ◌-◌, ◌^◌, ℕ, [], List, IfOk, IfErr, IfSome, OnErr, OnOk, Err, length};
 ghost use Rattle.std.specs.Io.KnownBytes.{Appends, prepend_known};
 ghost use Rattle.std.specs.Result.{ForOk};
 ghost use Rattle.log_text_base.specs.Ahead.{ahead};
@@ -12,7 +12,7 @@ ghost use Rattle.model_base.specs.Outcomes.{empty_world};
 ghost use Rattle.plain.specs.State.{NamesTables, Stands, world_of};
 ghost use Rattle.sequencer.specs.Catalog.{no_names};
 ghost use Rattle.report.specs.Report.{IsReport, Reading, names_with, read};
-ghost use Rattle.bohm_base.specs.Collecting.{ReadsAs, reading_of};
+ghost use Rattle.bohm_base.specs.Collecting.{MayLackRoom, ReadsAs, became, reading_of};
 ghost use Rattle.bohm_base.specs.Faults.{read_errors, write_errors};
 ghost use Rattle.bohm_base.specs.Pending.{HasBegunReport, HasReport};
 ghost use Rattle.bohm_base.specs.Progress.{Advances, DealsWith, IsAt, IsAfter, IsReady, Ends, Reports, Turn};
@@ -49,8 +49,8 @@ fn put_accepted(
     Ok(())
 }
 
-/// The refusal of a statement that is refused. Want of memory is no statement's refusal, and ends the run.
-fn refusal_of(refused: Refused) -> Result<Refused, EngineFault>
+/// The refusal of a statement that is refused. Want of memory is no refusal, and ends the run.
+fn reported_refusal(refused: Refused) -> Result<Refused, EngineFault>
     ensures ok { IfOk result (λ r. (r ≡ refused) × (refused ≢ Refused.NoMemory)) }
     ensures err { IfErr result (λ f. (f ≡ EngineFault.NoMemory) × (refused ≡ Refused.NoMemory)) }
 {
@@ -60,7 +60,8 @@ fn refusal_of(refused: Refused) -> Result<Refused, EngineFault>
     }
 }
 
-/// Takes a statement into the log, executes it, and puts its line behind the text; or the line of its refusal.
+/// Takes a statement into the log, executes it, and puts its line behind the text; or the line of its refusal. A statement
+/// that is refused ends the run only where the text has no room for its line.
 fn put_statement(
     alloc: Global,
     catalog: &mut Catalog,
@@ -75,6 +76,7 @@ fn put_statement(
     ensures names { OnOk result (catalog.new ≡ names_with catalog.old (read statement)) }
     ensures at { OnOk result (IsAt catalog.new state.new) }
     ensures err { IfErr result (λ f. f ≡ EngineFault.NoMemory) }
+    ensures want { OnErr result (MayLackRoom number text.old (became catalog.old (read statement))) }
 {
     let place = catalog.places();
     match catalog.admit(statement) {
@@ -83,7 +85,7 @@ fn put_statement(
             Ok(())
         }
         Err(refused) => {
-            let refused = refusal_of(refused)?;
+            let refused = reported_refusal(refused)?;
             put_refused(text, number, refused)?;
             Ok(())
         }
@@ -101,7 +103,8 @@ fn reported(fault: LineFault) -> Result<LineFault, EngineFault>
     }
 }
 
-/// Takes the statement that a line was read as, as `put_statement`; or puts the line of its fault behind the text.
+/// Takes the statement that a line was read as, as `put_statement`; or puts the line of its fault behind the text. A line
+/// with a fault ends the run only where the text has no room for its line.
 fn put_read(
     alloc: Global,
     catalog: &mut Catalog,
@@ -117,6 +120,7 @@ fn put_read(
     ensures at { OnOk result (IsAt catalog.new state.new) }
     ensures told { OnOk result (found ≢ Err LineFault.NoMemory) }
     ensures err { IfErr result (λ f. f ≡ EngineFault.NoMemory) }
+    ensures want { OnErr result (MayLackRoom number text.old (became catalog.old (reading_of found))) }
 {
     match found {
         Ok(statement) => {

@@ -1,11 +1,11 @@
 //! The serial path: the whole log is read, then run place by place, and then reported line by line.
 
-ghost use Rattle.std.specs.Prelude.{◌≡◌, ◌≢◌, ◌<◌, ◌++◌, ◌-◌, ◌^◌, ℕ, [], List, IfErr, IfSome, OnOk, Err, slice_get};
+ghost use Rattle.std.specs.Prelude.{◌≡◌, ◌≢◌, ◌<◌, ◌++◌, ◌-◌, ◌^◌, ℕ, [], List, IfErr, IfSome, OnErr, OnOk, Err, slice_get};
 ghost use Rattle.std.specs.Io.KnownBytes.{Appends};
 ghost use Rattle.log_text_base.specs.Known.{AppendsFront, HasBegun, MovesOut};
 ghost use Rattle.model_base.specs.Outcomes.{outcome};
 ghost use Rattle.report.specs.Report.{IsReport, place_text};
-ghost use Rattle.bohm_base.specs.Collecting.{became_text, log_text};
+ghost use Rattle.bohm_base.specs.Collecting.{MayLackRoom, became_text, log_text};
 ghost use Rattle.bohm_base.specs.Faults.{write_errors};
 
 use crate::collecting::{Became, Collected, collect_lines};
@@ -55,7 +55,8 @@ fn put_line(
     line: Became,
 ) -> Result<(), AllocError>
     requires outcomes { (place : ℕ) → slice_get outcomes.now place ≡ outcome log.now.statements place }
-    ensures { OnOk result (text.new.items ≡ text.old.items ++ became_text log.now.statements log.now.names.tables number place line) }
+    ensures ok { OnOk result (text.new.items ≡ text.old.items ++ became_text log.now.statements log.now.names.tables number place line) }
+    ensures want { OnErr result (MayLackRoom number text.old line) }
 {
     match line {
         Became::Accepted => put_place(text, log, outcomes, place),

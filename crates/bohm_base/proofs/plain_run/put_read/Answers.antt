@@ -6,4 +6,4 @@ put_statement-requires-clause-grammar c = c.requires.grammar c.in-Ok.statement c
 
 pub returns-in_ok-put_fault-in-Err-clause-ok : goal.returns-in_ok-put_fault-in-Err-clause-ok
 returns-in_ok-put_fault-in-Err-clause-ok c =
-    rw c.in-Err.is (refl, rw c.in_ok-fault-in-Err.ensures.ok.0 at c.in_ok-put_fault-in-Err.ensures)
+    rw c.in-Err.is (refl, rw c.in_ok-fault-in-Err.ensures.ok.0 at c.in_ok-put_fault-in-Err.ensures.ok)
