@@ -12,8 +12,6 @@ mod records;
 mod rows;
 mod statements;
 mod stored;
-#[cfg(test)]
-mod tests;
 
 pub use batch::LogBatch;
 pub use done::{done_ends, done_outcome, done_words};

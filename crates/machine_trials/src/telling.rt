@@ -1,0 +1,183 @@
+//! Events as they are made, and what places and records came to, a line for each.
+
+use crate::batches::make;
+use crate::fault::TrialFault;
+use bohm_core::{Machine, State};
+use bohm_core_base::Event;
+use log_machine::{LogBatch, done_ends, done_words};
+use model_base::{DeedDone, Items, Outcome};
+use own_words::decoded;
+use std::alloc::{AllocError, Global};
+use std::fmt::Write;
+
+/// Puts how far the partitions are.
+fn put_fronts(text: &mut String, state: &State, partitions: usize) -> Result<(), AllocError> {
+    for partition in 0..partitions {
+        let front = state.front(partition);
+        write!(text, "{front} ")?;
+    }
+    Ok(())
+}
+
+/// Puts what is stored of each place.
+fn put_places(text: &mut String, state: &State) -> Result<(), AllocError> {
+    for index in 0..state.places() {
+        let (references, own) = (state.references(index), state.own(index));
+        let hold = state.hold(index);
+        write!(text, "{references:?} {hold:?} {own:?} ")?;
+    }
+    Ok(())
+}
+
+/// Puts the end of each slot's record.
+fn put_ends(text: &mut String, state: &State) -> Result<(), AllocError> {
+    for slot in 0..state.slots() {
+        let end = state.end(slot);
+        write!(text, "{end:?} ")?;
+    }
+    Ok(())
+}
+
+/// All that is stored, as one text.
+fn picture(alloc: Global, state: &State, partitions: usize) -> Result<String, AllocError> {
+    let mut text = String::new(alloc);
+    put_fronts(&mut text, state, partitions)?;
+    put_places(&mut text, state)?;
+    put_ends(&mut text, state)?;
+    Ok(text)
+}
+
+/// What the event is about, as it is stored now.
+fn concerned(alloc: Global, state: &State, event: Event) -> Result<String, AllocError> {
+    match event {
+        Event::Place { partition } => {
+            let front = state.front(partition);
+            format!(in alloc; "{front} placed")
+        }
+        Event::Fill { index, .. } => {
+            let own = state.own(index);
+            format!(in alloc; "{own:?}")
+        }
+        Event::End { slot, .. } => {
+            let end = state.end(slot);
+            format!(in alloc; "{end:?}")
+        }
+        Event::Claim { index, .. } | Event::Finish { index, .. } | Event::GiveBack { index, .. } =>
+            {
+                let hold = state.hold(index);
+                format!(in alloc; "{hold:?}")
+            }
+    }
+}
+
+/// Makes the event, and tells what it asked for, and what is stored of that now if anything changed at all.
+pub fn tell_event(
+    rt: &impl Print,
+    alloc: Global,
+    machine: &mut Machine<LogBatch<'_>>,
+    event: Event,
+) -> Result<(), TrialFault> {
+    let partitions = machine.statements().partition_count();
+    let before = picture(alloc, machine.state(), partitions)?;
+    make(machine, &event)?;
+    let after = picture(alloc, machine.state(), partitions)?;
+    if before == after {
+        println!(rt; "{event:?}: nothing changes")?;
+    } else {
+        let now = concerned(alloc, machine.state(), event)?;
+        println!(rt; "{event:?}: {now}")?;
+    }
+    Ok(())
+}
+
+/// Makes the events, and tells each.
+pub fn tell_events(
+    rt: &impl Print,
+    alloc: Global,
+    machine: &mut Machine<LogBatch<'_>>,
+    events: &[Event],
+) -> Result<(), TrialFault> {
+    for event in events {
+        tell_event(rt, alloc, machine, *event)?;
+    }
+    Ok(())
+}
+
+/// Tells an outcome.
+fn tell_outcome(rt: &impl Print, outcome: &Outcome) -> Result<(), TrialFault> {
+    match outcome {
+        Outcome::Created => println!(rt; "created")?,
+        Outcome::Done { outputs, deed } => {
+            let outputs = outputs.as_slice();
+            match deed {
+                DeedDone::None => println!(rt; "done {outputs:?}")?,
+                DeedDone::Granted => println!(rt; "done {outputs:?} granted")?,
+                DeedDone::Revoked(places) => {
+                    let places = places.as_slice();
+                    println!(rt; "done {outputs:?} revoked {places:?}")?;
+                }
+            }
+        }
+        Outcome::Denied { need, cause } => println!(rt; "denied {need:?} {cause:?}")?,
+        Outcome::Aborted { step, reason } => println!(rt; "aborted {step} {reason:?}")?,
+        Outcome::Undeclared { step } => println!(rt; "undeclared {step}")?,
+    }
+    Ok(())
+}
+
+/// The outcome of a place of the batch by its own words and the ends of records, if the place is done.
+pub fn outcome_at(
+    alloc: Global,
+    machine: &Machine<LogBatch<'_>>,
+    index: usize,
+) -> Result<Option<Outcome>, AllocError> {
+    if index >= machine.statements().size() {
+        return Ok(None);
+    }
+    let Some(own) = done_words(machine, index) else {
+        return Ok(None);
+    };
+    let ended = done_ends(alloc, machine, index)?.unwrap_or(Vec::new(alloc));
+    let form = &machine.statements().statement(index).form;
+    Ok(Some(decoded(form, own, Items::new(ended))))
+}
+
+/// Tells what a place came to.
+fn tell_place(
+    rt: &impl Print,
+    alloc: Global,
+    machine: &Machine<LogBatch<'_>>,
+    index: usize,
+) -> Result<(), TrialFault> {
+    let (references, own) = (
+        machine.state().references(index),
+        machine.state().own(index),
+    );
+    print!(rt; "index {index} refers to {references:?} and has {own:?}: ")?;
+    match outcome_at(alloc, machine, index)? {
+        Some(outcome) => tell_outcome(rt, &outcome),
+        None => Ok(println!(rt; "not done")?),
+    }
+}
+
+/// Tells where the record of each slot ended.
+fn tell_slots(rt: &impl Print, machine: &Machine<LogBatch<'_>>) -> Result<(), TrialFault> {
+    for slot in 0..machine.statements().slot_count() {
+        let place = machine.statements().grant(slot).place;
+        let end = machine.state().end(slot);
+        println!(rt; "slot {slot}: the grant of {place} ended at {end:?}")?;
+    }
+    Ok(())
+}
+
+/// Tells what all places and records came to.
+pub fn tell_found(
+    rt: &impl Print,
+    alloc: Global,
+    machine: &Machine<LogBatch<'_>>,
+) -> Result<(), TrialFault> {
+    for index in 0..machine.statements().size() {
+        tell_place(rt, alloc, machine, index)?;
+    }
+    tell_slots(rt, machine)
+}
