@@ -17,7 +17,7 @@ pub moves_on : (o n : Option (List ℕ)) (log : Accepted) (lines : List Became) 
     → MovesOut o n (log_text log lines) (pending ++ report_text log.statements log.names.tables (index + 1) place (drop index lines))
     → index < length lines → places ≡ places_of (get_or lines index d)
     → MovesOut o n (log_text log lines) ((pending ++ became_text log.statements log.names.tables (index + 1) place (get_or lines index d))
-        ++ report_text log.statements log.names.tables (index + 1 + 1) (place + places) (drop (index + 1) lines))
+    ++ report_text log.statements log.names.tables (index + 1 + 1) (place + places) (drop (index + 1) lines))
 moves_on o n log lines index place places d pending moves low places_is =
     let line : Became = get_or lines index d in
     let text : List ℕ = became_text log.statements log.names.tables (index + 1) place line in

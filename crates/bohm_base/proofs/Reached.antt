@@ -15,7 +15,7 @@ use Rattle.bohm_base.specs.Collecting.{ReadsAs}
 use Rattle.bohm_base.specs.declared.plain_run.Dealt.{Dealt}
 use Rattle.bohm_base.specs.Pending.{HasBegunReport, HasReport}
 use Rattle.bohm_base.specs.Progress.{DealsWith, IsSoFar, Reported}
-use Rattle.bohm_base.proofs.Beginnings.{begun_all, begun_then}
+use Rattle.bohm_base.proofs.Beginnings.{begun_then}
 use Rattle.bohm_base.proofs.Reporting.{so_far}
 use Rattle.report.proofs.Readings.{IsTotal, readings, some_report}
 
@@ -111,11 +111,6 @@ pub report_begun : (i o n m : Option (List ℕ)) (pending less : List ℕ) → H
     → HasBegunReport i o m less
 report_begun None o n m pending less b a = tt
 report_begun (Some xs) o n m pending less b a = (b.0, (b.1.0, begun_then o n m b.0 pending less b.1.1.0 b.1.1.1 a))
-
--- the whole report is a beginning of it
-pub report_whole : (i o n : Option (List ℕ)) (pending : List ℕ) → HasReport i o n pending → HasBegunReport i o n pending
-report_whole None o n pending b = tt
-report_whole (Some xs) o n pending b = (b.0, (b.1.0, begun_all o n b.0 pending b.1.1))
 
 -- at the end of the input the report is whole
 pub ended_all : (i j o n : Option (List ℕ)) (number : ℕ) (names : Names) (state : State) (pending : List ℕ)

@@ -89,10 +89,7 @@ fn take_statement(log: &mut Log, statement: RawStatement) -> Result<Became, Engi
 
 /// Takes the statement that a line was read as into the log if it is one that is not refused, and says what the line
 /// became. After an error the log is as it was, and the line is neither a faulty nor a refused one.
-fn take_read(
-    log: &mut Log,
-    found: Result<RawStatement, LineFault>,
-) -> Result<Became, EngineFault>
+fn take_read(log: &mut Log, found: Result<RawStatement, LineFault>) -> Result<Became, EngineFault>
     requires { ForOk found IsInGrammar }
     ensures line { IfOk result (λ line. line ≡ became log.old.names (reading_of found)) }
     ensures log { OnOk result (log.new ≡ with_reading log.old (reading_of found)) }

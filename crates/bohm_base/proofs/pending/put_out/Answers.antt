@@ -1,4 +1,3 @@
-use Rattle.std.proofs.Common.{◌++◌}
 use Rattle.bohm_base.proofs.Beginnings.{begun_all, line_left, rest_lost}
 use Rattle.bohm_base.proofs.pending.put_out.Goals as goal
 
