@@ -1,6 +1,9 @@
 //! Runs the log that a command names, and tells how that ended.
 
-ghost use Rattle.std.specs.Prelude.{◌≡◌, ◌↔◌, Err, IsErr, IsOk, Result};
+ghost use Rattle.std.specs.Prelude.{◌≡◌, ◌↔◌, ◌<◌, ◌-◌, ◌^◌, ℕ, List, Err, IfSome, IsErr, IsOk, OnOk, Result};
+ghost use Rattle.std.specs.Io.KnownBytes.{Appends};
+ghost use Rattle.log_text_base.specs.Known.{AppendsFront};
+ghost use Rattle.report.specs.Report.{IsReport};
 ghost use Rattle.command_line.specs.Running.{DoesCommand, EndsAt, IsAnswer};
 ghost use Rattle.bohm_base.specs.declared.fault.EngineFault.{EngineFault};
 
@@ -17,14 +20,22 @@ pub trait Execution {
     // What the run may answer. Only a run can tell.
     ghost answers: { Self → Result (Unit {0}) EngineFault → Type 0 };
 
-    /// Reads the log to its end, and writes its report.
+    /// Reads the log to its end, and writes its report. After a fault a beginning of the report was written; `Read` and
+    /// `Write` come only where the log's reader or the report's writer failed, and Ok only where neither did.
     fn execute<R: Read, W: Write>(
         &self,
         alloc: Global,
         log: &mut Counted<R>,
         report: &mut Counted<W>,
     ) -> Result<(), EngineFault>
-        ensures { answers self.now result };
+        ensures answers { answers self.now result }
+        ensures done { OnOk result (IfSome (R.remaining log.old.inner) (λ input. (text : List ℕ)
+            × (IsReport input text × Appends (W.contents report.old.inner) (W.contents report.new.inner) text))) }
+        ensures begun { IfSome (R.remaining log.old.inner) (λ input. (text : List ℕ)
+            × (IsReport input text × AppendsFront (W.contents report.old.inner) (W.contents report.new.inner) text)) }
+        ensures read { result ≡ Err EngineFault.Read → log.old.errors < 2 ^ 64 - 1 → log.old.errors < log.new.errors }
+        ensures write { result ≡ Err EngineFault.Write → report.old.errors < 2 ^ 64 - 1 → report.old.errors < report.new.errors }
+        ensures whole { OnOk result ((log.new.errors ≡ log.old.errors) × (report.new.errors ≡ report.old.errors)) };
 }
 
 /// The run that keeps the rows and the grants, and of a line nothing else.

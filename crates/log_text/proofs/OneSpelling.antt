@@ -1,5 +1,5 @@
 -- The words of a form are those of no other.
-use Rattle.std.proofs.Common.{◌≡◌, ℕ, Bool, true, false, Option, Some, None, eqb, get_or, ◌<◌, ◌^◌, List, [], ◌∷◌, ◌++◌, map, refl, ap, sym, ◌∙◌, arith}
+use Rattle.std.proofs.Common.{◌≡◌, ℕ, Bool, true, false, Option, Some, None, eqb, get_or, ◌<◌, ◌^◌, List, [], ◌∷◌, ◌++◌, map, drop, ◌*◌, ◌+◌, refl, ap, sym, ◌∙◌, arith}
 use Rattle.std.specs.Prelude.{decimal, codes}
 use Rattle.std.specs.Fmt.{signed_decimal}
 use Rattle.std.specs.List.{AllByRecursion}
@@ -44,26 +44,26 @@ one_registers (x ∷ xs) (y ∷ ys) vs ws vt wt h k e =
     let p = one_registers xs ys vs ws vt wt h.1 k.1 rest in
     (cc, p.1)
 
--- the step that the first word names, with or without others behind it
-head_name : (s : RawStep) (vs : List (List ℕ)) → step_name (first_word (step_words s ++ vs)) ≡ step_name (first_word (step_words s))
-head_name (Const to value) vs = refl
-head_name (Add to left right) vs = refl
-head_name (Sub to left right) vs = refl
-head_name (Mul to left right) vs = refl
-head_name (Less to left right) vs = refl
-head_name (Same to left right) vs = refl
-head_name (Has to table row) vs = refl
-head_name (Load to table row column) vs = refl
-head_name (Store table row column from) vs = refl
-head_name (Insert table row from) vs = refl
-head_name (Delete table row) vs = refl
-head_name (Check of) vs = refl
-head_name (Skip of steps) vs = refl
-head_name (Out of) vs = refl
+-- equal lists of words have equal first words, and equal words behind them
+parts : {u v : List ℕ} {us ws : List (List ℕ)} → u ∷ us ≡ v ∷ ws → (u ≡ v) × (us ≡ ws)
+parts e = (ap (λ ts. first_word ts) e, ap (drop 1) e)
 
--- equal words name the same kind of step
-same_name : (s t : RawStep) (vs ws : List (List ℕ)) → step_words s ++ vs ≡ step_words t ++ ws → step_name (first_word (step_words s)) ≡ step_name (first_word (step_words t))
-same_name s t vs ws e = sym (head_name s vs) ∙ ap (λ us. step_name (first_word us)) e ∙ head_name t ws
+behind : {u v : List ℕ} {us ws : List (List ℕ)} → u ∷ us ≡ v ∷ ws → us ≡ ws
+behind e = (parts e).1
+
+three_words : {u1 u2 u3 v1 v2 v3 : List ℕ} {us ws : List (List ℕ)} → u1 ∷ u2 ∷ u3 ∷ us ≡ v1 ∷ v2 ∷ v3 ∷ ws → (u1 ≡ v1) × (u2 ≡ v2) × (u3 ≡ v3) × (us ≡ ws)
+three_words e = let p = parts e in let q = parts p.1 in let r = parts q.1 in (p.0, q.0, r.0, r.1)
+
+-- the first letter and thrice the third: no two words of steps share it
+abbrev letters : List (List ℕ) → ℕ
+letters ws = get_or (first_word ws) 0 0 + 3 * get_or (first_word ws) 2 0
+
+steps_apart : (s t : RawStep) (vs ws : List (List ℕ)) → eqb (letters (step_words s ++ vs)) (letters (step_words t ++ ws)) ≡ false → step_words s ++ vs ≡ step_words t ++ ws → ⊥
+steps_apart s t vs ws differ e = eqb-false (letters (step_words s ++ vs)) (letters (step_words t ++ ws)) differ (ap letters e)
+
+-- a step of three registers, and of equal ones
+alike : (f : ℕ → ℕ → ℕ → RawStep) {d a b x y z : ℕ} → d ≡ x → a ≡ y → b ≡ z → f d a b ≡ f x y z
+alike f p q r = cc
 
 same_register : (m n : ℕ) → IsRegister m → IsRegister n → decimal m ≡ decimal n → m ≡ n
 same_register m n h k e = decimal_injective m n (omega arith) (omega arith) e
@@ -73,116 +73,82 @@ same_number m n h k e = decimal_injective m n (omega arith) (omega arith) e
 
 one_step : (s t : RawStep) (vs ws : List (List ℕ)) → IsTail vs → IsTail ws → IsStep s → IsStep t → step_words s ++ vs ≡ step_words t ++ ws → (s ≡ t) × (vs ≡ ws)
 one_step (Const d a) (Const x y) vs ws vt wt h k e =
-    let e1 : decimal d ≡ decimal x = cc in
-    let e2 : signed_decimal a ≡ signed_decimal y = cc in
-    let f1 = same_register d x h.0 k.0 e1 in
-    let f2 = one_whole a y h.1 k.1 e2 in
-    (cc, cc)
-one_step (Const d a) t vs ws vt wt h k e = absurd (let f = same_name (Const d a) t vs ws e in cc)
+    let p = parts (behind e) in
+    let q = parts p.1 in
+    let f1 = same_register d x h.0 k.0 p.0 in
+    let f2 = one_whole a y h.1 k.1 q.0 in
+    (ap (λ r. Const r a) f1 ∙ ap (Const x) f2, q.1)
+one_step (Const d a) t vs ws vt wt h k e = absurd (steps_apart (Const d a) t vs ws refl e)
 one_step (Add d a b) (Add x y z) vs ws vt wt h k e =
-    let e1 : decimal d ≡ decimal x = cc in
-    let e2 : decimal a ≡ decimal y = cc in
-    let e3 : decimal b ≡ decimal z = cc in
-    let f1 = same_register d x h.0 k.0 e1 in
-    let f2 = same_register a y h.1 k.1 e2 in
-    let f3 = same_register b z h.2 k.2 e3 in
-    (cc, cc)
-one_step (Add d a b) t vs ws vt wt h k e = absurd (let f = same_name (Add d a b) t vs ws e in cc)
+    let p = three_words (behind e) in
+    (alike Add (same_register d x h.0 k.0 p.0) (same_register a y h.1 k.1 p.1) (same_register b z h.2 k.2 p.2), p.3)
+one_step (Add d a b) t vs ws vt wt h k e = absurd (steps_apart (Add d a b) t vs ws refl e)
 one_step (Sub d a b) (Sub x y z) vs ws vt wt h k e =
-    let e1 : decimal d ≡ decimal x = cc in
-    let e2 : decimal a ≡ decimal y = cc in
-    let e3 : decimal b ≡ decimal z = cc in
-    let f1 = same_register d x h.0 k.0 e1 in
-    let f2 = same_register a y h.1 k.1 e2 in
-    let f3 = same_register b z h.2 k.2 e3 in
-    (cc, cc)
-one_step (Sub d a b) t vs ws vt wt h k e = absurd (let f = same_name (Sub d a b) t vs ws e in cc)
+    let p = three_words (behind e) in
+    (alike Sub (same_register d x h.0 k.0 p.0) (same_register a y h.1 k.1 p.1) (same_register b z h.2 k.2 p.2), p.3)
+one_step (Sub d a b) t vs ws vt wt h k e = absurd (steps_apart (Sub d a b) t vs ws refl e)
 one_step (Mul d a b) (Mul x y z) vs ws vt wt h k e =
-    let e1 : decimal d ≡ decimal x = cc in
-    let e2 : decimal a ≡ decimal y = cc in
-    let e3 : decimal b ≡ decimal z = cc in
-    let f1 = same_register d x h.0 k.0 e1 in
-    let f2 = same_register a y h.1 k.1 e2 in
-    let f3 = same_register b z h.2 k.2 e3 in
-    (cc, cc)
-one_step (Mul d a b) t vs ws vt wt h k e = absurd (let f = same_name (Mul d a b) t vs ws e in cc)
+    let p = three_words (behind e) in
+    (alike Mul (same_register d x h.0 k.0 p.0) (same_register a y h.1 k.1 p.1) (same_register b z h.2 k.2 p.2), p.3)
+one_step (Mul d a b) t vs ws vt wt h k e = absurd (steps_apart (Mul d a b) t vs ws refl e)
 one_step (Less d a b) (Less x y z) vs ws vt wt h k e =
-    let e1 : decimal d ≡ decimal x = cc in
-    let e2 : decimal a ≡ decimal y = cc in
-    let e3 : decimal b ≡ decimal z = cc in
-    let f1 = same_register d x h.0 k.0 e1 in
-    let f2 = same_register a y h.1 k.1 e2 in
-    let f3 = same_register b z h.2 k.2 e3 in
-    (cc, cc)
-one_step (Less d a b) t vs ws vt wt h k e = absurd (let f = same_name (Less d a b) t vs ws e in cc)
+    let p = three_words (behind e) in
+    (alike Less (same_register d x h.0 k.0 p.0) (same_register a y h.1 k.1 p.1) (same_register b z h.2 k.2 p.2), p.3)
+one_step (Less d a b) t vs ws vt wt h k e = absurd (steps_apart (Less d a b) t vs ws refl e)
 one_step (Same d a b) (Same x y z) vs ws vt wt h k e =
-    let e1 : decimal d ≡ decimal x = cc in
-    let e2 : decimal a ≡ decimal y = cc in
-    let e3 : decimal b ≡ decimal z = cc in
-    let f1 = same_register d x h.0 k.0 e1 in
-    let f2 = same_register a y h.1 k.1 e2 in
-    let f3 = same_register b z h.2 k.2 e3 in
-    (cc, cc)
-one_step (Same d a b) t vs ws vt wt h k e = absurd (let f = same_name (Same d a b) t vs ws e in cc)
+    let p = three_words (behind e) in
+    (alike Same (same_register d x h.0 k.0 p.0) (same_register a y h.1 k.1 p.1) (same_register b z h.2 k.2 p.2), p.3)
+one_step (Same d a b) t vs ws vt wt h k e = absurd (steps_apart (Same d a b) t vs ws refl e)
 one_step (Has d t r) (Has x u q) vs ws vt wt h k e =
-    let e1 : decimal d ≡ decimal x = cc in
-    let e2 : t ≡ u = cc in
-    let e3 : row_word r ≡ row_word q = cc in
-    let f1 = same_register d x h.0 k.0 e1 in
-    let f3 = one_row r q h.2 k.2 e3 in
-    (cc, cc)
-one_step (Has d t r) u vs ws vt wt h k e = absurd (let f = same_name (Has d t r) u vs ws e in cc)
+    let p = three_words (behind e) in
+    let f1 = same_register d x h.0 k.0 p.0 in
+    let f3 = one_row r q h.2 k.2 p.2 in
+    (ap (λ n. Has n t r) f1 ∙ ap (λ n. Has x n r) p.1 ∙ ap (Has x u) f3, p.3)
+one_step (Has d t r) u vs ws vt wt h k e = absurd (steps_apart (Has d t r) u vs ws refl e)
 one_step (Load d t r c) (Load x u q y) vs ws vt wt h k e =
-    let e1 : decimal d ≡ decimal x = cc in
-    let e2 : t ≡ u = cc in
-    let e3 : row_word r ≡ row_word q = cc in
-    let e4 : decimal c ≡ decimal y = cc in
-    let f1 = same_register d x h.0 k.0 e1 in
-    let f3 = one_row r q h.2 k.2 e3 in
-    let f4 = same_number c y h.3 k.3 e4 in
-    (cc, cc)
-one_step (Load d t r c) u vs ws vt wt h k e = absurd (let f = same_name (Load d t r c) u vs ws e in cc)
+    let p = three_words (behind e) in
+    let o = parts p.3 in
+    let f1 = same_register d x h.0 k.0 p.0 in
+    let f3 = one_row r q h.2 k.2 p.2 in
+    let f4 = same_number c y h.3 k.3 o.0 in
+    (ap (λ n. Load n t r c) f1 ∙ ap (λ n. Load x n r c) p.1 ∙ ap (λ n. Load x u n c) f3 ∙ ap (Load x u q) f4, o.1)
+one_step (Load d t r c) u vs ws vt wt h k e = absurd (steps_apart (Load d t r c) u vs ws refl e)
 one_step (Store t r c d) (Store u q y x) vs ws vt wt h k e =
-    let e1 : decimal d ≡ decimal x = cc in
-    let e2 : t ≡ u = cc in
-    let e3 : row_word r ≡ row_word q = cc in
-    let e4 : decimal c ≡ decimal y = cc in
-    let f1 = same_register d x h.3 k.3 e1 in
-    let f3 = one_row r q h.1 k.1 e3 in
-    let f4 = same_number c y h.2 k.2 e4 in
-    (cc, cc)
-one_step (Store t r c d) u vs ws vt wt h k e = absurd (let f = same_name (Store t r c d) u vs ws e in cc)
+    let p = three_words (behind e) in
+    let o = parts p.3 in
+    let f1 = same_register d x h.3 k.3 o.0 in
+    let f3 = one_row r q h.1 k.1 p.1 in
+    let f4 = same_number c y h.2 k.2 p.2 in
+    (ap (λ n. Store n r c d) p.0 ∙ ap (λ n. Store u n c d) f3 ∙ ap (λ n. Store u q n d) f4 ∙ ap (Store u q y) f1, o.1)
+one_step (Store t r c d) u vs ws vt wt h k e = absurd (steps_apart (Store t r c d) u vs ws refl e)
 one_step (Insert t r xs) (Insert u q ys) vs ws vt wt h k e =
-    let e1 : t ≡ u = cc in
-    let e2 : row_word r ≡ row_word q = cc in
-    let f2 = one_row r q h.1 k.1 e2 in
-    let rest : map decimal xs ++ vs ≡ map decimal ys ++ ws = cc in
-    let p = one_registers xs ys vs ws vt wt h.4 k.4 rest in
-    (cc, p.1)
-one_step (Insert t r xs) u vs ws vt wt h k e = absurd (let f = same_name (Insert t r xs) u vs ws e in cc)
+    let p = parts (behind e) in
+    let o = parts p.1 in
+    let f2 = one_row r q h.1 k.1 o.0 in
+    let n = one_registers xs ys vs ws vt wt h.4 k.4 o.1 in
+    (ap (λ v. Insert v r xs) p.0 ∙ ap (λ v. Insert u v xs) f2 ∙ ap (Insert u q) n.0, n.1)
+one_step (Insert t r xs) u vs ws vt wt h k e = absurd (steps_apart (Insert t r xs) u vs ws refl e)
 one_step (Delete t r) (Delete u q) vs ws vt wt h k e =
-    let e1 : t ≡ u = cc in
-    let e2 : row_word r ≡ row_word q = cc in
-    let f2 = one_row r q h.1 k.1 e2 in
-    (cc, cc)
-one_step (Delete t r) u vs ws vt wt h k e = absurd (let f = same_name (Delete t r) u vs ws e in cc)
+    let p = parts (behind e) in
+    let o = parts p.1 in
+    let f2 = one_row r q h.1 k.1 o.0 in
+    (ap (λ v. Delete v r) p.0 ∙ ap (Delete u) f2, o.1)
+one_step (Delete t r) u vs ws vt wt h k e = absurd (steps_apart (Delete t r) u vs ws refl e)
 one_step (Check x) (Check y) vs ws vt wt h k e =
-    let e1 : decimal x ≡ decimal y = cc in
-    let f1 = same_register x y h k e1 in
-    (cc, cc)
-one_step (Check x) t vs ws vt wt h k e = absurd (let f = same_name (Check x) t vs ws e in cc)
+    let p = parts (behind e) in
+    (ap Check (same_register x y h k p.0), p.1)
+one_step (Check x) t vs ws vt wt h k e = absurd (steps_apart (Check x) t vs ws refl e)
 one_step (Skip x m) (Skip y n) vs ws vt wt h k e =
-    let e1 : decimal x ≡ decimal y = cc in
-    let e2 : decimal m ≡ decimal n = cc in
-    let f1 = same_register x y h.0 k.0 e1 in
-    let f2 = same_number m n h.1 k.1 e2 in
-    (cc, cc)
-one_step (Skip x m) t vs ws vt wt h k e = absurd (let f = same_name (Skip x m) t vs ws e in cc)
+    let p = parts (behind e) in
+    let o = parts p.1 in
+    let f1 = same_register x y h.0 k.0 p.0 in
+    let f2 = same_number m n h.1 k.1 o.0 in
+    (ap (λ r. Skip r m) f1 ∙ ap (Skip y) f2, o.1)
+one_step (Skip x m) t vs ws vt wt h k e = absurd (steps_apart (Skip x m) t vs ws refl e)
 one_step (Out x) (Out y) vs ws vt wt h k e =
-    let e1 : decimal x ≡ decimal y = cc in
-    let f1 = same_register x y h k e1 in
-    (cc, cc)
-one_step (Out x) t vs ws vt wt h k e = absurd (let f = same_name (Out x) t vs ws e in cc)
+    let p = parts (behind e) in
+    (ap Out (same_register x y h k p.0), p.1)
+one_step (Out x) t vs ws vt wt h k e = absurd (steps_apart (Out x) t vs ws refl e)
 
 -- words whose first bytes differ
 apart : (u v : List ℕ) → eqb (get_or u 0 0) (get_or v 0 0) ≡ false → u ≡ v → ⊥
