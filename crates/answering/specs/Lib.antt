@@ -1,4 +1,3 @@
 pub mod Answering
 pub mod Judged
 pub mod Keeping
-pub mod Examples

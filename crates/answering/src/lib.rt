@@ -9,8 +9,6 @@
 mod judging;
 mod laws;
 mod revoking;
-#[cfg(test)]
-mod tests;
 mod words;
 
 pub use laws::{outcomes_fit_their_forms, words_tell_outcomes};

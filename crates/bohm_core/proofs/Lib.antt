@@ -1,4 +1,3 @@
 pub mod Below
-pub mod CountdownLaws
 pub mod Reached
 pub mod Vectors

@@ -1,3 +1,2 @@
 pub mod Storage
 pub mod Running
-pub mod Countdown

@@ -10,8 +10,6 @@ mod machine;
 mod start;
 mod state;
 mod statements;
-#[cfg(test)]
-mod tests;
 
 pub use bohm_core_base::{Event, Hold, done_places_are_serial};
 pub use machine::Machine;

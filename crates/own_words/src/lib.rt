@@ -12,8 +12,6 @@ mod decoding;
 mod laws;
 mod numbering;
 mod room;
-#[cfg(test)]
-mod tests;
 
 pub use bits::{bits_of, value_of};
 pub use decoding::{decoded, row_of};

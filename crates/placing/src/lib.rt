@@ -14,8 +14,6 @@ mod partition;
 mod placer;
 mod refs;
 mod tables;
-#[cfg(test)]
-mod tests;
 
 pub use laws::references_are_last;
 pub use part::{Found, Part};

@@ -8,8 +8,6 @@ mod names;
 mod numbering;
 mod refused;
 mod testing;
-#[cfg(test)]
-mod tests;
 
 pub use catalog::{Catalog, MOST_PLACES};
 pub use log::Log;

@@ -1,9 +1,9 @@
 //! The references of six places, by partitions of several numbers, and each call once. Where memory is refused once, the
 //! same call is made again.
 
-use crate::{Part, Refs, merge, partition_of, partition_of_table, place, references_are_last};
 use log_text::{LineFault, RawStatement, parse_line};
 use model_base::{Key, Place, Reference, Table};
+use placing::{Part, Refs, merge, partition_of, partition_of_table, place, references_are_last};
 use sequencer::Log;
 use std::alloc::{AllocError, Global};
 use std::process::Abort;

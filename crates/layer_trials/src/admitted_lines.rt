@@ -1,9 +1,9 @@
-//! Worked examples: a log of a few lines, and each call of the names and of the catalog. Those of few lines go on where
-//! memory is refused once, and look then whether all is as it was.
+//! A log of a few lines, and each call of the names and of the catalog. Those of few lines go on where memory is refused
+//! once, and look then whether all is as it was.
 
-use crate::{Catalog, Log, NameTable, Refused};
 use log_text::{LineFault, RawStatement, parse_line};
 use model_base::{DeedForm, Form, Key, Kind, Place, Statement, Table, User};
+use sequencer::{Catalog, Log, NameTable, Refused};
 use std::alloc::Global;
 use std::process::Abort;
 use std::test::Fail;

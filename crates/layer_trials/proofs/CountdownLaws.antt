@@ -11,7 +11,7 @@ use Rattle.model_base.proofs.Replay.{by_cases}
 use Rattle.bohm_core_base.specs.Deeds.{is_made}
 use Rattle.bohm_core_base.specs.Batch.{IsSound, cell, deed_ends, deeds_of, is_listed, records_shown, references, slots_of, was_done, words_by, words_length}
 use Rattle.bohm_core_base.specs.Machine.{State, end_of, must_end, next_word, own_of, placed_references, records_seen, references_of, rows_by, rows_seen, start, stored, words_seen}
-use Rattle.bohm_core.specs.Countdown.{countdown, is_open, number_by, number_in, number_of, old_grant, revocation_of, word_at}
+use Rattle.layer_trials.specs.Countdown.{countdown, is_open, number_by, number_in, number_of, old_grant, revocation_of, word_at}
 
 -- different numbers fail the test whether they are the same
 never : (a b : ℕ) → a ≢ b → (a == b) ≡ false

@@ -4,12 +4,11 @@ ghost use Rattle.std.specs.Prelude.{◌≡◌, length, IfOk};
 ghost use Rattle.model_base.specs.Outcomes.{needs};
 ghost use Rattle.own_words.specs.Words.{outputs_of};
 
-use crate::coding::outputs_told;
-use crate::{OwnWords, bits_of, decoded, row_of, value_of};
 use model_base::{
     Access, Cause, DeedDone, DeedForm, Form, Items, Key, Kind, Kinds, Need, Outcome, Outputs,
     Reason, Register, Row, Step, Table, User,
 };
+use own_words::{OwnWords, bits_of, decoded, row_of, value_of};
 use std::alloc::{AllocError, Global};
 use std::test::Fail;
 
@@ -23,6 +22,17 @@ fn revoking() -> Form
         table: Table(0),
         grantee: User(1),
     })
+}
+
+/// The creation of table 0, with two columns.
+fn creating() -> Form
+    ensures needs { length (needs result) ≡ 0 }
+    ensures outputs { outputs_of result ≡ 0 }
+{
+    Form::Create {
+        table: Table(0),
+        columns: 2,
+    }
 }
 
 /// A statement that reads and inserts row 7 of table 0.
@@ -84,6 +94,14 @@ fn denial(outcome: &Outcome) -> Option<(Need, Cause)> {
     }
 }
 
+/// The outputs of a done place.
+fn outputs_of_done(outcome: &Outcome) -> Option<Outputs> {
+    match outcome {
+        Outcome::Done { outputs, .. } => Some(*outputs),
+        _ => None,
+    }
+}
+
 #[test]
 fn a_done_revocation(rt: HostRuntime) {
     let form = revoking();
@@ -117,7 +135,7 @@ fn an_output(rt: HostRuntime) -> Result<(), Fail> {
     let words = OwnWords::header(&form, &outcome);
     assert_eq!(rt; words.as_slice(), [1, 0, 0, 1, 9].as_slice());
     let told = decoded(&form, words.as_slice(), Items::empty(rt.alloc()));
-    let outputs = outputs_told(&told);
+    let outputs = outputs_of_done(&told).ok_or("not done")?;
     assert_eq!(rt; outputs.as_slice(), [9].as_slice());
     assert!(rt;
         matches!(
@@ -207,10 +225,7 @@ fn an_undeclared_step(rt: HostRuntime) {
 
 #[test]
 fn a_created_table(rt: HostRuntime) {
-    let form = Form::Create {
-        table: Table(0),
-        columns: 2,
-    };
+    let form = creating();
     let words = OwnWords::header(&form, &Outcome::Created);
     assert_eq!(rt; words.as_slice(), [2, 0, 0, 0].as_slice());
     let told = decoded(&form, words.as_slice(), Items::empty(rt.alloc()));
@@ -233,14 +248,16 @@ fn rows(rt: HostRuntime) {
     let mut row = Row::new();
     row.push(-1);
     row.push(7);
-    let mut words = OwnWords::new();
+    let mut words = OwnWords::header(&creating(), &Outcome::Created);
+    assert_eq!(rt; words.len(), 4);
     words.push_row(2, None);
+    assert_eq!(rt; words.len(), 7);
     words.push_row(2, Some(&row));
     assert_eq!(rt;
         words.as_slice(),
-        [0, 0, 0, 1, 18_446_744_073_709_551_615, 7].as_slice()
+        [2, 0, 0, 0, 0, 0, 0, 1, 18_446_744_073_709_551_615, 7].as_slice()
     );
-    assert_eq!(rt; words.len(), 6);
-    assert_eq!(rt; row_of(2, words.as_slice()), None);
-    assert_eq!(rt; row_of(2, &words.as_slice()[3..]), Some(row));
+    assert_eq!(rt; words.len(), 10);
+    assert_eq!(rt; row_of(2, &words.as_slice()[4..]), None);
+    assert_eq!(rt; row_of(2, &words.as_slice()[7..]), Some(row));
 }

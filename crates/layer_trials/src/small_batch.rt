@@ -4,12 +4,9 @@ ghost use Rattle.std.specs.Prelude.{◌≡◌, ◌+◌, ◌&&◌, ℕ, is_none};
 ghost use Rattle.model_base.specs.Records.{end_below};
 ghost use Rattle.bohm_core_base.specs.Batch.{was_done};
 ghost use Rattle.bohm_core_base.specs.Machine.{references_of};
-ghost use Rattle.bohm_core.specs.Countdown.{countdown, is_open, number_by, number_of, word_at};
+ghost use Rattle.layer_trials.specs.Countdown.{countdown, is_open, number_by, number_of, word_at};
 
-use crate::machine::Machine;
-use crate::state::State;
-use crate::statements::Statements;
-use bohm_core_base::{Event, Hold};
+use bohm_core::{Event, Hold, Machine, State, Statements};
 use model_base::Place;
 use std::alloc::{AllocError, Global};
 use std::test::Fail;

@@ -1,4 +1,4 @@
-//! Worked examples of words and of what revocations end.
+//! All own words of a place of a log, and what revocations end.
 //!
 //! In each the log begins so:
 //!
@@ -19,9 +19,9 @@ ghost use Rattle.model_base.specs.Versions.{accesses_of};
 ghost use Rattle.body.specs.Premises.{IsNarrow, outputs_of};
 ghost use Rattle.body.specs.Shape.{FitsColumns, HasColumns};
 ghost use Rattle.answering.specs.Answering.{IsShaped, columns_in};
-ghost use Rattle.answering.specs.Examples.{IsExample};
+ghost use Rattle.layer_trials.specs.Examples.{IsExample};
 
-use crate::{ended, own_words};
+use answering::{ended, own_words};
 use body::{RowSource, Window, filled};
 use grants::{Book, Records, holds_option};
 use model_base::{
