@@ -14,8 +14,8 @@ pub enum GuideFault {
     /// An argument isn't text.
     #[error("an argument isn't valid UTF-8")]
     NotUtf8,
-    /// The words of the command line aren't one file.
-    #[error("name one file")]
+    /// The words of the command line name no file.
+    #[error("name a file")]
     Words,
     /// The file can't be opened.
     #[error("cannot open file")]

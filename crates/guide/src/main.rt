@@ -1,12 +1,10 @@
-//! Runs each example of a guide: `guide FILE` finds the logs and the reports of the file, runs each log, and tells whether its
-//! report is as told.
+//! Runs each example of some guides: `guide FILE..` finds the logs and the reports of each file, runs each log, and tells
+//! whether its report is as told.
 #![tactic(auto)]
 
 mod examples;
 mod fault;
 mod judging;
-#[cfg(test)]
-mod tests;
 
 use bohm_base::arguments;
 use examples::{Example, examples};
@@ -50,32 +48,44 @@ fn tell_each<R: Print>(
     Ok(all)
 }
 
-/// Runs all examples of a text, and tells how many there are.
-fn tell<R: Print>(rt: &R, alloc: Global, text: &[u8]) -> Result<(), GuideFault> {
+/// Runs all examples of a text, and answers how many there are.
+fn tell<R: Print>(rt: &R, alloc: Global, text: &[u8]) -> Result<usize, GuideFault> {
     let found = examples(alloc, text)?;
     if found.is_empty() {
         return Err(GuideFault::NoExample);
     }
-    let all = tell_each(rt, alloc, found.as_slice())?;
-    let count = found.len();
-    println!(rt; "{count} examples").map_err(|_| GuideFault::Write)?;
-    if all {
-        Ok(())
+    if tell_each(rt, alloc, found.as_slice())? {
+        Ok(found.len())
     } else {
         Err(GuideFault::NotAsTold)
     }
 }
 
-/// Runs the examples of the file that the command line names.
-fn run<R: Env + Files + Print + AllocGlobal>(rt: &R) -> Result<(), GuideFault> {
-    let alloc = rt.alloc();
-    let words = arguments(rt)?;
-    let [_, path] = words.as_slice() else {
-        return Err(GuideFault::Words);
-    };
-    let file = fs::open(rt, path.as_str()).map_err(|_| GuideFault::Open)?;
+/// Runs the examples of a file, and answers how many there are.
+fn tell_file<R: Files + Print>(rt: &R, alloc: Global, path: &str) -> Result<usize, GuideFault> {
+    let file = fs::open(rt, path).map_err(|_| GuideFault::Open)?;
     let text = read_guide(alloc, file)?;
     tell(rt, alloc, text.as_slice())
+}
+
+/// Runs the examples of each file that the command line names, in order, and tells of each what came of it. A file that is
+/// at fault doesn't keep the others from being run; the last fault is answered.
+fn run<R: Env + Files + Print + AllocGlobal>(rt: &R) -> Result<(), GuideFault> {
+    let words = arguments(rt)?;
+    if words.len() < 2 {
+        return Err(GuideFault::Words);
+    }
+    let mut ended = Ok(());
+    for path in words.iter().skip(1) {
+        match tell_file(rt, rt.alloc(), path.as_str()) {
+            Ok(count) => println!(rt; "{path}: {count} examples").map_err(|_| GuideFault::Write)?,
+            Err(fault) => {
+                println!(rt; "{path}: {fault}").map_err(|_| GuideFault::Write)?;
+                ended = Err(fault);
+            }
+        }
+    }
+    ended
 }
 
 fn main(rt: HostRuntime) -> ExitCode {
