@@ -2,8 +2,6 @@
 #![tactic(auto)]
 
 mod running;
-#[cfg(test)]
-mod tests;
 mod words;
 
 pub use running::{Execution, Plain, Slow, do_command};

@@ -1,7 +1,7 @@
 //! The words of the command line, and the ends of a run.
 
-use crate::words::{Command, ProgramFault, Source, Usage, ending, read_words};
 use bohm_base::{ArgumentFault, EngineFault};
+use command_line::{Command, ProgramFault, Source, Usage, ending, read_words};
 
 #[test]
 fn reads_the_words_of_a_run(rt: HostRuntime) {
