@@ -14,3 +14,8 @@ pub mod ShownLaws
 pub mod LossLaws
 pub mod LawfulViews
 pub mod ExtendLaws
+pub mod Worklist
+pub mod Asked
+pub mod Borne
+pub mod Found
+pub mod Walks

@@ -4,7 +4,8 @@ ghost use Rattle.std.specs.Prelude.{Decides, filter, nat_lt, vec_capacity, vec_l
 ghost use Rattle.model_base.specs.declared.deed.Deed.TheVariants.{Granting, Revoking};
 ghost use Rattle.model_base.specs.declared.deed.Deed.{Deed};
 ghost use Rattle.model_base.specs.Privileges.{ended_by, option_of, place_of};
-ghost use Rattle.model_base.specs.Records.{deeds_below, ended_at};
+ghost use Rattle.model_base.specs.Records.{deeds_below, ended_at, recorded};
+ghost use Rattle.grants.specs.Index.{IsNext, is_by, is_to};
 ghost use Rattle.grants.specs.Pass.{is_one_of};
 ghost use Rattle.grants.specs.Book.{end_slot, end_slots, lies_below, reopened, unended};
 ghost use Rattle.grants.specs.declared.book.End.{End};
@@ -12,8 +13,8 @@ ghost use Rattle.grants.specs.declared.book.Creation.{Creation};
 ghost use Rattle.model_base.specs.declared.deed.Record.{Record};
 
 use crate::cascade::to_end;
-use crate::records::Records;
-use model_base::{Grant, Place, Record, Revocation, Table, User};
+use crate::records::{Records, is_by, is_to};
+use model_base::{Grant, Kind, Place, Record, Revocation, Table, User};
 use std::alloc::{AllocError, Global};
 use std::collections::BTreeSet;
 use std::marker::Model;
@@ -339,11 +340,37 @@ pub struct BookView<'a> {
     place: Place,
 }
 
+/// The least index at or above this one whose record is of a grant to this user, of this kind on this table.
+fn first_to(records: &[Record], user: User, kind: Kind, table: Table, from: usize) -> Option<usize>
+    ensures { IsNext (is_to user kind table) (recorded records.now) from result }
+{
+    for i in from..records.len() {
+        if is_to(&records[i].grant, user, kind, table) {
+            return Some(i);
+        }
+    }
+    None
+}
+
+/// The least index at or above this one whose record is of a grant by this user, of this kind on this table.
+fn first_by(records: &[Record], user: User, kind: Kind, table: Table, from: usize) -> Option<usize>
+    ensures { IsNext (is_by user kind table) (recorded records.now) from result }
+{
+    for i in from..records.len() {
+        if is_by(&records[i].grant, user, kind, table) {
+            return Some(i);
+        }
+    }
+    None
+}
+
 impl Records for BookView<'_> {
     ghost use Rattle.grants.specs.Book.{view_of};
     ghost use Rattle.grants.specs.View.{IsLawful};
 
     ghost shown = { λ view. view_of view.book.now view.place };
+
+    ghost asked = { λ view. recorded view.book.now.records };
 
     #[tactic(auto, using(crate::proofs::SeenLaws::lawful_view))]
     fn at(&self) -> Place {
@@ -374,5 +401,13 @@ impl Records for BookView<'_> {
         record
             .end
             .filter(|end| record.grant.place < self.place && *end < self.place)
+    }
+
+    fn next_to(&mut self, user: User, kind: Kind, table: Table, from: usize) -> Option<usize> {
+        first_to(self.book.records(), user, kind, table, from)
+    }
+
+    fn next_by(&mut self, user: User, kind: Kind, table: Table, from: usize) -> Option<usize> {
+        first_by(self.book.records(), user, kind, table, from)
     }
 }

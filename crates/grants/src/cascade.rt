@@ -1,10 +1,12 @@
 //! What a revocation takes with it.
 
-ghost use Rattle.std.specs.Prelude.{◌≡◌, ◌<◌, ◌++◌, ◌∷◌, ℕ, List, IfOk, IsSome, OnOk, length, true};
-ghost use Rattle.model_base.specs.Privileges.{concerns, ended_by};
+ghost use Rattle.std.specs.Prelude.{◌⊎◌, ◌&&◌, not, false, ◌≡◌, ◌<◌, ◌≤◌, ◌+◌, ◌++◌, ◌∷◌, ℕ, List, Some, IfOk, IsSome, OnOk, drop, length, true};
+ghost use Rattle.std.specs.Option.{option_map_or};
+ghost use Rattle.model_base.specs.Privileges.{concerns, ended_by, names};
 ghost use Rattle.model_base.specs.declared.deed.Deed.{Deed};
 ghost use Rattle.model_base.specs.declared.deed.Grant.{Grant};
-ghost use Rattle.grants.specs.Pass.{cascade, concerned, outlasts};
+ghost use Rattle.grants.specs.Pass.{cascade, concerned, concerned_grants, is_one_of, outlasts};
+ghost use Rattle.grants.specs.Work.{AreDue, bears, keepers};
 ghost use Rattle.grants.specs.View.{Shows, slot_at};
 
 use crate::records::Records;
@@ -26,36 +28,182 @@ fn concerned<V: Records>(view: &mut V, i: usize, revocation: &Revocation) -> Opt
     }
 }
 
-/// Whether a grant outlasts the revocation, where these users and the owner keep the option.
-#[tactic(auto, using(crate::proofs::Holders::contains_one), unfolding(crate::specs::Pass::outlasts))]
-fn stays(owner: User, holders: &BTreeSet<u32>, revocation: &Revocation, grant: &Grant) -> bool
-    ensures { result ≡ outlasts owner holders.now.keys revocation.now grant.now }
+/// Whether the slot has a grant in force, of the revocation's kind and table, that gives the user the option.
+fn bears<V: Records>(view: &mut V, i: usize, revocation: &Revocation, user: User) -> bool
+    requires within { i < length (V.shown view.old).slots }
+    ensures value { result ≡ bears revocation.now user (slot_at (V.shown view.old) i) }
+    ensures same { V.shown view.new ≡ V.shown view.old }
+{
+    match concerned(view, i, revocation) {
+        Some(grant) => grant.option && grant.grantee == user,
+        None => false,
+    }
+}
+
+/// Whether the slot has such a grant and hasn't ended.
+#[tactic(auto, using(crate::proofs::Holders::contains_one))]
+fn stands<V: Records>(
+    view: &mut V,
+    i: usize,
+    revocation: &Revocation,
+    ended: &BTreeSet<usize>,
+    user: User,
+) -> bool
+    requires within { i < length (V.shown view.old).slots }
+    ensures value { result ≡ (bears revocation.now user (slot_at (V.shown view.old) i) && not (is_one_of ended.now.keys i)) }
+    ensures same { V.shown view.new ≡ V.shown view.old }
+{
+    bears(view, i, revocation, user) && !ended.contains(&i)
+}
+
+/// Whether the user keeps the option by a slot below this one that hasn't ended.
+fn keeps<V: Records>(
+    view: &mut V,
+    revocation: &Revocation,
+    ended: &BTreeSet<usize>,
+    user: User,
+    below: usize,
+) -> bool
+    requires within { below ≤ length (V.shown view.old).slots }
+    ensures value { result ≡ is_one_of (keepers revocation.now (V.shown view.old) ended.now.keys below) user }
+    ensures same { V.shown view.new ≡ V.shown view.old }
+{
+    let mut from = 0;
+    while from < below {
+        match view.next_to(user, revocation.kind, revocation.table, from) {
+            Some(i) if i < below => {
+                if stands(view, i, revocation, ended, user) {
+                    return true;
+                }
+                from = i + 1;
+            }
+            _ => return false,
+        }
+    }
+    false
+}
+
+/// Whether the slot's grant outlasts the revocation, of which these slots below it have ended.
+#[tactic(auto, unfolding(crate::specs::Pass::outlasts))]
+fn stays<V: Records>(
+    view: &mut V,
+    owner: User,
+    revocation: &Revocation,
+    ended: &BTreeSet<usize>,
+    grant: &Grant,
+    slot: usize,
+) -> bool
+    requires within { slot ≤ length (V.shown view.old).slots }
+    ensures value { result ≡ outlasts owner (keepers revocation.now (V.shown view.old) ended.now.keys slot) revocation.now grant.now }
+    ensures same { V.shown view.new ≡ V.shown view.old }
 {
     if revocation.names(grant) {
         return false;
     }
-    owner == grant.grantor || holders.contains(&grant.grantor.0)
+    owner == grant.grantor || keeps(view, revocation, ended, grant.grantor, slot)
 }
 
-/// One grant in the pass: either it ends, or its grantee joins those who keep the option.
-#[tactic(auto, using(crate::proofs::Holders::cascade_inserted))]
-fn judge(
+/// Whether the slot has a grant in force that the revocation names.
+fn is_named<V: Records>(view: &mut V, i: usize, revocation: &Revocation) -> bool
+    requires within { i < length (V.shown view.old).slots }
+    ensures value { result ≡ option_map_or (names revocation.now) (concerned (slot_at (V.shown view.old) i) revocation.now) false }
+    ensures same { V.shown view.new ≡ V.shown view.old }
+{
+    match concerned(view, i, revocation) {
+        Some(grant) => revocation.names(&grant),
+        None => false,
+    }
+}
+
+/// The slots whose grants the revocation names.
+fn named<V: Records>(
+    alloc: Global,
+    view: &mut V,
+    revocation: &Revocation,
+) -> Result<BTreeSet<usize>, AllocError>
+    ensures found { IfOk result (λ due. (j : ℕ) (grant : Grant) → concerned (slot_at (V.shown view.old) j) revocation.now ≡ Some grant
+        → names revocation.now grant ≡ true → is_one_of due.keys j ≡ true) }
+    ensures within { IfOk result (λ due. (j : ℕ) → is_one_of due.keys j ≡ true → j < length (V.shown view.old).slots) }
+    ensures same { V.shown view.new ≡ V.shown view.old }
+{
+    let mut due = BTreeSet::new(alloc);
+    let end = view.slots();
+    let mut from = 0;
+    while from < end {
+        match view.next_to(revocation.grantee, revocation.kind, revocation.table, from) {
+            Some(i) => {
+                if is_named(view, i, revocation) {
+                    due.insert(i)?;
+                }
+                from = i + 1;
+            }
+            None => return Ok(due),
+        }
+    }
+    Ok(due)
+}
+
+/// Adds the slots from this one on whose grants are by the user, of the revocation's kind and table.
+fn add_grants_by<V: Records>(
+    view: &mut V,
+    user: User,
+    revocation: &Revocation,
+    start: usize,
+    due: &mut BTreeSet<usize>,
+) -> Result<(), AllocError>
+    ensures found { OnOk result ((j : ℕ) (grant : Grant) → start ≤ j → concerned (slot_at (V.shown view.old) j) revocation.now ≡ Some grant
+        → grant.grantor ≡ user → is_one_of due.new.keys j ≡ true) }
+    ensures kept { OnOk result ((j : ℕ) → is_one_of due.old.keys j ≡ true → is_one_of due.new.keys j ≡ true) }
+    ensures within { OnOk result ((j : ℕ) → is_one_of due.new.keys j ≡ true → (is_one_of due.old.keys j ≡ true) ⊎ ((start ≤ j) × (j < length (V.shown view.old).slots))) }
+    ensures same { V.shown view.new ≡ V.shown view.old }
+{
+    let end = view.slots();
+    let mut from = start;
+    while from < end {
+        match view.next_by(user, revocation.kind, revocation.table, from) {
+            Some(i) => {
+                due.insert(i)?;
+                from = i + 1;
+            }
+            None => return Ok(()),
+        }
+    }
+    Ok(())
+}
+
+/// One slot that is due: either its grant ends, or its grantee keeps what it gives. With a grant that ends and had the
+/// option, the later grants of its grantee are due.
+fn judge<V: Records>(
+    view: &mut V,
     owner: User,
     revocation: &Revocation,
-    grant: &Grant,
-    holders: &mut BTreeSet<u32>,
-    ended: &mut Vec<Place>,
+    slot: usize,
+    next: usize,
+    due: &mut BTreeSet<usize>,
+    ended: &mut BTreeSet<usize>,
+    places: &mut Vec<Place>,
 ) -> Result<(), AllocError>
-    ensures { OnOk result ((rest : List Grant) → concerns revocation.now grant.now ≡ true
-        → ended.new.items ++ cascade owner revocation.now holders.new.keys rest
-        ≡ ended.old.items ++ cascade owner revocation.now holders.old.keys (grant.now ∷ rest)) }
+    requires within { slot < length (V.shown view.old).slots }
+    requires next { next ≡ slot + 1 }
+    requires due { AreDue revocation.now (V.shown view.old) due.old.keys ended.old.keys next }
+    requires behind { (e : ℕ) → is_one_of ended.old.keys e ≡ true → e < slot }
+    ensures due { OnOk result (AreDue revocation.now (V.shown view.old) due.new.keys ended.new.keys next) }
+    ensures whole { OnOk result (places.new.items ++ cascade owner revocation.now (keepers revocation.now (V.shown view.old) ended.new.keys next)
+        (concerned_grants revocation.now (drop next (V.shown view.old).slots))
+        ≡ places.old.items ++ cascade owner revocation.now (keepers revocation.now (V.shown view.old) ended.old.keys slot)
+        (concerned_grants revocation.now (drop slot (V.shown view.old).slots))) }
+    ensures same { V.shown view.new ≡ V.shown view.old }
 {
-    if stays(owner, holders, revocation, grant) {
-        if grant.option {
-            holders.insert(grant.grantee.0)?;
-        }
-    } else {
-        ended.push(grant.place)?;
+    let Some(grant) = concerned(view, slot, revocation) else {
+        return Ok(());
+    };
+    if stays(view, owner, revocation, ended, &grant, slot) {
+        return Ok(());
+    }
+    places.push(grant.place)?;
+    ended.insert(slot)?;
+    if grant.option {
+        add_grants_by(view, grant.grantee, revocation, next, due)?;
     }
     Ok(())
 }
@@ -79,12 +227,24 @@ pub fn to_end<V: Records>(
     ensures same { V.shown view.new ≡ V.shown view.old }
 {
     let owner = view.owner(revocation.table);
-    let mut holders: BTreeSet<u32> = BTreeSet::new(alloc);
-    let mut ended = Vec::new(alloc);
-    for i in 0..view.slots() {
-        if let Some(grant) = concerned(view, i, revocation) {
-            judge(owner, revocation, &grant, &mut holders, &mut ended)?;
-        }
+    // That there are so many slots bounds the next one.
+    let _slots = view.slots();
+    let mut due = named(alloc, view, revocation)?;
+    let mut ended: BTreeSet<usize> = BTreeSet::new(alloc);
+    let mut places = Vec::new(alloc);
+    let mut next = 0;
+    while let Some(slot) = due.pop_first() {
+        next = slot + 1;
+        judge(
+            view,
+            owner,
+            revocation,
+            slot,
+            next,
+            &mut due,
+            &mut ended,
+            &mut places,
+        )?;
     }
-    Ok(ended)
+    Ok(places)
 }

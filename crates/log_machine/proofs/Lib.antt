@@ -1,3 +1,4 @@
+pub mod Asking
 pub mod Before
 pub mod Cells
 pub mod Counted

@@ -1,5 +1,5 @@
 -- The view of the records of grants that a place of a batch is shown by a state of it.
-use Rattle.std.specs.Prelude.{◌+◌, ◌&&◌, nat_lt, ℕ, Bool, Option, Some, None, List, [], ◌∷◌, slice_get, if◌then◌else◌}
+use Rattle.std.specs.Prelude.{◌+◌, ◌&&◌, nat_lt, ℕ, Bool, Option, Some, None, List, [], ◌∷◌, length, slice_get, take, if◌then◌else◌}
 use Rattle.model_base.specs.declared.deed.Grant.{Grant}
 use Rattle.model_base.specs.declared.deed.Record.{Record}
 use Rattle.model_base.specs.Outcomes.{owners}
@@ -24,12 +24,14 @@ slots_seen tables place made (grant ∷ grants) [] = []
 slots_seen tables place made (grant ∷ grants) (end ∷ ends) =
     slot_seen tables place made grant end ∷ slots_seen tables place made grants ends
 
--- what a view shows, as data: its place, the tables that it covers, the owner of each table, and its slots
+-- what a view shows, as data: its place, the tables that it covers, the owner of each table, its slots, and the grant that
+-- each slot asks for
 pub record Seen : Type 0 where
   pub place : ℕ
   pub tables : List ℕ
   pub owners : List ℕ
   pub slots : List (Option Record)
+  pub asked : List Grant
 
 -- the view that shows it
 abbrev pub shown_of : Seen → View
@@ -50,4 +52,5 @@ seen_by ranged state index tables = record {
   tables = tables;
   owners = owners ranged.log.statements;
   slots = slots_seen tables (ranged.first + index) (was_made ranged state) (slots_of (batch_in ranged)) state.ends;
+  asked = take (length state.ends) (slots_of (batch_in ranged));
 }

@@ -1,20 +1,21 @@
 //! The records of grants that a place of a batch is shown.
 
-ghost use Rattle.std.specs.Prelude.{◌≡◌, ◌<◌, ◌+◌, ◌&&◌, nat_lt, Some, All, IfOk, IsSome, slice_get};
+ghost use Rattle.std.specs.Prelude.{◌≡◌, ◌<◌, ◌≤◌, ◌+◌, ◌&&◌, nat_lt, Some, All, IfOk, IsSome, length, slice_get, take};
 ghost use Rattle.model_base.specs.declared.statement.Statement.{Statement};
 ghost use Rattle.model_base.specs.Outcomes.{deeds_before, owners};
 ghost use Rattle.model_base.specs.Records.{end_below};
 ghost use Rattle.model_base.specs.References.{tables_of};
+ghost use Rattle.grants.specs.Index.{IsNext, is_by, is_to};
 ghost use Rattle.grants.specs.View.{Shows};
-ghost use Rattle.bohm_core_base.specs.Batch.{is_listed};
+ghost use Rattle.bohm_core_base.specs.Batch.{is_listed, slots_of};
 ghost use Rattle.bohm_core_base.specs.Laws.{ShowsSerial};
 ghost use Rattle.log_machine.specs.Supplied.{batch_in};
 ghost use Rattle.log_machine.specs.Seen.{shown_of, was_made};
 
 use crate::batch::LogBatch;
 use bohm_core::State;
-use grants::Records;
-use model_base::{Grant, Place, Table, User};
+use grants::{Records, is_by, is_to};
+use model_base::{Grant, Kind, Place, Table, User};
 use placing::find_tables;
 use std::alloc::{AllocError, Global};
 use std::marker::Model;
@@ -75,6 +76,48 @@ fn end_below(end: Option<Place>, place: Place) -> Option<Place>
     end.filter(|end| *end < place)
 }
 
+/// The first slot from one on, and below an end, whose grant is to the user, of the kind on the table. It looks at each.
+fn first_to(
+    batch: &LogBatch,
+    from: usize,
+    end: usize,
+    user: User,
+    kind: Kind,
+    table: Table,
+) -> Option<usize>
+    requires { end ≤ length (slots_of (batch_in batch.now)) }
+    ensures { IsNext (is_to user kind table) (take end (slots_of (batch_in batch.now))) from result }
+{
+    for slot in from..end {
+        let grant = batch.grant(slot);
+        if is_to(&grant, user, kind, table) {
+            return Some(slot);
+        }
+    }
+    None
+}
+
+/// The first slot from one on, and below an end, whose grant is by the user, of the kind on the table. It looks at each.
+fn first_by(
+    batch: &LogBatch,
+    from: usize,
+    end: usize,
+    user: User,
+    kind: Kind,
+    table: Table,
+) -> Option<usize>
+    requires { end ≤ length (slots_of (batch_in batch.now)) }
+    ensures { IsNext (is_by user kind table) (take end (slots_of (batch_in batch.now))) from result }
+{
+    for slot in from..end {
+        let grant = batch.grant(slot);
+        if is_by(&grant, user, kind, table) {
+            return Some(slot);
+        }
+    }
+    None
+}
+
 impl<'a> ShownRecords<'a> {
     /// What an index of the batch is shown by the state, if that is what the serial run shows it: the records that the
     /// deeds before its place leave. An error is want of memory.
@@ -107,6 +150,8 @@ impl Records for ShownRecords<'_> {
     ghost use Rattle.log_machine.specs.Seen.{shown_of};
 
     ghost shown = { λ records. shown_of records };
+
+    ghost asked = { λ records. records.asked };
 
     fn at(&self) -> Place {
         self.batch.first_place() + self.index as Place
@@ -143,5 +188,15 @@ impl Records for ShownRecords<'_> {
         } else {
             None
         }
+    }
+
+    fn next_to(&mut self, user: User, kind: Kind, table: Table, from: usize) -> Option<usize> {
+        let end = self.slots();
+        first_to(self.batch, from, end, user, kind, table)
+    }
+
+    fn next_by(&mut self, user: User, kind: Kind, table: Table, from: usize) -> Option<usize> {
+        let end = self.slots();
+        first_by(self.batch, from, end, user, kind, table)
     }
 }

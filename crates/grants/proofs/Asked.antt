@@ -1,0 +1,143 @@
+-- What isn't found among the grants that the slots ask for isn't in the slots.
+use Rattle.std.proofs.Common.{◌≡◌, ℕ, zero, suc, ◌<◌, ◌≤◌, ◌∷◌, [], length, arith, ◌||◌, ◌&&◌, not, Bool, true, false, List, Option, Some, None, is_none, refl, sym, ◌∙◌, ap, eq-eqb, inl, inr}
+use Rattle.std.specs.Prelude.{◌==◌, ◌⊎◌, ◌+◌, slice_get}
+use Rattle.std.specs.Option.{option_map_or}
+use Rattle.std.proofs.lemmas.Bool.{true≢false, and_parts, eqb-true, cases_lt}
+use Rattle.model_base.specs.declared.deed.Grant.{Grant}
+use Rattle.model_base.specs.declared.deed.Record.{Record}
+use Rattle.model_base.specs.declared.deed.Revocation.{Revocation}
+use Rattle.model_base.specs.Privileges.{concerns, names}
+use Rattle.model_base.proofs.Replay.{by_cases}
+use Rattle.grants.specs.View.{View, flatten, grant_in, slot_at}
+use Rattle.grants.specs.Pass.{concerned, is_one_of}
+use Rattle.grants.specs.Work.{bears}
+use Rattle.grants.specs.Index.{AreAsked, is_by, is_to, passes_at}
+use Rattle.grants.proofs.SlotLaws.{about_concerned}
+use Rattle.grants.proofs.Worklist.{borne_by}
+
+in_slot : (slot : Option Record) (revocation : Revocation) (grant : Grant) → concerned slot revocation ≡ Some grant → grant_in slot ≡ Some grant
+in_slot None revocation grant is = absurd (cc)
+in_slot (Some entry) revocation grant is =
+    by_cases (is_none entry.end && concerns revocation entry.grant)
+    (λ passes. rw passes at is)
+    (λ fails. let none = rw fails at is in absurd (cc))
+
+module _ (view : View) (asked : List Grant) (are : AreAsked view asked) (revocation : Revocation) where
+  -- the slot asks for the grant that it has
+  asks : (passes : Grant → Bool) (k : ℕ) (grant : Grant) → concerned (slot_at view k) revocation ≡ Some grant → passes_at passes asked k ≡ passes grant
+  asks passes k grant is = ap (λ found. option_map_or passes found false) (are.each k grant (in_slot (slot_at view k) revocation grant is))
+
+  -- a slot that isn't found gives the user nothing
+  pub bears-skipped : (user k : ℕ) → passes_at (is_to user revocation.kind revocation.table) asked k ≡ false → bears revocation user (slot_at view k) ≡ false
+  bears-skipped user k skipped =
+      by_cases (bears revocation user (slot_at view k))
+      (λ bear.
+      let by = borne_by revocation (slot_at view k) user bear in
+      let about : concerns revocation by.0 ≡ true = about_concerned (slot_at view k) revocation by.0 by.1 in
+      let found : is_to user revocation.kind revocation.table by.0 ≡ true = rw (eq-eqb by.0.grantee user by.3) about in
+      absurd (true≢false (sym found ∙ sym (asks (is_to user revocation.kind revocation.table) k by.0 by.1) ∙ skipped)))
+      (λ none. none)
+
+  -- nor is it named
+  pub named-skipped : (k : ℕ) (grant : Grant) → passes_at (is_to revocation.grantee revocation.kind revocation.table) asked k ≡ false
+      → concerned (slot_at view k) revocation ≡ Some grant → names revocation grant ≡ true → ⊥
+  unfolding names
+  named-skipped k grant skipped is named =
+      let to = (and_parts (revocation.grantor == grant.grantor) ((revocation.grantee == grant.grantee) && concerns revocation grant) named).1 in
+      let parts = and_parts (revocation.grantee == grant.grantee) (concerns revocation grant) to in
+      let found : is_to revocation.grantee revocation.kind revocation.table grant ≡ true =
+      rw (eq-eqb grant.grantee revocation.grantee (sym (eqb-true revocation.grantee grant.grantee parts.0))) parts.1 in
+      true≢false (sym found ∙ sym (asks (is_to revocation.grantee revocation.kind revocation.table) k grant is) ∙ skipped)
+
+  -- nor is it by the user
+  pub by-skipped : (user k : ℕ) (grant : Grant) → passes_at (is_by user revocation.kind revocation.table) asked k ≡ false
+      → concerned (slot_at view k) revocation ≡ Some grant → grant.grantor ≡ user → ⊥
+  by-skipped user k grant skipped is by =
+      let about : concerns revocation grant ≡ true = about_concerned (slot_at view k) revocation grant is in
+      let found : is_by user revocation.kind revocation.table grant ≡ true = rw (eq-eqb grant.grantor user by) about in
+      true≢false (sym found ∙ sym (asks (is_by user revocation.kind revocation.table) k grant is) ∙ skipped)
+
+  -- up to the slot found, nothing that hasn't ended gives the user the option
+  pub none_until : (ended : List ℕ) (user from i : ℕ)
+      → ((k : ℕ) → k < from → is_one_of ended k ≡ false → bears revocation user (slot_at view k) ≡ false)
+      → ((k : ℕ) → from ≤ k → k < i → passes_at (is_to user revocation.kind revocation.table) asked k ≡ false)
+      → (k : ℕ) → k < i → is_one_of ended k ≡ false → bears revocation user (slot_at view k) ≡ false
+  none_until ended user from i before skipped k less stays =
+      elim (cases_lt k from) [
+        | inl earlier ↦ before k earlier stays
+        | inr later ↦ bears-skipped user k (skipped k later less)
+      ]
+
+pub not_false : (b : Bool) → not b ≡ true → b ≡ false
+not_false true is = absurd (true≢false (sym is))
+not_false false is = refl
+
+pub stood : (a b : Bool) → (a && not b) ≡ false → b ≡ false → a ≡ false
+stood false b none is = refl
+stood true true none is = absurd (true≢false is)
+stood true false none is = none
+
+-- a slot that is found is there
+pub found_within : (view : View) (asked : List Grant) → AreAsked view asked → (passes : Grant → Bool) (k : ℕ) → passes_at passes asked k ≡ true → k < length view.slots
+found_within view asked are passes k found =
+    elim (cases_lt k (length asked)) [
+      | inl within ↦ omega (arith, are.long)
+      | inr over ↦ absurd (true≢false (sym found ∙ ap (λ o. option_map_or passes o false) (past asked k over)))
+    ]
+  where
+    past : (gs : List Grant) (i : ℕ) → length gs ≤ i → slice_get gs i ≡ None
+    past [] i over = refl
+    past (x ∷ gs) zero over = absurd (omega arith)
+    past (x ∷ gs) (suc i) over = past gs i (omega arith)
+
+pub or_first : (x y : Bool) → x ≡ true → (x || y) ≡ true
+or_first true y is = refl
+or_first false y is = absurd (true≢false (sym is))
+
+-- past the slots there is no grant
+pub nothing_past : (view : View) (revocation : Revocation) (k : ℕ) (grant : Grant) → length view.slots ≤ k → concerned (slot_at view k) revocation ≡ Some grant → ⊥
+nothing_past view revocation k grant over is = absurd (none (sym empty ∙ is))
+  where
+    past : (slots : List (Option Record)) (i : ℕ) → length slots ≤ i → slice_get slots i ≡ None
+    past [] i over = refl
+    past (x ∷ slots) zero over = absurd (omega arith)
+    past (x ∷ slots) (suc i) over = past slots i (omega arith)
+
+    empty : concerned (slot_at view k) revocation ≡ None
+    empty = ap (λ (slot : Option (Option Record)). concerned (flatten slot) revocation) (past view.slots k over)
+
+    none : None ≡ Some grant → ⊥
+    none e = cc
+
+-- one slot more among those that are looked at for a name
+pub record HaveNamed (view : View) (revocation : Revocation) (due : List ℕ) (from : ℕ) : Type 0 where
+  pub found : (j : ℕ) (grant : Grant) → j < from → concerned (slot_at view j) revocation ≡ Some grant
+      → names revocation grant ≡ true → is_one_of due j ≡ true
+  pub within : (j : ℕ) → is_one_of due j ≡ true → j < length view.slots
+
+pub named_step : (view : View) (asked : List Grant) → AreAsked view asked → (revocation : Revocation) (due more : List ℕ) (from i : ℕ)
+    → passes_at (is_to revocation.grantee revocation.kind revocation.table) asked i ≡ true
+    → ((k : ℕ) → from ≤ k → k < i → passes_at (is_to revocation.grantee revocation.kind revocation.table) asked k ≡ false)
+    → HaveNamed view revocation due from
+    → ((j : ℕ) → is_one_of due j ≡ true → is_one_of more j ≡ true)
+    → (option_map_or (names revocation) (concerned (slot_at view i) revocation) false ≡ true → is_one_of more i ≡ true)
+    → ((j : ℕ) → is_one_of more j ≡ true → (is_one_of due j ≡ true) ⊎ (i ≡ j))
+    → HaveNamed view revocation more (i + 1)
+named_step view asked are revocation due more from i passes skipped so_far kept new old = record {
+  found = λ j grant less is named.
+      elim (cases_lt j i) [
+        | inl earlier ↦ elim (cases_lt j from) [
+          | inl before ↦ kept j (so_far.found j grant before is named)
+          | inr after ↦ absurd (named-skipped view asked are revocation j grant (skipped j after earlier) is named)
+        ]
+        | inr later ↦
+            let here : j ≡ i = omega arith in
+            let at_i : concerned (slot_at view i) revocation ≡ Some grant = ap (λ k. concerned (slot_at view k) revocation) (sym here) ∙ is in
+            ap (is_one_of more) here ∙ new (ap (λ found. option_map_or (names revocation) found false) at_i ∙ named)
+      ];
+  within = λ j is.
+      elim (old j is) [
+        | inl before ↦ so_far.within j before
+        | inr here ↦ let at_i = found_within view asked are (is_to revocation.grantee revocation.kind revocation.table) i passes in omega arith
+      ];
+}

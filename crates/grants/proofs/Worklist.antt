@@ -1,0 +1,309 @@
+-- The slots that are due are all that the recursive revocation has to judge.
+use Rattle.std.proofs.Common.{◌≡◌, ℕ, zero, suc, ◌<◌, ◌≤◌, ◌+◌, ◌||◌, ◌&&◌, true, false, List, [], ◌∷◌, ◌++◌, Option, Some, None, length, drop, add-one, refl, sym, ◌∙◌, ap, arith, inl, inr, eq-eqb, append_assoc, Less}
+use Rattle.std.specs.Prelude.{◌==◌, ◌⊎◌, All}
+use Rattle.std.specs.Option.{option_map_or}
+use Rattle.std.specs.Ordering.{nat_cmp}
+use Rattle.std.specs.BTreeSet.{BTreeSet, Updates}
+use Rattle.std.proofs.lemmas.Bool.{true≢false, and_parts, or_cases, or_right, cases_lt, eqb-true, ne_eqb}
+use Rattle.std.proofs.lemmas.Bool.Decides.{nat_tests}
+use Rattle.std.proofs.lemmas.List.Elements.{All-head, All-tail}
+use Rattle.model_base.specs.declared.deed.Grant.{Grant}
+use Rattle.model_base.specs.declared.deed.Record.{Record}
+use Rattle.model_base.specs.declared.deed.Revocation.{Revocation}
+use Rattle.model_base.specs.Privileges.{names}
+use Rattle.model_base.proofs.Replay.{by_cases}
+use Rattle.grants.specs.View.{View, slot_at}
+use Rattle.grants.specs.Pass.{cascade, concerned, concerned_grants, holders_after, is_one_of, outlasts}
+use Rattle.grants.specs.Work.{AreBorne, AreDue, bears, keepers, keepers_after}
+use Rattle.grants.proofs.Holders.{inserted}
+use Rattle.grants.proofs.SlotLaws.{about_concerned, step_on, step_over}
+
+-- a user who has the option keeps it
+holders-keep : (h : List ℕ) (grant : Grant) (user : ℕ) → is_one_of h user ≡ true → is_one_of (holders_after h grant) user ≡ true
+holders-keep h grant user has =
+    by_cases grant.option (λ with. rw with (or_right (grant.grantee == user) (is_one_of h user) has)) (λ without. rw without has)
+
+after-keep : (h : List ℕ) (found : Option Grant) (user : ℕ) → is_one_of h user ≡ true → is_one_of (keepers_after h found) user ≡ true
+after-keep h None user has = has
+after-keep h (Some grant) user has = holders-keep h grant user has
+
+-- one to whom a slot gives it has it
+after-bear : (h : List ℕ) (found : Option Grant) (user : ℕ) → option_map_or (λ (grant : Grant). grant.option && (grant.grantee == user)) found false ≡ true
+    → is_one_of (keepers_after h found) user ≡ true
+after-bear h None user bear = absurd (true≢false (sym bear))
+after-bear h (Some grant) user bear =
+    let parts = and_parts grant.option (grant.grantee == user) bear in
+    rw (parts.0, parts.1) refl
+
+-- nobody else gets it
+after-none : (h : List ℕ) (found : Option Grant) (user : ℕ) → is_one_of h user ≡ false
+    → option_map_or (λ (grant : Grant). grant.option && (grant.grantee == user)) found false ≡ false → is_one_of (keepers_after h found) user ≡ false
+after-none h None user none bear = none
+after-none h (Some grant) user none bear =
+    by_cases grant.option (λ with. let apart : (grant.grantee == user) ≡ false = rw with at bear in rw (with, apart) none) (λ without. rw without none)
+
+-- a grant in force gives the option
+pub borne_by : (revocation : Revocation) (slot : Option Record) (user : ℕ) → bears revocation user slot ≡ true
+    → (grant : Grant) × (concerned slot revocation ≡ Some grant) × (grant.option ≡ true) × (grant.grantee ≡ user)
+borne_by revocation slot user bear = by_found (concerned slot revocation) refl bear
+  where
+    by_found : (found : Option Grant) → concerned slot revocation ≡ found → option_map_or (λ (grant : Grant). grant.option && (grant.grantee == user)) found false ≡ true
+        → (grant : Grant) × (concerned slot revocation ≡ Some grant) × (grant.option ≡ true) × (grant.grantee ≡ user)
+    by_found None is some = absurd (true≢false (sym some))
+    by_found (Some grant) is some =
+        let parts = and_parts grant.option (grant.grantee == user) some in
+        (grant, is, parts.0, eqb-true grant.grantee user parts.1)
+
+module _ (revocation : Revocation) (view : View) where
+  keepers-bear : (ended : List ℕ) (p k user : ℕ) → k < p → is_one_of ended k ≡ false → bears revocation user (slot_at view k) ≡ true
+      → is_one_of (keepers revocation view ended p) user ≡ true
+  keepers-bear ended zero k user less stays bear = absurd (omega arith)
+  keepers-bear ended (suc p) k user less stays bear =
+      elim (cases_lt k p) [
+        | inl earlier ↦
+            let before = keepers-bear ended p k user earlier stays bear in
+            by_cases (is_one_of ended p) (λ gone. rw gone before)
+            (λ here. rw here (after-keep (keepers revocation view ended p) (concerned (slot_at view p) revocation) user before))
+        | inr later ↦
+            let same : k ≡ p = omega arith in
+            let here : is_one_of ended p ≡ false = ap (is_one_of ended) (sym same) ∙ stays in
+            let bear_here : bears revocation user (slot_at view p) ≡ true = ap (λ i. bears revocation user (slot_at view i)) (sym same) ∙ bear in
+            rw here (after-bear (keepers revocation view ended p) (concerned (slot_at view p) revocation) user bear_here)
+      ]
+
+  pub keepers-none : (ended : List ℕ) (p user : ℕ) → ((k : ℕ) → k < p → is_one_of ended k ≡ false → bears revocation user (slot_at view k) ≡ false)
+      → is_one_of (keepers revocation view ended p) user ≡ false
+  keepers-none ended zero user none = refl
+  keepers-none ended (suc p) user none =
+      let before = keepers-none ended p user (λ k less. none k (omega arith)) in
+      by_cases (is_one_of ended p) (λ gone. rw gone before)
+      (λ here. rw here (after-none (keepers revocation view ended p) (concerned (slot_at view p) revocation) user before (none p (omega arith) here)))
+
+  keepers-agree : (first second : List ℕ) (p : ℕ) → ((k : ℕ) → k < p → is_one_of first k ≡ is_one_of second k)
+      → keepers revocation view first p ≡ keepers revocation view second p
+  keepers-agree first second zero same = refl
+  keepers-agree first second (suc p) same =
+      let before = keepers-agree first second p (λ k less. same k (omega arith)) in
+      by_cases (is_one_of second p)
+      (λ gone. rw (same p (omega arith), gone) before)
+      (λ here. rw (same p (omega arith), here) (ap (λ h. keepers_after h (concerned (slot_at view p) revocation)) before))
+
+  -- whom a slot that hasn't ended gives the option keeps it
+  pub keeps_by : (ended : List ℕ) (p k user : ℕ) → k < p → is_one_of ended k ≡ false → bears revocation user (slot_at view k) ≡ true
+      → is_one_of (keepers revocation view ended p) user ≡ true
+  keeps_by = keepers-bear
+
+  module _ (owner : ℕ) where
+    abbrev pub rest_from : ℕ → List Grant
+    rest_from p = concerned_grants revocation (drop p view.slots)
+
+    -- what the pass ends from a slot on
+    abbrev pub ends_from : List ℕ → ℕ → List ℕ
+    ends_from ended p = cascade owner revocation (keepers revocation view ended p) (rest_from p)
+
+    -- a slot that has nothing for it
+    pub over_none : (ended : List ℕ) (p : ℕ) → p < length view.slots → concerned (slot_at view p) revocation ≡ None → ends_from ended (p + 1) ≡ ends_from ended p
+    over_none ended p within none =
+        ap (λ h. cascade owner revocation h (rest_from (p + 1))) same
+        ∙ ap (cascade owner revocation (keepers revocation view ended p)) (step_over owner revocation view p within none)
+      where
+        same : keepers revocation view ended (p + 1) ≡ keepers revocation view ended p
+        same = rw (add-one p) (by_cases (is_one_of ended p) (λ gone. rw gone refl) (λ here. rw (here, none) refl))
+
+    -- a slot whose grant stays
+    pub over_staying : (ended : List ℕ) (p : ℕ) (grant : Grant) → p < length view.slots → concerned (slot_at view p) revocation ≡ Some grant
+        → is_one_of ended p ≡ false → outlasts owner (keepers revocation view ended p) revocation grant ≡ true → ends_from ended (p + 1) ≡ ends_from ended p
+    over_staying ended p grant within found unended stays =
+        ap (λ h. cascade owner revocation h (rest_from (p + 1))) same
+        ∙ passed
+        ∙ ap (cascade owner revocation (keepers revocation view ended p)) (step_on owner revocation view p within grant found)
+      where
+        same : keepers revocation view ended (p + 1) ≡ holders_after (keepers revocation view ended p) grant
+        same = rw (add-one p, unended, found) refl
+
+        passed : cascade owner revocation (holders_after (keepers revocation view ended p) grant) (rest_from (p + 1))
+            ≡ cascade owner revocation (keepers revocation view ended p) (grant ∷ rest_from (p + 1))
+        passed = rw (about_concerned (slot_at view p) revocation grant found, stays) refl
+
+    -- a slot whose grant ends
+    pub over_ending : (ended after : List ℕ) (p : ℕ) (grant : Grant) → p < length view.slots → concerned (slot_at view p) revocation ≡ Some grant
+        → ((k : ℕ) → is_one_of after k ≡ ((p == k) || is_one_of ended k)) → outlasts owner (keepers revocation view ended p) revocation grant ≡ false
+        → grant.place ∷ ends_from after (p + 1) ≡ ends_from ended p
+    over_ending ended after p grant within found more falls =
+        ap (λ h. grant.place ∷ cascade owner revocation h (rest_from (p + 1))) same
+        ∙ passed
+        ∙ ap (cascade owner revocation (keepers revocation view ended p)) (step_on owner revocation view p within grant found)
+      where
+        gone : is_one_of after p ≡ true
+        gone = more p ∙ rw (eq-eqb p p refl) refl
+
+        below : (k : ℕ) → k < p → is_one_of after k ≡ is_one_of ended k
+        below k less = more k ∙ rw (ne_eqb p k (λ same. omega arith)) refl
+
+        same : keepers revocation view after (p + 1) ≡ keepers revocation view ended p
+        same = rw (add-one p, gone) (keepers-agree after ended p below)
+
+        passed : grant.place ∷ cascade owner revocation (keepers revocation view ended p) (rest_from (p + 1))
+            ≡ cascade owner revocation (keepers revocation view ended p) (grant ∷ rest_from (p + 1))
+        passed = rw (about_concerned (slot_at view p) revocation grant found, falls) refl
+
+    pub whole_ending : (places now ended after : List ℕ) (p next : ℕ) (grant : Grant) → next ≡ p + 1 → p < length view.slots → now ≡ places ++ grant.place ∷ []
+        → concerned (slot_at view p) revocation ≡ Some grant → ((k : ℕ) → is_one_of after k ≡ ((p == k) || is_one_of ended k))
+        → outlasts owner (keepers revocation view ended p) revocation grant ≡ false → now ++ ends_from after next ≡ places ++ ends_from ended p
+    whole_ending places now ended after p next grant is_next within items found more falls =
+        ap (λ n. now ++ ends_from after n) is_next
+        ∙ ap (λ (xs : List ℕ). xs ++ ends_from after (p + 1)) items
+        ∙ append_assoc places (grant.place ∷ []) (ends_from after (p + 1))
+        ∙ ap (λ rest. places ++ rest) (over_ending ended after p grant within found more falls)
+
+    module _ (borne : AreBorne owner revocation view) (due ended : List ℕ) (next : ℕ) (state : AreDue revocation view due ended next) where
+      -- what isn't due stays
+      not_due : (p : ℕ) (grant : Grant) → next ≤ p → is_one_of due p ≡ false → concerned (slot_at view p) revocation ≡ Some grant
+          → outlasts owner (keepers revocation view ended p) revocation grant ≡ true
+      unfolding outlasts
+      not_due p grant from free found =
+          elim (borne.each p grant found) [
+            | inl own ↦ rw (unnamed, own) refl
+            | inr by ↦
+                let has : is_one_of (keepers revocation view ended p) grant.grantor ≡ true = keepers-bear ended p by.0 grant.grantor by.1 (stood by.0 by.2) by.2 in
+                rw (unnamed, has) (or_right (owner == grant.grantor) true refl)
+          ]
+        where
+          unnamed : names revocation grant ≡ false
+          unnamed = by_cases (names revocation grant) (λ named. absurd (true≢false (sym (state.named p grant from found named) ∙ free))) (λ not_named. not_named)
+
+          stood : (k : ℕ) → bears revocation grant.grantor (slot_at view k) ≡ true → is_one_of ended k ≡ false
+          stood k bear =
+              by_cases (is_one_of ended k)
+              (λ gone.
+              let by = borne_by revocation (slot_at view k) grant.grantor bear in
+              absurd (true≢false (sym (state.lost k p by.0 grant gone by.1 by.2 from found (sym by.3)) ∙ free)))
+              (λ here. here)
+
+      over_one : (p : ℕ) → next ≤ p → p < length view.slots → is_one_of due p ≡ false → ends_from ended (p + 1) ≡ ends_from ended p
+      over_one p from within free = by_found (concerned (slot_at view p) revocation) refl
+        where
+          unended : is_one_of ended p ≡ false
+          unended = by_cases (is_one_of ended p) (λ gone. let less = state.behind p gone in absurd (omega arith)) (λ here. here)
+
+          by_found : (found : Option Grant) → concerned (slot_at view p) revocation ≡ found → ends_from ended (p + 1) ≡ ends_from ended p
+          by_found None is = over_none ended p within is
+          by_found (Some grant) is = over_staying ended p grant within is unended (not_due p grant from free is)
+
+      -- so the pass goes on at the first that is due
+      pub over_free : (gap p i : ℕ) → p + gap ≡ i → next ≤ p → i ≤ length view.slots → ((j : ℕ) → next ≤ j → j < i → is_one_of due j ≡ false)
+          → ends_from ended i ≡ ends_from ended p
+      over_free zero p i is from within free = let same : i ≡ p = omega arith in ap (ends_from ended) same
+      over_free (suc gap) p i is from within free =
+          over_free gap (p + 1) i (omega arith) (omega arith) within free
+          ∙ over_one p from (omega arith) (free p from (omega arith))
+
+-- the slots of a set that has one more
+pub one_more : (before after : BTreeSet ℕ) (slot : ℕ) → Updates nat_cmp before after slot true → (k : ℕ) → is_one_of after.keys k ≡ ((slot == k) || is_one_of before.keys k)
+one_more before after slot updates k = (inserted before after slot updates).same k
+
+module _ (revocation : Revocation) (view : View) (slot : ℕ) where
+  -- a slot that ends leaves those due that it has to
+  pub due_more : (due more ended after : List ℕ) (grant : Grant) (next : ℕ) → slot < next → AreDue revocation view due ended next
+      → concerned (slot_at view slot) revocation ≡ Some grant → ((k : ℕ) → is_one_of after k ≡ ((slot == k) || is_one_of ended k))
+      → ((j : ℕ) → is_one_of due j ≡ true → is_one_of more j ≡ true)
+      → ((j : ℕ) → is_one_of more j ≡ true → (is_one_of due j ≡ true) ⊎ ((next ≤ j) × (j < length view.slots)))
+      → (grant.option ≡ true → (j : ℕ) (other : Grant) → next ≤ j → concerned (slot_at view j) revocation ≡ Some other
+      → other.grantor ≡ grant.grantee → is_one_of more j ≡ true)
+      → AreDue revocation view more after next
+  due_more due more ended after grant next ahead_of state found ends kept within later = record {
+    named = λ j other from here named. kept j (state.named j other from here named);
+    lost = λ e j gone other ended_e of with from here by.
+        elim (or_cases (slot == e) (is_one_of ended e) (sym (ends e) ∙ ended_e)) [
+          | inl now ↦
+              let at_slot : slot ≡ e = eqb-true slot e now in
+              let same : Some grant ≡ Some gone = sym found ∙ ap (λ i. concerned (slot_at view i) revocation) at_slot ∙ of in
+              let one : grant ≡ gone = cc in
+              later (ap (λ (g : Grant). g.option) one ∙ with) j other from here (by ∙ sym (ap (λ (g : Grant). g.grantee) one))
+          | inr before ↦ kept j (state.lost e j gone other before of with from here by)
+        ];
+    ahead = λ j is. elim (within j is) [ inl before ↦ state.ahead j before | inr new ↦ new ];
+    behind = λ e is.
+        elim (or_cases (slot == e) (is_one_of ended e) (sym (ends e) ∙ is)) [
+          | inl now ↦ let at_slot : slot ≡ e = eqb-true slot e now in omega arith
+          | inr before ↦ state.behind e before
+        ];
+  }
+
+-- what isn't before has not ended
+pub unended_at : (ended : List ℕ) (slot : ℕ) → ((e : ℕ) → is_one_of ended e ≡ true → e < slot) → is_one_of ended slot ≡ false
+unended_at ended slot behind =
+    by_cases (is_one_of ended slot) (λ gone. let less = behind slot gone in absurd (omega arith)) (λ here. here)
+
+pub nothing : {X : Type 0} (found : Option X) → ((x : X) → found ≡ Some x → ⊥) → found ≡ None
+nothing None never = refl
+nothing (Some x) never = absurd (never x refl)
+
+less_is : (a b : ℕ) → nat_cmp a b ≡ Less → a < b
+less_is a b is = grind (arith, nat_tests)
+
+above_all : (slot : ℕ) (keys : List ℕ) → All (λ k. nat_cmp slot k ≡ Less) keys → (j : ℕ) → is_one_of keys j ≡ true → slot < j
+above_all slot [] above j is = absurd (true≢false (sym is))
+above_all slot (k ∷ keys) above j is =
+    elim (or_cases (k == j) (is_one_of keys j) is) [
+      | inl here ↦
+          let same : k ≡ j = eqb-true k j here in
+          let less = less_is slot k (All-head (λ q. nat_cmp slot q ≡ Less) k keys above) in
+          omega arith
+      | inr later ↦ above_all slot keys (All-tail (λ q. nat_cmp slot q ≡ Less) k keys above) j later
+    ]
+
+module _ (revocation : Revocation) (view : View) where
+  -- at first those are due that are named
+  pub due_first : (due ended : List ℕ) → ended ≡ []
+      → ((j : ℕ) (grant : Grant) → concerned (slot_at view j) revocation ≡ Some grant → names revocation grant ≡ true → is_one_of due j ≡ true)
+      → ((j : ℕ) → is_one_of due j ≡ true → j < length view.slots) → AreDue revocation view due ended 0
+  due_first due ended none found within = record {
+    named = λ j grant _ is named. found j grant is named;
+    lost = λ e j gone grant ended_e of with from is by. absurd (true≢false (sym ended_e ∙ ap (λ es. is_one_of es e) none));
+    ahead = λ j is. (omega arith, within j is);
+    behind = λ e is. absurd (true≢false (sym is ∙ ap (λ es. is_one_of es e) none));
+  }
+
+  -- what the least of those that are due is, and what is due after it
+  pub record IsFirstDue (due rest ended : List ℕ) (next slot : ℕ) : Type 0 where
+    pub from : next ≤ slot
+    pub within : slot < length view.slots
+    pub behind : (e : ℕ) → is_one_of ended e ≡ true → e < slot
+    pub free : (j : ℕ) → next ≤ j → j < slot → is_one_of due j ≡ false
+    pub after : (later : ℕ) → later ≡ slot + 1 → AreDue revocation view rest ended later
+
+  pub first_due : (due rest ended : List ℕ) (next slot : ℕ) → AreDue revocation view due ended next → due ≡ slot ∷ rest
+      → All (λ k. nat_cmp slot k ≡ Less) rest → IsFirstDue due rest ended next slot
+  first_due due rest ended next slot state parts above = record {
+    from = lies.0;
+    within = lies.1;
+    behind = λ e is. let less = state.behind e is in omega (arith, lies.0);
+    free = λ j from less.
+        by_cases (is_one_of due j)
+        (λ is. elim (or_cases (slot == j) (is_one_of rest j) (sym (ap (λ ks. is_one_of ks j) parts) ∙ is)) [
+          | inl here ↦ let same : slot ≡ j = eqb-true slot j here in absurd (omega arith)
+          | inr later ↦ let more = above_all slot rest above j later in absurd (omega arith)
+        ])
+        (λ none. none);
+    after = λ later later_is. record {
+      named = λ j grant from is named. left j (omega arith) (state.named j grant (omega (arith, lies.0)) is named);
+      lost = λ e j gone grant ended_e of with from is by. left j (omega arith) (state.lost e j gone grant ended_e of with (omega (arith, lies.0)) is by);
+      ahead = λ j is. let more = above_all slot rest above j is in (omega arith, (state.ahead j (ap (λ ks. is_one_of ks j) parts ∙ or_right (slot == j) (is_one_of rest j) is)).1);
+      behind = λ e is. let less = state.behind e is in omega (arith, lies.0);
+    };
+  }
+    where
+      lies : (next ≤ slot) × (slot < length view.slots)
+      lies = state.ahead slot (ap (λ ks. is_one_of ks slot) parts ∙ rw (eq-eqb slot slot refl) refl)
+
+      left : (j : ℕ) → slot < j → is_one_of due j ≡ true → is_one_of rest j ≡ true
+      left j more is =
+          elim (or_cases (slot == j) (is_one_of rest j) (sym (ap (λ ks. is_one_of ks j) parts) ∙ is)) [
+            | inl here ↦ let same : slot ≡ j = eqb-true slot j here in absurd (omega arith)
+            | inr later ↦ later
+          ]
+
+pub none_due : (due : List ℕ) → (0 < length due → ⊥) → (j : ℕ) → is_one_of due j ≡ false
+none_due [] empty j = refl
+none_due (slot ∷ due) empty j = absurd (empty (omega arith))

@@ -1,0 +1,62 @@
+use Rattle.std.proofs.Common.{refl, ◌≡◌, ◌+◌, length, false, sym, ◌∙◌, ap, subst, arith, inl, inr, eq-eqb}
+use Rattle.std.specs.Prelude.{◌==◌}
+use Rattle.std.specs.Option.{option_map_or}
+use Rattle.std.proofs.lemmas.Bool.{true≢false, cases_lt, eqb-true, or_cases, or_right}
+use Rattle.model_base.specs.Privileges.{names}
+use Rattle.grants.specs.Index.{AreAsked}
+use Rattle.grants.specs.Pass.{concerned, is_one_of}
+use Rattle.grants.specs.View.{View, slot_at}
+use Rattle.grants.proofs.Worklist.{one_more}
+use Rattle.grants.proofs.Asked.{HaveNamed, named_step, named-skipped, nothing_past, or_first}
+use Rattle.grants.proofs.cascade.named.Goals as goal
+use Rattle.grants.proofs.cascade.named.Goals.{then-is_named+in_ok-insert-in-Some, else-is_named}
+
+pub loop-from-preserved : goal.loop-from-preserved
+loop-from-preserved g c =
+    let view = g.V.Records.shown c.args.view.now in
+    let revocation = c.args.revocation.now in
+    let asked = g.V.Records.asked c.loop-from.view in
+    let are : AreAsked view asked = subst (λ (v : View). AreAsked v asked) c.loop-from.invariant.same c.in-Some.ensures.asked in
+    let i = c.in-Some.i in
+    let same = c.in-Some.ensures.same ∙ c.loop-from.invariant.same in
+    let told : c.is_named.result ≡ option_map_or (names revocation) (concerned (slot_at view i) revocation) false =
+    c.is_named.ensures.value ∙ ap (λ (v : View). option_map_or (names revocation) (concerned (slot_at v i) revocation) false) same in
+    let so_far : HaveNamed view revocation c.loop-from.due.keys c.loop-from.from = record { found = c.loop-from.invariant.found; within = c.loop-from.invariant.within } in
+    let step : HaveNamed view revocation c.if-is_named.due.keys (i + 1) =
+    elim c.if-is_named.branch [
+      | then-is_named+in_ok-insert-in-Some w ↦
+          let more = one_more c.loop-from.due w.insert.new.self i w.in_ok-insert-in-Some.ensures.updates in
+          rw (w.due-is)
+          (named_step view asked are revocation c.loop-from.due.keys w.insert.new.self.keys c.loop-from.from i c.in-Some.ensures.next.1 c.in-Some.ensures.next.2 so_far
+          (λ j is. more j ∙ or_right (i == j) (is_one_of c.loop-from.due.keys j) is)
+          (λ _. more i ∙ or_first (i == i) (is_one_of c.loop-from.due.keys i) (eq-eqb i i refl))
+          (λ j is. elim (or_cases (i == j) (is_one_of c.loop-from.due.keys j) (sym (more j) ∙ is)) [ inl now ↦ inr (eqb-true i j now) | inr before ↦ inl before ]))
+      | else-is_named w ↦
+          rw (w.due-is)
+          (named_step view asked are revocation c.loop-from.due.keys c.loop-from.due.keys c.loop-from.from i c.in-Some.ensures.next.1 c.in-Some.ensures.next.2 so_far
+          (λ j is. is) (λ named. absurd (true≢false (sym named ∙ sym told ∙ w.if-is_named.false))) (λ j is. inl is))
+    ] in
+    record {
+      same = c.is_named.ensures.same ∙ same;
+      slots = c.slots-end.ensures;
+      found = step.found;
+      within = step.within;
+    }
+
+pub returns-in-None-clause-found : goal.returns-in-None-clause-found
+returns-in-None-clause-found g c = λ j grant is named.
+    let view = g.V.Records.shown c.args.view.now in
+    let asked = g.V.Records.asked c.loop-from.view in
+    let are : AreAsked view asked = subst (λ (v : View). AreAsked v asked) c.loop-from.invariant.same c.in-None.ensures.asked in
+    elim (cases_lt j c.loop-from.from) [
+      | inl before ↦ c.loop-from.invariant.found j grant before is named
+      | inr after ↦ absurd (named-skipped view asked are c.args.revocation.now j grant (c.in-None.ensures.next j after) is named)
+    ]
+
+pub returns-clause-found : goal.returns-clause-found
+returns-clause-found g c = λ j grant is named.
+    let view = g.V.Records.shown c.args.view.now in
+    elim (cases_lt j (length view.slots)) [
+      | inl within ↦ c.loop-from.invariant.found j grant (omega (arith, c.loop-from-test.false, c.slots-end.ensures)) is named
+      | inr over ↦ absurd (nothing_past view c.args.revocation.now j grant over is)
+    ]
