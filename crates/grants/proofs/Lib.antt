@@ -9,7 +9,6 @@ pub mod RevokeLaws
 pub mod LaterLaws
 pub mod CutLaws
 pub mod SlotEnds
-pub mod Parts
 pub mod ShownLaws
 pub mod LossLaws
 pub mod LawfulViews
@@ -19,3 +18,7 @@ pub mod Asked
 pub mod Borne
 pub mod Found
 pub mod Walks
+pub mod MarkLaws
+pub mod Indexing
+pub mod Lookups
+pub mod EndingLaws

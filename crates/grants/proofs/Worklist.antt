@@ -14,7 +14,7 @@ use Rattle.model_base.specs.Privileges.{names}
 use Rattle.model_base.proofs.Replay.{by_cases}
 use Rattle.grants.specs.View.{View, slot_at}
 use Rattle.grants.specs.Pass.{cascade, concerned, concerned_grants, holders_after, is_one_of, outlasts}
-use Rattle.grants.specs.Work.{AreBorne, AreDue, bears, keepers, keepers_after}
+use Rattle.grants.specs.Work.{AreBorne, AreDue, AreWalked, bears, keepers, keepers_after}
 use Rattle.grants.proofs.Holders.{inserted}
 use Rattle.grants.proofs.SlotLaws.{about_concerned, step_on, step_over}
 
@@ -307,3 +307,29 @@ module _ (revocation : Revocation) (view : View) where
 pub none_due : (due : List ℕ) → (0 < length due → ⊥) → (j : ℕ) → is_one_of due j ≡ false
 none_due [] empty j = refl
 none_due (slot ∷ due) empty j = absurd (empty (omega arith))
+
+-- one user more whose grants are due
+pub walked_more : (revocation : Revocation) (view : View) (due more walked now : List ℕ) (user next : ℕ)
+    → ((u : ℕ) → is_one_of now u ≡ ((user == u) || is_one_of walked u)) → AreWalked revocation view due walked next
+    → ((j : ℕ) → is_one_of due j ≡ true → is_one_of more j ≡ true)
+    → ((j : ℕ) (grant : Grant) → next ≤ j → concerned (slot_at view j) revocation ≡ Some grant → grant.grantor ≡ user → is_one_of more j ≡ true)
+    → AreWalked revocation view more now next
+walked_more revocation view due more walked now user next has state kept found = record {
+  each = λ u j grant is from at by.
+      elim (or_cases (user == u) (is_one_of walked u) (sym (has u) ∙ is)) [
+        | inl here ↦ let same : user ≡ u = eqb-true user u here in found j grant from at (by ∙ sym same)
+        | inr before ↦ kept j (state.each u j grant before from at by)
+      ];
+}
+
+-- behind the first that is due the others still are
+pub walked_rest : (revocation : Revocation) (view : View) (due rest walked : List ℕ) (next later slot : ℕ) → next ≤ slot → later ≡ slot + 1 → due ≡ slot ∷ rest
+    → AreWalked revocation view due walked next → AreWalked revocation view rest walked later
+walked_rest revocation view due rest walked next later slot from later_is parts state = record {
+  each = λ u j grant is low at by.
+      let was = state.each u j grant is (omega arith) at by in
+      elim (or_cases (slot == j) (is_one_of rest j) (sym (ap (λ ks. is_one_of ks j) parts) ∙ was)) [
+        | inl here ↦ let same : slot ≡ j = eqb-true slot j here in absurd (omega arith)
+        | inr left ↦ left
+      ];
+}

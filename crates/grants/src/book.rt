@@ -1,22 +1,20 @@
 //! The book of grants: each grant that was made, with its end.
 
-ghost use Rattle.std.specs.Prelude.{Decides, filter, nat_lt, vec_capacity, vec_len, ◌+◌, ◌≤◌, ◌≡◌, ◌<◌, ◌++◌, ◌∷◌, [], ℕ, List, All, IfOk, IsTrue, OnErr, OnOk, length, map, take, slice_get, Some};
+ghost use Rattle.std.specs.Prelude.{Decides, ◌+◌, ◌≡◌, ◌<◌, ◌++◌, ◌∷◌, [], ℕ, List, All, IfOk, IsTrue, OnErr, OnOk, length};
 ghost use Rattle.model_base.specs.declared.deed.Deed.TheVariants.{Granting, Revoking};
 ghost use Rattle.model_base.specs.declared.deed.Deed.{Deed};
 ghost use Rattle.model_base.specs.Privileges.{ended_by, option_of, place_of};
-ghost use Rattle.model_base.specs.Records.{deeds_below, ended_at, recorded};
+ghost use Rattle.model_base.specs.Records.{deeds_below, recorded};
 ghost use Rattle.grants.specs.Index.{IsNext, is_by, is_to};
-ghost use Rattle.grants.specs.Pass.{is_one_of};
-ghost use Rattle.grants.specs.Book.{end_slot, end_slots, lies_below, reopened, unended};
 ghost use Rattle.grants.specs.declared.book.End.{End};
 ghost use Rattle.grants.specs.declared.book.Creation.{Creation};
-ghost use Rattle.model_base.specs.declared.deed.Record.{Record};
 
 use crate::cascade::to_end;
-use crate::records::{Records, is_by, is_to};
+use crate::entries::{append_tables, ends_of, lies_below, records_below, tables_below};
+use crate::indexed::IndexedRecords;
+use crate::records::Records;
 use model_base::{Grant, Kind, Place, Record, Revocation, Table, User};
 use std::alloc::{AllocError, Global};
-use std::collections::BTreeSet;
 use std::marker::Model;
 
 /// Who created a table, and at which place.
@@ -35,11 +33,12 @@ pub struct End {
 
 /// The tables in the order of their creation, and each grant that was made on them, with its end, in the order of their
 /// places. No grant is dropped and none is kept twice: a repeated grant stands with its own place, as R. Fagin found that
-/// it must ("On an Authorization Mechanism", ACM TODS 3, 1978).
+/// it must ("On an Authorization Mechanism", ACM TODS 3, 1978). The grants of a user are found by an index, so no call goes
+/// through those of others.
 #[derive(Drop)]
 pub struct Book {
     tables: Vec<Creation>,
-    records: Vec<Record>,
+    records: IndexedRecords,
 }
 
 impl Model for Book {
@@ -47,9 +46,9 @@ impl Model for Book {
 
     ghost Value = { Entries };
 
-    ghost view = { λ book. record { tables = book.tables.items; records = book.records.items } };
+    ghost view = { λ book. record { tables = book.tables.items; records = book.records } };
 
-    ghost invariant = { λ book. IsSound (record { tables = book.tables.items; records = book.records.items }) };
+    ghost invariant = { λ book. IsSound (record { tables = book.tables.items; records = book.records }) };
 }
 
 impl Book {
@@ -64,7 +63,7 @@ impl Book {
     {
         Book {
             tables: Vec::new(alloc),
-            records: Vec::new(alloc),
+            records: IndexedRecords::new(alloc),
         }
     }
 
@@ -81,7 +80,7 @@ impl Book {
         ensures records { result.now ≡ self.now.records }
         ensures sound { IsSound self.now }
     {
-        &self.records
+        self.records.as_slice()
     }
 
     /// Adds a table last, which its creator owns, and answers its number. The place has to lie above all of the book. On
@@ -103,8 +102,8 @@ impl Book {
     }
 
     /// Adds a grant last. The place has to lie above all of the book, the table to be one of its tables, and the grantor to
-    /// hold the kind with the option, as `holds_option` tells by the book's view. On `Err` memory was refused, and the book
-    /// is as it was.
+    /// hold the kind with the option, as `holds_option` tells by the book's view. It takes a time that grows with the
+    /// logarithm of the number of grants. On `Err` memory was refused, and the book is as it was.
     #[tactic(auto, using(crate::proofs::GrantLaws::sound_grant, crate::proofs::GrantLaws::shows_grant, crate::proofs::LaterLaws::later_grant))]
     pub fn grant(&mut self, grant: Grant) -> Result<(), AllocError>
         requires later { IsLater self.old grant.place }
@@ -116,7 +115,7 @@ impl Book {
         ensures later { OnOk result ((next : ℕ) → grant.place < next → IsLater self.new next) }
         ensures err { OnErr result (self.new ≡ self.old) }
     {
-        self.records.push(Record { grant, end: None })?;
+        self.records.push(grant)?;
         Ok(())
     }
 
@@ -132,6 +131,20 @@ impl Book {
         BookView { book: self, place }
     }
 
+    /// The least slot at or above this one whose grant is to the user, of the kind on the table.
+    fn next_to(&self, user: User, kind: Kind, table: Table, from: usize) -> Option<usize>
+        ensures { IsNext (is_to user kind table) (recorded self.now.records) from result }
+    {
+        self.records.next_to(user, kind, table, from)
+    }
+
+    /// The least slot at or above this one whose grant is by the user, of the kind on the table.
+    fn next_by(&self, user: User, kind: Kind, table: Table, from: usize) -> Option<usize>
+        ensures { IsNext (is_by user kind table) (recorded self.now.records) from result }
+    {
+        self.records.next_by(user, kind, table, from)
+    }
+
     /// The places of the grants that the revocation takes out of force.
     fn to_end(&self, alloc: Global, revocation: &Revocation) -> Result<Vec<Place>, AllocError>
         requires table { revocation.now.table < length self.now.tables }
@@ -145,8 +158,8 @@ impl Book {
 
     /// Ends the grants that the revocation takes out of force, at its place, and answers their places in rising order. The
     /// place has to lie above all of the book, and the table to be one of its tables. It costs what `to_end` does on the
-    /// book's view, and for each grant of the book a look-up among the ended places, in a time that grows with the logarithm
-    /// of their number. On `Err` memory was refused, and the book is as it was.
+    /// book's view, and for each grant that ends a time that grows with the logarithm of the number of grants. On `Err`
+    /// memory was refused, and the book is as it was.
     pub fn revoke(
         &mut self,
         alloc: Global,
@@ -163,8 +176,8 @@ impl Book {
         ensures err { OnErr result (self.new ≡ self.old) }
     {
         let ended = self.to_end(alloc, revocation)?;
-        let places = place_set(alloc, &ended)?;
-        close(&mut self.records, revocation.place, &places);
+        let ends = ends_of(alloc, self.records.as_slice(), &ended, revocation.place)?;
+        self.records.end(&ends)?;
         Ok(ended)
     }
 
@@ -182,7 +195,8 @@ impl Book {
 
     /// Adds tables and grants behind the others, the grants without an end, and then ends records by their slots. What is
     /// so put together has to be a book. Where the book showed some deeds, and the grants and ends are what more deeds make
-    /// of their records, it then shows them all. On `Err` memory was refused, and the book is as it was.
+    /// of their records, it then shows them all. Each table, grant and end costs a time that grows with the logarithm of the
+    /// number of grants. On `Err` memory was refused, and the book is as it was.
     pub fn extend(
         &mut self,
         tables: &[Creation],
@@ -197,139 +211,24 @@ impl Book {
         ensures err { OnErr result (self.new ≡ self.old) }
     {
         self.tables.reserve(tables.len())?;
-        self.records.reserve(grants.len())?;
+        self.records.extend(grants, ends)?;
         append_tables(&mut self.tables, tables);
-        append_grants(&mut self.records, grants);
-        set_ends(&mut self.records, ends);
         Ok(())
     }
 
-    /// Forgets the tables, grants and ends of the place and of later ones. It takes no memory, and looks once at each.
+    /// Forgets the tables, grants and ends of the place and of later ones. It takes no memory. Each that is forgotten costs a
+    /// time that grows with the logarithm of the number of grants.
     pub fn cut(&mut self, place: Place)
         ensures cut { self.new ≡ cut_book place self.old }
         ensures after { (owners others more : List ℕ) (deeds : List Deed) → ShowsBook self.old owners deeds
             → All (λ deed. table_of deed < length self.new.tables) (deeds_below place deeds)
             → others ≡ owners_of self.new.tables ++ more → ShowsBook self.new others (deeds_below place deeds) }
     {
-        retain_tables(&mut self.tables, place);
-        retain_records(&mut self.records, place);
-        reopen(&mut self.records, place);
-    }
-}
-
-/// Whether the grant and its end lie below the place.
-fn lies_below(entry: &Record, place: Place) -> bool
-    ensures { result ≡ lies_below place entry.now }
-{
-    entry.grant.place < place && entry.end.is_none_or(|end| end < place)
-}
-
-/// Adds the tables behind the others, for which there is room.
-fn append_tables(tables: &mut Vec<Creation>, more: &[Creation])
-    requires { vec_len tables.old + length more.now ≤ vec_capacity tables.old }
-    ensures { tables.new.items ≡ tables.old.items ++ more.now }
-{
-    for creation in more {
-        tables.push_reserved(*creation);
-    }
-}
-
-/// Adds the grants without an end behind the others, for which there is room.
-fn append_grants(records: &mut Vec<Record>, grants: &[Grant])
-    requires { vec_len records.old + length grants.now ≤ vec_capacity records.old }
-    ensures { records.new.items ≡ records.old.items ++ map unended grants.now }
-{
-    for grant in grants {
-        records.push_reserved(Record {
-            grant: *grant,
-            end: None,
-        });
-    }
-}
-
-/// Ends the record of the slot.
-fn set_end(records: &mut [Record], slot: usize, place: Place)
-    requires { slot < length records.old }
-    ensures { records.new ≡ end_slot records.old slot place }
-{
-    records[slot].end = Some(place);
-}
-
-/// Ends the records of the slots, one after the other.
-fn set_ends(records: &mut [Record], ends: &[End])
-    requires { All (λ (end : End). end.slot < length records.old) ends.now }
-    ensures { records.new ≡ end_slots records.old ends.now }
-{
-    for end in ends {
-        set_end(records, end.slot, end.place);
-    }
-}
-
-/// Keeps the tables that were created below the place.
-fn retain_tables(tables: &mut Vec<Creation>, place: Place)
-    ensures { tables.new.items ≡ filter (λ (creation : Creation). nat_lt creation.place place) tables.old.items }
-{
-    tables.retain(|creation| creation.place < place);
-}
-
-/// Keeps the records of the grants that were made below the place.
-fn retain_records(records: &mut Vec<Record>, place: Place)
-    ensures { records.new.items ≡ filter (λ (entry : Record). nat_lt entry.grant.place place) records.old.items }
-{
-    records.retain(|record| record.grant.place < place);
-}
-
-/// The record, without an end that doesn't lie below the place.
-fn reopened(entry: Record, place: Place) -> Record
-    ensures { result ≡ reopened place entry }
-{
-    Record {
-        grant: entry.grant,
-        end: entry.end.filter(|end| *end < place),
-    }
-}
-
-/// Forgets the ends that don't lie below the place.
-fn reopen(records: &mut [Record], place: Place)
-    ensures { records.new ≡ map (reopened place) records.old }
-{
-    for entry in records.iter_mut() {
-        *entry = reopened(*entry, place);
-    }
-}
-
-/// The places as a set.
-fn place_set(alloc: Global, places: &[Place]) -> Result<BTreeSet<Place>, AllocError>
-    ensures { IfOk result (λ set. (place : ℕ) → is_one_of set.keys place ≡ is_one_of places.now place) }
-{
-    let mut set = BTreeSet::new(alloc);
-    for place in places {
-        set.insert(*place)?;
-    }
-    Ok(set)
-}
-
-/// The record, ended at this place if it has no end and its grant's place is one of these.
-#[tactic(auto, using(crate::proofs::Holders::contains_one))]
-fn ended_at(entry: Record, place: Place, ended: &BTreeSet<Place>) -> Record
-    ensures { result ≡ ended_at place ended.now.keys entry }
-{
-    if entry.end.is_none() && ended.contains(&entry.grant.place) {
-        Record {
-            grant: entry.grant,
-            end: Some(place),
-        }
-    } else {
-        entry
-    }
-}
-
-/// Ends the records of the grants of these places that have no end.
-fn close(records: &mut [Record], place: Place, ended: &BTreeSet<Place>)
-    ensures { records.new ≡ map (ended_at place ended.now.keys) records.old }
-{
-    for entry in records.iter_mut() {
-        *entry = ended_at(*entry, place, ended);
+        let tables = tables_below(&self.tables, place);
+        let records = records_below(self.records.as_slice(), place);
+        self.records.reopen(place);
+        self.records.truncate(records);
+        self.tables.truncate(tables);
     }
 }
 
@@ -338,30 +237,6 @@ fn close(records: &mut [Record], place: Place, ended: &BTreeSet<Place>)
 pub struct BookView<'a> {
     book: &'a Book,
     place: Place,
-}
-
-/// The least index at or above this one whose record is of a grant to this user, of this kind on this table.
-fn first_to(records: &[Record], user: User, kind: Kind, table: Table, from: usize) -> Option<usize>
-    ensures { IsNext (is_to user kind table) (recorded records.now) from result }
-{
-    for i in from..records.len() {
-        if is_to(&records[i].grant, user, kind, table) {
-            return Some(i);
-        }
-    }
-    None
-}
-
-/// The least index at or above this one whose record is of a grant by this user, of this kind on this table.
-fn first_by(records: &[Record], user: User, kind: Kind, table: Table, from: usize) -> Option<usize>
-    ensures { IsNext (is_by user kind table) (recorded records.now) from result }
-{
-    for i in from..records.len() {
-        if is_by(&records[i].grant, user, kind, table) {
-            return Some(i);
-        }
-    }
-    None
 }
 
 impl Records for BookView<'_> {
@@ -404,10 +279,10 @@ impl Records for BookView<'_> {
     }
 
     fn next_to(&mut self, user: User, kind: Kind, table: Table, from: usize) -> Option<usize> {
-        first_to(self.book.records(), user, kind, table, from)
+        self.book.next_to(user, kind, table, from)
     }
 
     fn next_by(&mut self, user: User, kind: Kind, table: Table, from: usize) -> Option<usize> {
-        first_by(self.book.records(), user, kind, table, from)
+        self.book.next_by(user, kind, table, from)
     }
 }

@@ -6,7 +6,7 @@ ghost use Rattle.model_base.specs.Privileges.{concerns, ended_by, names};
 ghost use Rattle.model_base.specs.declared.deed.Deed.{Deed};
 ghost use Rattle.model_base.specs.declared.deed.Grant.{Grant};
 ghost use Rattle.grants.specs.Pass.{cascade, concerned, concerned_grants, is_one_of, outlasts};
-ghost use Rattle.grants.specs.Work.{AreDue, bears, keepers};
+ghost use Rattle.grants.specs.Work.{AreDue, AreWalked, bears, keepers};
 ghost use Rattle.grants.specs.View.{Shows, slot_at};
 
 use crate::records::Records;
@@ -171,6 +171,41 @@ fn add_grants_by<V: Records>(
     Ok(())
 }
 
+/// The user lost an option: the slots from this one on whose grants are by the user, of the revocation's kind and table, are
+/// due. They are added once for each user.
+fn lose<V: Records>(
+    view: &mut V,
+    user: User,
+    revocation: &Revocation,
+    start: usize,
+    due: &mut BTreeSet<usize>,
+    walked: &mut BTreeSet<User>,
+) -> Result<(), AllocError>
+    requires { AreWalked revocation.now (V.shown view.old) due.old.keys walked.old.keys start }
+    ensures found { OnOk result ((j : ℕ) (grant : Grant) → start ≤ j → concerned (slot_at (V.shown view.old) j) revocation.now ≡ Some grant
+        → grant.grantor ≡ user → is_one_of due.new.keys j ≡ true) }
+    ensures kept { OnOk result ((j : ℕ) → is_one_of due.old.keys j ≡ true → is_one_of due.new.keys j ≡ true) }
+    ensures within { OnOk result ((j : ℕ) → is_one_of due.new.keys j ≡ true → (is_one_of due.old.keys j ≡ true) ⊎ ((start ≤ j) × (j < length (V.shown view.old).slots))) }
+    ensures walked { OnOk result (AreWalked revocation.now (V.shown view.old) due.new.keys walked.new.keys start) }
+    ensures same { V.shown view.new ≡ V.shown view.old }
+{
+    let is_new = walked.insert(user)?;
+    if is_new {
+        add_grants_by(view, user, revocation, start, due)?;
+        Ok(())
+    } else {
+        Ok(())
+    }
+}
+
+/// The slots that are still to be judged, the users whose grants are among them, and the slots that have ended.
+#[derive(Drop)]
+struct Work {
+    due: BTreeSet<usize>,
+    walked: BTreeSet<User>,
+    ended: BTreeSet<usize>,
+}
+
 /// One slot that is due: either its grant ends, or its grantee keeps what it gives. With a grant that ends and had the
 /// option, the later grants of its grantee are due.
 fn judge<V: Records>(
@@ -179,42 +214,51 @@ fn judge<V: Records>(
     revocation: &Revocation,
     slot: usize,
     next: usize,
-    due: &mut BTreeSet<usize>,
-    ended: &mut BTreeSet<usize>,
+    work: &mut Work,
     places: &mut Vec<Place>,
 ) -> Result<(), AllocError>
     requires within { slot < length (V.shown view.old).slots }
     requires next { next ≡ slot + 1 }
-    requires due { AreDue revocation.now (V.shown view.old) due.old.keys ended.old.keys next }
-    requires behind { (e : ℕ) → is_one_of ended.old.keys e ≡ true → e < slot }
-    ensures due { OnOk result (AreDue revocation.now (V.shown view.old) due.new.keys ended.new.keys next) }
-    ensures whole { OnOk result (places.new.items ++ cascade owner revocation.now (keepers revocation.now (V.shown view.old) ended.new.keys next)
+    requires due { AreDue revocation.now (V.shown view.old) work.old.due.keys work.old.ended.keys next }
+    requires walked { AreWalked revocation.now (V.shown view.old) work.old.due.keys work.old.walked.keys next }
+    requires behind { (e : ℕ) → is_one_of work.old.ended.keys e ≡ true → e < slot }
+    ensures due { OnOk result (AreDue revocation.now (V.shown view.old) work.new.due.keys work.new.ended.keys next) }
+    ensures walked { OnOk result (AreWalked revocation.now (V.shown view.old) work.new.due.keys work.new.walked.keys next) }
+    ensures whole { OnOk result (places.new.items ++ cascade owner revocation.now (keepers revocation.now (V.shown view.old) work.new.ended.keys next)
         (concerned_grants revocation.now (drop next (V.shown view.old).slots))
-        ≡ places.old.items ++ cascade owner revocation.now (keepers revocation.now (V.shown view.old) ended.old.keys slot)
+        ≡ places.old.items ++ cascade owner revocation.now (keepers revocation.now (V.shown view.old) work.old.ended.keys slot)
         (concerned_grants revocation.now (drop slot (V.shown view.old).slots))) }
     ensures same { V.shown view.new ≡ V.shown view.old }
 {
     let Some(grant) = concerned(view, slot, revocation) else {
         return Ok(());
     };
-    if stays(view, owner, revocation, ended, &grant, slot) {
+    if stays(view, owner, revocation, &work.ended, &grant, slot) {
         return Ok(());
     }
     places.push(grant.place)?;
-    ended.insert(slot)?;
+    work.ended.insert(slot)?;
     if grant.option {
-        add_grants_by(view, grant.grantee, revocation, next, due)?;
+        lose(
+            view,
+            grant.grantee,
+            revocation,
+            next,
+            &mut work.due,
+            &mut work.walked,
+        )?;
     }
     Ok(())
 }
 
 /// The places of the grants that the revocation takes out of force, in rising order: what the deeds of the view's place
-/// give, and without the revoked grants no longer do. It is the recursive revocation of Griffiths and Wade, in one pass
-/// over the slots: a grant in force of this kind and table ends if the revocation names it, or if its grantor isn't the
-/// owner and has the option by no earlier grant that stays. So a cycle of grants doesn't bear itself, and a grant that an
-/// earlier way bears stays. It looks once at each slot; each grant of this kind and table costs a look-up in the set of
-/// those who keep the option, or an insertion, which take a time that grows with the logarithm of their number. Besides
-/// that set it takes memory for its answer. On `Err` memory was refused. What the view shows stays in any case.
+/// give, and without the revoked grants no longer do. It is the recursive revocation of Griffiths and Wade: a grant in force
+/// of this kind and table ends if the revocation names it, or if its grantor isn't the owner and has the option by no earlier
+/// grant that stays. So a cycle of grants doesn't bear itself, and a grant that an earlier way bears stays. Of this kind and
+/// table it goes through the grants to the revocation's grantee, and once through those by each user whose option ends; for
+/// each of these in force it goes through the grants to its grantor below it, up to one that stays. The slots to be judged
+/// are kept in a set, in a time that grows with the logarithm of their number. Besides that it takes memory for its answer.
+/// On `Err` memory was refused. What the view shows stays in any case.
 pub fn to_end<V: Records>(
     alloc: Global,
     view: &mut V,
@@ -229,22 +273,17 @@ pub fn to_end<V: Records>(
     let owner = view.owner(revocation.table);
     // That there are so many slots bounds the next one.
     let _slots = view.slots();
-    let mut due = named(alloc, view, revocation)?;
-    let mut ended: BTreeSet<usize> = BTreeSet::new(alloc);
+    let due = named(alloc, view, revocation)?;
+    let mut work = Work {
+        due,
+        walked: BTreeSet::new(alloc),
+        ended: BTreeSet::new(alloc),
+    };
     let mut places = Vec::new(alloc);
     let mut next = 0;
-    while let Some(slot) = due.pop_first() {
+    while let Some(slot) = work.due.pop_first() {
         next = slot + 1;
-        judge(
-            view,
-            owner,
-            revocation,
-            slot,
-            next,
-            &mut due,
-            &mut ended,
-            &mut places,
-        )?;
+        judge(view, owner, revocation, slot, next, &mut work, &mut places)?;
     }
     Ok(places)
 }

@@ -2,7 +2,7 @@ use Rattle.std.proofs.Common.{◌≡◌, ◌<◌, ◌≤◌, ◌++◌, Some, len
 use Rattle.std.specs.Prelude.{◌⊎◌}
 use Rattle.std.proofs.lemmas.Bool.{true≢false}
 use Rattle.grants.specs.Pass.{concerned, is_one_of, outlasts}
-use Rattle.grants.specs.Work.{keepers}
+use Rattle.grants.specs.Work.{keepers, AreWalked}
 use Rattle.grants.specs.View.{View, slot_at}
 use Rattle.grants.proofs.Worklist.{due_more, nothing, one_more, over_none, over_staying, unended_at, whole_ending}
 use Rattle.grants.proofs.cascade.judge.Goals as goal
@@ -12,13 +12,13 @@ returns-in_default-clause-whole g c =
     let view = g.V.Records.shown c.args.view.now in
     rw (c.requires.next)
     (ap (λ rest. c.args.places.now.items ++ rest)
-    (over_none c.args.revocation.now view c.args.owner c.args.ended.now.keys c.args.slot c.requires.within
+    (over_none c.args.revocation.now view c.args.owner c.args.work.now.ended.keys c.args.slot c.requires.within
     (nothing (concerned (slot_at view c.args.slot) c.args.revocation.now) (λ grant is. c.in_default.not-Some grant (c.concerned.ensures.value ∙ is)))))
 
 pub returns-then-stays-clause-whole : goal.returns-then-stays-clause-whole
 returns-then-stays-clause-whole g c =
     let view = g.V.Records.shown c.args.view.now in
-    let ended = c.args.ended.now.keys in
+    let ended = c.args.work.now.ended.keys in
     let found : concerned (slot_at view c.args.slot) c.args.revocation.now ≡ Some c.in-Some.grant = sym c.in-Some.ensures.value in
     let told : outlasts c.args.owner (keepers c.args.revocation.now view ended c.args.slot) c.args.revocation.now c.in-Some.grant ≡ true =
     ap (λ (v : View). outlasts c.args.owner (keepers c.args.revocation.now v ended c.args.slot) c.args.revocation.now c.in-Some.grant) (sym c.in-Some.ensures.same) ∙ sym c.stays.ensures.value ∙ c.if-stays.true in
@@ -26,44 +26,52 @@ returns-then-stays-clause-whole g c =
     (ap (λ rest. c.args.places.now.items ++ rest)
     (over_staying c.args.revocation.now view c.args.owner ended c.args.slot c.in-Some.grant c.requires.within found (unended_at ended c.args.slot c.requires.behind) told))
 
-pub returns-in_ok-add_grants_by-clause-due : goal.returns-in_ok-add_grants_by-clause-due
-returns-in_ok-add_grants_by-clause-due g c =
+pub returns-in_ok-lose-clause-due : goal.returns-in_ok-lose-clause-due
+returns-in_ok-lose-clause-due g c =
     let view = g.V.Records.shown c.args.view.now in
     let seen = g.V.Records.shown c.stays.new.view in
     let same : seen ≡ view = c.if-stays.ensures.same ∙ c.in-Some.ensures.same in
     let found : concerned (slot_at view c.args.slot) c.args.revocation.now ≡ Some c.in-Some.grant = sym c.in-Some.ensures.value in
-    due_more c.args.revocation.now view c.args.slot c.args.due.now.keys c.add_grants_by.new.due.keys c.args.ended.now.keys c.insert.new.self.keys c.in-Some.grant c.args.next
+    due_more c.args.revocation.now view c.args.slot c.args.work.now.due.keys c.lose.new.due.keys c.args.work.now.ended.keys c.insert.new.self.keys c.in-Some.grant c.args.next
     (omega (arith, c.requires.next)) c.requires.due found
-    (one_more c.args.ended.now c.insert.new.self c.args.slot c.in_ok-insert.ensures.updates)
-    c.in_ok-add_grants_by.ensures.kept
-    (λ j is. subst (λ (v : View). (is_one_of c.args.due.now.keys j ≡ true) ⊎ ((c.args.next ≤ j) × (j < length v.slots))) same (c.in_ok-add_grants_by.ensures.within j is))
-    (λ _ j other from here by. c.in_ok-add_grants_by.ensures.found j other from (ap (λ (v : View). concerned (slot_at v j) c.args.revocation.now) same ∙ here) by)
+    (one_more c.args.work.now.ended c.insert.new.self c.args.slot c.in_ok-insert.ensures.updates)
+    c.in_ok-lose.ensures.kept
+    (λ j is. subst (λ (v : View). (is_one_of c.args.work.now.due.keys j ≡ true) ⊎ ((c.args.next ≤ j) × (j < length v.slots))) same (c.in_ok-lose.ensures.within j is))
+    (λ _ j other from here by. c.in_ok-lose.ensures.found j other from (ap (λ (v : View). concerned (slot_at v j) c.args.revocation.now) same ∙ here) by)
 
-pub returns-in_ok-add_grants_by-clause-whole : goal.returns-in_ok-add_grants_by-clause-whole
-returns-in_ok-add_grants_by-clause-whole g c =
+pub returns-in_ok-lose-clause-whole : goal.returns-in_ok-lose-clause-whole
+returns-in_ok-lose-clause-whole g c =
     let view = g.V.Records.shown c.args.view.now in
-    let ended = c.args.ended.now.keys in
+    let ended = c.args.work.now.ended.keys in
     let found : concerned (slot_at view c.args.slot) c.args.revocation.now ≡ Some c.in-Some.grant = sym c.in-Some.ensures.value in
     let told : outlasts c.args.owner (keepers c.args.revocation.now view ended c.args.slot) c.args.revocation.now c.in-Some.grant ≡ false =
     ap (λ (v : View). outlasts c.args.owner (keepers c.args.revocation.now v ended c.args.slot) c.args.revocation.now c.in-Some.grant) (sym c.in-Some.ensures.same) ∙ sym c.stays.ensures.value ∙ c.if-stays.false in
     whole_ending c.args.revocation.now view c.args.owner c.args.places.now.items c.push.new.self.items ended c.insert.new.self.keys c.args.slot c.args.next c.in-Some.grant
-    c.requires.next c.requires.within c.in_ok-push.ensures.items found (one_more c.args.ended.now c.insert.new.self c.args.slot c.in_ok-insert.ensures.updates) told
+    c.requires.next c.requires.within c.in_ok-push.ensures.items found (one_more c.args.work.now.ended c.insert.new.self c.args.slot c.in_ok-insert.ensures.updates) told
 
 pub returns-else-grant-clause-due : goal.returns-else-grant-clause-due
 returns-else-grant-clause-due g c =
     let view = g.V.Records.shown c.args.view.now in
     let found : concerned (slot_at view c.args.slot) c.args.revocation.now ≡ Some c.in-Some.grant = sym c.in-Some.ensures.value in
-    due_more c.args.revocation.now view c.args.slot c.args.due.now.keys c.args.due.now.keys c.args.ended.now.keys c.insert.new.self.keys c.in-Some.grant c.args.next
+    due_more c.args.revocation.now view c.args.slot c.args.work.now.due.keys c.args.work.now.due.keys c.args.work.now.ended.keys c.insert.new.self.keys c.in-Some.grant c.args.next
     (omega (arith, c.requires.next)) c.requires.due found
-    (one_more c.args.ended.now c.insert.new.self c.args.slot c.in_ok-insert.ensures.updates)
+    (one_more c.args.work.now.ended c.insert.new.self c.args.slot c.in_ok-insert.ensures.updates)
     (λ j is. is) (λ j is. inl is) (λ with j other from here by. absurd (true≢false (sym with ∙ c.if-grant.false)))
 
 pub returns-else-grant-clause-whole : goal.returns-else-grant-clause-whole
 returns-else-grant-clause-whole g c =
     let view = g.V.Records.shown c.args.view.now in
-    let ended = c.args.ended.now.keys in
+    let ended = c.args.work.now.ended.keys in
     let found : concerned (slot_at view c.args.slot) c.args.revocation.now ≡ Some c.in-Some.grant = sym c.in-Some.ensures.value in
     let told : outlasts c.args.owner (keepers c.args.revocation.now view ended c.args.slot) c.args.revocation.now c.in-Some.grant ≡ false =
     ap (λ (v : View). outlasts c.args.owner (keepers c.args.revocation.now v ended c.args.slot) c.args.revocation.now c.in-Some.grant) (sym c.in-Some.ensures.same) ∙ sym c.stays.ensures.value ∙ c.if-stays.false in
     whole_ending c.args.revocation.now view c.args.owner c.args.places.now.items c.push.new.self.items ended c.insert.new.self.keys c.args.slot c.args.next c.in-Some.grant
-    c.requires.next c.requires.within c.in_ok-push.ensures.items found (one_more c.args.ended.now c.insert.new.self c.args.slot c.in_ok-insert.ensures.updates) told
+    c.requires.next c.requires.within c.in_ok-push.ensures.items found (one_more c.args.work.now.ended c.insert.new.self c.args.slot c.in_ok-insert.ensures.updates) told
+
+pub returns-in_ok-lose-clause-walked : goal.returns-in_ok-lose-clause-walked
+returns-in_ok-lose-clause-walked g c =
+    subst (λ (v : View). AreWalked c.args.revocation.now v c.lose.new.due.keys c.lose.new.walked.keys c.args.next) (c.if-stays.ensures.same ∙ c.in-Some.ensures.same) c.in_ok-lose.ensures.walked
+
+pub lose-requires : goal.lose-requires
+lose-requires g c =
+    subst (λ (v : View). AreWalked c.args.revocation.now v c.args.work.now.due.keys c.args.work.now.walked.keys c.args.next) (sym (c.if-stays.ensures.same ∙ c.in-Some.ensures.same)) c.requires.walked

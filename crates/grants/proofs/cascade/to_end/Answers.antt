@@ -4,17 +4,17 @@ use Rattle.std.proofs.lemmas.Bool.{true≢false}
 use Rattle.std.proofs.lemmas.List.{append-nil}
 use Rattle.std.proofs.Math.ListN.{drop_of_length-le}
 use Rattle.grants.specs.Pass.{cascade, concerned_grants}
-use Rattle.grants.specs.Work.{AreDue, keepers}
+use Rattle.grants.specs.Work.{AreDue, keepers, AreWalked}
 use Rattle.grants.specs.View.{Shows, View}
 use Rattle.grants.proofs.SlotLaws.{pass_ends}
-use Rattle.grants.proofs.Worklist.{IsFirstDue, ends_from, first_due, none_due, nothing, over_free}
+use Rattle.grants.proofs.Worklist.{IsFirstDue, ends_from, first_due, none_due, nothing, over_free, walked_rest}
 use Rattle.grants.proofs.Borne.{shows_borne}
 use Rattle.grants.proofs.cascade.to_end.Goals as goal
 
 pub overflow_add-next : goal.overflow_add-next
 overflow_add-next g c =
     let view = g.V.Records.shown c.named.new.view in
-    let first : IsFirstDue c.args.revocation.now view c.loop-slot.due.keys c.pop_first.new.self.keys c.loop-slot.ended.keys c.loop-slot.next c.in-Some.slot =
+    let first : IsFirstDue c.args.revocation.now view c.loop-slot.work.due.keys c.pop_first.new.self.keys c.loop-slot.work.ended.keys c.loop-slot.next c.in-Some.slot =
     first_due c.args.revocation.now view _ _ _ _ _ c.loop-slot.invariant.due c.in-Some.ensures.removal c.in-Some.ensures.all_above in
     let same : length view.slots ≡ c.slots-slots.result = ap (λ (v : View). length v.slots) c.in_ok-due.ensures.same ∙ sym c.slots-slots.ensures in
     omega (arith, first.within, same, c.slots-slots.type_inv)
@@ -22,29 +22,38 @@ overflow_add-next g c =
 pub judge-requires-clause-within : goal.judge-requires-clause-within
 judge-requires-clause-within g c =
     let view = g.V.Records.shown c.named.new.view in
-    let first : IsFirstDue c.args.revocation.now view c.loop-slot.due.keys c.pop_first.new.self.keys c.loop-slot.ended.keys c.loop-slot.next c.in-Some.slot =
+    let first : IsFirstDue c.args.revocation.now view c.loop-slot.work.due.keys c.pop_first.new.self.keys c.loop-slot.work.ended.keys c.loop-slot.next c.in-Some.slot =
     first_due c.args.revocation.now view _ _ _ _ _ c.loop-slot.invariant.due c.in-Some.ensures.removal c.in-Some.ensures.all_above in
     subst (λ (v : View). c.in-Some.slot < length v.slots) (sym c.loop-slot.invariant.same) first.within
 
 pub judge-requires-clause-due : goal.judge-requires-clause-due
 judge-requires-clause-due g c =
     let view = g.V.Records.shown c.named.new.view in
-    let first : IsFirstDue c.args.revocation.now view c.loop-slot.due.keys c.pop_first.new.self.keys c.loop-slot.ended.keys c.loop-slot.next c.in-Some.slot =
+    let first : IsFirstDue c.args.revocation.now view c.loop-slot.work.due.keys c.pop_first.new.self.keys c.loop-slot.work.ended.keys c.loop-slot.next c.in-Some.slot =
     first_due c.args.revocation.now view _ _ _ _ _ c.loop-slot.invariant.due c.in-Some.ensures.removal c.in-Some.ensures.all_above in
-    subst (λ (v : View). AreDue c.args.revocation.now v c.pop_first.new.self.keys c.loop-slot.ended.keys (c.in-Some.slot + 1)) (sym c.loop-slot.invariant.same)
+    subst (λ (v : View). AreDue c.args.revocation.now v c.pop_first.new.self.keys c.loop-slot.work.ended.keys (c.in-Some.slot + 1)) (sym c.loop-slot.invariant.same)
     (first.after (c.in-Some.slot + 1) refl)
+
+pub judge-requires-clause-walked : goal.judge-requires-clause-walked
+judge-requires-clause-walked g c =
+    let view = g.V.Records.shown c.named.new.view in
+    let first : IsFirstDue c.args.revocation.now view c.loop-slot.work.due.keys c.pop_first.new.self.keys c.loop-slot.work.ended.keys c.loop-slot.next c.in-Some.slot =
+    first_due c.args.revocation.now view _ _ _ _ _ c.loop-slot.invariant.due c.in-Some.ensures.removal c.in-Some.ensures.all_above in
+    subst (λ (v : View). AreWalked c.args.revocation.now v c.pop_first.new.self.keys c.loop-slot.work.walked.keys (c.in-Some.slot + 1)) (sym c.loop-slot.invariant.same)
+    (walked_rest c.args.revocation.now view c.loop-slot.work.due.keys c.pop_first.new.self.keys c.loop-slot.work.walked.keys c.loop-slot.next (c.in-Some.slot + 1) c.in-Some.slot first.from refl
+    c.in-Some.ensures.removal c.loop-slot.invariant.walked)
 
 pub judge-requires-clause-behind : goal.judge-requires-clause-behind
 judge-requires-clause-behind g c =
     let view = g.V.Records.shown c.named.new.view in
-    let first : IsFirstDue c.args.revocation.now view c.loop-slot.due.keys c.pop_first.new.self.keys c.loop-slot.ended.keys c.loop-slot.next c.in-Some.slot =
+    let first : IsFirstDue c.args.revocation.now view c.loop-slot.work.due.keys c.pop_first.new.self.keys c.loop-slot.work.ended.keys c.loop-slot.next c.in-Some.slot =
     first_due c.args.revocation.now view _ _ _ _ _ c.loop-slot.invariant.due c.in-Some.ensures.removal c.in-Some.ensures.all_above in
     first.behind
 
 pub loop-slot-smaller : goal.loop-slot-smaller
 loop-slot-smaller g c =
     let view = g.V.Records.shown c.named.new.view in
-    let first : IsFirstDue c.args.revocation.now view c.loop-slot.due.keys c.pop_first.new.self.keys c.loop-slot.ended.keys c.loop-slot.next c.in-Some.slot =
+    let first : IsFirstDue c.args.revocation.now view c.loop-slot.work.due.keys c.pop_first.new.self.keys c.loop-slot.work.ended.keys c.loop-slot.next c.in-Some.slot =
     first_due c.args.revocation.now view _ _ _ _ _ c.loop-slot.invariant.due c.in-Some.ensures.removal c.in-Some.ensures.all_above in
     let old : length (g.V.Records.shown c.loop-slot.view).slots ≡ length view.slots = ap (λ (v : View). length v.slots) c.loop-slot.invariant.same in
     let new : length (g.V.Records.shown c.judge.new.view).slots ≡ length view.slots = ap (λ (v : View). length v.slots) (c.in_ok-judge.ensures.same ∙ c.loop-slot.invariant.same) in
@@ -57,18 +66,19 @@ loop-slot-preserved g c =
     let owner = c.owner-owner.result in
     let slot = c.in-Some.slot in
     let seen = c.loop-slot.invariant.same in
-    let first : IsFirstDue revocation view c.loop-slot.due.keys c.pop_first.new.self.keys c.loop-slot.ended.keys c.loop-slot.next slot =
+    let first : IsFirstDue revocation view c.loop-slot.work.due.keys c.pop_first.new.self.keys c.loop-slot.work.ended.keys c.loop-slot.next slot =
     first_due revocation view _ _ _ _ _ c.loop-slot.invariant.due c.in-Some.ensures.removal c.in-Some.ensures.all_above in
     record {
       same = c.in_ok-judge.ensures.same ∙ seen;
-      due = subst (λ (v : View). AreDue revocation v c.judge.new.due.keys c.judge.new.ended.keys (slot + 1)) seen c.in_ok-judge.ensures.due;
+      due = subst (λ (v : View). AreDue revocation v c.judge.new.work.due.keys c.judge.new.work.ended.keys (slot + 1)) seen c.in_ok-judge.ensures.due;
+      walked = subst (λ (v : View). AreWalked revocation v c.judge.new.work.due.keys c.judge.new.work.walked.keys (slot + 1)) seen c.in_ok-judge.ensures.walked;
       next = omega (arith, first.within);
       whole = λ borne.
-          let judged : c.judge.new.places.items ++ ends_from revocation view owner c.judge.new.ended.keys (slot + 1) ≡ c.loop-slot.places.items ++ ends_from revocation view owner c.loop-slot.ended.keys slot =
-          subst (λ (v : View). c.judge.new.places.items ++ ends_from revocation v owner c.judge.new.ended.keys (slot + 1) ≡ c.loop-slot.places.items ++ ends_from revocation v owner c.loop-slot.ended.keys slot)
+          let judged : c.judge.new.places.items ++ ends_from revocation view owner c.judge.new.work.ended.keys (slot + 1) ≡ c.loop-slot.places.items ++ ends_from revocation view owner c.loop-slot.work.ended.keys slot =
+          subst (λ (v : View). c.judge.new.places.items ++ ends_from revocation v owner c.judge.new.work.ended.keys (slot + 1) ≡ c.loop-slot.places.items ++ ends_from revocation v owner c.loop-slot.work.ended.keys slot)
           seen c.in_ok-judge.ensures.whole in
-          let on : ends_from revocation view owner c.loop-slot.ended.keys slot ≡ ends_from revocation view owner c.loop-slot.ended.keys c.loop-slot.next =
-          over_free revocation view owner borne c.loop-slot.due.keys c.loop-slot.ended.keys c.loop-slot.next c.loop-slot.invariant.due (slot - c.loop-slot.next) c.loop-slot.next slot
+          let on : ends_from revocation view owner c.loop-slot.work.ended.keys slot ≡ ends_from revocation view owner c.loop-slot.work.ended.keys c.loop-slot.next =
+          over_free revocation view owner borne c.loop-slot.work.due.keys c.loop-slot.work.ended.keys c.loop-slot.next c.loop-slot.invariant.due (slot - c.loop-slot.next) c.loop-slot.next slot
           (omega (arith, first.from)) (omega arith) (omega (arith, first.within)) first.free in
           judged ∙ ap (λ rest. c.loop-slot.places.items ++ rest) on ∙ c.loop-slot.invariant.whole borne;
     }
@@ -83,11 +93,11 @@ returns-clause-ended g c = λ owners deeds shows.
     let owned : view.owner revocation.table ≡ Some owner = ap (λ (v : View). v.owner revocation.table) same ∙ c.owner-owner.ensures in
     let borne = shows_borne view owners deeds revocation owner here owned in
     let end = length view.slots in
-    let on : ends_from revocation view owner c.loop-slot.ended.keys end ≡ ends_from revocation view owner c.loop-slot.ended.keys c.loop-slot.next =
-    over_free revocation view owner borne c.loop-slot.due.keys c.loop-slot.ended.keys c.loop-slot.next c.loop-slot.invariant.due (end - c.loop-slot.next) c.loop-slot.next end
-    (omega (arith, c.loop-slot.invariant.next)) (omega arith) (omega arith) (λ j _ _. none_due c.loop-slot.due.keys (λ more. true≢false (sym (c.pop_first.ensures.variant.1 more) ∙ ap is_some (nothing c.pop_first.result c.in_default.not-Some))) j) in
+    let on : ends_from revocation view owner c.loop-slot.work.ended.keys end ≡ ends_from revocation view owner c.loop-slot.work.ended.keys c.loop-slot.next =
+    over_free revocation view owner borne c.loop-slot.work.due.keys c.loop-slot.work.ended.keys c.loop-slot.next c.loop-slot.invariant.due (end - c.loop-slot.next) c.loop-slot.next end
+    (omega (arith, c.loop-slot.invariant.next)) (omega arith) (omega arith) (λ j _ _. none_due c.loop-slot.work.due.keys (λ more. true≢false (sym (c.pop_first.ensures.variant.1 more) ∙ ap is_some (nothing c.pop_first.result c.in_default.not-Some))) j) in
     let none : drop end view.slots ≡ [] = drop_of_length-le view.slots (omega arith) in
-    sym (ap (λ slots. c.loop-slot.places.items ++ cascade owner revocation (keepers revocation view c.loop-slot.ended.keys end) (concerned_grants revocation slots)) none ∙ append-nil c.loop-slot.places.items)
+    sym (ap (λ slots. c.loop-slot.places.items ++ cascade owner revocation (keepers revocation view c.loop-slot.work.ended.keys end) (concerned_grants revocation slots)) none ∙ append-nil c.loop-slot.places.items)
     ∙ ap (λ rest. c.loop-slot.places.items ++ rest) on
     ∙ c.loop-slot.invariant.whole borne
     ∙ pass_ends view owners deeds revocation owner here owned
