@@ -7,10 +7,11 @@ use Rattle.log_machine.proofs.records.first_by.Goals as goal
 
 pub returns-then-is_by : goal.returns-then-is_by
 returns-then-is_by c =
-    let within : c.loop-slot.slot < c.args.end = omega (arith, c.loop-slot-test.true) in
-    (omega (arith, c.loop-slot.auto.slot),
-    asked_here (is_by c.args.user c.args.kind c.args.table) (slots_of (batch_in c.args.batch.now)) c.args.end c.loop-slot.slot c.grant-grant.result within c.grant-grant.ensures ∙ sym c.is_by.ensures ∙ c.if-is_by.true,
-    c.loop-slot.invariant)
+    let within : c.loop-slot.slot < c.args.end = omega (arith, c.loop-slot-test.true) in (
+      omega (arith, c.loop-slot.auto.slot),
+      asked_here (is_by c.args.user c.args.kind c.args.table) (slots_of (batch_in c.args.batch.now)) c.args.end c.loop-slot.slot c.grant-grant.result within c.grant-grant.ensures ∙ sym c.is_by.ensures ∙ c.if-is_by.true,
+      c.loop-slot.invariant,
+    )
 
 pub loop-slot-preserved : goal.loop-slot-preserved
 loop-slot-preserved c =
