@@ -2,8 +2,12 @@
 -- of BOHM's execution (J. M. Faleiro and D. J. Abadi, "Rethinking Serializable Multiversion Concurrency Control", PVLDB 8,
 -- 2015, section 3), here for what each place is shown, its words, the ends of records, and the rows and deeds after a
 -- beginning of the batch.
-use Rattle.std.specs.Prelude.{◌≡◌, ◌≢◌, ◌<◌, ◌+◌, ◌++◌, ℕ, true, Option, Some, None, List, [], ◌∷◌, length}
+use Rattle.std.specs.Prelude.{◌≡◌, ◌≢◌, ◌<◌, ◌+◌, ◌++◌, ℕ, true, Option, Some, None, List, [], ◌∷◌, length, slice_get}
+use Rattle.model_base.specs.declared.deed.Deed.TheVariants.{Revoking}
+use Rattle.model_base.specs.declared.deed.Grant.{Grant}
+use Rattle.model_base.specs.declared.deed.Revocation.{Revocation}
 use Rattle.model_base.specs.declared.row.Key.{Key}
+use Rattle.model_base.specs.Privileges.{concerns}
 use Rattle.bohm_core_base.specs.declared.event.Event.{Event}
 use Rattle.bohm_core_base.specs.declared.event.Event.TheVariants.{Place, Claim, Fill, End, Finish, GiveBack}
 use Rattle.bohm_core_base.specs.declared.hold.Hold.TheVariants.{Done}
@@ -85,3 +89,10 @@ pub record IsWhole (batch : Batch) (state : State) (count : ℕ) : Type 0 where
   pub rows : (key : Key) → row_by batch state key (writer batch count key) ≡ (world_before batch count).rows key
   -- the deeds before the batch, then in order those of the places below the count whose own words say that they were done
   pub deeds : made_before (deeds_of batch (λ index. was_done (own_of state index))) count ≡ (world_before batch count).deeds
+
+-- the deed of the place is a revocation of the kind and on the table of the slot's grant
+pub record EndsByRevocation (batch : Batch) (index slot : ℕ) : Type 0 where
+  pub within : index < batch.size
+  pub revocation : Revocation
+  pub deed : batch.deed index ≡ Some (Revoking revocation)
+  pub concerned : (grant : Grant) → slice_get (slots_of batch) slot ≡ Some grant → concerns revocation grant ≡ true

@@ -1,0 +1,14 @@
+pub mod Members
+pub mod Reached
+pub mod Placings
+pub mod Tracking
+pub mod Showing
+pub mod Keeping
+pub mod Cutting
+pub mod Plays
+pub mod Knowing
+pub mod Allowed
+pub mod Settling
+pub mod Begun
+pub mod Taking
+pub mod Once

@@ -1,0 +1,35 @@
+use Rattle.std.proofs.Common.{◌≡◌, ℕ, sym, ap, ◌∙◌, subst}
+use Rattle.atomic_table.specs.Table.{Allows}
+use Rattle.words.specs.Layout.{slot_at}
+use Rattle.words.specs.Legal.{legal}
+use Rattle.words.specs.Passes.{Passing}
+use Rattle.words.specs.Tells.{EndTells}
+use Rattle.words.proofs.Plays.{end_then}
+use Rattle.words.proofs.Allowed.{end_reads}
+use Rattle.words.proofs.table.BatchWords.end.Goals as goal
+
+pub get-requires-clause-allows : goal.get-requires-clause-allows
+get-requires-clause-allows g c =
+    let key = c.args.self.now.key in
+    let b = g.K.Placed.batch key in
+    let listed = g.K.Placed.listed key in
+    let seat = c.pass.inside.seat in
+    subst (λ (w : ℕ). Allows (λ s. legal b listed s.words s.views) c.args.self.now.table.slots seat.id seat.me w (λ n. n) (end_then b (slot_at listed c.args.end) seat.me)) (sym c.end_at-at.ensures.value)
+    (end_reads b listed c.args.self.now.table.slots seat.id seat.me c.pass.invariant.alive c.args.end c.requires.listed)
+
+pub invariant_of-pass : goal.invariant_of-pass
+invariant_of-pass g c =
+    let me = c.get.ensures.then.0 in
+    record { bare = ap (λ m. m.1) me ∙ c.pass.invariant.bare; alive = ap (λ m. m.0.spent) me ∙ c.pass.invariant.alive }
+
+pub returns-clause-same : goal.returns-clause-same
+returns-clause-same g c =
+    let same = c.get.ensures.same in
+    let me = c.get.ensures.then.0 in
+    let passed : Passing = record { table = c.get.new.seat.table_id; number = c.get.new.seat.id; view = c.get.new.seat.me.0; bodies = c.pass.inside.bodies } in
+    subst (λ (p : Passing). passed ≡ p) c.pass.view_is
+    (λ t. record { table = same.0 t; number = same.1 t; view = (me t).0; bodies = c.pass.inside.bodies })
+
+pub returns-clause-tells : goal.returns-clause-tells
+returns-clause-tells g c =
+    subst (λ (p : Passing). EndTells (g.K.Placed.batch c.args.self.now.key) (slot_at (g.K.Placed.listed c.args.self.now.key) c.args.end) p.view c.get.result) c.pass.view_is c.get.ensures.then.1

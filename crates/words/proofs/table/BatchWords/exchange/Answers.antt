@@ -1,0 +1,15 @@
+use Rattle.std.proofs.Common.{◌≡◌, ◌==◌, ◌<◌, sym, ap, ◌∙◌, subst}
+use mathlib.Core.Option.{none}
+use prog.Atomic.{either}
+use Rattle.atomic_table.specs.Table.{Allows, step}
+use Rattle.words.specs.Legal.{legal}
+use Rattle.words.proofs.table.BatchWords.exchange.Goals as goal
+
+pub compare_exchange-requires : goal.compare_exchange-requires
+compare_exchange-requires g c =
+    let seat = c.args.seat.now in (
+      c.requires.ours ∙ sym (ap (λ w. w.table) c.self.view_is),
+      subst (λ w. c.args.at < w.table.words) (sym c.self.view_is) c.requires.within,
+      subst (λ w. Allows (λ s. legal (g.K.Placed.batch w.key) (g.K.Placed.listed w.key) s.words s.views) w.table.slots seat.id seat.me c.args.at (λ n. either (n == 0) 1 n) (g.M.Play.then (step w.table.slots c.args.at 0 1 none) seat.me))
+          (sym c.self.view_is) c.requires.allows,
+    )

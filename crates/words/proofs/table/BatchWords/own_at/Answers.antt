@@ -1,0 +1,72 @@
+use Rattle.std.proofs.Common.{◌≡◌, ℕ, ◌+◌, ◌<◌, suc, sym, ap, ◌∙◌, subst, arith}
+use Rattle.std.proofs.lemmas.Grind.{get_or_default_zero}
+use Rattle.bohm_core_base.specs.Batch.{words_length}
+use Rattle.words.specs.Layout.{block_begin, own_word}
+use Rattle.words.proofs.Showing.{position-below}
+use Rattle.words.proofs.table.BatchWords.own_at.Goals as goal
+
+pub overflow_add-result-2 : goal.overflow_add-result-2
+overflow_add-result-2 g c =
+    let words = c.self.inside in
+    let b = g.K.Placed.batch words.table.shared.key in
+    let listed = g.K.Placed.listed words.table.shared.key in
+    let laid = c.self.invariant in
+    let has = subst (λ w. (c.args.index < (g.K.Placed.batch w.key).size) × (c.args.number < words_length (g.K.Placed.batch w.key) c.args.index)) (sym c.self.view_is) c.requires.within in
+    let room = position-below b listed (own_word c.args.index c.args.number) has in
+    let every = laid.every in
+    let size = laid.size in
+    let below = has.0 in
+    let at : c.index.result.now ≡ block_begin b c.args.index = c.index.ensures ∙ get_or_default_zero words.begins.items c.args.index c.index.result.now (omega arith) ∙ laid.begin c.args.index below in
+    let all = laid.all in
+    let few = laid.few in
+    omega arith
+
+pub overflow_add-result : goal.overflow_add-result
+overflow_add-result g c =
+    let words = c.self.inside in
+    let b = g.K.Placed.batch words.table.shared.key in
+    let listed = g.K.Placed.listed words.table.shared.key in
+    let laid = c.self.invariant in
+    let has = subst (λ w. (c.args.index < (g.K.Placed.batch w.key).size) × (c.args.number < words_length (g.K.Placed.batch w.key) c.args.index)) (sym c.self.view_is) c.requires.within in
+    let room = position-below b listed (own_word c.args.index c.args.number) has in
+    let every = laid.every in
+    let size = laid.size in
+    let below = has.0 in
+    let at : c.index.result.now ≡ block_begin b c.args.index = c.index.ensures ∙ get_or_default_zero words.begins.items c.args.index c.index.result.now (omega arith) ∙ laid.begin c.args.index below in
+    let all = laid.all in
+    let few = laid.few in
+    omega arith
+
+pub returns-clause-value : goal.returns-clause-value
+returns-clause-value g c =
+    let words = c.self.inside in
+    let b = g.K.Placed.batch words.table.shared.key in
+    let listed = g.K.Placed.listed words.table.shared.key in
+    let laid = c.self.invariant in
+    let has = subst (λ w. (c.args.index < (g.K.Placed.batch w.key).size) × (c.args.number < words_length (g.K.Placed.batch w.key) c.args.index)) (sym c.self.view_is) c.requires.within in
+    let room = position-below b listed (own_word c.args.index c.args.number) has in
+    let every = laid.every in
+    let size = laid.size in
+    let below = has.0 in
+    let at : c.index.result.now ≡ block_begin b c.args.index = c.index.ensures ∙ get_or_default_zero words.begins.items c.args.index c.index.result.now (omega arith) ∙ laid.begin c.args.index below in
+    let all = laid.all in
+    let few = laid.few in
+    let same : c.index.result.now + 1 + c.args.number ≡ block_begin b c.args.index + suc c.args.number = omega arith in
+    subst (λ w. c.index.result.now + 1 + c.args.number ≡ block_begin (g.K.Placed.batch w.key) c.args.index + suc c.args.number) c.self.view_is same
+
+pub returns-clause-within : goal.returns-clause-within
+returns-clause-within g c =
+    let words = c.self.inside in
+    let b = g.K.Placed.batch words.table.shared.key in
+    let listed = g.K.Placed.listed words.table.shared.key in
+    let laid = c.self.invariant in
+    let has = subst (λ w. (c.args.index < (g.K.Placed.batch w.key).size) × (c.args.number < words_length (g.K.Placed.batch w.key) c.args.index)) (sym c.self.view_is) c.requires.within in
+    let room = position-below b listed (own_word c.args.index c.args.number) has in
+    let every = laid.every in
+    let size = laid.size in
+    let below = has.0 in
+    let at : c.index.result.now ≡ block_begin b c.args.index = c.index.ensures ∙ get_or_default_zero words.begins.items c.args.index c.index.result.now (omega arith) ∙ laid.begin c.args.index below in
+    let all = laid.all in
+    let few = laid.few in
+    let count = laid.words in
+    subst (λ w. c.index.result.now + 1 + c.args.number < w.table.words) c.self.view_is (omega arith)

@@ -1,0 +1,6 @@
+pub mod Layout
+pub mod Views
+pub mod Legal
+pub mod Passes
+pub mod Tells
+pub mod Closing

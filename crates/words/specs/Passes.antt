@@ -1,0 +1,76 @@
+-- What contracts see of the words and of a pass.
+use Rattle.std.specs.Prelude.{◌≡◌, ◌<◌, ◌+◌, ◌-◌, ◌^◌, ℕ, suc, min, false, List, [], length, slice_index}
+use Rattle.atomic_table.specs.Seated.{TableId}
+use Rattle.atomic_table.specs.Table.{Me}
+use Rattle.bohm_core_base.specs.Batch.{Batch}
+use Rattle.words.specs.declared.view.View.{View}
+use Rattle.words.specs.Layout.{block_begin, end_begin, total}
+use Rattle.words.specs.Views.{HoldsNone, first_view, joined, split_left, split_right}
+
+-- the words of a batch: the table that they are, and the batch with what is listed
+pub record Words (K : Type 0) : Type 0 where
+  pub table : TableId
+  pub key : K
+
+-- a pass: its table, its number there, what it knows, and how many bodies were run through it
+pub record Passing : Type 0 where
+  pub table : TableId
+  pub number : ℕ
+  pub view : View
+  pub bodies : ℕ
+
+-- the pass is one of these words
+abbrev pub IsPassOf : {K : Type 0} → Words K → Passing → Type 0
+IsPassOf words pass = pass.table ≡ words.table
+
+-- the pass has gone on to this view
+abbrev pub goes_on : Passing → View → Passing
+goes_on pass view = record pass { view = view }
+
+-- no other took it in, and it has no slot of the table
+pub record IsAlive (me : Me ℕ View) : Type 0 where
+  pub bare : me.1 ≡ []
+  pub alive : me.0.spent ≡ false
+
+-- and it holds no place
+pub record IsIdle (me : Me ℕ View) : Type 0 where
+  pub bare : me.1 ≡ []
+  pub alive : me.0.spent ≡ false
+  pub idle : HoldsNone me.0
+
+-- where the words lie
+pub record IsLaid (batch : Batch) (listed : List ℕ) (table : TableId) (places : ℕ) (begins : List ℕ) (ends count : ℕ) : Type 0 where
+  pub slots : table.slots ≡ 0
+  pub words : table.words ≡ count
+  pub size : batch.size ≡ places
+  pub some : 0 < places
+  pub begin : (index : ℕ) → index < batch.size → slice_index begins index ≡ block_begin batch index
+  pub every : length begins ≡ places
+  pub end : ends ≡ end_begin batch
+  pub all : count ≡ total batch listed
+  pub few : count < 2 ^ 64
+
+-- one more body was run through the pass; the count stops at the greatest number
+abbrev pub counted : Passing → Passing
+counted pass = record pass { bodies = min (suc pass.bodies) (2 ^ 64 - 1) }
+
+-- the first pass of a batch
+abbrev pub first_pass : {K : Type 0} → Words K → Passing
+first_pass words = record { table = words.table; number = 0; view = first_view; bodies = 0 }
+
+-- the part of a split pass that goes on
+abbrev pub cut_first : Passing → Passing
+cut_first pass = record pass { view = split_left pass.view }
+
+-- and the one that begins, whose number is a new one
+abbrev pub cut_second : Passing → ℕ → Passing
+cut_second pass number = record { table = pass.table; number = number; view = split_right pass.view; bodies = 0 }
+
+-- a pass that took in another
+abbrev pub joined_pass : Passing → Passing → Passing
+joined_pass pass other = record {
+  table = pass.table;
+  number = pass.number;
+  view = joined pass.view other.number other.view;
+  bodies = min (pass.bodies + other.bodies) (2 ^ 64 - 1);
+}

@@ -1,0 +1,106 @@
+-- What a pass knows, how its view goes on with each step, and how views are cut and joined. A pass is a thread's right to step
+-- on the words; that it carries what it did and what it found is this project's own, after the way in which a view of shared
+-- state is split and joined in separation logics for concurrency (D. Dinsdale-Young, M. Dodds, P. Gardner, M. J. Parkinson and
+-- V. Vafeiadis, "Concurrent Abstract Predicates", ECOOP 2010).
+use Rattle.std.specs.Prelude.{◌≡◌, ◌⊎◌, ◌==◌, ℕ, suc, ◌<◌, Bool, true, false, Option, Some, None, List, [], ◌∷◌, ◌++◌, length, if◌then◌else◌}
+use Rattle.bohm_core_base.specs.declared.event.Event.{Event}
+use Rattle.bohm_core_base.specs.declared.event.Event.TheVariants.{Place, Claim, Fill, End, Finish, GiveBack}
+use Rattle.bohm_core_base.specs.Batch.{Batch, has_deed_on, is_listed, references}
+use Rattle.words.specs.declared.view.View.{View}
+
+-- x is among these
+abbrev pub In : {A : Type 0} → A → List A → Type 0
+In x [] = ⊥
+In x (y ∷ ys) = (x ≡ y) ⊎ In x ys
+
+-- the first pass of a batch, and what a pass that was taken in leaves
+abbrev pub first_view : View
+first_view = record { events = []; kept = []; known = []; sightings = []; sole = true; spent = false }
+
+abbrev pub spent_view : View
+spent_view = record { events = []; kept = []; known = []; sightings = []; sole = false; spent = true }
+
+-- of a split, the first part goes on, and the second begins without events and knows the same
+abbrev pub split_left : View → View
+split_left view = record view { sole = false }
+
+abbrev pub split_right : View → View
+split_right view = record { events = []; kept = []; known = view.known; sightings = []; sole = false; spent = false }
+
+-- the first goes on, knows what either knew, and keeps the lists of the other, which has this number
+abbrev pub joined : View → ℕ → View → View
+joined view number other = record {
+  events = view.events;
+  kept = view.kept ++ (number, other.events) ∷ other.kept;
+  known = view.known ++ other.known;
+  sightings = view.sightings;
+  sole = false;
+  spent = false;
+}
+
+-- one more event of its own
+abbrev pub with_event : View → Event → View
+with_event view event = record view { events = view.events ++ event ∷ [] }
+
+-- it knows a place done
+abbrev pub with_known : View → ℕ → View
+with_known view index = record view { known = view.known ++ index ∷ [] }
+
+-- it found a place held by another pass
+abbrev pub with_sighting : View → ℕ → View
+with_sighting view index = record view { sightings = view.sightings ++ (index, length view.events) ∷ [] }
+
+-- whether the event is about the place; a placer's is about none
+abbrev pub is_about : ℕ → Event → Bool
+is_about index (Place partition) = false
+is_about index (Claim actor other) = other == index
+is_about index (Fill actor other) = other == index
+is_about index (End actor other slot) = other == index
+is_about index (Finish actor other) = other == index
+is_about index (GiveBack actor other) = other == index
+
+-- what is stored of a place that a pass holds: how many own words, and the slots whose ends are set
+abbrev pub Stored : Type 0
+Stored = Option (ℕ × List ℕ)
+
+-- one more own word, and one more end
+abbrev pub one_more : Stored → Stored
+one_more None = None
+one_more (Some stored) = Some (suc stored.0, stored.1)
+
+abbrev pub one_end : ℕ → Stored → Stored
+one_end slot None = None
+one_end slot (Some stored) = Some (stored.0, stored.1 ++ slot ∷ [])
+
+-- what is stored after an event about the place: a claim begins with nothing, and who finishes or gives back holds it no more
+abbrev pub turn : Stored → Event → Stored
+turn stored (Place partition) = stored
+turn stored (Claim actor index) = Some (0, [])
+turn stored (Fill actor index) = one_more stored
+turn stored (End actor index slot) = one_end slot stored
+turn stored (Finish actor index) = None
+turn stored (GiveBack actor index) = None
+
+-- and after a list of events, of which those about the place count
+abbrev pub track : ℕ → Stored → List Event → Stored
+track index stored [] = stored
+track index stored (event ∷ events) = track index (if is_about index event then turn stored event else stored) events
+
+-- by its own events the pass holds the place, and has stored so many of its own words and the ends of these slots
+abbrev pub Holds : View → ℕ → ℕ → List ℕ → Type 0
+Holds view index count ended = track index None view.events ≡ Some (count, ended)
+
+-- the pass holds no place
+abbrev pub HoldsNone : View → Type 0
+HoldsNone view = (index count : ℕ) (ended : List ℕ) → ¬ (Holds view index count ended)
+
+-- the pass knows each place done that this one is referred to
+abbrev pub KnowsReferences : Batch → View → ℕ → Type 0
+KnowsReferences batch view index = (other : ℕ) → In (suc other) (references batch index) → In other view.known
+
+-- the place has a deed on a table of a later place, of which the pass knows done all that it is referred to: so all deeds on
+-- that table before the later place are done
+abbrev pub IsSettled : Batch → View → ℕ → Type 0
+IsSettled batch view index =
+    (later : ℕ) × (table : ℕ) × (index < later) × (later < batch.size) × KnowsReferences batch view later
+    × (is_listed (batch.tables later) table ≡ true) × (has_deed_on batch index table ≡ true)

@@ -1,0 +1,84 @@
+//! Who may fill a place: claims, taken by one compare-exchange each, looked at, and given back.
+
+ghost use Rattle.std.specs.Prelude.{◌≡◌, ◌<◌, []};
+ghost use Rattle.bohm_core_base.specs.declared.event.Event.TheVariants.{GiveBack};
+ghost use Rattle.words.specs.Passes.{IsPassOf, goes_on};
+ghost use Rattle.words.specs.Tells.{ClaimTells, LookTells};
+ghost use Rattle.words.specs.Views.{Holds, In, IsSettled, with_event};
+
+use crate::placed::Placed;
+use crate::table::{BatchWords, Holding};
+use std::marker::Brand;
+
+/// What a claim found.
+#[derive(Clone, Copy, PartialEq, Eq, Debug)]
+pub enum Claimed {
+    /// The place was free, and the pass holds it now.
+    Won,
+    /// A pass holds the place.
+    Held,
+    /// The place is done.
+    Done,
+}
+
+/// What a look found.
+#[derive(Clone, Copy, PartialEq, Eq, Debug)]
+pub enum Seen {
+    /// Nobody held the place, and it wasn't done.
+    Free,
+    /// A pass holds the place.
+    Held,
+    /// The place is done.
+    Done,
+}
+
+impl<K: Placed> BatchWords<K> {
+    /// Takes a place if it is free: one compare-exchange of its claim, from free to held. A place that the pass knows done is
+    /// found done, and so is one with a deed on a table of a later place of which the pass knows all references done.
+    pub fn claim(&self, pass: &mut Holding, index: usize) -> Claimed
+        requires ours { IsPassOf self.now pass.old }
+        requires within { index < (K.batch self.now.key).size }
+        ensures same { pass.new ≡ goes_on pass.old pass.new.view }
+        ensures tells { ClaimTells pass.old.number index pass.old.view result pass.new.view }
+        ensures known { In index pass.old.view.known → result ≡ Claimed.Done }
+        ensures settled { IsSettled (K.batch self.now.key) pass.old.view index → result ≡ Claimed.Done }
+    {
+        let at = self.claim_at(index);
+        let found = self.exchange::<Brand>(&mut pass.seat, at, index);
+        match found {
+            0 => Claimed::Won,
+            1 => Claimed::Held,
+            _ => Claimed::Done,
+        }
+    }
+
+    /// One load of a claim. A place that the pass knows done is found done, and so is one with a deed on a table of a later
+    /// place of which the pass knows all references done.
+    pub fn look(&self, pass: &mut Holding, index: usize) -> Seen
+        requires ours { IsPassOf self.now pass.old }
+        requires within { index < (K.batch self.now.key).size }
+        ensures same { pass.new ≡ goes_on pass.old pass.new.view }
+        ensures tells { LookTells index pass.old.view result pass.new.view }
+        ensures known { In index pass.old.view.known → result ≡ Seen.Done }
+        ensures settled { IsSettled (K.batch self.now.key) pass.old.view index → result ≡ Seen.Done }
+    {
+        let at = self.claim_at(index);
+        let found = self.get::<Brand>(&mut pass.seat, at, index, 0);
+        match found {
+            0 => Seen::Free,
+            1 => Seen::Held,
+            _ => Seen::Done,
+        }
+    }
+
+    /// Sets the claim of a place that the pass holds, and for which nothing is stored, to free: one store.
+    pub fn give_back(&self, pass: &mut Holding, index: usize)
+        requires ours { IsPassOf self.now pass.old }
+        requires within { index < (K.batch self.now.key).size }
+        requires blank { Holds pass.old.view index 0 [] }
+        ensures { pass.new ≡ goes_on pass.old (with_event pass.old.view (GiveBack pass.old.number index)) }
+    {
+        let at = self.claim_at(index);
+        self.put::<Brand>(&mut pass.seat, at, 0, index, 0);
+    }
+}

@@ -1,0 +1,95 @@
+//! A batch that no pass can reach any more.
+
+ghost use Rattle.std.specs.Prelude.{◌≡◌, ◌<◌, ◌+◌, suc, length, slice_index};
+ghost use Rattle.std.specs.Mem.Slots.{slots_len, IsFull};
+ghost use Rattle.words.specs.Closing.{IsSettledBy, LastWith, claim_in, end_in, own_in};
+ghost use Rattle.words.specs.Passes.{IsPassOf};
+
+use crate::placed::Placed;
+use crate::table::{BatchWords, Pass};
+use atomic_table::Closed as Stood;
+use std::alloc::Global;
+use std::marker::Model;
+
+/// The words of a batch as they stood when it was closed.
+pub struct Closed {
+    stood: Stood<u8, Global>,
+    begins: Vec<usize>,
+    ends: usize,
+    ghost full: { IsFull stood.words },
+    ghost bare: { slots_len stood.slots ≡ 0 },
+}
+
+impl Model for Closed {
+    ghost use Rattle.std.specs.Mem.Slots.{slots_items};
+    ghost use Rattle.words.specs.Closing.{Standing};
+
+    ghost Value = { Standing };
+
+    ghost view = { λ closed. record { begins = closed.begins.items; ends = closed.ends; words = slots_items closed.stood.words } };
+}
+
+impl<K: Placed> BatchWords<K> {
+    /// The words as they stand. Some list of events led to them, with this pass's events in order. Each place whose claim is
+    /// done has the own words and the ends of the serial run; of any other place the words are a beginning of the serial
+    /// run's; and no end is another than the serial run's.
+    pub fn close(self, pass: Pass) -> Closed
+        requires { IsPassOf self pass }
+        ensures last { LastWith (K.batch self.key) (K.listed self.key) result.words pass.number pass.view }
+        ensures settled { IsSettledBy (K.batch self.key) (K.listed self.key) result }
+    {
+        let BatchWords {
+            table,
+            places: _,
+            begins,
+            ends,
+            count: _,
+        } = self;
+        let Pass { seat, bodies: _ } = pass;
+        let stood = table.close_with(seat);
+        Closed {
+            stood,
+            begins,
+            ends,
+        }
+    }
+}
+
+impl Closed {
+    /// The claim of a place: 0 if it is free, 1 if a pass held it, 2 if it is done.
+    pub fn claim(&self, index: usize) -> u64
+        requires begins { index < length self.now.begins }
+        requires within { slice_index self.now.begins index < length self.now.words }
+        ensures { result ≡ claim_in self.now index }
+    {
+        self.stood.word(self.begins[index])
+    }
+
+    /// The own word of a number of a place.
+    pub fn own(&self, index: usize, number: usize) -> u64
+        requires begins { index < length self.now.begins }
+        requires within { slice_index self.now.begins index + suc number < length self.now.words }
+        ensures { result ≡ own_in self.now index number }
+    {
+        self.stood.word(self.begins[index] + 1 + number)
+    }
+
+    /// A listed end: 0, or one more than the place that ended the record.
+    pub fn end(&self, end: usize) -> u64
+        requires { self.now.ends + end < length self.now.words }
+        ensures { result ≡ end_in self.now end }
+    {
+        self.stood.word(self.ends + end)
+    }
+}
+
+impl Drop for Closed {
+    fn drop(self) {
+        let Closed {
+            stood,
+            begins: _,
+            ends: _,
+        } = self;
+        stood.free();
+    }
+}

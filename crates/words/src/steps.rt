@@ -1,0 +1,95 @@
+//! A step on one word, and where each word lies.
+
+ghost use Rattle.std.specs.Prelude.{◌≡◌, ◌==◌, ◌<◌, length};
+ghost use Rattle.bohm_core_base.specs.Batch.{words_length};
+ghost use Rattle.atomic_table.specs.Table.{Allows, step};
+ghost use mathlib.Core.Option.{none};
+ghost use prog.Atomic.{either};
+ghost use Rattle.words.specs.Legal.{legal};
+ghost use Rattle.words.specs.Layout.{claim_word, end_word, own_word, position};
+
+use crate::placed::Placed;
+use crate::table::BatchWords;
+use crate::view::View;
+use atomic_table::{Play, Seat};
+
+// What a step tells is a type M that the caller's proof picks, by the place and the number that are passed for it alone.
+impl<K: Placed> BatchWords<K> {
+    // A compare-exchange from free to held.
+    pub(crate) fn exchange<M: Play<u8, View>>(
+        &self,
+        seat: &mut Seat<u8, View>,
+        at: usize,
+        _index: usize,
+    ) -> u64
+        requires ours { seat.old.table_id ≡ self.now.table }
+        requires within { at < self.now.table.words }
+        requires allows { Allows (λ state. legal (K.batch self.now.key) (K.listed self.now.key) state.words state.views) self.now.table.slots seat.old.id seat.old.me at (λ found. either (found == 0) 1 found) (M.then (step self.now.table.slots at 0 1 none) seat.old.me) }
+        ensures same { (seat.new.table_id ≡ seat.old.table_id) × (seat.new.id ≡ seat.old.id) }
+        ensures then { M.then (step self.now.table.slots at 0 1 none) seat.old.me result seat.new.me }
+    {
+        self.table.shared.compare_exchange::<M>(seat, at, 0, 1)
+    }
+
+    // A store.
+    pub(crate) fn put<M: Play<u8, View>>(
+        &self,
+        seat: &mut Seat<u8, View>,
+        at: usize,
+        word: u64,
+        _index: usize,
+        _number: usize,
+    )
+        requires ours { seat.old.table_id ≡ self.now.table }
+        requires within { at < self.now.table.words }
+        requires allows { Allows (λ state. legal (K.batch self.now.key) (K.listed self.now.key) state.words state.views) self.now.table.slots seat.old.id seat.old.me at (λ _. word) (λ _. M.then (step self.now.table.slots at word 0 none) seat.old.me word) }
+        ensures same { (seat.new.table_id ≡ seat.old.table_id) × (seat.new.id ≡ seat.old.id) }
+        ensures then { M.then (step self.now.table.slots at word 0 none) seat.old.me word seat.new.me }
+    {
+        self.table.shared.store::<M>(seat, at, word);
+    }
+
+    // A load.
+    pub(crate) fn get<M: Play<u8, View>>(
+        &self,
+        seat: &mut Seat<u8, View>,
+        at: usize,
+        _index: usize,
+        _number: usize,
+    ) -> u64
+        requires ours { seat.old.table_id ≡ self.now.table }
+        requires within { at < self.now.table.words }
+        requires allows { Allows (λ state. legal (K.batch self.now.key) (K.listed self.now.key) state.words state.views) self.now.table.slots seat.old.id seat.old.me at (λ found. found) (M.then (step self.now.table.slots at 0 0 none) seat.old.me) }
+        ensures same { (seat.new.table_id ≡ seat.old.table_id) × (seat.new.id ≡ seat.old.id) }
+        ensures then { M.then (step self.now.table.slots at 0 0 none) seat.old.me result seat.new.me }
+    {
+        self.table.shared.load::<M>(seat, at)
+    }
+
+    // Where the claim of a place lies: first in its block.
+    pub(crate) fn claim_at(&self, index: usize) -> usize
+        requires { index < (K.batch self.now.key).size }
+        ensures value { result ≡ position (K.batch self.now.key) (claim_word index) }
+        ensures within { result < self.now.table.words }
+    {
+        self.begins[index]
+    }
+
+    // Where an own word lies: behind the claim.
+    pub(crate) fn own_at(&self, index: usize, number: usize) -> usize
+        requires within { (index < (K.batch self.now.key).size) × (number < words_length (K.batch self.now.key) index) }
+        ensures value { result ≡ position (K.batch self.now.key) (own_word index number) }
+        ensures within { result < self.now.table.words }
+    {
+        self.begins[index] + 1 + number
+    }
+
+    // Where a listed end lies.
+    pub(crate) fn end_at(&self, end: usize) -> usize
+        requires { end < length (K.listed self.now.key) }
+        ensures value { result ≡ position (K.batch self.now.key) (end_word end) }
+        ensures within { result < self.now.table.words }
+    {
+        self.ends + end
+    }
+}

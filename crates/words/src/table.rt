@@ -1,0 +1,97 @@
+//! The words of a batch, their rule, and its passes.
+
+ghost use Rattle.std.specs.Prelude.{◌≡◌};
+
+use crate::placed::Placed;
+use crate::view::View;
+use atomic_table::{Join, Play, Seat, Split, Table, TableRule};
+use std::alloc::Global;
+use std::marker::{Brand, Model};
+
+/// The rule of the words.
+pub struct Rule;
+
+impl<K: Placed> TableRule<u8, View, K> for Rule {
+    ghost use Rattle.words.specs.Legal.{legal};
+    ghost use Rattle.words.specs.Views.{first_view};
+
+    ghost holds = { λ key state. legal (K.batch key) (K.listed key) state.words state.views };
+
+    ghost first = { λ _. first_view };
+}
+
+/// The words of one batch: for each place a block with its claim and its own words, and behind all blocks the listed ends.
+#[derive(Drop)]
+pub struct BatchWords<K: Placed> {
+    pub(crate) table: Table<u8, View, K, Rule, Global>,
+    pub(crate) places: usize,
+    /// Where the block of each place begins.
+    pub(crate) begins: Vec<usize>,
+    /// Where the ends begin.
+    pub(crate) ends: usize,
+    pub(crate) count: usize,
+}
+
+impl<K: Placed> Model for BatchWords<K> {
+    ghost use Rattle.words.specs.Passes.{IsLaid, Words};
+
+    ghost Value = { Words K };
+
+    ghost view = { λ words. record { table = words.table.shared.table_id; key = words.table.shared.key } };
+
+    ghost invariant = { λ words. IsLaid (K.batch words.table.shared.key) (K.listed words.table.shared.key) words.table.shared.table_id words.places words.begins.items words.ends words.count };
+}
+
+/// A pass of one batch, which holds no place. It may be handed to any thread.
+#[derive(Drop)]
+pub struct Pass {
+    pub(crate) seat: Seat<u8, View>,
+    pub(crate) bodies: u64,
+}
+
+impl Model for Pass {
+    ghost use Rattle.words.specs.Passes.{IsIdle, Passing};
+
+    ghost Value = { Passing };
+
+    ghost view = { λ pass. record { table = pass.seat.table_id; number = pass.seat.id; view = pass.seat.me.0; bodies = pass.bodies } };
+
+    ghost invariant = { λ pass. IsIdle pass.seat.me };
+}
+
+/// A pass that may hold places.
+#[derive(Drop)]
+pub struct Holding {
+    pub(crate) seat: Seat<u8, View>,
+    pub(crate) bodies: u64,
+}
+
+impl Model for Holding {
+    ghost use Rattle.words.specs.Passes.{IsAlive, Passing};
+
+    ghost Value = { Passing };
+
+    ghost view = { λ pass. record { table = pass.seat.table_id; number = pass.seat.id; view = pass.seat.me.0; bodies = pass.bodies } };
+
+    ghost invariant = { λ pass. IsAlive pass.seat.me };
+}
+
+impl Split<View> for Brand {
+    ghost use Rattle.words.specs.Views.{split_left, split_right};
+
+    ghost left = { split_left };
+
+    ghost right = { split_right };
+}
+
+impl Join<View> for Brand {
+    ghost use Rattle.words.specs.Views.{spent_view};
+
+    ghost both = { λ view other. view };
+
+    ghost spent = { spent_view };
+}
+
+impl Play<u8, View> for Brand {
+    ghost then = { λ step before found after. Unit {0} };
+}
