@@ -1,0 +1,72 @@
+//! The constant data of a batch of a log.
+
+ghost use Rattle.std.specs.Prelude.{◌≡◌, ◌<◌, length};
+ghost use Rattle.log_machine.specs.Supplied.{batch_in};
+
+use bohm_core::Statements;
+use log_machine::LogBatch;
+use std::marker::Model;
+use words::Placed;
+
+/// A range of a log as a batch, and the slots whose ends have words.
+#[derive(Drop)]
+pub struct LogKey<'a> {
+    batch: LogBatch<'a>,
+    slots: Vec<usize>,
+}
+
+impl<'a> Model for LogKey<'a> {
+    ghost use Rattle.log_words.specs.Keys.{IsKey, Key};
+
+    ghost Value = { Key };
+
+    ghost view = { λ key. record { batch = key.batch; slots = key.slots.items } };
+
+    ghost invariant = { λ key. IsKey key.batch key.slots.items };
+}
+
+impl<'a> LogKey<'a> {
+    ghost use Rattle.log_words.specs.Keys.{IsKey};
+
+    /// The batch has a place. The slots are such as have no end before it, each once, and all whose records a place of the
+    /// batch ends by the serial run are among them.
+    pub fn new(batch: LogBatch<'a>, slots: Vec<usize>) -> LogKey<'a>
+        requires { IsKey batch slots.items }
+        ensures batch { result.batch ≡ batch.entry }
+        ensures slots { result.slots ≡ slots.items }
+    {
+        LogKey { batch, slots }
+    }
+
+    /// The batch.
+    pub fn batch(&self) -> &LogBatch<'a>
+        ensures { result.now ≡ self.now.batch }
+    {
+        &self.batch
+    }
+
+    /// The slots whose ends have words.
+    pub fn slots(&self) -> &[usize]
+        ensures { result.now ≡ self.now.slots }
+    {
+        self.slots.as_slice()
+    }
+}
+
+impl Placed for LogKey<'_> {
+    ghost batch = { λ key. batch_in key.batch };
+
+    ghost listed = { λ key. key.slots };
+
+    fn places(&self) -> usize {
+        self.batch.places()
+    }
+
+    fn words_length(&self, index: usize) -> usize {
+        self.batch.words_length(index)
+    }
+
+    fn ends(&self) -> usize {
+        self.slots.len()
+    }
+}

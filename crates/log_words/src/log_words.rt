@@ -1,0 +1,53 @@
+//! The words of a batch of a log, beside the batch.
+
+ghost use Rattle.std.specs.Prelude.{◌≡◌, IfOk};
+ghost use Rattle.words.specs.Passes.{first_pass};
+
+use crate::key::LogKey;
+use std::alloc::{AllocError, Global};
+use std::marker::Model;
+use words::{BatchWords, Pass};
+
+/// A batch of a log with its words.
+#[derive(Drop)]
+pub struct LogWords<'a> {
+    key: LogKey<'a>,
+    words: BatchWords<LogKey<'a>>,
+}
+
+impl<'a> Model for LogWords<'a> {
+    ghost use Rattle.std.specs.Prelude.{◌≡◌};
+    ghost use Rattle.words.specs.Passes.{Words};
+    ghost use Rattle.log_words.specs.Keys.{Key};
+
+    ghost Value = { Words Key };
+
+    ghost view = { λ batch. batch.words };
+
+    ghost invariant = { λ batch. batch.words.key ≡ batch.key };
+}
+
+impl<'a> LogWords<'a> {
+    /// The words of the batch, all 0, and its first pass. An error is want of memory.
+    pub fn new(alloc: Global, key: LogKey<'a>) -> Result<(LogWords<'a>, Pass), AllocError>
+        ensures { IfOk result (λ made. (made.0.key ≡ key.entry) × (made.1 ≡ first_pass made.0)) }
+    {
+        let (words, pass) = BatchWords::new(alloc, &key)?;
+        Ok((LogWords { key, words }, pass))
+    }
+
+    /// The batch, and the slots whose ends have words.
+    pub fn key(&self) -> &LogKey<'a>
+        ensures { result.now ≡ self.now.key }
+    {
+        let _words = &self.words;
+        &self.key
+    }
+
+    /// The words.
+    pub fn words(&self) -> &BatchWords<LogKey<'a>>
+        ensures { result.now ≡ self.now }
+    {
+        &self.words
+    }
+}
