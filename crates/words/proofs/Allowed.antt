@@ -13,7 +13,7 @@ use Rattle.bohm_core_base.specs.declared.hold.Hold.TheVariants.{Free, Held, Done
 use Rattle.bohm_core_base.specs.Batch.{Batch, slots_of, words_length}
 use Rattle.bohm_core_base.specs.Serial.{is_end, serial_ends, serial_words}
 use Rattle.bohm_core_base.specs.Laws.{actor_of}
-use Rattle.bohm_core_base.specs.Machine.{State, all_below, all_ended, all_filled, all_ready, change, end_of, guard, hold_of, is_done, is_free, is_held_by, must_end, next_word, none_ended, own_of, with_hold}
+use Rattle.bohm_core_base.specs.Machine.{State, all_below, all_ended, all_filled, all_ready, change, end_of, guard, hold_of, is_free, is_held_by, must_end, next_word, none_ended, own_of, with_hold}
 use Rattle.bohm_core_base.proofs.Reach.{done-right, ends-right, shown-serial, word-rests}
 use Rattle.words.specs.declared.view.View.{View}
 use Rattle.words.specs.Layout.{claim_word, own_word, end_word, claim_code, end_code, slot_at, position, shown, Shows}

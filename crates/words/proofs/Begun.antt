@@ -1,8 +1,8 @@
 -- Where blocks begin, found place by place.
-use Rattle.std.proofs.Common.{◌≡◌, ℕ, suc, ◌+◌, ◌*◌, ◌/◌, ◌<◌, List, [], ◌∷◌, ◌++◌, length, get_or, ◌∙◌, arith, inl, inr}
+use Rattle.std.proofs.Common.{◌≡◌, ℕ, suc, ◌+◌, ◌<◌, List, [], ◌∷◌, ◌++◌, length, get_or, ◌∙◌, arith, inl, inr}
 use Rattle.std.proofs.lemmas.Bool.{cases_lt}
 use Rattle.std.proofs.lemmas.List.{get_or_append_left, get_or_push, length_push}
-use Rattle.bohm_core_base.specs.Batch.{Batch, words_length}
+use Rattle.bohm_core_base.specs.Batch.{Batch}
 use Rattle.words.specs.Layout.{block_begin, block_length}
 
 -- the beginnings for so many places, and where the next place's block begins

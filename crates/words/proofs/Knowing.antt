@@ -8,12 +8,11 @@ use mathlib.Core.Option.{some}
 use lib.ListN.{get_elem?}
 use Rattle.model_base.specs.Records.{end_below}
 use Rattle.bohm_core_base.specs.declared.event.Event.{Event}
-use Rattle.bohm_core_base.specs.declared.hold.Hold.{Hold}
-use Rattle.bohm_core_base.specs.declared.hold.Hold.TheVariants.{Free, Held, Done}
-use Rattle.bohm_core_base.specs.Batch.{Batch, has_deed_on, is_listed, references, slots_of, table_at}
+use Rattle.bohm_core_base.specs.declared.hold.Hold.TheVariants.{Held, Done}
+use Rattle.bohm_core_base.specs.Batch.{Batch, references, slots_of}
 use Rattle.bohm_core_base.specs.Serial.{whole_end}
 use Rattle.bohm_core_base.specs.Laws.{ShowsSerial}
-use Rattle.bohm_core_base.specs.Machine.{State, all_ready, end_of, hold_of, is_done, is_held_by, is_ready, own_of}
+use Rattle.bohm_core_base.specs.Machine.{State, all_ready, end_of, hold_of, is_held_by, is_ready, own_of}
 use Rattle.bohm_core_base.proofs.Reach.{deeds-settled, done-right, end-told, ends-right, shown-serial}
 use Rattle.words.specs.declared.view.View.{View}
 use Rattle.words.specs.Layout.{end_code, end_told as told}

@@ -1,4 +1,4 @@
-use Rattle.words.proofs.Knowing.{held_from, known-done, settled-done}
+use Rattle.words.proofs.Knowing.{held_from, settled-done}
 use Rattle.words.proofs.laws.views_tell_the_state.Goals as goal
 
 pub returns : goal.returns

@@ -1,0 +1,3 @@
+pub mod Aparts
+pub mod Chains
+pub mod Lates

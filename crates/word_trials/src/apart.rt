@@ -1,0 +1,34 @@
+//! A batch of places that refer to none.
+
+ghost use Rattle.std.specs.Prelude.{◌<◌, []};
+ghost use Rattle.word_trials.specs.Apart.{apart};
+
+use words::Placed;
+
+/// So many places that refer to none, with so many own words.
+#[derive(Drop)]
+pub struct Apart {
+    pub size: usize,
+    pub width: usize,
+    pub ghost some: { 0 < size },
+    pub ghost wide: { 0 < width },
+}
+
+impl Placed for Apart {
+    ghost batch = { λ key. apart key.size key.width };
+
+    ghost listed = { λ _. [] };
+
+    fn places(&self) -> usize {
+        self.size
+    }
+
+    #[tactic(auto, using(crate::proofs::Aparts::apart_length))]
+    fn words_length(&self, _index: usize) -> usize {
+        self.width
+    }
+
+    fn ends(&self) -> usize {
+        0
+    }
+}

@@ -1,0 +1,31 @@
+//! A place that reads by a grant, and a later one that revokes it.
+
+ghost use Rattle.std.specs.Prelude.{[], ◌∷◌};
+ghost use Rattle.word_trials.specs.Late.{late};
+
+use words::Placed;
+
+/// Places 3 and 4 of a log: the first reads a row, the second revokes the grant of place 2, by which the first reads.
+#[derive(Drop)]
+pub struct Late {}
+
+impl Placed for Late {
+    ghost batch = { λ _. late };
+
+    ghost listed = { λ _. 0 ∷ [] };
+
+    #[tactic(auto, using(crate::proofs::Lates::late_sound))]
+    fn places(&self) -> usize {
+        2
+    }
+
+    #[tactic(auto, using(crate::proofs::Lates::late_counts))]
+    fn words_length(&self, index: usize) -> usize {
+        if index == 0 { 5 } else { 4 }
+    }
+
+    #[tactic(auto, using(crate::proofs::Lates::late_listed))]
+    fn ends(&self) -> usize {
+        1
+    }
+}
