@@ -2,3 +2,8 @@ pub mod Order
 pub mod Newest
 pub mod Serial
 pub mod Right
+pub mod Keyed
+pub mod Entries
+pub mod Changed
+pub mod Trimming
+pub mod Noting

@@ -1,5 +1,5 @@
 -- The newest version of a key before a place.
-use Rattle.std.proofs.Common.{◌≡◌, ℕ, ◌<◌, ◌≤◌, ℤ, Bool, true, false, ◌||◌, Option, List, [], ◌∷◌, map, filter, cond, ltb, refl, sym, ◌∙◌, ap, arith}
+use Rattle.std.proofs.Common.{◌≡◌, ℕ, ◌<◌, ◌≤◌, ℤ, Bool, true, false, ◌&&◌, ◌||◌, Option, List, [], ◌∷◌, map, filter, cond, ltb, refl, sym, ◌∙◌, ap, arith}
 use Rattle.std.specs.List.{list_any}
 use Rattle.std.proofs.lemmas.Bool.Decides.{nat_tests}
 use Rattle.model_base.specs.declared.row.Key.{Key}
@@ -10,7 +10,11 @@ use Rattle.model_base.specs.References.{is_write_to}
 use Rattle.body.specs.Room.{same_key}
 use Rattle.body.proofs.Rows.{by_cases, same_key-true}
 use Rattle.chains.specs.declared.version.Version.{Version}
-use Rattle.chains.specs.Store.{AreBetween, is_older, newest_or}
+use Rattle.chains.specs.Store.{AreBetween, is_of, is_older, newest_or, of_key}
+
+and-false : (b : Bool) → (b && false) ≡ false
+and-false true = refl
+and-false false = refl
 
 -- what a version makes of the row of those before it
 abbrev pub stepped : ℕ → Key → Option (List ℤ) → Version → Option (List ℤ)
@@ -36,6 +40,14 @@ newest-early row first end place other key (version ∷ versions) between less l
     let one : ltb version.place place ≡ true = grind (arith, nat_tests) in
     let two : ltb version.place other ≡ true = grind (arith, nat_tests) in
     rw (one, two) (newest-early (cond (same_key version.key.table version.key.row key.table key.row) version.row row) version.place end place other key versions between.2 less lesser)
+
+-- only the versions of the key are seen
+pub newest-of_key : (row : Option (List ℤ)) (place : ℕ) (key : Key) (versions : List Version) → newest_or row versions place key ≡ newest_or row (of_key key versions) place key
+newest-of_key row place key [] = refl
+newest-of_key row place key (version ∷ versions) =
+    by_cases (is_of key version)
+    (λ hit. newest-of_key (stepped place key row version) place key versions ∙ ap (λ b. newest_or row (cond b (version ∷ of_key key versions) (of_key key versions)) place key) (sym hit))
+    (λ miss. ap (λ b. newest_or (cond (ltb version.place place && b) version.row row) versions place key) miss ∙ ap (λ b. newest_or (cond b version.row row) versions place key) (and-false (ltb version.place place)) ∙ newest-of_key row place key versions ∙ ap (λ b. newest_or row (cond b (version ∷ of_key key versions) (of_key key versions)) place key) (sym miss))
 
 -- the version of an access at a place, and those of the accesses that may write
 abbrev version_of : ℕ → Rows → Access → Version

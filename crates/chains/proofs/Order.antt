@@ -1,14 +1,16 @@
 -- Versions in the order of their places.
-use Rattle.std.proofs.Common.{◌≡◌, ℕ, zero, suc, ◌+◌, ◌-◌, ◌<◌, ◌≤◌, List, [], ◌∷◌, ◌++◌, map, ℤ, Option, refl, ap, arith, subst}
+use Rattle.std.proofs.Common.{◌≡◌, ℕ, zero, suc, ◌+◌, ◌-◌, ◌<◌, ◌≤◌, List, [], ◌∷◌, ◌++◌, map, ℤ, Bool, cond, Option, refl, sym, ap, arith, subst}
 use Rattle.std.specs.List.{flat_map, range_with_len}
 use Rattle.std.specs.Option.{option_map_or}
 use Rattle.std.specs.Prelude.{slice_get}
+use Rattle.model_base.specs.declared.row.Key.{Key}
 use Rattle.model_base.specs.declared.statement.Access.{Access}
 use Rattle.model_base.specs.declared.statement.Statement.{Statement}
 use Rattle.model_base.specs.Outcomes.{rows_before}
 use Rattle.model_base.specs.Versions.{writes_of, version_cells}
+use Rattle.body.proofs.Rows.{by_cases}
 use Rattle.chains.specs.declared.version.Version.{Version}
-use Rattle.chains.specs.Store.{AreBetween, versions_at, versions_between}
+use Rattle.chains.specs.Store.{AreBetween, is_of, of_key, versions_at, versions_between}
 
 -- the first place isn't behind the end
 pub between-bound : (first end : ℕ) (versions : List Version) → AreBetween first end versions → first ≤ end
@@ -28,6 +30,16 @@ between-append first middle end (version ∷ versions) later before after =
     let bound : middle ≤ end = between-bound middle end later after in
     let less : version.place < end = omega (arith, before.1) in
     (before.0, less, between-append version.place middle end versions later before.2 after)
+
+-- the versions of one key stand in order too
+pub between-of_key : (key : Key) (first end : ℕ) (versions : List Version) → AreBetween first end versions → AreBetween first end (of_key key versions)
+between-of_key key first end [] between = between
+between-of_key key first end (version ∷ versions) between =
+    let rest : AreBetween version.place end (of_key key versions) = between-of_key key version.place end versions between.2 in
+    let P : Bool → Type 0 = λ b. AreBetween first end (cond b (version ∷ of_key key versions) (of_key key versions)) in
+    by_cases (is_of key version)
+    (λ hit. subst P (sym hit) (between.0, between.1, rest))
+    (λ miss. subst P (sym miss) (between-earlier first version.place end (of_key key versions) between.0 rest))
 
 -- the versions of one place
 between-one : (place : ℕ) (log : List Statement) (accesses : List Access)

@@ -11,9 +11,9 @@ use Rattle.model_base.specs.Outcomes.{rows_before}
 use Rattle.model_base.specs.References.{declares_write}
 use Rattle.model_base.specs.Versions.{accesses_of}
 use Rattle.chains.specs.declared.version.Version.{Version}
-use Rattle.chains.specs.Store.{AreBetween, Gains, IsRight, Store, newest_or, row_in, versions_at, versions_between}
+use Rattle.chains.specs.Store.{AreBetween, Gains, IsRight, Store, newest_or, of_key, row_in, versions_at, versions_between}
 use Rattle.chains.proofs.Order.{between-range}
-use Rattle.chains.proofs.Newest.{newest-late, newest-early, newest-one, stepped}
+use Rattle.chains.proofs.Newest.{newest-late, newest-early, newest-of_key, newest-one, stepped}
 use Rattle.chains.proofs.Serial.{rows_before-unwritten}
 
 -- the row before a place and the place's versions give the row after it
@@ -61,19 +61,31 @@ range-right log first (suc count) place key low high =
         ∙ ap (λ row. newest_or row rest place key) (at-one log first place key less)
         ∙ later
 
--- versions behind the others are what a store gains
-pub append-gains : (store : Store) (more : List Version) (new_end : ℕ) → AreBetween 0 store.end store.versions → AreBetween store.end new_end more
-    → Gains store (record { versions = store.versions ++ more; mark = store.mark; end = new_end }) more new_end
-append-gains store more new_end before after = record {
+-- versions of each key behind its others are what a store gains
+pub append-gains : (store : Store) (new more : List Version) (new_end : ℕ)
+    → ((key : Key) → AreBetween 0 store.end (of_key key store.versions)) → AreBetween store.end new_end more
+    → ((key : Key) → of_key key new ≡ of_key key (store.versions ++ more))
+    → Gains store (record { versions = new; mark = store.mark; end = new_end }) more new_end
+append-gains store new more new_end before after added = record {
   mark = refl;
   end = refl;
   kept = λ place key low high.
-      fold-append (stepped place key) None store.versions more ∙ newest-late (row_in store place key) store.end new_end place key more after high;
+      both place key ∙ newest-late (row_in store place key) store.end new_end place key more after high;
   gained = λ place key low high.
       let whole : store.end ≤ store.end = omega arith in
-      fold-append (stepped place key) None store.versions more
-      ∙ ap (λ row. newest_or row more place key) (newest-early None 0 store.end place store.end key store.versions before low whole);
+      both place key
+      ∙ ap (λ row. newest_or row more place key)
+      (newest-of_key None place key store.versions
+      ∙ newest-early None 0 store.end place store.end key (of_key key store.versions) (before key) low whole
+      ∙ sym (newest-of_key None store.end key store.versions));
 }
+  where
+    both : (place : ℕ) (key : Key) → newest_or None new place key ≡ newest_or (row_in store place key) more place key
+    both place key =
+        newest-of_key None place key new
+        ∙ ap (λ (versions : List Version). newest_or None versions place key) (added key)
+        ∙ sym (newest-of_key None place key (store.versions ++ more))
+        ∙ fold-append (stepped place key) None store.versions more
 
 -- a store that is right for a log stays so when it gains the versions of the log's further places
 pub gains-right : (log : List Statement) (old new : Store) (cells : List Version) (new_end : ℕ) → old.mark ≤ old.end → old.end ≤ new_end

@@ -1,1 +1,4 @@
+pub mod Chain
+pub mod Keyed
 pub mod Store
+pub mod Kept

@@ -1,8 +1,8 @@
 -- The versions of rows over many batches. BOHM keeps for each key the versions that transactions made, and a reader takes
 -- the newest one that is older than itself (J. M. Faleiro and D. J. Abadi, "Rethinking Serializable Multiversion
 -- Concurrency Control", PVLDB 8, 2015, section 3).
-use Rattle.std.specs.Prelude.{◌≡◌, ◌≤◌, ◌<◌, ◌+◌, ◌-◌, ◌==◌, ◌&&◌, nat_lt, ℕ, ℤ, Bool, Option, None, List, [], ◌∷◌, fold, map, slice_get, if◌then◌else◌}
-use Rattle.std.specs.List.{flat_map, range_with_len}
+use Rattle.std.specs.Prelude.{◌≡◌, ◌≤◌, ◌<◌, ◌+◌, ◌-◌, ◌==◌, ◌&&◌, ◌++◌, nat_lt, ℕ, ℤ, Bool, not, Option, None, is_none, List, [], ◌∷◌, filter, fold, map, length, drop, slice_get, if◌then◌else◌}
+use Rattle.std.specs.List.{flat_map, list_all, range_with_len}
 use Rattle.std.specs.Option.{option_map_or}
 use Rattle.model_base.specs.declared.row.Key.{Key}
 use Rattle.model_base.specs.declared.statement.Access.{Access}
@@ -33,6 +33,35 @@ newest_or before versions place key =
 abbrev pub row_in : Store → ℕ → Key → Option (List ℤ)
 row_in store place key = newest_or None store.versions place key
 
+-- whether the version is of the key
+abbrev pub is_of : Key → Version → Bool
+is_of key version = (version.key.table == key.table) && (version.key.row == key.row)
+
+-- the versions of the key, in their order
+abbrev pub of_key : Key → List Version → List Version
+of_key key versions = filter (is_of key) versions
+
+-- the newest of the versions, alone
+abbrev pub newest_alone : List Version → List Version
+newest_alone versions = drop (length versions - 1) versions
+
+-- of the versions of one key, those that are left when they are trimmed to the mark: the newest of those below it, and all
+-- that aren't below it
+abbrev pub trimmed : ℕ → List Version → List Version
+trimmed mark versions =
+    newest_alone (filter (λ (version : Version). nat_lt version.place mark) versions)
+    ++ filter (λ (version : Version). not (nat_lt version.place mark)) versions
+
+-- whether the versions of one key tell nothing but that the row is absent, as if there were none: a single one, below the
+-- mark, without a row
+abbrev pub is_spent : ℕ → List Version → Bool
+is_spent mark versions =
+    (length versions == 1) && list_all (λ (version : Version). nat_lt version.place mark && is_none version.row) versions
+
+-- of the versions of one key, those that are left when the spent ones are swept out
+abbrev pub swept : ℕ → List Version → List Version
+swept mark versions = if is_spent mark versions then [] else versions
+
 -- the versions stand in the order of their places, from the first place to below the end
 abbrev pub AreBetween : ℕ → ℕ → List Version → Type 0
 AreBetween first end [] = first ≤ end
@@ -48,6 +77,13 @@ pub record Gains (old new : Store) (cells : List Version) (new_end : ℕ) : Type
   pub gained :
       (place : ℕ) (key : Key) → old.end ≤ place → place ≤ new_end
       → row_in new place key ≡ newest_or (row_in old old.end key) cells place key
+
+-- the store was trimmed to the mark, and so many versions went
+pub record Trims (old new : Store) (mark gone : ℕ) : Type 0 where
+  pub to : new.mark ≡ mark
+  pub end : new.end ≡ old.end
+  pub left : (key : Key) → of_key key new.versions ≡ trimmed mark (of_key key old.versions)
+  pub count : gone + length new.versions ≡ length old.versions
 
 -- the versions that a place of the log leaves, whatever its outcome: for each access that may change its row, in order, the
 -- row after the place

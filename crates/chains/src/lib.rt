@@ -5,12 +5,15 @@
 //! that is older than itself.
 #![tactic(auto)]
 
+mod chain;
 mod laws;
+mod rows;
 mod store;
 #[cfg(test)]
 mod tests;
 mod version;
+mod writes;
 
 pub use laws::{right_stores_stay_right, versions_have_the_cells, versions_of_logs_are_in_order};
-pub use store::{Chains, Trimmed};
+pub use store::{BadMark, Chains, Trimmed};
 pub use version::Version;

@@ -1,40 +1,48 @@
 //! The store of the versions of rows.
 
+use crate::rows::Rows;
 use crate::version::Version;
+use crate::writes::Written;
 use model_base::{Key, Place, Row};
 use std::alloc::{AllocError, Global};
+use std::collections::VecDeque;
 use std::marker::Model;
 
 /// The row before a place was asked for that lies below the mark, where the versions that would tell it may be gone.
 #[derive(Clone, Copy, PartialEq, Eq, Debug)]
 pub struct Trimmed;
 
-/// The versions of rows that the places of a log made, in the order of these places. It tells the row before each place
-/// from its mark to its end.
+/// The store was to be trimmed to a mark that lies above its end or below its mark.
+#[derive(Clone, Copy, PartialEq, Eq, Debug)]
+pub struct BadMark;
+
+/// The versions of rows that the places of a log made, found by their keys. It tells the row before each place from its
+/// mark to its end.
 #[derive(Drop)]
 pub struct Chains {
-    versions: Vec<Version>,
+    rows: Rows,
+    replacing: VecDeque<Written>,
     mark: Place,
     end: Place,
 }
 
 impl Model for Chains {
-    ghost use Rattle.std.specs.Prelude.{◌≤◌};
-    ghost use Rattle.chains.specs.Store.{AreBetween, Store};
+    ghost use Rattle.chains.specs.Kept.{IsKept};
+    ghost use Rattle.chains.specs.Store.{Store};
 
     ghost Value = { Store };
 
-    ghost view = { λ chains. record { versions = chains.versions.items; mark = chains.mark; end = chains.end } };
+    ghost view = { λ chains. record { versions = chains.rows; mark = chains.mark; end = chains.end } };
 
-    ghost invariant = { λ chains. (chains.mark ≤ chains.end) × AreBetween 0 chains.end chains.versions.items };
+    ghost invariant = { λ chains. IsKept chains.rows chains.replacing.items chains.mark chains.end };
 }
 
 impl Chains {
-    ghost use Rattle.std.specs.Prelude.{◌≡◌, ◌≤◌, ℕ, List, IfOk, OnErr, OnOk, is_err, nat_lt};
+    ghost use Rattle.std.specs.Prelude.{◌≡◌, ◌≤◌, ◌||◌, ℕ, List, IfOk, OnErr, OnOk, is_err, nat_lt};
     ghost use Rattle.model_base.specs.declared.row.Key.{Key};
     ghost use Rattle.model_base.specs.declared.statement.Statement.{Statement};
     ghost use Rattle.model_base.specs.Outcomes.{rows_before};
-    ghost use Rattle.chains.specs.Store.{AreBetween, Gains, IsRight, row_in, versions_between};
+    ghost use Rattle.chains.specs.Store.{AreBetween, Gains, IsRight, Trims, row_in, versions_between};
 
     /// The store before the first place. It takes no memory.
     pub fn new(alloc: Global) -> Self
@@ -44,7 +52,8 @@ impl Chains {
         ensures right { (log : List Statement) → IsRight log result }
     {
         Chains {
-            versions: Vec::new(alloc),
+            rows: Rows::new(alloc),
+            replacing: VecDeque::new(alloc),
             mark: 0,
             end: 0,
         }
@@ -67,29 +76,17 @@ impl Chains {
 
     /// Takes the versions of the places from the end to below the new one: one for each write that a place declares, in
     /// order, whatever its outcome. On `Err` memory was refused, and the store is as it was.
-    pub fn append(&mut self, mut cells: Vec<Version>, new_end: Place) -> Result<(), AllocError>
+    pub fn append(&mut self, cells: Vec<Version>, new_end: Place) -> Result<(), AllocError>
         requires { AreBetween self.old.end new_end cells.items }
         ensures ok { OnOk result (Gains self.old self.new cells.items new_end) }
         ensures right { OnOk result ((log : List Statement) → IsRight log self.old
             → cells.items ≡ versions_between log self.old.end new_end → IsRight log self.new) }
         ensures err { OnErr result (self.new ≡ self.old) }
     {
-        self.versions.append(&mut cells)?;
+        self.replacing.reserve(cells.len())?;
+        self.rows.put_all(&cells, &mut self.replacing)?;
         self.end = new_end;
         Ok(())
-    }
-
-    /// The row of the newest version of the key that is older than the place.
-    fn newest(&self, place: Place, key: Key) -> Option<Row>
-        ensures { result ≡ row_in self.now place key }
-    {
-        for index in (0..self.versions.len()).rev() {
-            let version = self.versions[index];
-            if version.place < place && version.key == key {
-                return version.row;
-            }
-        }
-        None
     }
 
     /// The row of the key before the place, which is at most the end: that of the newest version older than the place, or
@@ -105,6 +102,26 @@ impl Chains {
         if place < self.mark {
             return Err(Trimmed);
         }
-        Ok(self.newest(place, key))
+        Ok(self.rows.newest_before(place, key))
+    }
+
+    /// Drops for each key all versions of places below the mark but the newest of them, and answers how many they were.
+    /// From then on the rows before the places below the mark aren't told. `BadMark` is answered exactly where the mark
+    /// lies above the end or below the store's mark, and nothing changes then. It takes no memory, and costs what it drops.
+    ///
+    /// After Faleiro and Abadi, section 3.3: a version that is replaced is needed no more once no reader is left below
+    /// the place that replaced it.
+    pub fn trim(&mut self, mark: Place) -> Result<usize, BadMark>
+        ensures bad { is_err result ≡ (nat_lt mark self.old.mark || nat_lt self.old.end mark) }
+        ensures ok { IfOk result (λ gone. Trims self.old self.new mark gone) }
+        ensures right { OnOk result ((log : List Statement) → IsRight log self.old → IsRight log self.new) }
+        ensures err { OnErr result (self.new ≡ self.old) }
+    {
+        if mark < self.mark || self.end < mark {
+            return Err(BadMark);
+        }
+        let gone = self.rows.trim(&mut self.replacing, mark);
+        self.mark = mark;
+        Ok(gone)
     }
 }

@@ -1,31 +1,53 @@
-use Rattle.std.proofs.Common.{◌≤◌, List, arith, subst, sym}
-use Rattle.chains.proofs.Order.{between-append, between-bound}
+use Rattle.std.proofs.Common.{◌≡◌, ◌≤◌, ◌++◌, List, map, arith, ap, subst, sym, ◌∙◌}
+use Rattle.std.proofs.lemmas.List.Elements.{filter-append}
+use Rattle.model_base.specs.declared.row.Key.{Key}
+use Rattle.chains.proofs.Noting.{rising-append}
+use Rattle.chains.proofs.Order.{between-append, between-bound, between-of_key}
 use Rattle.chains.proofs.Right.{append-gains, gains-right}
 use Rattle.chains.specs.declared.version.Version.{Version}
-use Rattle.chains.specs.Store.{Store, AreBetween, Gains}
+use Rattle.chains.specs.declared.writes.Written.{Written}
+use Rattle.chains.specs.Kept.{AreRising, written_by, written_to}
+use Rattle.chains.specs.Store.{AreBetween, Gains, Store, is_of, of_key}
 use Rattle.chains.proofs.store.Chains.append.Goals as goal
+
+-- each key's versions are the old ones and the cells
+abbrev IsAdded : List Version → List Version → List Version → Type 0
+IsAdded old new cells = (key : Key) → of_key key new ≡ of_key key (old ++ cells)
 
 pub invariant_of-self-2 : goal.invariant_of-self-2
 invariant_of-self-2 c =
     let inside = c.self.inside in
-    let more : AreBetween inside.end c.args.new_end c.args.cells.items = subst (λ (store : Store). AreBetween store.end c.args.new_end c.args.cells.items) (sym c.self.view_is) c.requires in
-    let later : inside.end ≤ c.args.new_end = between-bound inside.end c.args.new_end c.args.cells.items more in (
-      omega (arith, c.self.invariant.0, later),
-      subst (λ (versions : List Version). AreBetween 0 c.args.new_end versions) (sym c.in_ok-append.ensures.items)
-          (between-append 0 inside.end c.args.new_end inside.versions.items c.args.cells.items c.self.invariant.1 more),
-    )
+    let cells = c.args.cells.items in
+    let more : AreBetween inside.end c.args.new_end cells = subst (λ (store : Store). AreBetween store.end c.args.new_end cells) (sym c.self.view_is) c.requires in
+    let added : IsAdded inside.rows c.put_all.new.self cells = subst (IsAdded inside.rows c.put_all.new.self) c.deref.ensures.value c.in_ok-put_all.ensures.added in
+    let later : inside.end ≤ c.args.new_end = between-bound inside.end c.args.new_end cells more in record {
+      within = omega (arith, c.self.invariant.within, later);
+      ordered = λ key.
+          subst (λ (versions : List Version). AreBetween 0 c.args.new_end versions)
+          (sym (added key ∙ filter-append (is_of key) inside.rows cells))
+          (between-append 0 inside.end c.args.new_end (of_key key inside.rows) (of_key key cells) (c.self.invariant.ordered key)
+          (between-of_key key inside.end c.args.new_end cells more));
+      replacing = λ key.
+          c.in_ok-put_all.ensures.replacing key (ap (written_to key) c.in_ok-reserve.ensures.items ∙ c.self.invariant.replacing key);
+      rising =
+          c.in_ok-put_all.ensures.rising inside.mark c.args.new_end
+          (subst (λ (writes : List Written). AreRising inside.mark c.args.new_end (writes ++ map written_by c.deref.result.now)) (sym c.in_ok-reserve.ensures.items)
+          (subst (λ (versions : List Version). AreRising inside.mark c.args.new_end (inside.replacing.items ++ map written_by versions)) (sym c.deref.ensures.value)
+          (rising-append inside.mark inside.end c.args.new_end inside.replacing.items cells c.self.invariant.rising more)));
+    }
 
 pub returns-clause-ok : goal.returns-clause-ok
 returns-clause-ok c =
     let inside = c.self.inside in
-    let store : Store = record { versions = inside.versions.items; mark = inside.mark; end = inside.end } in
-    let more : AreBetween inside.end c.args.new_end c.args.cells.items = subst (λ (store : Store). AreBetween store.end c.args.new_end c.args.cells.items) (sym c.self.view_is) c.requires in
-    let gained = append-gains store c.args.cells.items c.args.new_end c.self.invariant.1 more in
-    subst (λ (old : Store). Gains old (record { versions = c.append.new.self.items; mark = inside.mark; end = c.args.new_end }) c.args.cells.items c.args.new_end) c.self.view_is
-    (rw c.in_ok-append.ensures.items gained)
+    let cells = c.args.cells.items in
+    let store : Store = record { versions = inside.rows; mark = inside.mark; end = inside.end } in
+    let more : AreBetween inside.end c.args.new_end cells = subst (λ (store : Store). AreBetween store.end c.args.new_end cells) (sym c.self.view_is) c.requires in
+    let added : IsAdded inside.rows c.put_all.new.self cells = subst (IsAdded inside.rows c.put_all.new.self) c.deref.ensures.value c.in_ok-put_all.ensures.added in
+    subst (λ (old : Store). Gains old (record { versions = c.put_all.new.self; mark = inside.mark; end = c.args.new_end }) cells c.args.new_end) c.self.view_is
+    (append-gains store c.put_all.new.self cells c.args.new_end c.self.invariant.ordered more added)
 
 pub returns-clause-right : goal.returns-clause-right
 returns-clause-right c = λ log right are.
     let old = c.args.self.now in
-    let known : old.mark ≤ old.end = subst (λ (store : Store). store.mark ≤ store.end) c.self.view_is c.self.invariant.0 in
+    let known : old.mark ≤ old.end = subst (λ (store : Store). store.mark ≤ store.end) c.self.view_is c.self.invariant.within in
     gains-right log old _ c.args.cells.items c.args.new_end known (between-bound old.end c.args.new_end c.args.cells.items c.requires) (returns-clause-ok c) right are

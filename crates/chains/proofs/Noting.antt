@@ -1,0 +1,102 @@
+-- Versions that are put, and the notes of those that replace an older one.
+use Rattle.std.proofs.Common.{◌≡◌, ℕ, ◌<◌, ◌≤◌, Bool, true, false, cond, ltb, List, [], ◌∷◌, ◌++◌, map, length, take, refl, sym, ◌∙◌, ap, subst, arith}
+use Rattle.std.proofs.lemmas.Bool.Decides.{nat_tests}
+use Rattle.std.proofs.lemmas.List.{append-nil, append_assoc, length-append, map-append, take-append-le}
+use Rattle.std.proofs.lemmas.List.Elements.{filter-append}
+use Rattle.model_base.specs.declared.row.Key.{Key}
+use Rattle.body.specs.Room.{same_key}
+use Rattle.body.proofs.Rows.{by_cases}
+use Rattle.chains.specs.declared.version.Version.{Version}
+use Rattle.chains.specs.declared.writes.Written.{Written}
+use Rattle.chains.specs.Kept.{AreRising, replacing_of, written_by, written_to}
+use Rattle.chains.specs.Store.{AreBetween, is_of, of_key}
+use Rattle.chains.proofs.Keyed.{key-is}
+use Rattle.chains.proofs.Order.{between-bound}
+use Rattle.chains.proofs.Trimming.{rising-earlier}
+
+-- the notes after a version was put
+abbrev pub noted : Bool → List Written → Version → List Written
+noted others writes version = cond others (writes ++ written_by version ∷ []) writes
+
+-- the notes of a key stay those of its versions that replaced an older one
+pub noted-replacing : (key : Key) (old new : List Version) (version : Version) (writes : List Written) (others : Bool)
+    → ((other : Key) → of_key other new ≡ of_key other (old ++ version ∷ [])) → others ≡ ltb 0 (length (of_key version.key old))
+    → written_to key writes ≡ replacing_of (of_key key old) → written_to key (noted others writes version) ≡ replacing_of (of_key key new)
+noted-replacing key old new version writes others added are replacing = by_cases (is_of key version) own other
+  where
+    one_more : written_to key (writes ++ written_by version ∷ []) ≡ written_to key writes ++ cond (is_of key version) (written_by version ∷ []) []
+    one_more = filter-append (λ (write : Written). same_key write.key.table write.key.row key.table key.row) writes (written_by version ∷ [])
+
+    new_is : of_key key new ≡ of_key key old ++ cond (is_of key version) (version ∷ []) []
+    new_is = added key ∙ filter-append (is_of key) old (version ∷ [])
+
+    other : is_of key version ≡ false → written_to key (noted others writes version) ≡ replacing_of (of_key key new)
+    other miss =
+        let same : of_key key new ≡ of_key key old =
+        new_is ∙ ap (λ b. of_key key old ++ cond b (version ∷ []) []) miss ∙ append-nil (of_key key old) in
+        let as_was : written_to key (writes ++ written_by version ∷ []) ≡ written_to key writes =
+        one_more ∙ ap (λ b. written_to key writes ++ cond b (written_by version ∷ []) []) miss ∙ append-nil (written_to key writes) in
+        either others as_was ∙ replacing ∙ ap replacing_of (sym same)
+      where
+        either : (b : Bool) → written_to key (writes ++ written_by version ∷ []) ≡ written_to key writes → written_to key (noted b writes version) ≡ written_to key writes
+        either true as_was = as_was
+        either false as_was = refl
+
+    own : is_of key version ≡ true → written_to key (noted others writes version) ≡ replacing_of (of_key key new)
+    own hit =
+        let longer : of_key key new ≡ of_key key old ++ version ∷ [] = new_is ∙ ap (λ b. of_key key old ++ cond b (version ∷ []) []) hit in
+        let whole : written_to key (writes ++ written_by version ∷ []) ≡ written_to key writes ++ written_by version ∷ [] =
+        one_more ∙ ap (λ b. written_to key writes ++ cond b (written_by version ∷ []) []) hit in
+        let asked : others ≡ ltb 0 (length (of_key key old)) = are ∙ ap (λ (k : Key). ltb 0 (length (of_key k old))) (key-is version.key key hit) in
+        by_list (of_key key old) refl asked longer whole
+      where
+        by_list : (was : List Version) → of_key key old ≡ was → others ≡ ltb 0 (length (of_key key old)) → of_key key new ≡ of_key key old ++ version ∷ []
+            → written_to key (writes ++ written_by version ∷ []) ≡ written_to key writes ++ written_by version ∷ []
+            → written_to key (noted others writes version) ≡ replacing_of (of_key key new)
+        by_list [] is asked longer whole =
+            let empty : ltb 0 0 ≡ false = grind (arith, nat_tests) in
+            ap (λ b. written_to key (noted b writes version)) (asked ∙ ap (λ (vs : List Version). ltb 0 (length vs)) is ∙ empty)
+            ∙ replacing
+            ∙ ap replacing_of is
+            ∙ sym (ap replacing_of (longer ∙ ap (λ (vs : List Version). vs ++ version ∷ []) is))
+        by_list (first ∷ later) is asked longer whole =
+            let some : ltb 0 (length (first ∷ later)) ≡ true = grind (arith, nat_tests) in
+            ap (λ b. written_to key (noted b writes version)) (asked ∙ ap (λ (vs : List Version). ltb 0 (length vs)) is ∙ some)
+            ∙ whole
+            ∙ ap (λ (ws : List Written). ws ++ written_by version ∷ []) (replacing ∙ ap replacing_of is)
+            ∙ sym (map-append written_by later (version ∷ []))
+            ∙ sym (ap replacing_of (longer ∙ ap (λ (vs : List Version). vs ++ version ∷ []) is))
+
+-- a write may be left out of those in order
+rising-skip : (first end : ℕ) (writes : List Written) (write : Written) (more : List Written) → AreRising first end (writes ++ write ∷ more) → AreRising first end (writes ++ more)
+rising-skip first end [] write more rising = rising-earlier first write.place end more rising.0 rising.2
+rising-skip first end (other ∷ writes) write more rising = (rising.0, rising.1, rising-skip other.place end writes write more rising.2)
+
+pub noted-rising : (first end : ℕ) (writes : List Written) (version : Version) (more : List Written) (others : Bool)
+    → AreRising first end (writes ++ written_by version ∷ more) → AreRising first end (noted others writes version ++ more)
+noted-rising first end writes version more true rising =
+    subst (AreRising first end) (sym (append_assoc writes (written_by version ∷ []) more)) rising
+noted-rising first end writes version more false rising = rising-skip first end writes (written_by version) more rising
+
+-- the writes of versions in order, and those behind others
+rising-versions : (first end : ℕ) (versions : List Version) → AreBetween first end versions → AreRising first end (map written_by versions)
+rising-versions first end [] between = between
+rising-versions first end (version ∷ versions) between = (between.0, between.1, rising-versions version.place end versions between.2)
+
+pub rising-append : (first middle end : ℕ) (writes : List Written) (versions : List Version) → AreRising first middle writes → AreBetween middle end versions
+    → AreRising first end (writes ++ map written_by versions)
+rising-append first middle end [] versions rising between =
+    rising-earlier first middle end (map written_by versions) rising (rising-versions middle end versions between)
+rising-append first middle end (write ∷ writes) versions rising between =
+    let bound : middle ≤ end = between-bound middle end versions between in
+    let less : write.place < end = omega (arith, rising.1, bound) in
+    (rising.0, less, rising-append write.place middle end writes versions rising.2 between)
+
+-- what stood before the notes stays
+pub noted-cut : (before : ℕ) (writes : List Written) (version : Version) (others : Bool) → before ≤ length writes → take before (noted others writes version) ≡ take before writes
+noted-cut before writes version true low = take-append-le before writes (written_by version ∷ []) low
+noted-cut before writes version false low = refl
+
+pub noted-long : (before : ℕ) (writes : List Written) (version : Version) (others : Bool) → before ≤ length writes → before ≤ length (noted others writes version)
+noted-long before writes version true low = omega (arith, low, length-append writes (written_by version ∷ []))
+noted-long before writes version false low = low

@@ -1,0 +1,46 @@
+//! Places of the log that wrote a key, in order.
+
+ghost use Rattle.std.specs.Prelude.{◌≡◌, ◌+◌, ◌++◌, ◌∷◌, [], ◌<◌, ◌≤◌, IfSome, IfNone, if◌then◌else◌, length};
+ghost use Rattle.std.specs.Option.{option_to_list};
+ghost use Rattle.std.specs.VecDeque.{deque_capacity, deque_len};
+ghost use Rattle.chains.specs.Kept.{IsFrom, written_by};
+
+use crate::version::Version;
+use model_base::{Key, Place};
+use std::collections::VecDeque;
+
+/// A place of the log that wrote a key.
+#[derive(Clone, Copy, PartialEq, Eq, Debug)]
+pub(crate) struct Written {
+    pub(crate) place: Place,
+    pub(crate) key: Key,
+}
+
+/// Takes the first write out and answers it, if its place is below the mark.
+pub(crate) fn take_below(writes: &mut VecDeque<Written>, mark: Place) -> Option<Written>
+    ensures items { writes.old.items ≡ option_to_list result ++ writes.new.items }
+    ensures len { deque_len writes.new + length (option_to_list result) ≡ deque_len writes.old }
+    ensures below { IfSome result (λ write. write.place < mark) }
+    ensures rest { IfNone result (IsFrom mark writes.new.items) }
+{
+    let below = match writes.front() {
+        None => false,
+        Some(write) => write.place < mark,
+    };
+    if below { writes.pop_front() } else { None }
+}
+
+/// Puts the version's place behind the others, where that is asked for.
+pub(crate) fn note_if(writes: &mut VecDeque<Written>, asked: bool, version: &Version)
+    requires { deque_len writes.old < deque_capacity writes.old }
+    ensures items { writes.new.items ≡ (if asked then writes.old.items ++ written_by version.now ∷ [] else writes.old.items) }
+    ensures len { deque_len writes.new ≤ deque_len writes.old + 1 }
+    ensures capacity { deque_capacity writes.new ≡ deque_capacity writes.old }
+{
+    if asked {
+        writes.push_back_reserved(Written {
+            place: version.place,
+            key: version.key,
+        });
+    }
+}
