@@ -1,5 +1,8 @@
 -- What the versions of all rows become where the chain of one key changes.
-use Rattle.std.proofs.Common.{◌≡◌, ℕ, ℤ, Bool, true, false, ◌&&◌, cond, ltb, Option, None, List, [], ◌∷◌, ◌++◌, map, Result, Ok, Err, OnErr, refl, sym, ◌∙◌, ap}
+use Rattle.std.proofs.Common.{◌≡◌, ℕ, ℤ, Bool, true, false, ◌&&◌, cond, ltb, Option, None, List, [], ◌∷◌, ◌++◌, map, Result, Ok, Err, OnErr, refl, sym, ◌∙◌, ap, ◌+◌, ◌<◌, ◌≤◌, suc, arith, eqb, length, is_none}
+use Rattle.std.specs.List.{list_all}
+use Rattle.std.proofs.lemmas.Bool.Decides.{nat_tests}
+use Rattle.std.proofs.lemmas.List.{length-append, length-map}
 use Rattle.std.specs.BTreeMap.{insert_entry, is_at}
 use Rattle.std.specs.Map.{lookup, remove_entry, set_value}
 use Rattle.model_base.specs.declared.row.Key.{Key}
@@ -7,9 +10,9 @@ use Rattle.body.specs.RowMap.{key_cmp}
 use Rattle.body.proofs.Rows.{same_key-own}
 use Rattle.chains.specs.declared.chain.Dated.{Dated}
 use Rattle.chains.specs.declared.version.Version.{Version}
-use Rattle.chains.specs.Chain.{newest_below}
+use Rattle.chains.specs.Chain.{is_spent_chain, newest_below}
 use Rattle.chains.specs.Keyed.{version_at, versions_in, without_all, without_first, without_last}
-use Rattle.chains.specs.Store.{newest_or, of_key}
+use Rattle.chains.specs.Store.{is_spent, newest_or, of_key}
 use Rattle.chains.proofs.Keyed.{among-own, among-put, among-last, among-first, none-last, none-first}
 use Rattle.chains.proofs.Entries.{Entries, Found, Gap, absent-none, around, without}
 use Rattle.chains.proofs.Newest.{newest-of_key}
@@ -145,3 +148,32 @@ on_err (Err error) holds = holds
 pub filled : (older : List Dated) (newest : Dated) → (first : Dated) × (later : List Dated) × (older ++ newest ∷ [] ≡ first ∷ later)
 filled [] newest = (newest, [], refl)
 filled (first ∷ older) newest = (first, older ++ newest ∷ [], refl)
+
+-- whether a chain is spent, as whether its key's versions are
+all-at : (key : Key) (mark : ℕ) (chain : List Dated)
+    → list_all (λ (version : Version). ltb version.place mark && is_none version.row) (map (version_at key) chain) ≡ list_all (λ (version : Dated). ltb version.place mark && is_none version.row) chain
+all-at key mark [] = refl
+all-at key mark (dated ∷ chain) = ap (λ b. (ltb dated.place mark && is_none dated.row) && b) (all-at key mark chain)
+
+spent-at : (key : Key) (mark : ℕ) (chain : List Dated) → is_spent mark (map (version_at key) chain) ≡ is_spent_chain mark chain
+spent-at key mark chain =
+    ap (λ n. eqb n 1 && list_all (λ (version : Version). ltb version.place mark && is_none version.row) (map (version_at key) chain)) (length-map chain (version_at key))
+    ∙ ap (λ b. eqb (length chain) 1 && b) (all-at key mark chain)
+
+pub spent-found : (key : Key) (chain : List Dated) (entries : Entries) (mark : ℕ) → Found key chain entries → is_spent_chain mark chain ≡ is_spent mark (of_key key (versions_in entries))
+spent-found key chain entries mark at = sym (ap (is_spent mark) (own-found key chain entries at) ∙ spent-at key mark chain)
+
+pub spent-absent : (key : Key) (entries : Entries) (mark : ℕ) → lookup (is_at (key_cmp key)) entries ≡ None → false ≡ is_spent mark (of_key key (versions_in entries))
+spent-absent key entries mark none = sym (ap (is_spent mark) (absent-none key entries none))
+
+-- a chain of several versions isn't spent, and one of a single version is where that is below the mark and without a row
+pub several-alive : (mark : ℕ) (older : List Dated) (newest : Dated) → 0 < length older → false ≡ is_spent_chain mark (older ++ newest ∷ [])
+several-alive mark [] newest some = absurd (omega arith)
+several-alive mark (first ∷ older) newest some =
+    let long : length (older ++ newest ∷ []) ≡ length older + 1 = length-append older (newest ∷ []) ∙ omega arith in
+    let many : eqb (suc (length (older ++ newest ∷ []))) 1 ≡ false = grind (arith, nat_tests, long) in
+    sym (ap (λ b. b && list_all (λ (version : Dated). ltb version.place mark && is_none version.row) (first ∷ (older ++ newest ∷ []))) many)
+
+pub single-spent : (mark : ℕ) (older : List Dated) (newest : Dated) → length older ≤ 0 → (ltb newest.place mark && is_none newest.row) ≡ is_spent_chain mark (older ++ newest ∷ [])
+single-spent mark [] newest none = sym (and-true (ltb newest.place mark && is_none newest.row))
+single-spent mark (first ∷ older) newest none = absurd (omega arith)

@@ -7,3 +7,4 @@ pub mod Entries
 pub mod Changed
 pub mod Trimming
 pub mod Noting
+pub mod Sweeping

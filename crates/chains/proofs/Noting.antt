@@ -1,5 +1,5 @@
 -- Versions that are put, and the notes of those that replace an older one.
-use Rattle.std.proofs.Common.{◌≡◌, ℕ, ◌<◌, ◌≤◌, Bool, true, false, cond, ltb, List, [], ◌∷◌, ◌++◌, map, length, take, refl, sym, ◌∙◌, ap, subst, arith}
+use Rattle.std.proofs.Common.{◌≡◌, ℕ, ℤ, Option, Some, None, is_none, is_some, not, ◌<◌, ◌≤◌, Bool, true, false, cond, ltb, List, [], ◌∷◌, ◌++◌, filter, map, length, take, refl, sym, ◌∙◌, ap, subst, arith}
 use Rattle.std.proofs.lemmas.Bool.Decides.{nat_tests}
 use Rattle.std.proofs.lemmas.List.{append-nil, append_assoc, length-append, map-append, take-append-le}
 use Rattle.std.proofs.lemmas.List.Elements.{filter-append}
@@ -8,7 +8,7 @@ use Rattle.body.specs.Room.{same_key}
 use Rattle.body.proofs.Rows.{by_cases}
 use Rattle.chains.specs.declared.version.Version.{Version}
 use Rattle.chains.specs.declared.writes.Written.{Written}
-use Rattle.chains.specs.Kept.{AreRising, replacing_of, written_by, written_to}
+use Rattle.chains.specs.Kept.{AreRising, is_absent, replacing_of, written_by, written_to}
 use Rattle.chains.specs.Store.{AreBetween, is_of, of_key}
 use Rattle.chains.proofs.Keyed.{key-is}
 use Rattle.chains.proofs.Order.{between-bound}
@@ -100,3 +100,24 @@ noted-cut before writes version false low = refl
 pub noted-long : (before : ℕ) (writes : List Written) (version : Version) (others : Bool) → before ≤ length writes → before ≤ length (noted others writes version)
 noted-long before writes version true low = omega (arith, low, length-append writes (written_by version ∷ []))
 noted-long before writes version false low = low
+
+-- the notes after one version more, of those in which the row is absent
+pub noted-absent : (old : List Written) (done : List Version) (version : Version) (asked : Bool) → asked ≡ is_absent version
+    → noted asked (old ++ map written_by (filter is_absent done)) version ≡ old ++ map written_by (filter is_absent (done ++ version ∷ []))
+noted-absent old done version asked is =
+    at asked
+    ∙ ap (λ b. old ++ map written_by (filter is_absent done ++ cond b (version ∷ []) [])) is
+    ∙ sym (ap (λ (vs : List Version). old ++ map written_by vs) (filter-append is_absent done (version ∷ [])))
+  where
+    at : (b : Bool) → noted b (old ++ map written_by (filter is_absent done)) version ≡ old ++ map written_by (filter is_absent done ++ cond b (version ∷ []) [])
+    at true =
+        append_assoc old (map written_by (filter is_absent done)) (written_by version ∷ [])
+        ∙ ap (λ (ws : List Written). old ++ ws) (sym (map-append written_by (filter is_absent done) (version ∷ [])))
+    at false = ap (λ (vs : List Version). old ++ map written_by vs) (sym (append-nil (filter is_absent done)))
+
+-- a row is absent where it isn't there
+pub none-asked : (row : Option (List ℤ)) (asked : Bool) → is_some row ≡ not asked → asked ≡ is_none row
+none-asked None true is = refl
+none-asked None false is = let no : false ≡ true = is in cc
+none-asked (Some row) true is = let no : true ≡ false = is in cc
+none-asked (Some row) false is = refl

@@ -1,5 +1,5 @@
 -- Versions in the order of their places.
-use Rattle.std.proofs.Common.{◌≡◌, ℕ, zero, suc, ◌+◌, ◌-◌, ◌<◌, ◌≤◌, List, [], ◌∷◌, ◌++◌, map, ℤ, Bool, cond, Option, refl, sym, ap, arith, subst}
+use Rattle.std.proofs.Common.{◌≡◌, ℕ, zero, suc, ◌+◌, ◌-◌, ◌<◌, ◌≤◌, List, [], ◌∷◌, ◌++◌, filter, map, ℤ, Bool, cond, Option, refl, sym, ap, arith, subst}
 use Rattle.std.specs.List.{flat_map, range_with_len}
 use Rattle.std.specs.Option.{option_map_or}
 use Rattle.std.specs.Prelude.{slice_get}
@@ -31,15 +31,18 @@ between-append first middle end (version ∷ versions) later before after =
     let less : version.place < end = omega (arith, before.1) in
     (before.0, less, between-append version.place middle end versions later before.2 after)
 
--- the versions of one key stand in order too
-pub between-of_key : (key : Key) (first end : ℕ) (versions : List Version) → AreBetween first end versions → AreBetween first end (of_key key versions)
-between-of_key key first end [] between = between
-between-of_key key first end (version ∷ versions) between =
-    let rest : AreBetween version.place end (of_key key versions) = between-of_key key version.place end versions between.2 in
-    let P : Bool → Type 0 = λ b. AreBetween first end (cond b (version ∷ of_key key versions) (of_key key versions)) in
-    by_cases (is_of key version)
+-- versions that pass a test stand in order too, as those of one key
+pub between-filter : (passes : Version → Bool) (first end : ℕ) (versions : List Version) → AreBetween first end versions → AreBetween first end (filter passes versions)
+between-filter passes first end [] between = between
+between-filter passes first end (version ∷ versions) between =
+    let rest : AreBetween version.place end (filter passes versions) = between-filter passes version.place end versions between.2 in
+    let P : Bool → Type 0 = λ b. AreBetween first end (cond b (version ∷ filter passes versions) (filter passes versions)) in
+    by_cases (passes version)
     (λ hit. subst P (sym hit) (between.0, between.1, rest))
-    (λ miss. subst P (sym miss) (between-earlier first version.place end (of_key key versions) between.0 rest))
+    (λ miss. subst P (sym miss) (between-earlier first version.place end (filter passes versions) between.0 rest))
+
+pub between-of_key : (key : Key) (first end : ℕ) (versions : List Version) → AreBetween first end versions → AreBetween first end (of_key key versions)
+between-of_key key = between-filter (is_of key)
 
 -- the versions of one place
 between-one : (place : ℕ) (log : List Statement) (accesses : List Access)

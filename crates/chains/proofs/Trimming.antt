@@ -8,7 +8,7 @@ use Rattle.body.proofs.Rows.{by_cases, same_key-own}
 use Rattle.chains.specs.declared.version.Version.{Version}
 use Rattle.chains.specs.declared.writes.Written.{Written}
 use Rattle.chains.specs.Keyed.{without_first}
-use Rattle.chains.specs.Kept.{AreRising, IsFrom, replacing_of, written_by, written_to}
+use Rattle.chains.specs.Kept.{AreRising, IsFrom, newest_is_noted, replacing_of, written_by, written_to}
 use Rattle.chains.specs.Store.{AreBetween, is_of, is_older, newest_alone, newest_or, of_key, trimmed}
 use Rattle.chains.proofs.Keyed.{key-is}
 
@@ -67,7 +67,7 @@ pub rising-from : (mark first end : ℕ) (writes : List Written) → IsFrom mark
 rising-from mark first end [] from within rising = within
 rising-from mark first end (write ∷ writes) from within rising = (from, rising.1, rising.2)
 
-rising-to : (key : Key) (first end : ℕ) (writes : List Written) → AreRising first end writes → AreRising first end (written_to key writes)
+pub rising-to : (key : Key) (first end : ℕ) (writes : List Written) → AreRising first end writes → AreRising first end (written_to key writes)
 rising-to key first end [] rising = rising
 rising-to key first end (write ∷ writes) rising =
     let rest : AreRising write.place end (written_to key writes) = rising-to key write.place end writes rising.2 in
@@ -76,7 +76,7 @@ rising-to key first end (write ∷ writes) rising =
     (λ hit. subst P (sym hit) (rising.0, rising.1, rest))
     (λ miss. subst P (sym miss) (rising-earlier first write.place end (written_to key writes) rising.0 rest))
 
-between-rising : (first end : ℕ) (versions : List Version) → AreRising first end (map written_by versions) → AreBetween first end versions
+pub between-rising : (first end : ℕ) (versions : List Version) → AreRising first end (map written_by versions) → AreBetween first end versions
 between-rising first end [] rising = rising
 between-rising first end (version ∷ versions) rising = (rising.0, rising.1, between-rising version.place end versions rising.2)
 
@@ -88,14 +88,14 @@ nothing-left mark end key versions writes rising replacing =
     (λ version later is. between-rising mark end later (subst (AreRising mark end) (replacing ∙ ap replacing_of is) (rising-to key mark end writes rising)))
 
 -- without the first version of a key: the key's versions, those of another key, and how many there are
-of_key-first : (key : Key) (versions : List Version) → of_key key (without_first key versions) ≡ drop 1 (of_key key versions)
+pub of_key-first : (key : Key) (versions : List Version) → of_key key (without_first key versions) ≡ drop 1 (of_key key versions)
 of_key-first key [] = refl
 of_key-first key (version ∷ versions) =
     by_cases (is_of key version)
     (λ hit. rw hit refl)
     (λ miss. let rest = of_key-first key versions in rw miss (rw miss rest))
 
-of_key-other : (key other : Key) (versions : List Version) → same_key key.table key.row other.table other.row ≡ false → of_key other (without_first key versions) ≡ of_key other versions
+pub of_key-other : (key other : Key) (versions : List Version) → same_key key.table key.row other.table other.row ≡ false → of_key other (without_first key versions) ≡ of_key other versions
 of_key-other key other [] differ = refl
 of_key-other key other (version ∷ versions) differ =
     let rest = of_key-other key other versions differ in
@@ -103,14 +103,14 @@ of_key-other key other (version ∷ versions) differ =
     (λ hit. let miss : is_of other version ≡ false = subst (λ (k : Key). same_key k.table k.row other.table other.row ≡ false) (sym (key-is version.key key hit)) differ in ap (λ b. of_key other (cond b versions (version ∷ without_first key versions))) hit ∙ sym (ap (λ b. cond b (version ∷ of_key other versions) (of_key other versions)) miss))
     (λ miss. ap (λ b. of_key other (cond b versions (version ∷ without_first key versions))) miss ∙ ap (λ vs. cond (is_of other version) (version ∷ vs) vs) rest)
 
-length-first : (key : Key) (versions : List Version) (first : Version) (rest : List Version) → of_key key versions ≡ first ∷ rest → length (without_first key versions) + 1 ≡ length versions
+pub length-first : (key : Key) (versions : List Version) (first : Version) (rest : List Version) → of_key key versions ≡ first ∷ rest → length (without_first key versions) + 1 ≡ length versions
 length-first key [] first rest is = cc
 length-first key (version ∷ versions) first rest is =
     by_cases (is_of key version)
     (λ hit. ap (λ b. length (cond b versions (version ∷ without_first key versions)) + 1) hit ∙ omega arith)
     (λ miss. let others = length-first key versions first rest (sym (ap (λ b. cond b (version ∷ of_key key versions) (of_key key versions)) miss) ∙ is) in ap (λ b. length (cond b versions (version ∷ without_first key versions)) + 1) miss ∙ omega (arith, others))
 
-all-pass : (key : Key) (versions : List Version) → AllByRecursion (λ version. is_of key version ≡ true) (of_key key versions)
+pub all-pass : (key : Key) (versions : List Version) → AllByRecursion (λ version. is_of key version ≡ true) (of_key key versions)
 all-pass key [] = tt
 all-pass key (version ∷ versions) =
     let P : Bool → Type 0 = λ b. AllByRecursion (λ version. is_of key version ≡ true) (cond b (version ∷ of_key key versions) (of_key key versions)) in
@@ -148,6 +148,7 @@ pub record Dropped (mark end : ℕ) (key : Key) (old new : List Version) (writes
   pub newest : (place : ℕ) → mark ≤ place → newest_or None (of_key key new) place key ≡ newest_or None (of_key key old) place key
   pub ordered : AreBetween 0 end (of_key key new)
   pub replacing : written_to key writes ≡ replacing_of (of_key key new)
+  pub noted : (notes : List Written) → newest_is_noted notes (of_key key old) ≡ true → newest_is_noted notes (of_key key new) ≡ true
 
 -- the oldest but one hides the oldest from the places behind it
 hidden : (place : ℕ) (key : Key) (first second : Version) (more : List Version) → second.place < place → is_of key second ≡ true
@@ -192,6 +193,7 @@ dropped mark end versions write writes less ordered replacing key = by_cases (sa
           ∙ ap (λ (vs : List Version). newest_or None vs place write.key) (sym two.is);
       ordered = subst (AreBetween 0 end) (sym left_own) (omega arith, between.2.1, between.2.2);
       replacing = two.later ∙ ap replacing_of (sym left_own);
+      noted = λ notes is. ap (newest_is_noted notes) left_own ∙ sym (ap (newest_is_noted notes) two.is) ∙ is;
     }
 
     own : same_key write.key.table write.key.row key.table key.row ≡ true → Dropped mark end key versions (without_first write.key versions) writes
@@ -207,6 +209,7 @@ dropped mark end versions write writes less ordered replacing key = by_cases (sa
           replacing =
               sym (ap (λ b. cond b (write ∷ written_to key writes) (written_to key writes)) miss)
               ∙ replacing key ∙ ap replacing_of (sym same);
+          noted = λ notes is. ap (newest_is_noted notes) same ∙ is;
         }
 
 pub one-less : (versions : List Version) (write : Written) (writes : List Written) → ((key : Key) → written_to key (write ∷ writes) ≡ replacing_of (of_key key versions))

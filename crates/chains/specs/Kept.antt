@@ -1,5 +1,6 @@
--- What a store keeps beside its versions, so that trimming costs what it takes out.
-use Rattle.std.specs.Prelude.{◌≡◌, ◌≤◌, ◌<◌, ℕ, List, [], ◌∷◌, drop, filter, map}
+-- What a store keeps beside its versions, so that trimming and sweeping cost what they take out.
+use Rattle.std.specs.Prelude.{◌≡◌, ◌≤◌, ◌<◌, ◌==◌, ◌&&◌, ◌||◌, ℕ, Bool, true, not, is_none, List, [], ◌∷◌, drop, filter, fold, map}
+use Rattle.std.specs.List.{list_any}
 use Rattle.body.specs.Room.{same_key}
 use Rattle.model_base.specs.declared.row.Key.{Key}
 use Rattle.chains.specs.declared.version.Version.{Version}
@@ -29,10 +30,30 @@ IsFrom mark (write ∷ writes) = mark ≤ write.place
 abbrev pub replacing_of : List Version → List Written
 replacing_of versions = map written_by (drop 1 versions)
 
--- the mark isn't past the end; the versions of each key stand in the order of their places, below the end; and the writes
--- of those that replaced an older one stand in the order of their places, none of them below the mark
-pub record IsKept (versions : List Version) (writes : List Written) (mark end : ℕ) : Type 0 where
+-- whether the row is absent in the version
+abbrev pub is_absent : Version → Bool
+is_absent version = is_none version.row
+
+-- whether the version is that of the write
+abbrev pub is_write_of : Version → Written → Bool
+is_write_of version write =
+    (write.place == version.place) && same_key write.key.table write.key.row version.key.table version.key.row
+
+-- whether there is a row in the version, or its write is noted
+abbrev pub is_noted : List Written → Version → Bool
+is_noted notes version = not (is_none version.row) || list_any (is_write_of version) notes
+
+-- whether the newest of the versions is noted, if there is one
+abbrev pub newest_is_noted : List Written → List Version → Bool
+newest_is_noted notes versions = fold (λ before (version : Version). is_noted notes version) true versions
+
+-- the mark isn't past the end; the versions of each key stand in the order of their places, below the end; the writes of
+-- those that replaced an older one stand in the order of their places, none of them below the mark; and the notes of versions in
+-- which a row is absent stand so too, among them each that is the newest of its key
+pub record IsKept (versions : List Version) (writes absent : List Written) (mark end : ℕ) : Type 0 where
   pub within : mark ≤ end
   pub ordered : (key : Key) → AreBetween 0 end (of_key key versions)
   pub replacing : (key : Key) → written_to key writes ≡ replacing_of (of_key key versions)
   pub rising : AreRising mark end writes
+  pub noted : (key : Key) → newest_is_noted absent (of_key key versions) ≡ true
+  pub falling : AreRising 0 end absent

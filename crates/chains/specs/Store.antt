@@ -85,6 +85,13 @@ pub record Trims (old new : Store) (mark gone : ℕ) : Type 0 where
   pub left : (key : Key) → of_key key new.versions ≡ trimmed mark (of_key key old.versions)
   pub count : gone + length new.versions ≡ length old.versions
 
+-- the versions that tell nothing were swept out of the store, and so many they were
+pub record Sweeps (old new : Store) (gone : ℕ) : Type 0 where
+  pub mark : new.mark ≡ old.mark
+  pub end : new.end ≡ old.end
+  pub left : (key : Key) → of_key key new.versions ≡ swept old.mark (of_key key old.versions)
+  pub count : gone + length new.versions ≡ length old.versions
+
 -- the versions that a place of the log leaves, whatever its outcome: for each access that may change its row, in order, the
 -- row after the place
 abbrev pub versions_at : List Statement → ℕ → List Version

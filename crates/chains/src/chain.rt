@@ -32,7 +32,7 @@ impl Model for Chain {
 impl Chain {
     ghost use Rattle.std.specs.Prelude.{◌≡◌, ◌++◌, ◌∷◌, [], List, None, OnOk, OnErr};
     ghost use Rattle.std.specs.Bool.{OnTrue, OnFalse};
-    ghost use Rattle.chains.specs.Chain.{newest_below};
+    ghost use Rattle.chains.specs.Chain.{is_spent_chain, newest_below};
     ghost use Rattle.chains.specs.declared.chain.Dated.{Dated as Kept};
 
     /// The chain of one version. It takes no memory.
@@ -110,5 +110,15 @@ impl Chain {
             return self.newest.row;
         }
         Self::last_before(&self.older, place)
+    }
+
+    /// Whether the chain is a single version below the mark, in which the row is absent.
+    pub(crate) fn is_spent(&self, mark: Place) -> bool
+        ensures { result ≡ is_spent_chain mark self.now }
+    {
+        match self.older.front() {
+            Some(_) => false,
+            None => self.newest.place < mark && self.newest.row.is_none(),
+        }
     }
 }

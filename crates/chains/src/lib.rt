@@ -9,8 +9,6 @@ mod chain;
 mod laws;
 mod rows;
 mod store;
-#[cfg(test)]
-mod tests;
 mod version;
 mod writes;
 

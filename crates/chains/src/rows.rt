@@ -27,12 +27,13 @@ impl Model for Rows {
 }
 
 impl Rows {
-    ghost use Rattle.std.specs.Prelude.{◌≡◌, ◌+◌, ◌≤◌, ◌++◌, ◌∷◌, [], None, ℕ, IfOk, OnOk, OnErr, length, map, nat_lt};
+    ghost use Rattle.std.specs.Prelude.{◌≡◌, ◌+◌, ◌≤◌, ◌++◌, ◌∷◌, [], List, None, ℕ, if◌then◌else◌, IfOk, OnOk, OnErr, length, map, nat_lt};
     ghost use Rattle.std.specs.VecDeque.{deque_capacity, deque_len};
     ghost use Rattle.model_base.specs.declared.row.Key.{Key as RowKey};
     ghost use Rattle.chains.specs.Kept.{AreRising, IsKept, replacing_of, written_by, written_to};
     ghost use Rattle.chains.specs.Keyed.{without_all, without_first, without_last};
-    ghost use Rattle.chains.specs.Store.{newest_or, of_key, trimmed};
+    ghost use Rattle.chains.specs.Store.{is_spent, newest_or, of_key, swept, trimmed};
+    ghost use Rattle.chains.specs.declared.writes.Written.{Written as Noted};
 
     /// No version. It takes no memory.
     pub(crate) fn new(alloc: Global) -> Self
@@ -141,10 +142,11 @@ impl Rows {
     /// Takes out of each key the versions below the mark, but the newest of them, and answers how many they were. The
     /// writes that it goes by are those of the versions that replaced an older one.
     pub(crate) fn trim(&mut self, writes: &mut VecDeque<Written>, mark: Place) -> usize
-        requires { (first : ℕ) × (end : ℕ) × (mark ≤ end) × IsKept self.old writes.old.items first end }
+        requires { (absent : List Noted) × (first : ℕ) × (end : ℕ) × (mark ≤ end) × IsKept self.old writes.old.items absent first end }
         ensures left { (key : RowKey) → of_key key self.new ≡ trimmed mark (of_key key self.old) }
         ensures newest { (place : ℕ) (key : RowKey) → mark ≤ place → newest_or None self.new place key ≡ newest_or None self.old place key }
-        ensures kept { (first end : ℕ) → IsKept self.old writes.old.items first end → mark ≤ end → IsKept self.new writes.new.items mark end }
+        ensures kept { (absent : List Noted) (first end : ℕ) → IsKept self.old writes.old.items absent first end → mark ≤ end
+            → IsKept self.new writes.new.items absent mark end }
         ensures gone { result + length self.new ≡ length self.old }
     {
         let before = writes.len();
@@ -163,5 +165,46 @@ impl Rows {
             None => None,
             Some(chain) => chain.newest_before(place),
         }
+    }
+
+    /// Whether the key has a single version, below the mark, in which the row is absent.
+    fn is_spent(&self, mark: Place, key: Key) -> bool
+        ensures { result ≡ is_spent mark (of_key key self.now) }
+    {
+        let _count = self.chains.len();
+        match self.chains.get(&key) {
+            None => false,
+            Some(chain) => chain.is_spent(mark),
+        }
+    }
+
+    /// Takes the version of the written key out, if it is a single one that tells nothing, and answers how many it took.
+    fn take_spent(&mut self, mark: Place, write: &Written) -> usize
+        ensures rows { self.new ≡ (if is_spent mark (of_key write.now.key self.old) then without_first write.now.key self.old else self.old) }
+        ensures count { result ≡ (if is_spent mark (of_key write.now.key self.old) then 1 else 0) }
+    {
+        if !self.is_spent(mark, write.key) {
+            return 0;
+        }
+        self.take_oldest(write.key);
+        1
+    }
+
+    /// Takes the single versions out that lie below the mark and tell nothing but that the row is absent, and answers how
+    /// many they were. The notes that it goes by are those of versions in which a row is absent.
+    pub(crate) fn sweep(&mut self, absent: &mut VecDeque<Written>, mark: Place) -> usize
+        requires { (writes : List Noted) × (end : ℕ) × IsKept self.old writes absent.old.items mark end }
+        ensures left { (key : RowKey) → of_key key self.new ≡ swept mark (of_key key self.old) }
+        ensures newest { (place : ℕ) (key : RowKey) → newest_or None self.new place key ≡ newest_or None self.old place key }
+        ensures kept { (writes : List Noted) (end : ℕ) → IsKept self.old writes absent.old.items mark end
+            → IsKept self.new writes absent.new.items mark end }
+        ensures gone { result + length self.new ≡ length self.old }
+    {
+        let _waiting = absent.len();
+        let mut gone = 0;
+        while let Some(write) = take_below(absent, mark) {
+            gone += self.take_spent(mark, &write);
+        }
+        gone
     }
 }

@@ -2,7 +2,7 @@
 
 use crate::rows::Rows;
 use crate::version::Version;
-use crate::writes::Written;
+use crate::writes::{Written, note_absent};
 use model_base::{Key, Place, Row};
 use std::alloc::{AllocError, Global};
 use std::collections::VecDeque;
@@ -22,6 +22,7 @@ pub struct BadMark;
 pub struct Chains {
     rows: Rows,
     replacing: VecDeque<Written>,
+    absent: VecDeque<Written>,
     mark: Place,
     end: Place,
 }
@@ -34,26 +35,28 @@ impl Model for Chains {
 
     ghost view = { λ chains. record { versions = chains.rows; mark = chains.mark; end = chains.end } };
 
-    ghost invariant = { λ chains. IsKept chains.rows chains.replacing.items chains.mark chains.end };
+    ghost invariant = { λ chains. IsKept chains.rows chains.replacing.items chains.absent.items chains.mark chains.end };
 }
 
 impl Chains {
-    ghost use Rattle.std.specs.Prelude.{◌≡◌, ◌≤◌, ◌||◌, ℕ, List, IfOk, OnErr, OnOk, is_err, nat_lt};
+    ghost use Rattle.std.specs.Prelude.{◌≡◌, ◌≤◌, ◌||◌, ◌++◌, [], ℕ, List, IfOk, OnErr, OnOk, is_err, nat_lt};
     ghost use Rattle.model_base.specs.declared.row.Key.{Key};
     ghost use Rattle.model_base.specs.declared.statement.Statement.{Statement};
     ghost use Rattle.model_base.specs.Outcomes.{rows_before};
-    ghost use Rattle.chains.specs.Store.{AreBetween, Gains, IsRight, Trims, row_in, versions_between};
+    ghost use Rattle.chains.specs.Store.{AreBetween, Gains, IsRight, Sweeps, Trims, of_key, row_in, versions_between};
 
     /// The store before the first place. It takes no memory.
     pub fn new(alloc: Global) -> Self
         ensures mark { result.mark ≡ 0 }
         ensures end { result.end ≡ 0 }
         ensures none { (place : ℕ) (key : Key) → row_in result place key ≡ None }
+        ensures empty { result.versions ≡ [] }
         ensures right { (log : List Statement) → IsRight log result }
     {
         Chains {
             rows: Rows::new(alloc),
             replacing: VecDeque::new(alloc),
+            absent: VecDeque::new(alloc),
             mark: 0,
             end: 0,
         }
@@ -79,12 +82,16 @@ impl Chains {
     pub fn append(&mut self, cells: Vec<Version>, new_end: Place) -> Result<(), AllocError>
         requires { AreBetween self.old.end new_end cells.items }
         ensures ok { OnOk result (Gains self.old self.new cells.items new_end) }
+        ensures versions { OnOk result ((key : Key) → of_key key self.new.versions ≡ of_key key (self.old.versions ++ cells.items)) }
         ensures right { OnOk result ((log : List Statement) → IsRight log self.old
             → cells.items ≡ versions_between log self.old.end new_end → IsRight log self.new) }
         ensures err { OnErr result (self.new ≡ self.old) }
     {
         self.replacing.reserve(cells.len())?;
-        self.rows.put_all(&cells, &mut self.replacing)?;
+        self.absent.reserve(cells.len())?;
+        let versions = cells.as_slice();
+        self.rows.put_all(versions, &mut self.replacing)?;
+        note_absent(&mut self.absent, versions);
         self.end = new_end;
         Ok(())
     }
@@ -123,5 +130,15 @@ impl Chains {
         let gone = self.rows.trim(&mut self.replacing, mark);
         self.mark = mark;
         Ok(gone)
+    }
+
+    /// Takes out the versions that tell nothing: those below the mark that are the only ones of their keys, and in which
+    /// the row is absent. It answers how many they were. What the store tells stays the same. It takes no memory, and costs
+    /// what was appended without a row and has come below the mark since the last call.
+    pub fn sweep(&mut self) -> usize
+        ensures swept { Sweeps self.old self.new result }
+        ensures right { (log : List Statement) → IsRight log self.old → IsRight log self.new }
+    {
+        self.rows.sweep(&mut self.absent, self.mark)
     }
 }

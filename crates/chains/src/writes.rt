@@ -1,9 +1,9 @@
 //! Places of the log that wrote a key, in order.
 
-ghost use Rattle.std.specs.Prelude.{◌≡◌, ◌+◌, ◌++◌, ◌∷◌, [], ◌<◌, ◌≤◌, IfSome, IfNone, if◌then◌else◌, length};
+ghost use Rattle.std.specs.Prelude.{◌≡◌, ◌+◌, ◌++◌, ◌∷◌, [], ◌<◌, ◌≤◌, IfSome, IfNone, if◌then◌else◌, filter, length, map};
 ghost use Rattle.std.specs.Option.{option_to_list};
 ghost use Rattle.std.specs.VecDeque.{deque_capacity, deque_len};
-ghost use Rattle.chains.specs.Kept.{IsFrom, written_by};
+ghost use Rattle.chains.specs.Kept.{IsFrom, is_absent, written_by};
 
 use crate::version::Version;
 use model_base::{Key, Place};
@@ -42,5 +42,15 @@ pub(crate) fn note_if(writes: &mut VecDeque<Written>, asked: bool, version: &Ver
             place: version.place,
             key: version.key,
         });
+    }
+}
+
+/// Puts the places of the versions in which the row is absent behind the others.
+pub(crate) fn note_absent(writes: &mut VecDeque<Written>, versions: &[Version])
+    requires { deque_len writes.old + length versions.now ≤ deque_capacity writes.old }
+    ensures { writes.new.items ≡ writes.old.items ++ map written_by (filter is_absent versions.now) }
+{
+    for version in versions {
+        note_if(writes, version.row.is_none(), version);
     }
 }

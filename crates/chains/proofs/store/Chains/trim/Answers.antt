@@ -3,10 +3,10 @@ use Rattle.chains.specs.Store.{IsRight, Store, of_key, trimmed}
 use Rattle.chains.proofs.store.Chains.trim.Goals as goal
 
 pub trim-gone-requires : goal.trim-gone-requires
-trim-gone-requires c = (c.self.inside.mark, c.self.inside.end, omega arith, c.self.invariant)
+trim-gone-requires c = (c.self.inside.absent.items, c.self.inside.mark, c.self.inside.end, omega arith, c.self.invariant)
 
 pub invariant_of-self : goal.invariant_of-self
-invariant_of-self c = c.trim-gone.ensures.kept c.self.inside.mark c.self.inside.end c.self.invariant (omega arith)
+invariant_of-self c = c.trim-gone.ensures.kept c.self.inside.absent.items c.self.inside.mark c.self.inside.end c.self.invariant (omega arith)
 
 pub returns-clause-ok : goal.returns-clause-ok
 returns-clause-ok c = record {
