@@ -10,6 +10,7 @@ mod drawn;
 mod draws;
 mod fault;
 mod middle;
+mod shared;
 mod telling;
 mod whole;
 mod worked;
@@ -17,6 +18,7 @@ mod worked;
 use calls::tell_calls;
 use fault::TrialFault;
 use middle::tell_middle;
+use shared::tell_shared;
 use std::alloc::Global;
 use std::process::ExitCode;
 use whole::tell_whole;
@@ -25,6 +27,7 @@ use whole::tell_whole;
 fn run(rt: &impl Print, alloc: Global) -> Result<(), TrialFault> {
     tell_whole(rt, alloc)?;
     tell_middle(rt, alloc)?;
+    tell_shared(rt, alloc)?;
     tell_calls(rt, alloc)
 }
 
