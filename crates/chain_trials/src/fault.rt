@@ -1,0 +1,47 @@
+//! Why the program ends without success.
+
+use bohm_base::ArgumentFault;
+use std::alloc::{AllocError, AllocFailed};
+use std::io;
+use thiserror::Error;
+
+/// Why the program ends without success.
+#[derive(Clone, Copy, Debug, PartialEq, Eq, Error)]
+pub enum TrialFault {
+    /// The words of the command line tell nothing to do.
+    #[error("no such trial")]
+    Words,
+    /// The store has another end than the versions before, or takes no mark there.
+    #[error("the store has another end")]
+    Store,
+    /// A growth was refused.
+    #[error("out of memory")]
+    NoMemory,
+    /// Standard output can't be written.
+    #[error("cannot write")]
+    Write,
+}
+
+impl From<ArgumentFault> for TrialFault {
+    fn from(_e: ArgumentFault) -> TrialFault {
+        TrialFault::Words
+    }
+}
+
+impl From<AllocError> for TrialFault {
+    fn from(_e: AllocError) -> TrialFault {
+        TrialFault::NoMemory
+    }
+}
+
+impl<T: Drop> From<AllocFailed<T>> for TrialFault {
+    fn from(_e: AllocFailed<T>) -> TrialFault {
+        TrialFault::NoMemory
+    }
+}
+
+impl From<io::Error> for TrialFault {
+    fn from(_e: io::Error) -> TrialFault {
+        TrialFault::Write
+    }
+}
