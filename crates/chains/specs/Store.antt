@@ -11,8 +11,8 @@ use Rattle.model_base.specs.Outcomes.{rows_before}
 use Rattle.model_base.specs.Versions.{writes_of}
 use Rattle.chains.specs.declared.version.Version.{Version}
 
--- the versions in the order of their places; the place below which the rows before a place aren't kept; and the place up
--- to which the versions go
+-- the versions, those of each key in the order of their places; the place below which the rows before a place aren't kept;
+-- and the place up to which the versions go
 pub record Store : Type 0 where
   pub versions : List Version
   pub mark : ℕ
