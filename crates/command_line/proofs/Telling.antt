@@ -1,7 +1,6 @@
 -- What an error of the words is told as, and what words that are taken name.
 use Rattle.std.proofs.Common.{◌≡◌, List, Option, Some, None, refl, ap, sym, ◌∙◌, inl, inr}
-use Rattle.std.specs.Prelude.{Box, option_map, unwrap_or}
-use Rattle.std.specs.Borrow.{Bor}
+use Rattle.std.specs.Prelude.{Box, option_map}
 use Rattle.std.specs.Box.{box_value}
 use Rattle.clap.specs.Words.{HasKind, Kinds, Row, Text, kind_of, subcommand_name_of, subcommand_rows, subcommand_rows_of}
 use Rattle.clap.specs.declared.parser.matches.ArgMatches.{ArgMatches}

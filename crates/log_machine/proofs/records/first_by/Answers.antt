@@ -1,4 +1,4 @@
-use Rattle.std.proofs.Common.{◌≡◌, ◌≤◌, ◌<◌, length, false, true, sym, ◌∙◌, arith}
+use Rattle.std.proofs.Common.{◌≤◌, ◌<◌, sym, ◌∙◌, arith}
 use Rattle.grants.specs.Index.{is_by}
 use Rattle.bohm_core_base.specs.Batch.{slots_of}
 use Rattle.log_machine.specs.Supplied.{batch_in}

@@ -1,4 +1,4 @@
-use Rattle.std.proofs.Common.{◌≡◌, ◌≤◌, ◌+◌, List, length, sym, ap, ◌∙◌, subst, arith}
+use Rattle.std.proofs.Common.{◌≡◌, ◌+◌, List, length, sym, ap, ◌∙◌, subst, arith}
 use Rattle.model_base.specs.declared.deed.Grant.{Grant}
 use Rattle.grants.specs.Index.{AreAsked, IsNext, is_to}
 use Rattle.bohm_core_base.specs.Batch.{slots_of}
