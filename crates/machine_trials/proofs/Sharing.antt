@@ -1,13 +1,12 @@
 -- What a machine that has done a place tells of the serial run, and what that lets a pass store.
-use Rattle.std.proofs.Common.{◌≡◌, ◌==◌, ◌+◌, ◌<◌, ℕ, suc, Bool, true, false, Some, None, List, [], ◌∷◌, length, refl, sym, ap, ◌∙◌, subst, inl, inr, arith, eq-eqb, get_or}
+use Rattle.std.proofs.Common.{◌≡◌, ◌==◌, ◌+◌, ◌<◌, ℕ, suc, true, Some, None, List, [], ◌∷◌, length, refl, sym, ap, ◌∙◌, subst, inl, inr, arith, eq-eqb, get_or}
 use Rattle.std.specs.Prelude.{Option}
 use Rattle.std.specs.List.{list_all}
 use Rattle.std.proofs.lemmas.Bool.{and_parts, cases_Bool, eqb-true, true≢false}
 use Rattle.bohm_core_base.specs.declared.event.Event.{Event}
-use Rattle.bohm_core_base.specs.declared.hold.Hold.TheVariants.{Done}
-use Rattle.bohm_core_base.specs.Batch.{Batch, IsSound, slots_of, words_length}
+use Rattle.bohm_core_base.specs.Batch.{Batch, slots_of, words_length}
 use Rattle.bohm_core_base.specs.Laws.{IsRight}
-use Rattle.bohm_core_base.specs.Machine.{end_of, hold_of, reach}
+use Rattle.bohm_core_base.specs.Machine.{end_of, reach}
 use Rattle.bohm_core_base.specs.Serial.{is_end, serial_ends, whole_end}
 use Rattle.words.specs.declared.view.View.{View}
 use Rattle.words.specs.Layout.{IsListed}

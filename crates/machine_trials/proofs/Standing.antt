@@ -1,5 +1,5 @@
 -- What stands before the first place of a log, and before the reader of the worked one.
-use Rattle.std.proofs.Common.{◌≡◌, ◌++◌, ◌<◌, ◌≤◌, ℕ, zero, suc, List, [], ◌∷◌, length, ap, sym, refl, subst, arith, IsTrue}
+use Rattle.std.proofs.Common.{◌≡◌, ◌++◌, ◌<◌, ℕ, List, [], ◌∷◌, length, ap, sym, refl, subst, IsTrue}
 use Rattle.std.proofs.lemmas.List.Elements.{All-nil}
 use Rattle.model_base.specs.declared.deed.Deed.{Deed}
 use Rattle.model_base.specs.declared.deed.Deed.TheVariants.{Granting}

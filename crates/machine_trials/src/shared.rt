@@ -245,6 +245,23 @@ fn tell_calls(
     tell_revocation(rt, words, &mut other)
 }
 
+/// Tells the row of calls on the words of a batch of two places, of which a machine has done the second.
+fn tell_batch_words(
+    rt: &impl Print,
+    alloc: Global,
+    machine: &Machine<LogBatch<'_>>,
+    batch: LogBatch<'_>,
+) -> Result<(), TrialFault>
+    requires same { machine.now.statements ≡ batch }
+    requires size { batch.size ≡ 2 }
+    requires done { hold_of machine.now.state 1 ≡ Done }
+    requires none { (other : ℕ) → ¬ (In (suc other) (references (batch_in machine.now.statements) 1)) }
+{
+    let slots = ended_slots(alloc, &batch)?;
+    let (words, pass) = LogWords::new(alloc, LogKey::new(batch, slots))?;
+    tell_calls(rt, machine, &words, pass)
+}
+
 /// Tells the row of calls on the reader and the revocation of a log that begins with the worked three statements.
 fn tell_words(rt: &impl Print, alloc: Global, log: &Log) -> Result<(), TrialFault>
     requires within { 5 ≤ length log.now.statements }
@@ -260,9 +277,7 @@ fn tell_words(rt: &impl Print, alloc: Global, log: &Log) -> Result<(), TrialFaul
         return Err(TrialFault::OtherLog);
     }
     let batch = batch_of(alloc, log, &before, 3..5, 1)?;
-    let slots = ended_slots(alloc, &batch)?;
-    let (words, pass) = LogWords::new(alloc, LogKey::new(batch, slots))?;
-    tell_calls(rt, &machine, &words, pass)
+    tell_batch_words(rt, alloc, &machine, batch)
 }
 
 /// Tells the row of calls on the shared words of the reader and the revocation.
