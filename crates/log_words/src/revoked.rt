@@ -26,13 +26,7 @@ pub(crate) struct Revoked {
 fn is_same(kind: Kind, other: Kind) -> bool
     ensures { result ≡ same_kind kind other }
 {
-    match (kind, other) {
-        (Kind::Read, Kind::Read) => true,
-        (Kind::Insert, Kind::Insert) => true,
-        (Kind::Update, Kind::Update) => true,
-        (Kind::Delete, Kind::Delete) => true,
-        _ => false,
-    }
+    kind == other
 }
 
 /// Puts the table into the set, if it is wanted.
