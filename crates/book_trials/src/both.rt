@@ -1,7 +1,7 @@
 //! A book and the plain one beside it: each call is made in both, and the answers are compared.
 
-use grants::{Book, PlainBook, Records, holds, holds_option, last_loss, to_end};
-use model_base::{Grant, Kind, Need, Place, Revocation, Table, User};
+use grants::{Book, PlainBook, Records, denial, holds, holds_option, last_loss, to_end};
+use model_base::{Cause, Grant, Kind, Need, Place, Revocation, Table, User};
 use std::alloc::Global;
 use std::process::Abort;
 use std::test::Fail;
@@ -39,12 +39,20 @@ fn find_out<V: Records>(rt: &impl Abort, view: &mut V, user: User, need: &Need) 
     } else {
         holds(view, user, need.kind, need.table)
     };
+    let cause = denial(view, user, need);
     if held {
+        assert_eq!(rt; cause, None);
         return Told::Held;
     }
     match last_loss(view, user, need) {
-        Some(place) => Told::Lost(place),
-        None => Told::Never,
+        Some(place) => {
+            assert_eq!(rt; cause, Some(Cause::Taken(place)));
+            Told::Lost(place)
+        }
+        None => {
+            assert_eq!(rt; cause, Some(Cause::Never));
+            Told::Never
+        }
     }
 }
 

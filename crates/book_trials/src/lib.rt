@@ -1,5 +1,5 @@
 //! Trials of the book of grants: worked examples and drawn deeds, by the book and beside it by the plain one, each answer
-//! compared; calls for which memory is refused; and how many records a question looks at.
+//! compared; and how many records a question and a revocation look at.
 //!
 //! There is nothing here but tests.
 #![tactic(auto)]
@@ -16,7 +16,5 @@ mod generator;
 mod losses;
 #[cfg(test)]
 mod parts;
-#[cfg(test)]
-mod refused;
 #[cfg(test)]
 mod worked;

@@ -1,2 +1,3 @@
 pub mod MissingLaws
 pub mod CoverLaws
+pub mod AdmissionLaws

@@ -2,6 +2,7 @@
 use Rattle.std.proofs.Common.{◌≡◌, ℕ, suc, drop, drop-cons, add-one, slice_index_or, ◌+◌, ◌<◌, true, false, not, List, [], ◌∷◌, ◌++◌, Option, Some, None, map, length, refl, sym, ◌∙◌, ap}
 use Rattle.std.specs.Prelude.{All, IsSome, IsTrue, is_some}
 use Rattle.std.specs.List.{find}
+use Rattle.std.specs.Option.{option_map}
 use Rattle.std.proofs.lemmas.Bool.{true≢false}
 use Rattle.std.proofs.lemmas.List.{map-append}
 use Rattle.std.proofs.lemmas.List.Folds.{find-append}
@@ -16,7 +17,7 @@ use Rattle.model_base.specs.Privileges.{has_kind, holds}
 use Rattle.model_base.proofs.Replay.{by_cases}
 use Rattle.grants.specs.View.{Shows, View, covers, holds_in}
 use Rattle.grants.proofs.ViewLaws.{held_after}
-use Rattle.checker.specs.Missing.{Covers, first_lacking, lacks}
+use Rattle.checker.specs.Missing.{Covers, first_lack, first_lacking, lack_of, lacks}
 
 -- the needs of one kind
 abbrev pub of_kind : Access → Kind → List Need
@@ -64,6 +65,21 @@ module _ (view : View) where
 
     pub first-right : (xs ys : List Need) → first_lacking view user xs ≡ None → first_lacking view user (xs ++ ys) ≡ first_lacking view user ys
     first-right xs ys none = find-append (lacks view user) xs ys ∙ rw none refl
+
+    -- and so with its cause
+    pub lack-left : (xs ys : List Need) → is_some (first_lack view user xs) ≡ true → first_lack view user (xs ++ ys) ≡ first_lack view user xs
+    lack-left xs ys some = by_found (first_lacking view user xs) refl
+      where
+        by_found : (found : Option Need) → first_lacking view user xs ≡ found → first_lack view user (xs ++ ys) ≡ first_lack view user xs
+        by_found (Some need) is = ap (option_map (lack_of view user)) (first-left xs ys need is ∙ sym is)
+        by_found None is = absurd (true≢false (sym some ∙ ap (λ o. is_some (option_map (lack_of view user) o)) is))
+
+    pub lack-right : (xs ys : List Need) → is_some (first_lack view user xs) ≡ false → first_lack view user (xs ++ ys) ≡ first_lack view user ys
+    lack-right xs ys none = by_found (first_lacking view user xs) refl
+      where
+        by_found : (found : Option Need) → first_lacking view user xs ≡ found → first_lack view user (xs ++ ys) ≡ first_lack view user ys
+        by_found None is = ap (option_map (lack_of view user)) (first-right xs ys is)
+        by_found (Some need) is = absurd (true≢false (sym (ap (λ o. is_some (option_map (lack_of view user) o)) is) ∙ none))
 
     -- where none is missing, each is held
     pub none_missing : (needed : List Need) → first_lacking view user needed ≡ None → All (λ need. holds_in view user need ≡ true) needed

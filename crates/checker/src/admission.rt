@@ -9,8 +9,8 @@ ghost use Rattle.checker.specs.Admission.{admission, told_if};
 ghost use Rattle.checker.specs.Missing.{Covers, first_lacking};
 ghost use Rattle.checker.specs.declared.admission.Admission.TheVariants.{Admitted};
 
-use crate::missing::first_missing;
-use grants::{Records, last_loss};
+use crate::missing::first_lack;
+use grants::{Records, shown_views_tell_causes};
 use model_base::{Cause, Need, Statement};
 
 /// Whether a statement may run.
@@ -28,7 +28,8 @@ pub enum Admission {
 
 /// Whether the statement's user holds each privilege that it needs, at the view's place: the kinds of each access in order,
 /// and for a grant its kind with the option. The first that isn't held denies, with its cause. A need that stands twice is
-/// looked up as it stands. It takes no memory; each need costs one look at each slot of the view, and a denial one more.
+/// looked up as it stands. It takes no memory; each need costs one look at each slot that asks for a grant of its kind on its
+/// table to the user, up to one in force that gives it.
 pub fn admit<V: Records>(statement: &Statement, view: &mut V) -> Admission
     requires covered { Covers (V.shown view.old) (needs statement.now.form) }
     ensures value { (owners : List ℕ) (deeds : List Deed) → Shows (V.shown view.old) owners deeds
@@ -39,12 +40,13 @@ pub fn admit<V: Records>(statement: &Statement, view: &mut V) -> Admission
         → All (λ (need : Need). holds_in (V.shown view.old) statement.now.user need ≡ true) (needs statement.now.form) }
     ensures same { V.shown view.new ≡ V.shown view.old }
 {
-    let Some(need) = first_missing(view, statement.user, &statement.form) else {
-        return Admission::Admitted;
-    };
-    let cause = match last_loss(view, statement.user, &need) {
-        Some(place) => Cause::Taken(place),
-        None => Cause::Never,
-    };
-    Admission::Denied { need, cause }
+    // The cause of what a view doesn't tell as held.
+    shown_views_tell_causes();
+    match first_lack(view, statement.user, &statement.form) {
+        Some(lack) => Admission::Denied {
+            need: lack.need,
+            cause: lack.cause,
+        },
+        None => Admission::Admitted,
+    }
 }

@@ -1,6 +1,7 @@
 -- The slots that are due are all that the recursive revocation has to judge.
 use Rattle.std.proofs.Common.{◌≡◌, ℕ, zero, suc, ◌<◌, ◌≤◌, ◌+◌, ◌||◌, ◌&&◌, true, false, List, [], ◌∷◌, ◌++◌, Option, Some, None, length, drop, add-one, refl, sym, ◌∙◌, ap, arith, inl, inr, eq-eqb, append_assoc, Less}
-use Rattle.std.specs.Prelude.{◌==◌, ◌⊎◌, All}
+use Rattle.std.specs.Prelude.{◌==◌, ◌⊎◌, All, is_some}
+use Rattle.std.specs.BTreeMap.{BTreeMap, get}
 use Rattle.std.specs.Option.{option_map_or}
 use Rattle.std.specs.Ordering.{nat_cmp}
 use Rattle.std.specs.BTreeSet.{BTreeSet, Updates}
@@ -309,23 +310,23 @@ none_due [] empty j = refl
 none_due (slot ∷ due) empty j = absurd (empty (omega arith))
 
 -- one user more whose grants are due
-pub walked_more : (revocation : Revocation) (view : View) (due more walked now : List ℕ) (user next : ℕ)
-    → ((u : ℕ) → is_one_of now u ≡ ((user == u) || is_one_of walked u)) → AreWalked revocation view due walked next
+pub walked_more : (revocation : Revocation) (view : View) (due more : List ℕ) (asked now : BTreeMap ℕ ℕ) (user next : ℕ)
+    → ((u : ℕ) → is_some (get nat_cmp now u) ≡ ((user == u) || is_some (get nat_cmp asked u))) → AreWalked revocation view due asked next
     → ((j : ℕ) → is_one_of due j ≡ true → is_one_of more j ≡ true)
     → ((j : ℕ) (grant : Grant) → next ≤ j → concerned (slot_at view j) revocation ≡ Some grant → grant.grantor ≡ user → is_one_of more j ≡ true)
     → AreWalked revocation view more now next
-walked_more revocation view due more walked now user next has state kept found = record {
+walked_more revocation view due more asked now user next has state kept found = record {
   each = λ u j grant is from at by.
-      elim (or_cases (user == u) (is_one_of walked u) (sym (has u) ∙ is)) [
+      elim (or_cases (user == u) (is_some (get nat_cmp asked u)) (sym (has u) ∙ is)) [
         | inl here ↦ let same : user ≡ u = eqb-true user u here in found j grant from at (by ∙ sym same)
         | inr before ↦ kept j (state.each u j grant before from at by)
       ];
 }
 
 -- behind the first that is due the others still are
-pub walked_rest : (revocation : Revocation) (view : View) (due rest walked : List ℕ) (next later slot : ℕ) → next ≤ slot → later ≡ slot + 1 → due ≡ slot ∷ rest
-    → AreWalked revocation view due walked next → AreWalked revocation view rest walked later
-walked_rest revocation view due rest walked next later slot from later_is parts state = record {
+pub walked_rest : (revocation : Revocation) (view : View) (due rest : List ℕ) (asked : BTreeMap ℕ ℕ) (next later slot : ℕ) → next ≤ slot → later ≡ slot + 1 → due ≡ slot ∷ rest
+    → AreWalked revocation view due asked next → AreWalked revocation view rest asked later
+walked_rest revocation view due rest asked next later slot from later_is parts state = record {
   each = λ u j grant is low at by.
       let was = state.each u j grant is (omega arith) at by in
       elim (or_cases (slot == j) (is_one_of rest j) (sym (ap (λ ks. is_one_of ks j) parts) ∙ was)) [

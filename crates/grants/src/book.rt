@@ -102,8 +102,8 @@ impl Book {
     }
 
     /// Adds a grant last. The place has to lie above all of the book, the table to be one of its tables, and the grantor to
-    /// hold the kind with the option, as `holds_option` tells by the book's view. It takes a time that grows with the
-    /// logarithm of the number of grants. On `Err` memory was refused, and the book is as it was.
+    /// hold the kind with the option, as `holds_option` tells by the book's view. It takes a time that doesn't grow with the
+    /// number of grants, on average. On `Err` memory was refused, and the book is as it was.
     #[tactic(auto, using(crate::proofs::GrantLaws::sound_grant, crate::proofs::GrantLaws::shows_grant, crate::proofs::LaterLaws::later_grant))]
     pub fn grant(&mut self, grant: Grant) -> Result<(), AllocError>
         requires later { IsLater self.old grant.place }
@@ -181,7 +181,8 @@ impl Book {
         Ok(ended)
     }
 
-    /// Whether the place lies above those of all tables, grants and ends of the book. It looks once at each.
+    /// Whether the place lies above those of all tables, grants and ends of the book. It looks once at each, so it is there for
+    /// who can't know it otherwise: after `add_table`, `grant` and `revoke` their clauses `later` tell it.
     #[tactic(auto, using(crate::proofs::LaterLaws::decides_later))]
     pub fn is_later(&self, place: Place) -> bool
         ensures { Decides result (IsLater self.now place) }
@@ -195,8 +196,9 @@ impl Book {
 
     /// Adds tables and grants behind the others, the grants without an end, and then ends records by their slots. What is
     /// so put together has to be a book. Where the book showed some deeds, and the grants and ends are what more deeds make
-    /// of their records, it then shows them all. Each table, grant and end costs a time that grows with the logarithm of the
-    /// number of grants. On `Err` memory was refused, and the book is as it was.
+    /// of their records, it then shows them all. Each table and each grant costs a time that doesn't grow with their number, on
+    /// average, and so does each end, unless ends at later places were put before it: these are moved, and found in a time that
+    /// grows with the logarithm of their number. On `Err` memory was refused, and the book is as it was.
     pub fn extend(
         &mut self,
         tables: &[Creation],
@@ -217,7 +219,7 @@ impl Book {
     }
 
     /// Forgets the tables, grants and ends of the place and of later ones. It takes no memory. Each that is forgotten costs a
-    /// time that grows with the logarithm of the number of grants.
+    /// time that doesn't grow with the number of grants, on average; to find the first of them costs the logarithm of it.
     pub fn cut(&mut self, place: Place)
         ensures cut { self.new ≡ cut_book place self.old }
         ensures after { (owners others more : List ℕ) (deeds : List Deed) → ShowsBook self.old owners deeds

@@ -1,18 +1,20 @@
 //! What a revocation takes with it.
 
-ghost use Rattle.std.specs.Prelude.{◌⊎◌, ◌&&◌, not, false, ◌≡◌, ◌<◌, ◌≤◌, ◌+◌, ◌++◌, ◌∷◌, ℕ, List, Some, IfOk, IsSome, OnOk, drop, length, true};
+ghost use Rattle.std.specs.Prelude.{◌⊎◌, ◌&&◌, ◌==◌, not, false, ◌≡◌, ◌<◌, ◌≤◌, ◌+◌, ◌++◌, ℕ, List, Some, IfOk, IsSome, OnOk, drop, length, true, if◌then◌else◌, is_some, unwrap_or};
+ghost use Rattle.std.specs.BTreeMap.{get};
 ghost use Rattle.std.specs.Option.{option_map_or};
+ghost use Rattle.std.specs.Ordering.{nat_cmp};
 ghost use Rattle.model_base.specs.Privileges.{concerns, ended_by, names};
 ghost use Rattle.model_base.specs.declared.deed.Deed.{Deed};
 ghost use Rattle.model_base.specs.declared.deed.Grant.{Grant};
 ghost use Rattle.grants.specs.Pass.{cascade, concerned, concerned_grants, is_one_of, outlasts};
-ghost use Rattle.grants.specs.Work.{AreDue, AreWalked, bears, keepers};
+ghost use Rattle.grants.specs.Work.{AllPassed, AreDue, ArePassed, AreWalked, HaveSameKeys, bears, keepers};
 ghost use Rattle.grants.specs.View.{Shows, slot_at};
 
 use crate::records::Records;
 use model_base::{Grant, Place, Revocation, User};
 use std::alloc::{AllocError, Global};
-use std::collections::BTreeSet;
+use std::collections::{BTreeMap, BTreeSet};
 
 /// The grant of the slot, if it is in force and the revocation speaks of its kind and table.
 fn concerned<V: Records>(view: &mut V, i: usize, revocation: &Revocation) -> Option<Grant>
@@ -56,31 +58,74 @@ fn stands<V: Records>(
     bears(view, i, revocation, user) && !ended.contains(&i)
 }
 
-/// Whether the user keeps the option by a slot below this one that hasn't ended.
-fn keeps<V: Records>(
+/// The first slot below another that gives the user the option and hasn't ended, where none below `start` does. It is not below
+/// the other where there is none.
+fn first_bearer<V: Records>(
     view: &mut V,
     revocation: &Revocation,
     ended: &BTreeSet<usize>,
     user: User,
+    start: usize,
     below: usize,
-) -> bool
+) -> usize
     requires within { below ≤ length (V.shown view.old).slots }
-    ensures value { result ≡ is_one_of (keepers revocation.now (V.shown view.old) ended.now.keys below) user }
+    requires passed { ArePassed revocation.now (V.shown view.old) ended.now.keys user start }
+    ensures passed { ArePassed revocation.now (V.shown view.old) ended.now.keys user result }
+    ensures found { result < below → (bears revocation.now user (slot_at (V.shown view.old) result) && not (is_one_of ended.now.keys result)) ≡ true }
     ensures same { V.shown view.new ≡ V.shown view.old }
 {
-    let mut from = 0;
+    let mut from = start;
     while from < below {
         match view.next_to(user, revocation.kind, revocation.table, from) {
             Some(i) if i < below => {
                 if stands(view, i, revocation, ended, user) {
-                    return true;
+                    return i;
                 }
                 from = i + 1;
             }
-            _ => return false,
+            _ => return below,
         }
     }
-    false
+    from
+}
+
+/// The slot below which no grant gives the user the option any more, as far as it was looked at.
+fn passed_by(asked: &BTreeMap<User, usize>, user: User) -> usize
+    ensures { result ≡ unwrap_or (get nat_cmp asked.now user) 0 }
+{
+    asked.get(&user).copied().unwrap_or(0)
+}
+
+/// Keeps that slot, if the user is one of those that are asked about.
+fn pass(asked: &mut BTreeMap<User, usize>, user: User, slot: usize)
+    ensures { (other : ℕ) → get nat_cmp asked.new other ≡ (if (user == other) && is_some (get nat_cmp asked.old user) then Some slot else get nat_cmp asked.old other) }
+{
+    if let Some(passed) = asked.get_mut(&user) {
+        *passed = slot;
+    }
+}
+
+/// Whether the user keeps the option by a slot below this one that hasn't ended. For a user who lost an option it goes on where
+/// it stopped when it was asked last.
+fn keeps<V: Records>(
+    view: &mut V,
+    revocation: &Revocation,
+    ended: &BTreeSet<usize>,
+    asked: &mut BTreeMap<User, usize>,
+    user: User,
+    below: usize,
+) -> bool
+    requires within { below ≤ length (V.shown view.old).slots }
+    requires passed { AllPassed revocation.now (V.shown view.old) ended.now.keys asked.old }
+    ensures value { result ≡ is_one_of (keepers revocation.now (V.shown view.old) ended.now.keys below) user }
+    ensures passed { AllPassed revocation.now (V.shown view.old) ended.now.keys asked.new }
+    ensures users { HaveSameKeys asked.old asked.new }
+    ensures same { V.shown view.new ≡ V.shown view.old }
+{
+    let start = passed_by(asked, user);
+    let first = first_bearer(view, revocation, ended, user, start, below);
+    pass(asked, user, first);
+    first < below
 }
 
 /// Whether the slot's grant outlasts the revocation, of which these slots below it have ended.
@@ -90,17 +135,21 @@ fn stays<V: Records>(
     owner: User,
     revocation: &Revocation,
     ended: &BTreeSet<usize>,
+    asked: &mut BTreeMap<User, usize>,
     grant: &Grant,
     slot: usize,
 ) -> bool
     requires within { slot ≤ length (V.shown view.old).slots }
+    requires passed { AllPassed revocation.now (V.shown view.old) ended.now.keys asked.old }
     ensures value { result ≡ outlasts owner (keepers revocation.now (V.shown view.old) ended.now.keys slot) revocation.now grant.now }
+    ensures passed { AllPassed revocation.now (V.shown view.old) ended.now.keys asked.new }
+    ensures users { HaveSameKeys asked.old asked.new }
     ensures same { V.shown view.new ≡ V.shown view.old }
 {
     if revocation.names(grant) {
         return false;
     }
-    owner == grant.grantor || keeps(view, revocation, ended, grant.grantor, slot)
+    owner == grant.grantor || keeps(view, revocation, ended, asked, grant.grantor, slot)
 }
 
 /// Whether the slot has a grant in force that the revocation names.
@@ -179,30 +228,32 @@ fn lose<V: Records>(
     revocation: &Revocation,
     start: usize,
     due: &mut BTreeSet<usize>,
-    walked: &mut BTreeSet<User>,
+    asked: &mut BTreeMap<User, usize>,
 ) -> Result<(), AllocError>
-    requires { AreWalked revocation.now (V.shown view.old) due.old.keys walked.old.keys start }
+    requires { AreWalked revocation.now (V.shown view.old) due.old.keys asked.old start }
     ensures found { OnOk result ((j : ℕ) (grant : Grant) → start ≤ j → concerned (slot_at (V.shown view.old) j) revocation.now ≡ Some grant
         → grant.grantor ≡ user → is_one_of due.new.keys j ≡ true) }
     ensures kept { OnOk result ((j : ℕ) → is_one_of due.old.keys j ≡ true → is_one_of due.new.keys j ≡ true) }
     ensures within { OnOk result ((j : ℕ) → is_one_of due.new.keys j ≡ true → (is_one_of due.old.keys j ≡ true) ⊎ ((start ≤ j) × (j < length (V.shown view.old).slots))) }
-    ensures walked { OnOk result (AreWalked revocation.now (V.shown view.old) due.new.keys walked.new.keys start) }
+    ensures walked { OnOk result (AreWalked revocation.now (V.shown view.old) due.new.keys asked.new start) }
+    ensures passed { OnOk result ((ended : List ℕ) → AllPassed revocation.now (V.shown view.old) ended asked.old
+        → AllPassed revocation.now (V.shown view.old) ended asked.new) }
     ensures same { V.shown view.new ≡ V.shown view.old }
 {
-    let is_new = walked.insert(user)?;
-    if is_new {
-        add_grants_by(view, user, revocation, start, due)?;
-        Ok(())
-    } else {
-        Ok(())
+    if asked.contains_key(&user) {
+        return Ok(());
     }
+    asked.insert(user, 0)?;
+    add_grants_by(view, user, revocation, start, due)?;
+    Ok(())
 }
 
-/// The slots that are still to be judged, the users whose grants are among them, and the slots that have ended.
+/// The slots that are still to be judged; the users who lost an option, whose grants are among them, each with the slot below
+/// which none gives it any more, as far as it was looked at; and the slots that have ended.
 #[derive(Drop)]
 struct Work {
     due: BTreeSet<usize>,
-    walked: BTreeSet<User>,
+    asked: BTreeMap<User, usize>,
     ended: BTreeSet<usize>,
 }
 
@@ -220,10 +271,12 @@ fn judge<V: Records>(
     requires within { slot < length (V.shown view.old).slots }
     requires next { next ≡ slot + 1 }
     requires due { AreDue revocation.now (V.shown view.old) work.old.due.keys work.old.ended.keys next }
-    requires walked { AreWalked revocation.now (V.shown view.old) work.old.due.keys work.old.walked.keys next }
+    requires walked { AreWalked revocation.now (V.shown view.old) work.old.due.keys work.old.asked next }
+    requires passed { AllPassed revocation.now (V.shown view.old) work.old.ended.keys work.old.asked }
     requires behind { (e : ℕ) → is_one_of work.old.ended.keys e ≡ true → e < slot }
     ensures due { OnOk result (AreDue revocation.now (V.shown view.old) work.new.due.keys work.new.ended.keys next) }
-    ensures walked { OnOk result (AreWalked revocation.now (V.shown view.old) work.new.due.keys work.new.walked.keys next) }
+    ensures walked { OnOk result (AreWalked revocation.now (V.shown view.old) work.new.due.keys work.new.asked next) }
+    ensures passed { OnOk result (AllPassed revocation.now (V.shown view.old) work.new.ended.keys work.new.asked) }
     ensures whole { OnOk result (places.new.items ++ cascade owner revocation.now (keepers revocation.now (V.shown view.old) work.new.ended.keys next)
         (concerned_grants revocation.now (drop next (V.shown view.old).slots))
         ≡ places.old.items ++ cascade owner revocation.now (keepers revocation.now (V.shown view.old) work.old.ended.keys slot)
@@ -233,7 +286,15 @@ fn judge<V: Records>(
     let Some(grant) = concerned(view, slot, revocation) else {
         return Ok(());
     };
-    if stays(view, owner, revocation, &work.ended, &grant, slot) {
+    if stays(
+        view,
+        owner,
+        revocation,
+        &work.ended,
+        &mut work.asked,
+        &grant,
+        slot,
+    ) {
         return Ok(());
     }
     places.push(grant.place)?;
@@ -245,7 +306,7 @@ fn judge<V: Records>(
             revocation,
             next,
             &mut work.due,
-            &mut work.walked,
+            &mut work.asked,
         )?;
     }
     Ok(())
@@ -255,9 +316,9 @@ fn judge<V: Records>(
 /// give, and without the revoked grants no longer do. It is the recursive revocation of Griffiths and Wade: a grant in force
 /// of this kind and table ends if the revocation names it, or if its grantor isn't the owner and has the option by no earlier
 /// grant that stays. So a cycle of grants doesn't bear itself, and a grant that an earlier way bears stays. Of this kind and
-/// table it goes through the grants to the revocation's grantee, and once through those by each user whose option ends; for
-/// each of these in force it goes through the grants to its grantor below it, up to one that stays. The slots to be judged
-/// are kept in a set, in a time that grows with the logarithm of their number. Besides that it takes memory for its answer.
+/// table it goes through the grants to the revocation's grantee, and once through those by each user whose option ends; the
+/// grants to that user it goes through once as well, each of those by the user being judged from where the last one was. The
+/// slots to be judged are kept in a set, in a time that grows with the logarithm of their number. Besides that it takes memory for its answer.
 /// On `Err` memory was refused. What the view shows stays in any case.
 pub fn to_end<V: Records>(
     alloc: Global,
@@ -276,7 +337,7 @@ pub fn to_end<V: Records>(
     let due = named(alloc, view, revocation)?;
     let mut work = Work {
         due,
-        walked: BTreeSet::new(alloc),
+        asked: BTreeMap::new(alloc),
         ended: BTreeSet::new(alloc),
     };
     let mut places = Vec::new(alloc);

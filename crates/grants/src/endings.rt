@@ -1,38 +1,66 @@
-//! The slots whose records ended, by the places of their ends.
+//! The slots whose records ended, in the order of the places of their ends.
 
-ghost use Rattle.std.specs.Prelude.{◌≡◌, ◌<◌, ◌≤◌, ℕ, false, true, All, IfNone, IfSome, OnOk};
-ghost use Rattle.std.specs.BTreeMap.Range.{IsLeBy};
-ghost use Rattle.std.specs.Option.{MatchOption};
-ghost use Rattle.std.specs.BTreeSet.{btree_set_len, contains, IsUnchanged};
-ghost use Rattle.grants.specs.Marks.{ending_cmp, has_ending, same_ending};
+ghost use Rattle.std.specs.Prelude.{◌≡◌, ◌<◌, ◌≤◌, ◌-◌, ℕ, false, true, All, IfNone, IfSome, OnOk, length, slice_index_or, vec_len};
+ghost use Rattle.grants.specs.Marks.{AreInOrder, has_ending, same_ending};
 ghost use Rattle.grants.specs.declared.book.End.{End};
 ghost use Rattle.grants.specs.declared.endings.Ending.{Ending};
 
 use crate::book::End;
 use model_base::Place;
 use std::alloc::AllocError;
-use std::collections::BTreeSet;
 
 /// That the record of a slot ended at a place.
-#[derive(Clone, Copy, PartialEq, Eq, PartialOrd, Ord, Debug)]
-pub struct Ending {
+#[derive(Clone, Copy, PartialEq, Eq, Debug)]
+pub(crate) struct Ending {
     pub place: Place,
     pub slot: usize,
 }
 
-/// Notes an ending. On `Err` memory was refused.
-fn note_one(endings: &mut BTreeSet<Ending>, ending: Ending) -> Result<(), AllocError>
-    ensures kept { (other : Ending) → contains ending_cmp endings.old other ≡ true → contains ending_cmp endings.new other ≡ true }
-    ensures noted { OnOk result (contains ending_cmp endings.new ending ≡ true) }
+/// How many of the endings, which are in order, are at the place or below it. Where all are, the last one tells.
+fn endings_to(endings: &[Ending], place: Place) -> usize
+    requires { AreInOrder endings.now }
+    ensures bound { result ≤ length endings.now }
+    ensures below { (k : ℕ) (d : Ending) → k < result → (slice_index_or endings.now k d).place ≤ place }
+    ensures above { (k : ℕ) (d : Ending) → result ≤ k → k < length endings.now → place ≤ (slice_index_or endings.now k d).place }
 {
-    endings.insert(ending)?;
+    if reaches(endings, place) {
+        endings.partition_point(|ending| ending.place < place)
+    } else {
+        endings.len()
+    }
+}
+
+/// Whether the last of the endings, which are in order, is at the place or later.
+fn reaches(endings: &[Ending], place: Place) -> bool
+    requires { AreInOrder endings.now }
+    ensures last { result ≡ true → (d : Ending) → (0 < length endings.now) × (place ≤ (slice_index_or endings.now (length endings.now - 1) d).place) }
+    ensures below { result ≡ false → (k : ℕ) (d : Ending) → k < length endings.now → (slice_index_or endings.now k d).place < place }
+{
+    match endings.last() {
+        Some(last) => place <= last.place,
+        None => false,
+    }
+}
+
+/// Notes an ending. On `Err` memory was refused.
+fn note_one(endings: &mut Vec<Ending>, ending: Ending) -> Result<(), AllocError>
+    requires order { AreInOrder endings.old.items }
+    ensures order { AreInOrder endings.new.items }
+    ensures kept { (place slot : ℕ) → has_ending endings.old.items place slot ≡ true → has_ending endings.new.items place slot ≡ true }
+    ensures noted { OnOk result (has_ending endings.new.items ending.place ending.slot ≡ true) }
+{
+    let i = endings_to(endings.as_slice(), ending.place);
+    endings.insert(i, ending)?;
     Ok(())
 }
 
-/// Notes the ends of some slots. On `Err` memory was refused, and some of them are noted.
-pub fn note(endings: &mut BTreeSet<Ending>, ends: &[End]) -> Result<(), AllocError>
-    ensures kept { (place slot : ℕ) → has_ending endings.old place slot ≡ true → has_ending endings.new place slot ≡ true }
-    ensures noted { OnOk result (All (λ (end : End). has_ending endings.new end.place end.slot ≡ true) ends.now) }
+/// Notes the ends of some slots, each at once, unless later ones were noted before: these are moved. On `Err` memory was
+/// refused, and some of them are noted.
+pub(crate) fn note(endings: &mut Vec<Ending>, ends: &[End]) -> Result<(), AllocError>
+    requires order { AreInOrder endings.old.items }
+    ensures order { AreInOrder endings.new.items }
+    ensures kept { (place slot : ℕ) → has_ending endings.old.items place slot ≡ true → has_ending endings.new.items place slot ≡ true }
+    ensures noted { OnOk result (All (λ (end : End). has_ending endings.new.items end.place end.slot ≡ true) ends.now) }
 {
     for end in ends {
         let ending = Ending {
@@ -44,28 +72,20 @@ pub fn note(endings: &mut BTreeSet<Ending>, ends: &[End]) -> Result<(), AllocErr
     Ok(())
 }
 
-/// The least ending that isn't below another.
-fn first_from(endings: &BTreeSet<Ending>, start: Ending) -> Option<Ending>
-    ensures { MatchOption result ((other : Ending) → IsLeBy ending_cmp start other → contains ending_cmp endings.now other ≡ false)
-        (λ first. IsLeBy ending_cmp start first × (contains ending_cmp endings.now first ≡ true)) }
-{
-    endings.range(start..).next().copied()
-}
-
-/// Takes an ending at the place or later away, if there is one.
-pub fn pop_from(endings: &mut BTreeSet<Ending>, place: Place) -> Option<Ending>
+/// Takes the last ending away, if it is at the place or later.
+pub(crate) fn pop_from(endings: &mut Vec<Ending>, place: Place) -> Option<Ending>
+    requires order { AreInOrder endings.old.items }
+    ensures order { AreInOrder endings.new.items }
     ensures at { IfSome result (λ ending. place ≤ ending.place) }
-    ensures less { IfSome result (λ _. btree_set_len endings.new < btree_set_len endings.old) }
-    ensures taken { IfSome result (λ ending. (at slot : ℕ) → has_ending endings.old at slot ≡ true
-        → same_ending ending (record { place = at; slot = slot }) ≡ false → has_ending endings.new at slot ≡ true) }
-    ensures none { IfNone result ((at slot : ℕ) → has_ending endings.old at slot ≡ true → at < place) }
-    ensures same { IfNone result (IsUnchanged endings.old endings.new) }
+    ensures less { IfSome result (λ _. vec_len endings.new < vec_len endings.old) }
+    ensures taken { IfSome result (λ ending. (at slot : ℕ) → has_ending endings.old.items at slot ≡ true
+        → same_ending ending (record { place = at; slot = slot }) ≡ false → has_ending endings.new.items at slot ≡ true) }
+    ensures none { IfNone result ((at slot : ℕ) → has_ending endings.old.items at slot ≡ true → at < place) }
+    ensures same { IfNone result (endings.new.items ≡ endings.old.items) }
 {
-    match first_from(endings, Ending { place, slot: 0 }) {
-        Some(first) => {
-            endings.remove(&first);
-            Some(first)
-        }
-        None => None,
+    if reaches(endings.as_slice(), place) {
+        endings.pop()
+    } else {
+        None
     }
 }

@@ -13,14 +13,14 @@ use model_base::{Place, Record};
 use std::alloc::{AllocError, Global};
 
 /// Whether the grant and its end lie below the place.
-pub fn lies_below(entry: &Record, place: Place) -> bool
+pub(crate) fn lies_below(entry: &Record, place: Place) -> bool
     ensures { result ≡ lies_below place entry.now }
 {
     entry.grant.place < place && entry.end.is_none_or(|end| end < place)
 }
 
 /// Adds the tables behind the others, for which there is room.
-pub fn append_tables(tables: &mut Vec<Creation>, more: &[Creation])
+pub(crate) fn append_tables(tables: &mut Vec<Creation>, more: &[Creation])
     requires { vec_len tables.old + length more.now ≤ vec_capacity tables.old }
     ensures { tables.new.items ≡ tables.old.items ++ more.now }
 {
@@ -38,7 +38,7 @@ fn set_end(records: &mut [Record], slot: usize, place: Place)
 }
 
 /// Ends the records of the slots, one after the other.
-pub fn set_ends(records: &mut [Record], ends: &[End])
+pub(crate) fn set_ends(records: &mut [Record], ends: &[End])
     requires { All (λ (end : End). end.slot < length records.old) ends.now }
     ensures { records.new ≡ end_slots records.old ends.now }
 {
@@ -48,7 +48,7 @@ pub fn set_ends(records: &mut [Record], ends: &[End])
 }
 
 /// The record, without an end that doesn't lie below the place.
-pub fn reopened(entry: Record, place: Place) -> Record
+pub(crate) fn reopened(entry: Record, place: Place) -> Record
     ensures { result ≡ reopened place entry }
 {
     Record {
@@ -59,7 +59,7 @@ pub fn reopened(entry: Record, place: Place) -> Record
 
 /// How many of the tables, whose places rise, were created below the place. It takes a time that grows with the logarithm of
 /// their number.
-pub fn tables_below(tables: &[Creation], place: Place) -> usize
+pub(crate) fn tables_below(tables: &[Creation], place: Place) -> usize
     requires { AreRising tables.now }
     ensures { take result tables.now ≡ filter (λ (creation : Creation). nat_lt creation.place place) tables.now }
 {
@@ -68,7 +68,7 @@ pub fn tables_below(tables: &[Creation], place: Place) -> usize
 
 /// How many of the records, whose places rise, are of grants that were made below the place: so many come first. It takes a
 /// time that grows with the logarithm of their number.
-pub fn records_below(records: &[Record], place: Place) -> usize
+pub(crate) fn records_below(records: &[Record], place: Place) -> usize
     requires { IsRising (recorded records.now) }
     ensures first { take result records.now ≡ filter (λ (entry : Record). nat_lt entry.grant.place place) records.now }
     ensures below { (k : ℕ) (entry : Record) → slice_get records.now k ≡ Some entry → k < result → entry.grant.place < place }
@@ -135,7 +135,7 @@ fn add_end(
 /// The ends that a revocation at a place gives: one for each of the records without an end whose grants were made at these
 /// places. Each place is looked up in a time that grows with the logarithm of the number of records.
 #[tactic(auto, using(crate::proofs::Lookups::ended_none))]
-pub fn ends_of(
+pub(crate) fn ends_of(
     alloc: Global,
     records: &[Record],
     ended: &[Place],
@@ -153,7 +153,7 @@ pub fn ends_of(
 }
 
 /// Forgets the end of a slot's record if it doesn't lie below the place.
-pub fn reopen_slot(records: &mut [Record], slot: usize, place: Place)
+pub(crate) fn reopen_slot(records: &mut [Record], slot: usize, place: Place)
     ensures { records.new ≡ reopen_slot place slot records.old }
 {
     if slot < records.len() {

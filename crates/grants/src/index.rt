@@ -1,24 +1,21 @@
 //! Slots under users, kinds and tables.
 
-ghost use Rattle.std.specs.Prelude.{◌≡◌, ◌&&◌, ◌||◌, not, false, true, OnErr, OnOk};
-ghost use Rattle.std.specs.BTreeMap.Range.{IsLeBy};
-ghost use Rattle.std.specs.BTreeSet.{contains};
-ghost use Rattle.std.specs.Option.{MatchOption};
+ghost use Rattle.std.specs.Prelude.{◌≡◌, ◌-◌, ◌++◌, ◌∷◌, [], ℕ, false, OnErr, OnOk, length, slice_get, take, if◌then◌else◌};
 ghost use Rattle.grants.specs.Index.{IsFirst};
-ghost use Rattle.grants.specs.Marks.{has_mark, is_beside, kind_code, mark_cmp, mark_of, same_mark};
-ghost use Rattle.grants.specs.declared.index.Mark.{Mark};
+ghost use Rattle.grants.specs.Pass.{is_one_of};
+ghost use Rattle.grants.specs.Sides.{AreAscending, IsEmpty, IsPopped, IsPushed, IsSame, kind_code, side_of, slots_under};
 
 use model_base::{Kind, Table, User};
 use std::alloc::{AllocError, Global};
-use std::collections::BTreeSet;
+use std::collections::HashMap;
+use std::marker::Model;
 
-/// A slot under a user, a table and the code of a kind.
-#[derive(Clone, Copy, PartialEq, Eq, PartialOrd, Ord, Debug)]
-pub struct Mark {
+/// A user, a table and the code of a kind.
+#[derive(Clone, Copy, PartialEq, Eq, Hash, Debug)]
+pub(crate) struct Side {
     user: User,
     table: Table,
     kind: u8,
-    slot: usize,
 }
 
 /// The code of a kind.
@@ -33,79 +30,140 @@ fn kind_code(kind: Kind) -> u8
     }
 }
 
-/// A slot under a user, a kind and a table.
-pub fn mark_of(user: User, kind: Kind, table: Table, slot: usize) -> Mark
-    ensures { result ≡ mark_of user kind table slot }
+/// What is looked up for a user, a kind and a table.
+pub(crate) fn side_of(user: User, kind: Kind, table: Table) -> Side
+    ensures { result ≡ side_of user kind table }
 {
-    Mark {
+    Side {
         user,
         table,
         kind: kind_code(kind),
-        slot,
     }
 }
 
-/// Whether two marks are under the same user, kind and table.
-fn is_beside(mark: &Mark, other: &Mark) -> bool
-    ensures { result ≡ is_beside mark.now other.now }
+/// The slot of an index among these, if there is one.
+fn slot_at(slots: &[usize], i: usize) -> Option<usize>
+    ensures { result ≡ slice_get slots.now i }
 {
-    mark.user == other.user && mark.table == other.table && mark.kind == other.kind
+    slots.get(i).copied()
 }
 
-/// The least mark that isn't below another.
-fn first_from(marks: &BTreeSet<Mark>, start: Mark) -> Option<Mark>
-    ensures { MatchOption result ((other : Mark) → IsLeBy mark_cmp start other → contains mark_cmp marks.now other ≡ false)
-        (λ first. IsLeBy mark_cmp start first × (contains mark_cmp marks.now first ≡ true)
-        × ((other : Mark) → IsLeBy mark_cmp start other → contains mark_cmp marks.now other ≡ true → IsLeBy mark_cmp first other)) }
+/// The least of the slots, which rise, that isn't below this one. It takes a time that grows with the logarithm of their number.
+fn next_slot(slots: &[usize], from: usize) -> Option<usize>
+    requires { AreAscending slots.now }
+    ensures { IsFirst (is_one_of slots.now) from result }
 {
-    marks.range(start..).next().copied()
+    let i = slots.partition_point(|slot| *slot < from);
+    slot_at(slots, i)
 }
 
-/// The slots under each user, kind and table. Each call takes a time that grows with the logarithm of the number of all slots.
+/// The slots under one side in the order in which they were added, of which there is one at least. A single one takes no heap
+/// block.
 #[derive(Drop)]
-pub struct Index {
-    marks: BTreeSet<Mark>,
+struct Slots {
+    first: usize,
+    later: Vec<usize>,
+}
+
+impl Model for Slots {
+    ghost use Rattle.std.specs.Prelude.{List, ℕ, ◌∷◌};
+
+    ghost Value = { List ℕ };
+
+    ghost view = { λ slots. slots.first ∷ slots.later.items };
+}
+
+impl Slots {
+    /// One slot. It takes no memory.
+    fn one(alloc: Global, slot: usize) -> Self
+        ensures { result ≡ slot ∷ [] }
+    {
+        Slots {
+            first: slot,
+            later: Vec::new(alloc),
+        }
+    }
+
+    /// Adds a slot last. On `Err` memory was refused, and the slots are as they were.
+    fn push(&mut self, slot: usize) -> Result<(), AllocError>
+        ensures ok { OnOk result (self.new ≡ self.old ++ slot ∷ []) }
+        ensures err { OnErr result (self.new ≡ self.old) }
+    {
+        self.later.push(slot)?;
+        Ok(())
+    }
+
+    /// Takes the last slot away, unless it is the only one, and answers whether it did.
+    fn pop(&mut self) -> bool
+        ensures slots { self.new ≡ (if result then take (length self.old - 1) self.old else self.old) }
+        ensures only { result ≡ false → length self.old ≡ 1 }
+    {
+        self.later.pop().is_some()
+    }
+
+    /// The least slot at or above this one, in a time that grows with the logarithm of their number.
+    fn next(&self, from: usize) -> Option<usize>
+        requires { AreAscending self.now }
+        ensures { IsFirst (is_one_of self.now) from result }
+    {
+        if from <= self.first {
+            return Some(self.first);
+        }
+        next_slot(self.later.as_slice(), from)
+    }
+}
+
+/// The slots under each user, kind and table. A side is found in a time that doesn't grow with their number, on average.
+#[derive(Drop)]
+pub(crate) struct Index {
+    alloc: Global,
+    sides: HashMap<Side, Slots>,
 }
 
 impl Index {
     /// No slots. It takes no memory.
     pub fn new(alloc: Global) -> Self
-        ensures { (mark : Mark) → has_mark result mark ≡ false }
+        ensures { IsEmpty result }
     {
         Index {
-            marks: BTreeSet::new(alloc),
+            alloc,
+            sides: HashMap::new(alloc),
         }
     }
 
-    /// Adds a slot. On `Err` memory was refused, and the slots are as they were.
-    pub fn add(&mut self, mark: &Mark) -> Result<(), AllocError>
-        ensures ok { OnOk result ((other : Mark) → has_mark self.new other ≡ (same_mark mark.now other || has_mark self.old other)) }
-        ensures err { OnErr result ((other : Mark) → has_mark self.new other ≡ has_mark self.old other) }
+    /// Adds a slot last under a side. On `Err` memory was refused, and the slots are as they were.
+    pub fn push(&mut self, side: Side, slot: usize) -> Result<(), AllocError>
+        ensures ok { OnOk result (IsPushed side slot self.old self.new) }
+        ensures err { OnErr result (IsSame self.old self.new) }
     {
-        self.marks.insert(*mark)?;
-        Ok(())
-    }
-
-    /// Takes a slot away, if it is there.
-    pub fn remove(&mut self, mark: &Mark)
-        ensures { (other : Mark) → has_mark self.new other ≡ (not (same_mark mark.now other) && has_mark self.old other) }
-    {
-        self.marks.remove(mark);
-    }
-
-    /// The least slot at or above this one, under the user, the kind and the table.
-    pub fn next(&self, user: User, kind: Kind, table: Table, from: usize) -> Option<usize>
-        ensures { IsFirst (λ slot. has_mark self.now (mark_of user kind table slot)) from result }
-    {
-        let start = mark_of(user, kind, table, from);
-        match first_from(&self.marks, start) {
-            Some(mark) => {
-                if is_beside(&mark, &start) {
-                    Some(mark.slot)
-                } else {
-                    None
-                }
+        match self.sides.get_mut(&side) {
+            Some(slots) => slots.push(slot),
+            None => {
+                self.sides.insert(side, Slots::one(self.alloc, slot))?;
+                Ok(())
             }
+        }
+    }
+
+    /// Takes the last slot under a side away, if there is one.
+    pub fn pop(&mut self, side: &Side)
+        ensures { IsPopped side.now self.old self.new }
+    {
+        if let Some(slots) = self.sides.get_mut(side) {
+            if slots.pop() {
+                return;
+            }
+        }
+        self.sides.remove(side);
+    }
+
+    /// The least slot at or above this one, under a side whose slots rise.
+    pub fn next(&self, side: &Side, from: usize) -> Option<usize>
+        requires { AreAscending (slots_under self.now side.now) }
+        ensures { IsFirst (is_one_of (slots_under self.now side.now)) from result }
+    {
+        match self.sides.get(side) {
+            Some(slots) => slots.next(from),
             None => None,
         }
     }

@@ -1,30 +1,29 @@
 //! Records that are found by their grantees and by their grantors.
 
-ghost use Rattle.std.specs.Prelude.{◌+◌, ◌-◌, ◌≡◌, ◌<◌, ◌++◌, ◌∷◌, [], false, ◌||◌, All, OnErr, OnOk, length, map, take};
+ghost use Rattle.std.specs.Prelude.{◌+◌, ◌-◌, ◌≡◌, ◌<◌, ◌++◌, ◌∷◌, [], All, OnErr, OnOk, length, map, take};
 ghost use Rattle.model_base.specs.Records.{recorded};
 ghost use Rattle.grants.specs.Book.{end_slots, reopened, unended};
 ghost use Rattle.grants.specs.Index.{IsNext, is_by, is_to};
-ghost use Rattle.grants.specs.Marks.{HasEnds, by_mark, has_mark, same_mark, to_mark};
+ghost use Rattle.grants.specs.Marks.{AreInOrder, HasEnds};
+ghost use Rattle.grants.specs.Sides.{IsPushed, IsSame, by_side, to_side};
 ghost use Rattle.grants.specs.declared.book.End.{End};
-ghost use Rattle.grants.specs.declared.index.Mark.{Mark};
 
 use crate::book::End;
 use crate::endings::{Ending, note, pop_from};
 use crate::entries::{reopen_slot, set_ends};
-use crate::index::{Index, Mark, mark_of};
+use crate::index::{Index, Side, side_of};
 use model_base::{Grant, Kind, Place, Record, Table, User};
 use std::alloc::{AllocError, Global};
-use std::collections::BTreeSet;
 use std::marker::Model;
 
 /// Records in the order in which they were added, each by its slot. Those of one user are found by an index, and those that
 /// ended at some place by another, so that nothing goes through all of them.
 #[derive(Drop)]
-pub struct IndexedRecords {
+pub(crate) struct IndexedRecords {
     records: Vec<Record>,
     to: Index,
     by: Index,
-    endings: BTreeSet<Ending>,
+    endings: Vec<Ending>,
 }
 
 impl Model for IndexedRecords {
@@ -36,45 +35,46 @@ impl Model for IndexedRecords {
 
     ghost view = { λ indexed. indexed.records.items };
 
-    ghost invariant = { λ indexed. AreIndexed indexed.records.items indexed.to indexed.by indexed.endings };
+    ghost invariant = { λ indexed. AreIndexed indexed.records.items indexed.to indexed.by indexed.endings.items };
 }
 
-/// The slot of a grant under its grantee.
-fn to_mark(grant: &Grant, slot: usize) -> Mark
-    ensures { result ≡ to_mark grant.now slot }
+/// The side of a grant's grantee.
+fn to_side(grant: &Grant) -> Side
+    ensures { result ≡ to_side grant.now }
 {
-    mark_of(grant.grantee, grant.kind, grant.table, slot)
+    side_of(grant.grantee, grant.kind, grant.table)
 }
 
-/// The slot of a grant under its grantor.
-fn by_mark(grant: &Grant, slot: usize) -> Mark
-    ensures { result ≡ by_mark grant.now slot }
+/// The side of a grant's grantor.
+fn by_side(grant: &Grant) -> Side
+    ensures { result ≡ by_side grant.now }
 {
-    mark_of(grant.grantor, grant.kind, grant.table, slot)
+    side_of(grant.grantor, grant.kind, grant.table)
 }
 
-/// Adds the slot of a grant under its grantee and its grantor, or under neither: then memory was refused.
-fn add_marks(to: &mut Index, by: &mut Index, grant: &Grant, slot: usize) -> Result<(), AllocError>
-    requires { has_mark to.old (to_mark grant.now slot) ≡ false }
-    ensures to { OnOk result ((other : Mark) → has_mark to.new other ≡ (same_mark (to_mark grant.now slot) other || has_mark to.old other)) }
-    ensures by { OnOk result ((other : Mark) → has_mark by.new other ≡ (same_mark (by_mark grant.now slot) other || has_mark by.old other)) }
-    ensures err_to { OnErr result ((other : Mark) → has_mark to.new other ≡ has_mark to.old other) }
-    ensures err_by { OnErr result ((other : Mark) → has_mark by.new other ≡ has_mark by.old other) }
+/// Adds the slot of a grant last under its grantee and its grantor, or under neither: then memory was refused.
+fn push_slot(to: &mut Index, by: &mut Index, grant: &Grant, slot: usize) -> Result<(), AllocError>
+    ensures to { OnOk result (IsPushed (to_side grant.now) slot to.old to.new) }
+    ensures by { OnOk result (IsPushed (by_side grant.now) slot by.old by.new) }
+    ensures err_to { OnErr result (IsSame to.old to.new) }
+    ensures err_by { OnErr result (IsSame by.old by.new) }
 {
-    let marked = to_mark(grant, slot);
-    to.add(&marked)?;
-    if let Err(refused) = by.add(&by_mark(grant, slot)) {
-        to.remove(&marked);
+    let side = to_side(grant);
+    to.push(side, slot)?;
+    if let Err(refused) = by.push(by_side(grant), slot) {
+        to.pop(&side);
         return Err(refused);
     }
     Ok(())
 }
 
 /// Forgets the ends that don't lie below the place, which are noted.
-fn reopen(records: &mut [Record], endings: &mut BTreeSet<Ending>, place: Place)
-    requires noted { HasEnds endings.old records.old }
+fn reopen(records: &mut [Record], endings: &mut Vec<Ending>, place: Place)
+    requires noted { HasEnds endings.old.items records.old }
+    requires order { AreInOrder endings.old.items }
     ensures reopened { records.new ≡ map (reopened place) records.old }
-    ensures noted { HasEnds endings.new records.new }
+    ensures noted { HasEnds endings.new.items records.new }
+    ensures order { AreInOrder endings.new.items }
 {
     while let Some(ending) = pop_from(endings, place) {
         reopen_slot(records, ending.slot, place);
@@ -90,7 +90,7 @@ impl IndexedRecords {
             records: Vec::new(alloc),
             to: Index::new(alloc),
             by: Index::new(alloc),
-            endings: BTreeSet::new(alloc),
+            endings: Vec::new(alloc),
         }
     }
 
@@ -108,7 +108,7 @@ impl IndexedRecords {
     {
         self.records.reserve(1)?;
         let slot = self.records.len();
-        add_marks(&mut self.to, &mut self.by, &grant, slot)?;
+        push_slot(&mut self.to, &mut self.by, &grant, slot)?;
         self.records.push_reserved(Record { grant, end: None });
         Ok(())
     }
@@ -167,9 +167,8 @@ impl IndexedRecords {
         ensures shorter { self.new ≡ take (length self.old - 1) self.old }
     {
         if let Some(record) = self.records.pop() {
-            let slot = self.records.len();
-            self.to.remove(&to_mark(&record.grant, slot));
-            self.by.remove(&by_mark(&record.grant, slot));
+            self.to.pop(&to_side(&record.grant));
+            self.by.pop(&by_side(&record.grant));
         }
     }
 
@@ -186,13 +185,13 @@ impl IndexedRecords {
     pub fn next_to(&self, user: User, kind: Kind, table: Table, from: usize) -> Option<usize>
         ensures { IsNext (is_to user kind table) (recorded self.now) from result }
     {
-        self.to.next(user, kind, table, from)
+        self.to.next(&side_of(user, kind, table), from)
     }
 
     /// The least slot at or above this one whose grant is by the user, of the kind on the table.
     pub fn next_by(&self, user: User, kind: Kind, table: Table, from: usize) -> Option<usize>
         ensures { IsNext (is_by user kind table) (recorded self.now) from result }
     {
-        self.by.next(user, kind, table, from)
+        self.by.next(&side_of(user, kind, table), from)
     }
 }

@@ -2,8 +2,9 @@ use Rattle.std.proofs.Common.{◌≡◌, ◌<◌, ◌≤◌, ◌++◌, Some, len
 use Rattle.std.specs.Prelude.{◌⊎◌}
 use Rattle.std.proofs.lemmas.Bool.{true≢false}
 use Rattle.grants.specs.Pass.{concerned, is_one_of, outlasts}
-use Rattle.grants.specs.Work.{keepers, AreWalked}
+use Rattle.grants.specs.Work.{AllPassed, keepers, AreWalked}
 use Rattle.grants.specs.View.{View, slot_at}
+use Rattle.grants.proofs.Asking.{passed_ended, walked_same}
 use Rattle.grants.proofs.Worklist.{due_more, nothing, one_more, over_none, over_staying, unended_at, whole_ending}
 use Rattle.grants.proofs.cascade.judge.Goals as goal
 
@@ -68,10 +69,43 @@ returns-else-grant-clause-whole g c =
     whole_ending c.args.revocation.now view c.args.owner c.args.places.now.items c.push.new.self.items ended c.insert.new.self.keys c.args.slot c.args.next c.in-Some.grant
     c.requires.next c.requires.within c.in_ok-push.ensures.items found (one_more c.args.work.now.ended c.insert.new.self c.args.slot c.in_ok-insert.ensures.updates) told
 
-pub returns-in_ok-lose-clause-walked : goal.returns-in_ok-lose-clause-walked
-returns-in_ok-lose-clause-walked g c =
-    subst (λ (v : View). AreWalked c.args.revocation.now v c.lose.new.due.keys c.lose.new.walked.keys c.args.next) (c.if-stays.ensures.same ∙ c.in-Some.ensures.same) c.in_ok-lose.ensures.walked
+pub stays-requires-clause-passed : goal.stays-requires-clause-passed
+stays-requires-clause-passed g c =
+    subst (λ (v : View). AllPassed c.args.revocation.now v c.args.work.now.ended.keys c.args.work.now.asked) (sym c.in-Some.ensures.same) c.requires.passed
+
+pub returns-then-stays-clause-walked : goal.returns-then-stays-clause-walked
+returns-then-stays-clause-walked g c =
+    walked_same c.args.revocation.now (g.V.Records.shown c.args.view.now) c.args.work.now.due.keys c.args.work.now.asked c.stays.new.asked c.args.next c.stays.ensures.users c.requires.walked
+
+pub returns-then-stays-clause-passed : goal.returns-then-stays-clause-passed
+returns-then-stays-clause-passed g c =
+    subst (λ (v : View). AllPassed c.args.revocation.now v c.args.work.now.ended.keys c.stays.new.asked) c.in-Some.ensures.same c.stays.ensures.passed
 
 pub lose-requires : goal.lose-requires
 lose-requires g c =
-    subst (λ (v : View). AreWalked c.args.revocation.now v c.args.work.now.due.keys c.args.work.now.walked.keys c.args.next) (sym (c.if-stays.ensures.same ∙ c.in-Some.ensures.same)) c.requires.walked
+    subst (λ (v : View). AreWalked c.args.revocation.now v c.args.work.now.due.keys c.stays.new.asked c.args.next) (sym (c.if-stays.ensures.same ∙ c.in-Some.ensures.same))
+    (walked_same c.args.revocation.now (g.V.Records.shown c.args.view.now) c.args.work.now.due.keys c.args.work.now.asked c.stays.new.asked c.args.next c.stays.ensures.users c.requires.walked)
+
+pub returns-in_ok-lose-clause-walked : goal.returns-in_ok-lose-clause-walked
+returns-in_ok-lose-clause-walked g c =
+    subst (λ (v : View). AreWalked c.args.revocation.now v c.lose.new.due.keys c.lose.new.asked c.args.next) (c.if-stays.ensures.same ∙ c.in-Some.ensures.same) c.in_ok-lose.ensures.walked
+
+pub returns-in_ok-lose-clause-passed : goal.returns-in_ok-lose-clause-passed
+returns-in_ok-lose-clause-passed g c =
+    let seen = g.V.Records.shown c.stays.new.view in
+    let before = subst (λ (v : View). AllPassed c.args.revocation.now v c.args.work.now.ended.keys c.stays.new.asked) (sym c.if-stays.ensures.same) c.stays.ensures.passed in
+    subst (λ (v : View). AllPassed c.args.revocation.now v c.insert.new.self.keys c.lose.new.asked) (c.if-stays.ensures.same ∙ c.in-Some.ensures.same)
+    (c.in_ok-lose.ensures.passed c.insert.new.self.keys
+    (passed_ended c.args.revocation.now seen c.args.work.now.ended.keys c.insert.new.self.keys c.args.slot c.stays.new.asked
+    (one_more c.args.work.now.ended c.insert.new.self c.args.slot c.in_ok-insert.ensures.updates) before))
+
+pub returns-else-grant-clause-walked : goal.returns-else-grant-clause-walked
+returns-else-grant-clause-walked g c =
+    walked_same c.args.revocation.now (g.V.Records.shown c.args.view.now) c.args.work.now.due.keys c.args.work.now.asked c.stays.new.asked c.args.next c.stays.ensures.users c.requires.walked
+
+pub returns-else-grant-clause-passed : goal.returns-else-grant-clause-passed
+returns-else-grant-clause-passed g c =
+    let view = g.V.Records.shown c.args.view.now in
+    let before = subst (λ (v : View). AllPassed c.args.revocation.now v c.args.work.now.ended.keys c.stays.new.asked) c.in-Some.ensures.same c.stays.ensures.passed in
+    passed_ended c.args.revocation.now view c.args.work.now.ended.keys c.insert.new.self.keys c.args.slot c.stays.new.asked
+    (one_more c.args.work.now.ended c.insert.new.self c.args.slot c.in_ok-insert.ensures.updates) before

@@ -4,7 +4,7 @@ use Rattle.std.proofs.lemmas.Bool.{true≢false}
 use Rattle.std.proofs.lemmas.List.{append-nil}
 use Rattle.std.proofs.Math.ListN.{drop_of_length-le}
 use Rattle.grants.specs.Pass.{cascade, concerned_grants}
-use Rattle.grants.specs.Work.{AreDue, keepers, AreWalked}
+use Rattle.grants.specs.Work.{AllPassed, AreDue, keepers, AreWalked}
 use Rattle.grants.specs.View.{Shows, View}
 use Rattle.grants.proofs.SlotLaws.{pass_ends}
 use Rattle.grants.proofs.Worklist.{IsFirstDue, ends_from, first_due, none_due, nothing, over_free, walked_rest}
@@ -39,9 +39,13 @@ judge-requires-clause-walked g c =
     let view = g.V.Records.shown c.named.new.view in
     let first : IsFirstDue c.args.revocation.now view c.loop-slot.work.due.keys c.pop_first.new.self.keys c.loop-slot.work.ended.keys c.loop-slot.next c.in-Some.slot =
     first_due c.args.revocation.now view _ _ _ _ _ c.loop-slot.invariant.due c.in-Some.ensures.removal c.in-Some.ensures.all_above in
-    subst (λ (v : View). AreWalked c.args.revocation.now v c.pop_first.new.self.keys c.loop-slot.work.walked.keys (c.in-Some.slot + 1)) (sym c.loop-slot.invariant.same)
-    (walked_rest c.args.revocation.now view c.loop-slot.work.due.keys c.pop_first.new.self.keys c.loop-slot.work.walked.keys c.loop-slot.next (c.in-Some.slot + 1) c.in-Some.slot first.from refl
+    subst (λ (v : View). AreWalked c.args.revocation.now v c.pop_first.new.self.keys c.loop-slot.work.asked (c.in-Some.slot + 1)) (sym c.loop-slot.invariant.same)
+    (walked_rest c.args.revocation.now view c.loop-slot.work.due.keys c.pop_first.new.self.keys c.loop-slot.work.asked c.loop-slot.next (c.in-Some.slot + 1) c.in-Some.slot first.from refl
     c.in-Some.ensures.removal c.loop-slot.invariant.walked)
+
+pub judge-requires-clause-passed : goal.judge-requires-clause-passed
+judge-requires-clause-passed g c =
+    subst (λ (v : View). AllPassed c.args.revocation.now v c.loop-slot.work.ended.keys c.loop-slot.work.asked) (sym c.loop-slot.invariant.same) c.loop-slot.invariant.passed
 
 pub judge-requires-clause-behind : goal.judge-requires-clause-behind
 judge-requires-clause-behind g c =
@@ -71,7 +75,8 @@ loop-slot-preserved g c =
     record {
       same = c.in_ok-judge.ensures.same ∙ seen;
       due = subst (λ (v : View). AreDue revocation v c.judge.new.work.due.keys c.judge.new.work.ended.keys (slot + 1)) seen c.in_ok-judge.ensures.due;
-      walked = subst (λ (v : View). AreWalked revocation v c.judge.new.work.due.keys c.judge.new.work.walked.keys (slot + 1)) seen c.in_ok-judge.ensures.walked;
+      walked = subst (λ (v : View). AreWalked revocation v c.judge.new.work.due.keys c.judge.new.work.asked (slot + 1)) seen c.in_ok-judge.ensures.walked;
+      passed = subst (λ (v : View). AllPassed revocation v c.judge.new.work.ended.keys c.judge.new.work.asked) seen c.in_ok-judge.ensures.passed;
       next = omega (arith, first.within);
       whole = λ borne.
           let judged : c.judge.new.places.items ++ ends_from revocation view owner c.judge.new.work.ended.keys (slot + 1) ≡ c.loop-slot.places.items ++ ends_from revocation view owner c.loop-slot.work.ended.keys slot =

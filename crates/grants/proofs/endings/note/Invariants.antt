@@ -1,12 +1,13 @@
 use Rattle.std.proofs.Common.{◌≡◌, ℕ, take, true}
 use Rattle.std.specs.Prelude.{All}
-use Rattle.grants.specs.Marks.{has_ending}
+use Rattle.grants.specs.Marks.{AreInOrder, has_ending}
 use Rattle.grants.specs.declared.book.End.{End}
 use Rattle.grants.proofs.endings.note.Given as goal
 
 -- what was noted is noted, and so are the ends so far
 abbrev pub invariant-loop-end : goal.invariant-loop-end
 invariant-loop-end l = record {
-  kept : (place slot : ℕ) → has_ending l.initial.endings place slot ≡ true → has_ending l.endings place slot ≡ true;
-  noted : All (λ (end : End). has_ending l.endings end.place end.slot ≡ true) (take l.end-index l.ends);
+  order : AreInOrder l.endings.items;
+  kept : (place slot : ℕ) → has_ending l.initial.endings.items place slot ≡ true → has_ending l.endings.items place slot ≡ true;
+  noted : All (λ (end : End). has_ending l.endings.items end.place end.slot ≡ true) (take l.end-index l.ends);
 }

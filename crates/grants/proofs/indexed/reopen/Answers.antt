@@ -16,14 +16,15 @@ loop-ending-preserved c =
     record {
       rest = ap (map (reopened place)) c.reopen_slot.ensures ∙ map-reopen_slot place c.in-Some.ending.slot records ∙ c.loop-ending.invariant.rest;
       noted =
-          subst (λ (entries : List Record). HasEnds c.pop_from.new.endings entries) (sym c.reopen_slot.ensures)
-          (ends_reopened place c.loop-ending.endings c.pop_from.new.endings records c.in-Some.ending c.in-Some.ensures.at c.in-Some.ensures.taken c.loop-ending.invariant.noted);
+          subst (λ (entries : List Record). HasEnds c.pop_from.new.endings.items entries) (sym c.reopen_slot.ensures)
+          (ends_reopened place c.loop-ending.endings.items c.pop_from.new.endings.items records c.in-Some.ending c.in-Some.ensures.at c.in-Some.ensures.taken c.loop-ending.invariant.noted);
+      order = c.pop_from.ensures.order;
     }
 
 pub returns-clause-reopened : goal.returns-clause-reopened
 returns-clause-reopened c =
     let place = c.args.place in
-    let endings = c.loop-ending.endings in
+    let endings = c.loop-ending.endings.items in
     let none = nothing c.pop_from.result c.in_default.not-Some in
     let below = subst (λ (found : Option Ending). IfNone found ((at slot : ℕ) → has_ending endings at slot ≡ true → at < place)) none c.pop_from.ensures.none in
     sym (reopened_all place endings c.loop-ending.records c.loop-ending.invariant.noted below) ∙ c.loop-ending.invariant.rest

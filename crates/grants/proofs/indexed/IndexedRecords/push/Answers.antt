@@ -2,16 +2,11 @@ use Rattle.std.proofs.Common.{◌≡◌, ◌++◌, ◌∷◌, [], List, length, 
 use Rattle.model_base.specs.declared.deed.Record.{Record}
 use Rattle.grants.specs.Book.{unended}
 use Rattle.grants.specs.Index.{is_by, is_to}
-use Rattle.grants.specs.Marks.{AreIndexed, by_mark, to_mark}
-use Rattle.grants.proofs.Indexing.{by_mark-same, ends_more, fresh_to, indexes_more, to_mark-same}
+use Rattle.grants.specs.Marks.{AreIndexed}
+use Rattle.grants.specs.Sides.{by_side, to_side}
+use Rattle.grants.proofs.Indexing.{ends_more}
+use Rattle.grants.proofs.SideLaws.{by_side-same, indexes_more, to_side-same}
 use Rattle.grants.proofs.indexed.IndexedRecords.push.Goals as goal
-
-pub add_marks-requires : goal.add_marks-requires
-add_marks-requires c =
-    let entries = c.self.inside.records.items in
-    let long : length c.reserve.new.self.items ≡ length entries = ap length c.reserve.ensures.items in
-    let count : c.len-slot.result ≡ length entries = omega (arith, c.len-slot.ensures, c.reserve.new.self.ok.0, long) in
-    fresh_to c.self.inside.to entries c.args.grant c.len-slot.result count c.self.invariant.grantees
 
 pub invariant_of-self-2 : goal.invariant_of-self-2
 invariant_of-self-2 c =
@@ -20,9 +15,10 @@ invariant_of-self-2 c =
     let same : c.reserve.new.self.items ≡ entries = c.reserve.ensures.items in
     let long : length c.reserve.new.self.items ≡ length entries = ap length same in
     let count : c.len-slot.result ≡ length entries = omega (arith, c.len-slot.ensures, c.reserve.new.self.ok.0, long) in
-    subst (λ (es : List Record). AreIndexed es c.add_marks.new.to c.add_marks.new.by c.self.inside.endings) (ap (λ (es : List Record). es ++ entry ∷ []) (sym same) ∙ sym c.push_reserved.ensures.items)
+    subst (λ (es : List Record). AreIndexed es c.push_slot.new.to c.push_slot.new.by c.self.inside.endings.items) (ap (λ (es : List Record). es ++ entry ∷ []) (sym same) ∙ sym c.push_reserved.ensures.items)
     (record {
-      grantees = indexes_more is_to to_mark to_mark-same c.self.inside.to c.add_marks.new.to entries entry c.len-slot.result count c.self.invariant.grantees c.in_ok-add_marks.ensures.to;
-      grantors = indexes_more is_by by_mark by_mark-same c.self.inside.by c.add_marks.new.by entries entry c.len-slot.result count c.self.invariant.grantors c.in_ok-add_marks.ensures.by;
-      ends = ends_more c.self.inside.endings entries c.args.grant c.self.invariant.ends;
+      grantees = indexes_more is_to to_side to_side-same c.self.inside.to c.push_slot.new.to entries entry c.len-slot.result count c.self.invariant.grantees c.in_ok-push_slot.ensures.to;
+      grantors = indexes_more is_by by_side by_side-same c.self.inside.by c.push_slot.new.by entries entry c.len-slot.result count c.self.invariant.grantors c.in_ok-push_slot.ensures.by;
+      ends = ends_more c.self.inside.endings.items entries c.args.grant c.self.invariant.ends;
+      order = c.self.invariant.order;
     })
