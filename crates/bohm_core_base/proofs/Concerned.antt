@@ -53,11 +53,11 @@ ends-concerned owners past revocation place grant same ends =
         (kept owners past) (All-both Same Stays (kept owners past) same (kept-stays_other owners revocation past))) found refl
 
 module _ (b : Batch) (sound : IsSound b) (k : ℕ) (slot : k < length (slots_of b)) where
-  abbrev grant_here : Grant
+  abbrev pub grant_here : Grant
   grant_here = get_or (slots_of b) k no_grant
 
   -- of a slot's place there is no other grant
-  abbrev Same : Grant → Type 0
+  abbrev pub Same : Grant → Type 0
   Same g = g.place ≡ place_at b k → g ≡ grant_here
 
   slots-same : All Same (slots_of b)
@@ -72,7 +72,7 @@ module _ (b : Batch) (sound : IsSound b) (k : ℕ) (slot : k < length (slots_of 
       (All-get_or (λ grant. All (Alone grant) grants) grants k no_grant slot (rising-unique grants rise))
 
   -- so it is among those in force
-  kept-same : (n : ℕ) → n ≤ b.size → All Same (kept b.owners (world_before b n).deeds)
+  pub kept-same : (n : ℕ) → n ≤ b.size → All Same (kept b.owners (world_before b n).deeds)
   unfolding slots_of
   kept-same n within =
       let d = serial_deeds b in

@@ -1,5 +1,5 @@
 -- What holds in every reached state.
-use Rattle.std.proofs.Common.{◌≡◌, ◌≢◌, ◌<◌, ◌≤◌, ◌+◌, ℕ, suc, zero, Bool, true, false, Option, Some, None, is_none, List, [], ◌∷◌, ◌++◌, length, get_or, set, drop, map, refl, sym, ◌∙◌, ap, arith, inl, inr, append_assoc, ◌-◌}
+use Rattle.std.proofs.Common.{◌≡◌, ◌≢◌, ◌<◌, ◌≤◌, ◌+◌, ℕ, suc, zero, Bool, true, false, Option, Some, None, is_none, List, [], ◌∷◌, ◌++◌, length, get_or, set, drop, map, refl, sym, ◌∙◌, ap, arith, inl, inr, append_assoc, ◌-◌, subst}
 use Rattle.std.specs.Prelude.{nat_lt, All}
 use Rattle.std.proofs.lemmas.Bool.{eqb-true, and_parts, ltb-true, lt-ltb, le-ltb, cases_lt}
 use Rattle.std.proofs.lemmas.List.{length-replicate, append-nil, length_push, get_or_push, get_or_append_left, get_or_past, get_or-set_other, length-map, get_or-map, take-append-drop}
@@ -27,7 +27,7 @@ use Rattle.bohm_core_base.proofs.Whole.{no_grant, deeds-made, serial-placed, ser
 use Rattle.bohm_core_base.proofs.Lists.{replicate-same, set-cases, list_all-weaker, list_all-set, list_all-get, chosen-none}
 use Rattle.bohm_core_base.proofs.Kept.{IsKept, rests}
 use Rattle.bohm_core_base.proofs.Rows.{row-right}
-use Rattle.bohm_core_base.proofs.View.{filled-words, table-ready, rests-tables, deeds-done, end-seen, words-right, records-right, rows-right, row-seen, must-right, done-words}
+use Rattle.bohm_core_base.proofs.View.{outcome-right, filled-words, table-ready, rests-tables, deeds-done, end-seen, words-right, records-right, rows-right, row-seen, must-right, done-words}
 use Rattle.bohm_core_base.proofs.Steps.{busy-not_free, done-is, placed-all, stands, claim-keeps, finish-keeps, give_back-keeps, fill-keeps, end-keeps, place-keeps, held-not_free, held-not_done, free-not_done}
 
 module _ (b : Batch) (sound : IsSound b) where
@@ -113,6 +113,23 @@ module _ (b : Batch) (sound : IsSound b) where
       let later : end_after b.owners b.before whole.0 (place_at b k) ≡ Some q = sym (rw early at whole.1) ∙ was in
       let more : b.first + 0 ≤ q = end-within b.owners (λ p. b.first + 0 ≤ p) b.before whole.0 (place_at b k) q whole.2 later in
       omega arith
+
+  -- a record that no place of the batch ends has after it the end that it has at first
+  pub unended-stays : (k : ℕ) → k < length (slots_of b) → ((n : ℕ) → serial_ends b n k ≡ false) → whole_end b k ≡ end_of (start b) k
+  unended-stays k slot none = by_start (end_of (start b) k) refl
+    where
+      by_whole : end_of (start b) k ≡ None → (end : Option ℕ) → whole_end b k ≡ end → whole_end b k ≡ None
+      by_whole is None was = was
+      by_whole is (Some q) was =
+          let from : b.first ≤ q = start-unended k q slot is was in
+          let at : b.first + (q - b.first) ≡ q = omega arith in
+          let ends = serial-ends-from b (q - b.first) k q was at in
+          let not = none (q - b.first) in
+          absurd (let both : true ≡ false = sym ends ∙ not in cc)
+
+      by_start : (end : Option ℕ) → end_of (start b) k ≡ end → whole_end b k ≡ end_of (start b) k
+      by_start None is = by_whole is (whole_end b k) refl ∙ sym is
+      by_start (Some q) is = (start-ended k q is).1 ∙ sym is
 
   -- the state at first has all that is kept
   pub start-keeps : IsKept b (start b)
@@ -467,6 +484,15 @@ module _ (b : Batch) (sound : IsSound b) where
         records = records-right b sound s kept n within rest;
         words = words-right b sound s kept n within here rest;
         ends = λ j slot some. must-right b sound s kept n j size slot some rest;
+        outcome = λ some. outcome-right b sound s kept n some;
+        referred = λ other number low is.
+            done-words b sound s kept other (subst (λ word. is_ready s word ≡ true) is (list_all-get (is_ready s) (references b n) number 0 rest low));
+        settled = λ other t less listed deed.
+            done-words b sound s kept other
+            (deeds-done b sound s kept n t (table-ready b sound s kept n t (b.tables n) (rests-tables b sound s kept n rest) listed) other less deed);
+        told = λ k slot listed.
+            end-seen b sound s kept n k slot
+            (deeds-done b sound s kept n (table_at b k) (table-ready b sound s kept n (table_at b k) (b.tables n) (rests-tables b sound s kept n rest) listed));
       }
 
   -- where all places below one are done, so is the last of them that may change the row of a key

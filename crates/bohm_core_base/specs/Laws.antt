@@ -2,18 +2,19 @@
 -- of BOHM's execution (J. M. Faleiro and D. J. Abadi, "Rethinking Serializable Multiversion Concurrency Control", PVLDB 8,
 -- 2015, section 3), here for what each place is shown, its words, the ends of records, and the rows and deeds after a
 -- beginning of the batch.
-use Rattle.std.specs.Prelude.{◌≡◌, ◌≢◌, ◌<◌, ◌+◌, ◌++◌, ℕ, true, Option, Some, None, List, [], ◌∷◌, length, slice_get}
+use Rattle.std.specs.Prelude.{◌≡◌, ◌≢◌, ◌<◌, ◌+◌, ◌++◌, ℕ, suc, true, Option, Some, None, List, [], ◌∷◌, length, slice_get, slice_index_or}
 use Rattle.model_base.specs.declared.deed.Deed.TheVariants.{Revoking}
 use Rattle.model_base.specs.declared.deed.Grant.{Grant}
 use Rattle.model_base.specs.declared.deed.Revocation.{Revocation}
 use Rattle.model_base.specs.declared.row.Key.{Key}
 use Rattle.model_base.specs.Privileges.{concerns}
+use Rattle.model_base.specs.Records.{end_below}
 use Rattle.bohm_core_base.specs.declared.event.Event.{Event}
 use Rattle.bohm_core_base.specs.declared.event.Event.TheVariants.{Place, Claim, Fill, End, Finish, GiveBack}
 use Rattle.bohm_core_base.specs.declared.hold.Hold.TheVariants.{Done}
 use Rattle.bohm_core_base.specs.Deeds.{made_before}
-use Rattle.bohm_core_base.specs.Batch.{Batch, deeds_of, references, slots_of, was_done, writer}
-use Rattle.bohm_core_base.specs.Serial.{records_in, rows_at, serial_ends, serial_words, world_before}
+use Rattle.bohm_core_base.specs.Batch.{Batch, deeds_of, has_deed_on, is_listed, references, slots_of, table_at, was_done, writer}
+use Rattle.bohm_core_base.specs.Serial.{records_in, rows_at, serial_ends, serial_words, whole_end, world_before}
 use Rattle.bohm_core_base.specs.Machine.{State, all_past, all_ready, end_of, hold_of, must_end, own_of, records_seen, references_of, row_by, rows_seen, words_seen}
 
 -- who makes the event; a placer's has no actor
@@ -56,6 +57,17 @@ pub record ShowsSerial (batch : Batch) (state : State) (index : ℕ) : Type 0 wh
   -- once its outcome word is stored, it must end the records that it ends there
   pub ends : (slot : ℕ) → slot < length (slots_of batch) → 0 < length (own_of state index)
       → must_end batch state index slot ≡ serial_ends batch index slot
+  -- and that word is the serial run's
+  pub outcome : 0 < length (own_of state index) → was_done (own_of state index) ≡ was_done (serial_words batch index)
+  -- each place that it refers to has the own words of the serial run
+  pub referred : (other number : ℕ) → number < length (references batch index) → slice_index_or (references batch index) number 0 ≡ suc other
+      → own_of state other ≡ serial_words batch other
+  -- so has each earlier place with a deed on one of its tables
+  pub settled : (other table : ℕ) → other < index → is_listed (batch.tables index) table ≡ true → has_deed_on batch other table ≡ true
+      → own_of state other ≡ serial_words batch other
+  -- and the ends of the slots on its tables are, below it, those of the serial run
+  pub told : (slot : ℕ) → slot < length (slots_of batch) → is_listed (batch.tables index) (table_at batch slot) ≡ true
+      → end_below (batch.first + index) (end_of state slot) ≡ end_below (batch.first + index) (whole_end batch slot)
 
 -- each word and each end of the first state stands in the second, and so does what was done and placed
 pub record Stands (before after : State) : Type 0 where

@@ -1,0 +1,13 @@
+//! With which grants the grants of a batch fall.
+
+ghost use Rattle.std.specs.Prelude.{◌≡◌, ◌<◌, ℕ, true, length};
+ghost use Rattle.bohm_core_base.specs.Batch.{Batch, IsSound, slots_of};
+ghost use Rattle.bohm_core_base.specs.Cascades.{EndsByCascade};
+ghost use Rattle.bohm_core_base.specs.Serial.{serial_ends};
+
+/// A place that ends a record by the serial run has a revocation that names the record's grant, or it ends the record of an
+/// earlier slot too, whose grant gave this one's grantor the option.
+pub fn records_end_by_cascades()
+    ensures { (batch : Batch) (index slot : ℕ)
+        → IsSound batch → slot < length (slots_of batch) → serial_ends batch index slot ≡ true → EndsByCascade batch index slot }
+{}
