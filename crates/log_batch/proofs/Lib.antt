@@ -13,3 +13,9 @@ pub mod SerialRuns
 pub mod LogsRight
 pub mod SlotsEnded
 pub mod LogsEnded
+pub mod Named
+pub mod Before
+pub mod Counted
+pub mod Passed
+pub mod Earlier
+pub mod OnlySlot

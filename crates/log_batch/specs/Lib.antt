@@ -1,3 +1,6 @@
 pub mod Shown
 pub mod LogBatch
 pub mod Laws
+pub mod Named
+pub mod Supplied
+pub mod Earlier

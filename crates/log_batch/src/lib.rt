@@ -4,8 +4,11 @@
 //! section 3: a transaction needs to be shown only the versions that its references name. Here that goes for grants too.
 #![tactic(auto)]
 
+mod asking;
+mod batch;
 mod laws;
 
+pub use batch::LogBatch;
 pub use laws::{
     batches_of_logs_are_sound, done_places_of_logs_are_serial, references_are_of_the_log,
     serial_answers_tell, serial_runs_agree, serial_words_are_of_the_log,

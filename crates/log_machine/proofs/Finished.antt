@@ -23,7 +23,7 @@ use Rattle.bohm_core.specs.Running.{IsReached}
 use Rattle.log_batch.specs.Laws.{IsOfLog, ended_places}
 use Rattle.log_batch.proofs.LogsEnded.{ended_tells}
 use Rattle.log_batch.proofs.LogsRight.{done_tells}
-use Rattle.log_machine.specs.Supplied.{Ranged, batch_in, range_of}
+use Rattle.log_batch.specs.Supplied.{Ranged, batch_in, range_of}
 
 -- a place below the length is there
 some-there : {A : Type 0} (xs : List A) (index : ℕ) → index < length xs → slice_get xs index ≢ None

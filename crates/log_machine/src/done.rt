@@ -11,20 +11,21 @@ ghost use Rattle.bohm_core_base.specs.Batch.{slots_of};
 ghost use Rattle.bohm_core_base.specs.Machine.{hold_of};
 ghost use Rattle.bohm_core_base.specs.declared.hold.Hold.TheVariants.{Done};
 ghost use Rattle.log_batch.specs.Laws.{ended_places};
-ghost use Rattle.log_machine.specs.Supplied.{batch_in};
+ghost use Rattle.log_batch.specs.Supplied.{batch_in};
 
-use crate::batch::LogBatch;
+use crate::of_log::OfLog;
 use bohm_core::{Hold, Machine, State};
+use log_batch::LogBatch;
 use model_base::{Grant, Items, Outcome, Place};
 use own_words::decoded;
 use std::alloc::{AllocError, Global};
 
 /// The own words of a place that is done, whatever the events were: those of its outcome in the log, and its version cells.
-pub fn done_words<'a>(machine: &'a Machine<LogBatch<'_>>, index: usize) -> Option<&'a [u64]>
+pub fn done_words<'a>(machine: &'a Machine<OfLog<'_>>, index: usize) -> Option<&'a [u64]>
     ensures { MatchOption result (hold_of machine.now.state index ≢ Done) (λ words.
         words.now ≡ words_at (columns_by machine.now.statements.log.names) machine.now.statements.log.statements (machine.now.statements.first + index)) }
 {
-    let _log = machine.statements().log();
+    let _log = machine.statements().batch().log();
     let state = machine.state();
     match state.hold(index) {
         Hold::Done => Some(state.own(index)),
@@ -69,7 +70,7 @@ fn ended_at(
 /// none where it has no revocation, or wasn't done. An error is want of memory, and comes only where there are some.
 pub fn done_ends(
     alloc: Global,
-    machine: &Machine<LogBatch<'_>>,
+    machine: &Machine<OfLog<'_>>,
     index: usize,
 ) -> Result<Option<Vec<Place>>, AllocError>
     ensures told { IfOk result (λ told. MatchOption told (hold_of machine.now.state index ≢ Done) (λ places. (found : Outcome)
@@ -79,7 +80,7 @@ pub fn done_ends(
         × (outcome machine.now.statements.log.statements (machine.now.statements.first + index) ≡ Some found) × (ended_in found ≢ [])) }
 {
     let state = machine.state();
-    let batch = machine.statements();
+    let batch = machine.statements().batch();
     let _log = batch.log();
     match state.hold(index) {
         Hold::Done => {
@@ -95,7 +96,7 @@ pub fn done_ends(
 /// its revocation ended. The list of these places is all that takes memory, so an error comes only where there are some.
 pub fn done_outcome(
     alloc: Global,
-    machine: &Machine<LogBatch<'_>>,
+    machine: &Machine<OfLog<'_>>,
     index: usize,
 ) -> Result<Option<Outcome>, AllocError>
     ensures told { IfOk result (λ told. MatchOption told (hold_of machine.now.state index ≢ Done) (λ found.
@@ -105,7 +106,7 @@ pub fn done_outcome(
         × (outcome machine.now.statements.log.statements (machine.now.statements.first + index) ≡ Some found) × (ended_in found ≢ [])) }
 {
     let state = machine.state();
-    let batch = machine.statements();
+    let batch = machine.statements().batch();
     let _log = batch.log();
     let _first = batch.first_place();
     match done_ends(alloc, machine, index)? {

@@ -6,13 +6,11 @@
 #![tactic(auto)]
 
 mod answers;
-mod batch;
+mod by_state;
 mod done;
-mod records;
-mod rows;
+mod of_log;
 mod statements;
 mod stored;
 
-pub use batch::LogBatch;
 pub use done::{done_ends, done_outcome, done_words};
-pub use records::ShownRecords;
+pub use of_log::OfLog;

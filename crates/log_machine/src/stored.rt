@@ -6,10 +6,10 @@ ghost use Rattle.model_base.specs.declared.statement.Access.{Access};
 ghost use Rattle.placing.specs.Parts.{key_partition, table_partition};
 ghost use Rattle.bohm_core_base.specs.Machine.{front_of, placed_references, stored};
 ghost use Rattle.log_batch.specs.Laws.{word_of};
-ghost use Rattle.log_machine.specs.Supplied.{batch_in};
+ghost use Rattle.log_batch.specs.Supplied.{batch_in};
 
-use crate::batch::LogBatch;
 use bohm_core::State;
+use log_batch::LogBatch;
 use model_base::{Access as Declared, Place, Reference, Table};
 use placing::{find_tables, partition_of, partition_of_table};
 use std::alloc::{AllocError, Global};

@@ -3,7 +3,7 @@ use Rattle.bohm_core_base.specs.declared.hold.Hold.TheVariants.{Done}
 use Rattle.bohm_core_base.specs.Batch.{slots_of}
 use Rattle.bohm_core_base.specs.Machine.{State, hold_of}
 use Rattle.log_batch.specs.Laws.{IsOfLog, ended_places}
-use Rattle.log_machine.specs.Supplied.{Ranged, batch_in, range_of}
+use Rattle.log_batch.specs.Supplied.{Ranged, batch_in, range_of}
 use Rattle.log_machine.proofs.Finished.{done-within, ended-done, ends-done, on_err}
 use Rattle.log_machine.proofs.done.done_ends.Goals as goal
 
@@ -12,7 +12,7 @@ overflow_add-place c =
     let ranged = c.args.machine.now.statements in
     let state = c.args.machine.now.state in
     let index = c.args.index in
-    let same = c.statements-batch.ensures in
+    let same = c.batch-batch.ensures ∙ c.statements.ensures in
     let is = subst (λ (r : Ranged). IsOfLog (range_of r)) same c.log-log.ensures.of_log in
     let within = subst (λ (r : Ranged). r.first + r.size ≤ length r.log.statements) same c.log-log.ensures.within in
     let done : hold_of state index ≡ Done =
@@ -29,7 +29,7 @@ returns-in_ok-places-in-Done-clause-told c found comes =
     let ranged = c.args.machine.now.statements in
     let state = c.args.machine.now.state in
     let index = c.args.index in
-    let same = c.statements-batch.ensures in
+    let same = c.batch-batch.ensures ∙ c.statements.ensures in
     let is = subst (λ (r : Ranged). IsOfLog (range_of r)) same c.log-log.ensures.of_log in
     let within = subst (λ (r : Ranged). r.first + r.size ≤ length r.log.statements) same c.log-log.ensures.within in
     let done : hold_of state index ≡ Done =
@@ -46,13 +46,13 @@ returns-in_err-places-in-Done-clause-memory c =
     let ranged = c.args.machine.now.statements in
     let state = c.args.machine.now.state in
     let index = c.args.index in
-    let same = c.statements-batch.ensures in
+    let same = c.batch-batch.ensures ∙ c.statements.ensures in
     let is = subst (λ (r : Ranged). IsOfLog (range_of r)) same c.log-log.ensures.of_log in
     let within = subst (λ (r : Ranged). r.first + r.size ≤ length r.log.statements) same c.log-log.ensures.within in
     let done : hold_of state index ≡ Done =
     ap (λ (s : State). hold_of s index) (sym c.state-state.ensures.value) ∙ sym c.hold.ensures ∙ c.in-Done.is in
     let first : c.first_place.result ≡ ranged.first = c.first_place.ensures.value ∙ ap (λ (r : Ranged). r.first) same in
-    let here : ended_places (slots_of (batch_in c.statements-batch.result.now)) c.state-state.result.now.ends (c.first_place.result + index)
+    let here : ended_places (slots_of (batch_in c.batch-batch.result.now)) c.state-state.result.now.ends (c.first_place.result + index)
     ≡ ended_places (slots_of (batch_in ranged)) state.ends (ranged.first + index) =
     ap (λ (r : Ranged). ended_places (slots_of (batch_in r)) c.state-state.result.now.ends (c.first_place.result + index)) same
     ∙ ap (λ (s : State). ended_places (slots_of (batch_in ranged)) s.ends (c.first_place.result + index)) c.state-state.ensures.value

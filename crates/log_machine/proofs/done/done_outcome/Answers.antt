@@ -4,13 +4,13 @@ use Rattle.own_words.specs.Words.{outcome_from}
 use Rattle.sequencer.specs.Taken.{IsTaken}
 use Rattle.bohm_core_base.specs.Machine.{State, own_of}
 use Rattle.log_batch.specs.Laws.{IsOfLog}
-use Rattle.log_machine.specs.Supplied.{Ranged, range_of}
+use Rattle.log_batch.specs.Supplied.{Ranged, range_of}
 use Rattle.log_machine.proofs.Finished.{done-within, outcome-done}
 use Rattle.log_machine.proofs.done.done_outcome.Goals as goal
 
 pub statement-requires : goal.statement-requires
 statement-requires c =
-    let same = c.statements-batch.ensures in
+    let same = c.batch-batch.ensures ∙ c.statements.ensures in
     let is = subst (λ (r : Ranged). IsOfLog (range_of r)) same c.log-log.ensures.of_log in
     let within = subst (λ (r : Ranged). r.first + r.size ≤ length r.log.statements) same c.log-log.ensures.within in
     let done = rw c.in-Some.is at c.in_ok-ended.ensures.done in
@@ -23,7 +23,7 @@ returns-in-Some-clause-told c =
     let state = c.args.machine.now.state in
     let index = c.args.index in
     let form = c.statement.result.now.form in
-    let same = c.statements-batch.ensures in
+    let same = c.batch-batch.ensures ∙ c.statements.ensures in
     let is = subst (λ (r : Ranged). IsOfLog (range_of r)) same c.log-log.ensures.of_log in
     let within = subst (λ (r : Ranged). r.first + r.size ≤ length r.log.statements) same c.log-log.ensures.within in
     let few = subst (λ (r : Ranged). r.first + r.size ≤ 4294967295) same c.first_place-first.ensures.small in

@@ -2,7 +2,7 @@ use Rattle.std.proofs.Common.{◌<◌, ◌++◌, ◌+◌, length, ap, arith, dro
 use Rattle.std.proofs.lemmas.List.{append-nil}
 use Rattle.bohm_core_base.specs.Batch.{slots_of}
 use Rattle.log_batch.specs.Laws.{ended_places}
-use Rattle.log_machine.specs.Supplied.{batch_in}
+use Rattle.log_batch.specs.Supplied.{batch_in}
 use Rattle.log_machine.proofs.Finished.{ended_more, ended_past, ended_some, on_err}
 use Rattle.log_machine.proofs.done.ended_at.Goals as goal
 

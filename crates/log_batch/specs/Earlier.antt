@@ -1,0 +1,13 @@
+-- The slots of a batch whose grants were made before it.
+use Rattle.std.specs.Prelude.{ℕ, List, length, take}
+use Rattle.model_base.specs.declared.deed.Grant.{Grant}
+use Rattle.model_base.specs.Records.{grants_of}
+use Rattle.bohm_core_base.specs.Batch.{Batch, slots_of}
+
+-- how many there are: they stand before the slots of the grants that the batch may make
+abbrev pub earlier_count : Batch → ℕ
+earlier_count batch = length (grants_of batch.before)
+
+-- their grants
+abbrev pub earlier_grants : Batch → List Grant
+earlier_grants batch = take (earlier_count batch) (slots_of batch)

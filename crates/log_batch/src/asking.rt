@@ -1,0 +1,87 @@
+//! The slots of a batch by the places of their grants, by whom these are to, and by whom.
+
+ghost use Rattle.std.specs.Prelude.{◌≡◌, ◌≢◌, ◌<◌, ◌≤◌, ℕ, Some, length, slice_get};
+ghost use Rattle.std.specs.Option.{MatchOption};
+ghost use Rattle.model_base.specs.declared.deed.Grant.{Grant};
+ghost use Rattle.grants.specs.Index.{IsNext, is_by, is_to};
+ghost use Rattle.bohm_core_base.specs.Batch.{slots_of};
+ghost use Rattle.log_batch.specs.Supplied.{batch_in};
+
+use crate::batch::LogBatch;
+use bohm_core_base::slots_stand_in_order;
+use grants::{is_by, is_to};
+use model_base::{Kind, Place, Table, User};
+
+impl LogBatch<'_> {
+    /// The first slot whose grant doesn't lie below the place. It takes no memory, and a time that grows with the logarithm of
+    /// the number of slots.
+    fn slot_from(&self, place: Place) -> usize
+        ensures below { (slot : ℕ) (grant : Grant) → slot < result → slice_get (slots_of (batch_in self.now)) slot ≡ Some grant → grant.place < place }
+        ensures from { (slot : ℕ) (grant : Grant) → result ≤ slot → slice_get (slots_of (batch_in self.now)) slot ≡ Some grant → place ≤ grant.place }
+    {
+        slots_stand_in_order();
+        let _log = self.log();
+        let mut low = 0;
+        let mut high = self.slot_count();
+        while low < high {
+            let middle = low + (high - low) / 2;
+            if self.grant(middle).place < place {
+                low = middle + 1;
+            } else {
+                high = middle;
+            }
+        }
+        low
+    }
+
+    /// The slot of the grant of a place, if there is one. It takes no memory, and a time that grows with the logarithm of the
+    /// number of slots.
+    pub fn slot_of(&self, place: Place) -> Option<usize>
+        ensures found { MatchOption result ((slot : ℕ) (grant : Grant) → slice_get (slots_of (batch_in self.now)) slot ≡ Some grant → grant.place ≢ place)
+            (λ slot. (grant : Grant) × (slice_get (slots_of (batch_in self.now)) slot ≡ Some grant) × (grant.place ≡ place)) }
+        ensures only { (slot : ℕ) (grant : Grant) → slice_get (slots_of (batch_in self.now)) slot ≡ Some grant → grant.place ≡ place → result ≡ Some slot }
+    {
+        slots_stand_in_order();
+        let _log = self.log();
+        let slot = self.slot_from(place);
+        if slot < self.slot_count() && self.grant(slot).place == place {
+            Some(slot)
+        } else {
+            None
+        }
+    }
+
+    /// The least slot at or above this one whose grant, made or not, is to this user, of this kind on this table, in force or
+    /// not. It takes no memory. Of the grants before the batch it finds one in a time that grows with the logarithm of their
+    /// number; at those that the batch may make it looks one by one.
+    pub fn next_to(&self, user: User, kind: Kind, table: Table, from: usize) -> Option<usize>
+        ensures { IsNext (is_to user kind table) (slots_of (batch_in self.now)) from result }
+    {
+        if let Some(slot) = self.earlier_to(user, kind, table, from) {
+            return Some(slot);
+        }
+        for slot in from.max(self.earlier_count())..self.slot_count() {
+            if is_to(&self.grant(slot), user, kind, table) {
+                return Some(slot);
+            }
+        }
+        None
+    }
+
+    /// The least slot at or above this one whose grant, made or not, is by this user, of this kind on this table, in force or
+    /// not. It takes no memory. Of the grants before the batch it finds one in a time that grows with the logarithm of their
+    /// number; at those that the batch may make it looks one by one.
+    pub fn next_by(&self, user: User, kind: Kind, table: Table, from: usize) -> Option<usize>
+        ensures { IsNext (is_by user kind table) (slots_of (batch_in self.now)) from result }
+    {
+        if let Some(slot) = self.earlier_by(user, kind, table, from) {
+            return Some(slot);
+        }
+        for slot in from.max(self.earlier_count())..self.slot_count() {
+            if is_by(&self.grant(slot), user, kind, table) {
+                return Some(slot);
+            }
+        }
+        None
+    }
+}

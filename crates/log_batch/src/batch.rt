@@ -1,0 +1,256 @@
+//! A range of a log as a batch.
+
+ghost use Rattle.std.specs.Prelude.{◌≡◌, ◌<◌, ◌≤◌, ◌+◌, ◌-◌, ◌++◌, ℕ, List, None, Some, length, slice_get, slice_index_or, IfOk, OnOk};
+ghost use Rattle.std.specs.Option.{MatchOption, option_to_list};
+ghost use Rattle.model_base.specs.Records.{grants_of};
+ghost use Rattle.model_base.specs.Outcomes.{deeds_before, owners, rows_before};
+ghost use Rattle.model_base.specs.References.{batch_references, references};
+ghost use Rattle.grants.specs.Book.{ShowsBook};
+ghost use Rattle.grants.specs.Index.{IsNext, is_by, is_to};
+ghost use Rattle.chains.specs.Store.{IsRight};
+ghost use Rattle.sequencer.specs.Taken.{IsTaken, IsWhole};
+ghost use Rattle.bohm_core_base.specs.Batch.{slots_of};
+ghost use Rattle.bohm_core_base.specs.Machine.{end_of, start};
+ghost use Rattle.log_batch.specs.Laws.{IsOfLog};
+ghost use Rattle.log_batch.specs.Earlier.{earlier_count, earlier_grants};
+ghost use Rattle.log_batch.specs.Named.{grants_named};
+
+use chains::Chains;
+use grants::{Book, Records};
+use model_base::{Deed, Grant, Key, Kind, Place, Reference, Row, Statement, Table, User};
+use placing::Refs;
+use sequencer::Log;
+use std::alloc::{AllocError, Global};
+use std::marker::Model;
+use std::ops::Range;
+
+/// The places of a range of a log as a batch, by an index from 0: its statements with their references, the rows and the book
+/// of grants before it, and the grants that it may make.
+#[derive(Drop)]
+pub struct LogBatch<'a> {
+    alloc: Global,
+    log: &'a Log,
+    chains: &'a Chains,
+    book: &'a Book,
+    references: Refs,
+    named: Vec<Grant>,
+    first: Place,
+    size: usize,
+    partitions: usize,
+}
+
+impl<'a> Model for LogBatch<'a> {
+    ghost use Rattle.log_batch.specs.Supplied.{IsSupplied, Ranged};
+
+    ghost Value = { Ranged };
+
+    ghost view = { λ batch. record { log = batch.log.now; first = batch.first; size = batch.size; partitions = batch.partitions } };
+
+    ghost invariant = { λ batch. IsSupplied (record { log = batch.log.now; first = batch.first; size = batch.size; partitions = batch.partitions })
+        batch.chains.now batch.book.now batch.references batch.named.items };
+}
+
+/// Puts the grant behind the others, if the deed is one.
+fn push_grant(grants: &mut Vec<Grant>, deed: Option<Deed>) -> Result<(), AllocError>
+    ensures { OnOk result (grants.new.items ≡ grants.old.items ++ grants_of (option_to_list deed)) }
+{
+    if let Some(Deed::Granting(grant)) = deed {
+        grants.push(grant)?;
+    }
+    Ok(())
+}
+
+/// The grants that the statements of the places may make, in order.
+fn named_grants(alloc: Global, log: &Log, range: Range<Place>) -> Result<Vec<Grant>, AllocError>
+    requires order { range.start ≤ range.end }
+    requires within { range.end ≤ length log.now.statements }
+    ensures { IfOk result (λ grants. grants.items ≡ grants_named log.now.statements range.start (range.end - range.start)) }
+{
+    let mut grants = Vec::new(alloc);
+    let statements = log.statements();
+    for place in range.start..range.end {
+        push_grant(&mut grants, statements[place as usize].deed_at(place))?;
+    }
+    Ok(grants)
+}
+
+impl<'a> LogBatch<'a> {
+    ghost use Rattle.log_batch.specs.Supplied.{batch_in, range_of};
+
+    /// The places of the range as a batch, placed by so many partitions. The versions of rows end where the range begins and
+    /// are those of the log, the book has the deeds before the range, and the references are `merge`'s for it. An error is want
+    /// of memory.
+    pub fn new(
+        alloc: Global,
+        log: &'a Log,
+        chains: &'a Chains,
+        book: &'a Book,
+        range: Range<Place>,
+        partitions: usize,
+        references: Refs,
+    ) -> Result<Self, AllocError>
+        requires partitions { 0 < partitions }
+        requires order { range.start ≤ range.end }
+        requires within { range.end ≤ length log.now.statements }
+        requires ends { chains.now.end ≡ range.start }
+        requires right { IsRight log.now.statements chains.now }
+        requires book { ShowsBook book.now (owners log.now.statements) (deeds_before log.now.statements range.start) }
+        requires references { references ≡ batch_references log.now.statements range.start range.end }
+        ensures { IfOk result (λ batch. batch ≡ record { log = log.now; first = range.start; size = range.end - range.start; partitions = partitions }) }
+    {
+        let _statements = log.statements();
+        let _len = log.len();
+        let _mark = chains.mark();
+        let named = named_grants(alloc, log, range.start..range.end)?;
+        Ok(LogBatch {
+            alloc,
+            log,
+            chains,
+            book,
+            references,
+            named,
+            first: range.start,
+            size: (range.end - range.start) as usize,
+            partitions,
+        })
+    }
+
+    /// The log.
+    pub fn log(&self) -> &Log
+        ensures value { result.now ≡ self.now.log }
+        ensures whole { IsWhole self.now.log }
+        ensures of_log { IsOfLog (range_of self.now) }
+        ensures within { self.now.first + self.now.size ≤ length self.now.log.statements }
+    {
+        self.log
+    }
+
+    /// How many places the batch has.
+    pub fn size(&self) -> usize
+        ensures { result ≡ self.now.size }
+    {
+        self.size
+    }
+
+    /// The number of partitions.
+    pub fn partition_count(&self) -> usize
+        ensures value { result ≡ self.now.partitions }
+        ensures some { 0 < result }
+    {
+        self.partitions
+    }
+
+    /// The first place.
+    pub fn first_place(&self) -> Place
+        ensures value { result ≡ self.now.first }
+        ensures small { self.now.first + self.now.size ≤ 4294967295 }
+    {
+        self.first
+    }
+
+    /// The allocator of the batch.
+    pub fn alloc(&self) -> Global {
+        self.alloc
+    }
+
+    /// The statement of an index.
+    pub fn statement(&self, index: usize) -> &Statement
+        requires { index < self.now.size }
+        ensures at { slice_get self.now.log.statements (self.now.first + index) ≡ Some result.now }
+        ensures taken { IsTaken self.now.log.names result.now }
+        ensures of_log { IsOfLog (range_of self.now) }
+    {
+        &self.log.statements()[self.first as usize + index]
+    }
+
+    /// The statement of an index, also past the batch, if the log has one there.
+    pub fn find(&self, index: usize) -> Option<&Statement>
+        ensures { MatchOption result (slice_get self.now.log.statements (self.now.first + index) ≡ None)
+            (λ found. (slice_get self.now.log.statements (self.now.first + index) ≡ Some found.now) × IsTaken self.now.log.names found.now) }
+    {
+        let statements = self.log.statements();
+        let behind = &statements[self.first as usize..];
+        if index < behind.len() {
+            Some(&behind[index])
+        } else {
+            None
+        }
+    }
+
+    /// What an index is referred to.
+    pub fn references_at(&self, index: usize) -> &[Reference]
+        requires { index < self.now.size }
+        ensures { result.now ≡ references self.now.log.statements self.now.first (self.now.first + index) }
+    {
+        self.references.of(index)
+    }
+
+    /// The row of a key before the batch.
+    pub fn row_before(&self, key: Key) -> Option<Row>
+        ensures { result ≡ rows_before self.now.log.statements self.now.first key.table key.row }
+    {
+        match self.chains.row_before(self.first, key) {
+            Ok(row) => row,
+            Err(_) => None,
+        }
+    }
+
+    /// How many slots there are: one for each grant that was made before the batch, and then for each that it may make.
+    pub fn slot_count(&self) -> usize
+        ensures { result ≡ length (slots_of (batch_in self.now)) }
+    {
+        self.book.records().len() + self.named.len()
+    }
+
+    /// The grant of a slot.
+    pub fn grant(&self, slot: usize) -> Grant
+        requires { slot < length (slots_of (batch_in self.now)) }
+        ensures { slice_get (slots_of (batch_in self.now)) slot ≡ Some result }
+    {
+        let records = self.book.records();
+        if slot < records.len() {
+            records[slot].grant
+        } else {
+            self.named[slot - records.len()]
+        }
+    }
+
+    /// The end before the batch of the record of a slot, if it has one.
+    pub fn end_at_first(&self, slot: usize) -> Option<Place>
+        requires { slot < length (slots_of (batch_in self.now)) }
+        ensures { result ≡ end_of (start (batch_in self.now)) slot }
+    {
+        let records = self.book.records();
+        if slot < records.len() {
+            records[slot].end
+        } else {
+            None
+        }
+    }
+
+    /// How many slots there are of grants that were made before the batch. They come first.
+    pub fn earlier_count(&self) -> usize
+        ensures value { result ≡ earlier_count (batch_in self.now) }
+        ensures within { result ≤ length (slots_of (batch_in self.now)) }
+    {
+        self.book.records().len()
+    }
+
+    /// The least slot at or above this one whose grant was made before the batch and is to the user, of the kind on the table,
+    /// in force or not. It takes no memory, and a time that grows with the logarithm of the number of grants.
+    pub fn earlier_to(&self, user: User, kind: Kind, table: Table, from: usize) -> Option<usize>
+        ensures { IsNext (is_to user kind table) (earlier_grants (batch_in self.now)) from result }
+    {
+        let mut view = self.book.at(self.first);
+        view.next_to(user, kind, table, from)
+    }
+
+    /// The least slot at or above this one whose grant was made before the batch and is by the user, of the kind on the table,
+    /// in force or not. It takes no memory, and a time that grows with the logarithm of the number of grants.
+    pub fn earlier_by(&self, user: User, kind: Kind, table: Table, from: usize) -> Option<usize>
+        ensures { IsNext (is_by user kind table) (earlier_grants (batch_in self.now)) from result }
+    {
+        let mut view = self.book.at(self.first);
+        view.next_by(user, kind, table, from)
+    }
+}

@@ -1,0 +1,115 @@
+//! What a place stores and ends, by what it is told.
+
+ghost use Rattle.std.specs.Prelude.{◌≡◌, ◌==◌, ◌+◌, ℕ, true, Some, IfOk, slice_get};
+ghost use Rattle.std.specs.List.{list_any};
+ghost use Rattle.std.specs.List.Sorted.{IsStrictlyIncreasing};
+ghost use Rattle.model_base.specs.declared.deed.Grant.{Grant};
+ghost use Rattle.model_base.specs.declared.statement.Statement.{Statement};
+ghost use Rattle.model_base.specs.Outcomes.{deed_of, deeds_before, owners};
+ghost use Rattle.own_words.specs.Places.{words_at};
+ghost use Rattle.answering.specs.Answering.{ended_by_deed};
+ghost use Rattle.sequencer.specs.Taken.{columns_by};
+ghost use Rattle.bohm_core_base.specs.Batch.{slots_of, was_done};
+ghost use Rattle.bohm_core_base.specs.Serial.{serial_ends, serial_words};
+ghost use Rattle.log_batch.specs.Supplied.{batch_in};
+
+use crate::records::{Pinned, ShownRecords};
+use crate::rows::window;
+use crate::told::Told;
+use answering::{ended, own_words};
+use log_batch::LogBatch;
+use model_base::Place;
+use own_words::OwnWords;
+use std::alloc::{AllocError, Global};
+use std::marker::{Brand, PhantomData};
+
+/// All own words of the reader, and the reader again.
+fn judge<T: Told, P: Pinned>(batch: &LogBatch<'_>, told: T) -> (OwnWords, T)
+    requires batch { (T.told told).batch ≡ batch_in batch.now }
+    requires place { Some (T.told told) ≡ P.told }
+    requires kept { Some (T.kept told) ≡ P.kept }
+    ensures value { result.0 ≡ words_at (columns_by batch.now.log.names) batch.now.log.statements (batch.now.first + (T.told told).index) }
+    ensures place { Some (T.told result.1) ≡ P.told }
+    ensures kept { Some (T.kept result.1) ≡ P.kept }
+{
+    let mut told = told;
+    let _log = batch.log();
+    let statement = batch.statement(told.reader());
+    let columns = batch.log().all_columns();
+    let rows = window(batch, &mut told);
+    let mut records = ShownRecords::<'_, T, P> {
+        batch,
+        told,
+        pinned: PhantomData,
+    };
+    let words = own_words(statement, columns, rows, &mut records);
+    let ShownRecords {
+        batch: _,
+        told,
+        pinned: _,
+    } = records;
+    (words, told)
+}
+
+/// All own words of the reader, which are those of its place in the log, and the reader again. It takes no memory.
+pub fn words_told<T: Told>(batch: &LogBatch<'_>, told: T) -> (OwnWords, T)
+    requires batch { (T.told told).batch ≡ batch_in batch.now }
+    ensures value { result.0 ≡ words_at (columns_by batch.now.log.names) batch.now.log.statements (batch.now.first + (T.told told).index) }
+    ensures serial { result.0 ≡ serial_words (batch_in batch.now) (T.told told).index }
+    ensures same { (T.told result.1 ≡ T.told told) × (T.kept result.1 ≡ T.kept told) }
+{
+    let _log = batch.log();
+    let _statement = batch.statement(told.reader());
+    judge::<T, Brand>(batch, told)
+}
+
+/// The places of the grants that the reader's deed takes out of force, and the reader again.
+fn judge_ends<T: Told, P: Pinned>(
+    alloc: Global,
+    batch: &LogBatch<'_>,
+    told: T,
+) -> (Result<Vec<Place>, AllocError>, T)
+    requires batch { (T.told told).batch ≡ batch_in batch.now }
+    requires place { Some (T.told told) ≡ P.told }
+    requires kept { Some (T.kept told) ≡ P.kept }
+    ensures value { (statement : Statement) → slice_get batch.now.log.statements (batch.now.first + (T.told told).index) ≡ Some statement
+        → IfOk result.0 (λ places. places.items ≡ ended_by_deed (owners batch.now.log.statements) (deeds_before batch.now.log.statements (batch.now.first + (T.told told).index))
+        (deed_of (batch.now.first + (T.told told).index) statement.user statement.form)) }
+    ensures place { Some (T.told result.1) ≡ P.told }
+    ensures kept { Some (T.kept result.1) ≡ P.kept }
+{
+    let _log = batch.log();
+    let statement = batch.statement(told.reader());
+    let mut records = ShownRecords::<'_, T, P> {
+        batch,
+        told,
+        pinned: PhantomData,
+    };
+    let places = ended(alloc, statement, &mut records);
+    let ShownRecords {
+        batch: _,
+        told,
+        pinned: _,
+    } = records;
+    (places, told)
+}
+
+/// The places of the grants whose records the reader ends, if its own words say that it was done: a slot's record is one of
+/// these exactly if its grant's place is among them. They stand in rising order. And the reader again. An error is want of
+/// memory.
+pub fn ends_told<T: Told>(
+    alloc: Global,
+    batch: &LogBatch<'_>,
+    told: T,
+) -> (Result<Vec<Place>, AllocError>, T)
+    requires batch { (T.told told).batch ≡ batch_in batch.now }
+    requires done { was_done (serial_words (batch_in batch.now) (T.told told).index) ≡ true }
+    ensures ends { IfOk result.0 (λ places. (slot : ℕ) (grant : Grant) → slice_get (slots_of (batch_in batch.now)) slot ≡ Some grant
+        → list_any (λ place. place == grant.place) places.items ≡ serial_ends (batch_in batch.now) (T.told told).index slot) }
+    ensures order { IfOk result.0 (λ places. IsStrictlyIncreasing places.items) }
+    ensures same { (T.told result.1 ≡ T.told told) × (T.kept result.1 ≡ T.kept told) }
+{
+    let _log = batch.log();
+    let _statement = batch.statement(told.reader());
+    judge_ends::<T, Brand>(alloc, batch, told)
+}
