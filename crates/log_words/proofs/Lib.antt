@@ -1,2 +1,3 @@
-pub mod Tables
+pub mod HolderSets
+pub mod Reaching
 pub mod Listed

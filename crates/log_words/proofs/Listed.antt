@@ -1,23 +1,25 @@
--- The slots whose records the batch may end are listed rightly, and are all that it ends.
-use Rattle.std.proofs.Common.{◌≡◌, ℕ, zero, suc, ◌+◌, ◌<◌, Bool, true, false, List, [], ◌∷◌, ◌++◌, length, get_or, replicate, refl, sym, ◌∙◌, ap, arith, inl, inr}
-use Rattle.std.specs.Prelude.{◌==◌, ◌&&◌, is_none, is_some, not, Option, Some, None, slice_get}
-use Rattle.std.proofs.lemmas.Bool.{and_from, and_parts, cases_Bool, cases_lt, eqb-true, true≢false}
+-- The slots whose records the batch may reach are listed rightly, and are all that it ends.
+use Rattle.std.proofs.Common.{◌≡◌, ℕ, zero, suc, ◌+◌, ◌<◌, ◌||◌, not, Bool, true, false, List, [], ◌∷◌, ◌++◌, length, get_or, replicate, refl, sym, ◌∙◌, ap, arith, inl, inr}
+use Rattle.std.specs.Prelude.{◌==◌, is_none, is_some, Option, Some, None, slice_get}
+use Rattle.std.specs.Option.{option_map_or}
+use Rattle.std.proofs.lemmas.Bool.{and_from, and_parts, cases_Bool, cases_lt, eq-eqb, eqb-true, or_right, true≢false}
 use Rattle.std.proofs.lemmas.List.{get_or_append_left, get_or_push, length-append, length_push}
-use Rattle.std.proofs.lemmas.Option.{slice_get-get_or}
 use Rattle.model_base.specs.declared.deed.Deed.{Deed}
-use Rattle.model_base.specs.declared.deed.Kind.TheVariants.{Read}
+use Rattle.model_base.specs.declared.deed.Revocation.{Revocation}
 use Rattle.model_base.specs.declared.statement.Statement.{Statement}
-use Rattle.model_base.specs.Outcomes.{deed_of}
-use Rattle.log_machine.specs.Supplied.{Ranged, batch_in}
 use Rattle.model_base.specs.declared.deed.Grant.{Grant}
+use Rattle.model_base.specs.Outcomes.{deed_of}
+use Rattle.model_base.specs.Privileges.{concerns, gives, names, option_of, same_kind}
+use Rattle.grants.specs.Index.{is_to}
 use Rattle.bohm_core_base.specs.declared.event.Event.{Event}
 use Rattle.bohm_core_base.specs.Batch.{Batch, IsSound, slots_of, words_by}
-use Rattle.bohm_core_base.specs.Laws.{EndsByRevocation}
+use Rattle.bohm_core_base.specs.Cascades.{EndsByCascade}
 use Rattle.bohm_core_base.specs.Machine.{end_of, own_of, reach, start}
 use Rattle.bohm_core_base.specs.Serial.{records_in, rows_at, serial_ends, serial_words, whole_end, world_before}
+use Rattle.log_batch.specs.Supplied.{Ranged, batch_in}
 use Rattle.words.specs.Layout.{IsListed, slot_at}
 use Rattle.words.specs.Views.{In}
-use Rattle.log_words.specs.Listing.{concerns_grant, listed_below, listed_slots, may_be_ended, may_revoke}
+use Rattle.log_words.specs.Listing.{is_against, is_lent, is_open, is_reached, is_revoked, lends, listed_below, listed_slots}
 
 by_cases : {G : Type 0} (test : Bool) → (test ≡ true → G) → (test ≡ false → G) → G
 by_cases test passes fails = elim (cases_Bool test) [ inl e ↦ passes e | inr e ↦ fails e ]
@@ -34,10 +36,6 @@ is-none : (end : Option ℕ) → is_none end ≡ true → end ≡ None
 is-none None none = refl
 is-none (Some q) none = absurd (true≢false (sym none))
 
--- a grant that stands for none
-abbrev no_grant : Grant
-no_grant = record { place = 0; grantor = 0; grantee = 0; kind = Read; table = 0; option = false }
-
 -- the place that ends the record of a slot by the serial run
 end-place : (b : Batch) (index slot q : ℕ) → serial_ends b index slot ≡ true → whole_end b slot ≡ Some q → q ≡ b.first + index
 unfolding serial_ends
@@ -49,12 +47,6 @@ pub noted : (ranged : Ranged) (index : ℕ) (statement : Statement) (deed : Opti
     → deed ≡ deed_of (ranged.first + index) statement.user statement.form → deed ≡ (batch_in ranged).deed index
 noted ranged index statement deed at is = rw at is
 
--- whether a slot is listed, by its grant and its end before the batch
-pub wanted : (b : Batch) (slot : ℕ) (grant : Grant) (end : Option ℕ) (concerned : Bool)
-    → slice_get (slots_of b) slot ≡ Some grant → end ≡ end_of (start b) slot → concerned ≡ may_revoke b b.size grant
-    → (is_none end && concerned) ≡ may_be_ended b slot
-wanted b slot grant end concerned at is has = rw (at, is, has) refl
-
 -- whether there is no end
 pub none-told : (end : Option ℕ) (none : Bool) → is_some end ≡ not none → is_none end ≡ none
 none-told None true is = refl
@@ -62,27 +54,35 @@ none-told None false is = absurd (true≢false (sym is))
 none-told (Some q) true is = absurd (true≢false is)
 none-told (Some q) false is = refl
 
--- without a revocation no slot is listed
-pub none-listed : (b : Batch) → ((grant : Grant) → may_revoke b b.size grant ≡ false) → (n : ℕ) → listed_below b n ≡ []
-none-listed b none zero = refl
-none-listed b none (suc n) = rw (unlisted (slice_get (slots_of b) n) refl) (none-listed b none n)
-  where
-    and_false : (x : Bool) → (x && false) ≡ false
-    and_false true = refl
-    and_false false = refl
+-- who is given the option by a revocation's named grant, or by a grant that falls
+against-named : (revocation : Revocation) (grant : Grant) → names revocation grant ≡ true
+    → is_to revocation.grantee revocation.kind revocation.table grant ≡ true
+unfolding names
+against-named revocation grant named =
+    let to = (and_parts (revocation.grantor == grant.grantor) _ named).1 in
+    let parts = and_parts (revocation.grantee == grant.grantee) (concerns revocation grant) to in
+    rw (eq-eqb grant.grantee revocation.grantee (sym (eqb-true revocation.grantee grant.grantee parts.0))) parts.1
 
-    unlisted : (found : Option Grant) → slice_get (slots_of b) n ≡ found → may_be_ended b n ≡ false
-    unlisted None is = rw is (and_false (is_none (end_of (start b) n)))
-    unlisted (Some grant) is = rw (is, none grant) (and_false (is_none (end_of (start b) n)))
+lends-given : (giver grant : Grant) → gives giver grant.grantor (option_of grant) ≡ true → lends giver grant ≡ true
+unfolding gives
+lends-given giver grant given =
+    let one = and_parts (giver.grantee == grant.grantor) _ given in
+    let two = and_parts (same_kind giver.kind grant.kind) _ one.1 in
+    let three = and_parts (giver.table == grant.table) _ two.1 in
+    rw (alone giver.option three.1, eq-eqb grant.grantor giver.grantee (sym (eqb-true giver.grantee grant.grantor one.0)), two.0, three.0) refl
+  where
+    alone : (option : Bool) → (option || not true) ≡ true → option ≡ true
+    alone true is = refl
+    alone false is = absurd (true≢false (sym is))
 
 module _ (b : Batch) where
-  -- the listed are below, may be ended, and each number lists another
+  -- the listed are below, have no end, and each number lists another
   record IsGood (n : ℕ) (l : List ℕ) : Type 0 where
     pub below : (r : ℕ) → r < length l → get_or l r 0 < n
-    pub test : (r : ℕ) → r < length l → may_be_ended b (get_or l r 0) ≡ true
+    pub endless : (r : ℕ) → r < length l → is_open b (get_or l r 0) ≡ true
     pub apart : (q r : ℕ) → q < length l → r < length l → get_or l q 0 ≡ get_or l r 0 → q ≡ r
 
-  pushed : (n : ℕ) (l : List ℕ) → IsGood n l → may_be_ended b n ≡ true → IsGood (suc n) (l ++ n ∷ [])
+  pushed : (n : ℕ) (l : List ℕ) → IsGood n l → is_open b n ≡ true → IsGood (suc n) (l ++ n ∷ [])
   pushed n l good may =
       let wide = length_push l n in
       let at : (r : ℕ) → r < length l → get_or (l ++ n ∷ []) r 0 ≡ get_or l r 0 = λ r less. get_or_append_left l (n ∷ []) 0 r less in
@@ -92,8 +92,8 @@ module _ (b : Batch) where
           | inl less ↦ (let is = at r less in let low = good.below r less in omega arith)
           | inr more ↦ (let same : r ≡ length l = omega arith in let is : get_or (l ++ n ∷ []) r 0 ≡ n = rw same last in omega arith)
         ];
-        test = λ r has. elim (cases_lt r (length l)) [
-          | inl less ↦ rw (at r less) (good.test r less)
+        endless = λ r has. elim (cases_lt r (length l)) [
+          | inl less ↦ rw (at r less) (good.endless r less)
           | inr more ↦ (let same : r ≡ length l = omega arith in rw (same, last) may)
         ];
         apart = λ q r has has' same. elim (cases_lt q (length l)) [
@@ -111,22 +111,22 @@ module _ (b : Batch) where
   good-below : (n : ℕ) → IsGood n (listed_below b n)
   good-below zero = record {
     below = λ r has. absurd (omega arith);
-    test = λ r has. absurd (omega arith);
+    endless = λ r has. absurd (omega arith);
     apart = λ q r has. absurd (omega arith);
   }
   good-below (suc n) =
-      by_cases (may_be_ended b n)
-      (λ may. rw may (pushed n (listed_below b n) (good-below n) may))
+      by_cases (is_reached b (listed_below b n) n)
+      (λ may. rw may (pushed n (listed_below b n) (good-below n) (and_parts (is_open b n) _ may).0))
       (λ fails.
       let good = good-below n in
-      rw fails record { below = λ r has. (let low = good.below r has in omega arith); test = good.test; apart = good.apart })
+      rw fails record { below = λ r has. (let low = good.below r has in omega arith); endless = good.endless; apart = good.apart })
 
-  listed-all : (n slot : ℕ) → slot < n → may_be_ended b slot ≡ true → In slot (listed_below b n)
+  listed-all : (n slot : ℕ) → slot < n → is_reached b (listed_below b slot) slot ≡ true → In slot (listed_below b n)
   listed-all zero slot below may = absurd (omega arith)
   listed-all (suc n) slot below may =
       elim (cases_lt slot n) [
         | inl less ↦
-            by_cases (may_be_ended b n)
+            by_cases (is_reached b (listed_below b n) n)
             (λ here. rw here (in_front slot (listed_below b n) (n ∷ []) (listed-all n slot less may)))
             (λ fails. rw fails (listed-all n slot less may))
         | inr more ↦
@@ -134,19 +134,31 @@ module _ (b : Batch) where
             rw (rw same at may) (in_back slot (listed_below b n) (n ∷ []) (inl same)))
       ]
 
-  revokes-below : (n index : ℕ) (grant : Grant) → index < n → concerns_grant (b.deed index) grant ≡ true → may_revoke b n grant ≡ true
+  revokes-below : (n index : ℕ) (grant : Grant) → index < n → is_against (b.deed index) grant ≡ true → is_revoked b n grant ≡ true
   revokes-below zero index grant below revokes = absurd (omega arith)
   revokes-below (suc n) index grant below revokes =
       elim (cases_lt index n) [
-        | inl less ↦ by_cases (concerns_grant (b.deed n) grant) (λ here. rw here refl) (λ fails. rw fails (revokes-below n index grant less revokes))
+        | inl less ↦ by_cases (is_against (b.deed n) grant) (λ here. rw here refl) (λ fails. rw fails (revokes-below n index grant less revokes))
         | inr more ↦ (let same : index ≡ n = omega arith in rw (rw same at revokes) refl)
+      ]
+
+  -- a listed slot lends what its grant gives
+  lent-in : (l : List ℕ) (slot : ℕ) (giver grant : Grant) → In slot l → slice_get (slots_of b) slot ≡ Some giver → lends giver grant ≡ true → is_lent b l grant ≡ true
+  lent-in [] slot giver grant has at lent = absurd has
+  lent-in (first ∷ l) slot giver grant has at lent =
+      elim has [
+        | inl here ↦
+            let test : ℕ → Bool = λ k. option_map_or (λ (g : Grant). lends g grant) (slice_get (slots_of b) k) false in
+            let passes : test first ≡ true = ap test (sym here) ∙ ap (λ found. option_map_or (λ (g : Grant). lends g grant) found false) at ∙ lent in
+            rw passes refl
+        | inr later ↦ or_right _ (is_lent b l grant) (lent-in l slot giver grant later at lent)
       ]
 
   module _ (sound : IsSound b)
       (ender : (batch : Batch) (events : List Event) (slot index : ℕ) → IsSound batch → end_of (reach batch events) slot ≡ Some (batch.first + index)
       → own_of (reach batch events) index ≡ serial_words batch index)
       (ended : (batch : Batch) (events : List Event) (slot end : ℕ) → IsSound batch → end_of (reach batch events) slot ≡ Some end → whole_end batch slot ≡ Some end)
-      (revoked : (batch : Batch) (index slot : ℕ) → IsSound batch → slot < length (slots_of batch) → serial_ends batch index slot ≡ true → EndsByRevocation batch index slot) where
+      (cascades : (batch : Batch) (index slot : ℕ) → IsSound batch → slot < length (slots_of batch) → serial_ends batch index slot ≡ true → EndsByCascade batch index slot) where
     -- a place has a word
     serial-some : (n : ℕ) → 0 < length (serial_words b n)
     unfolding serial_words words_by
@@ -179,22 +191,38 @@ module _ (b : Batch) where
             let same : length (own_of (start b) index) ≡ length (serial_words b index) = ap (λ (own : List ℕ). length own) all in
             absurd (omega arith)
 
-    -- every record that the serial run ends in the batch is listed
+    -- every record that the serial run ends in the batch may be reached
+    ended-reached : (n index slot : ℕ) → slot < n → slot < length (slots_of b) → serial_ends b index slot ≡ true
+        → is_reached b (listed_below b slot) slot ≡ true
+    ended-reached zero index slot below within ends = absurd (omega arith)
+    ended-reached (suc n) index slot below within ends =
+        let by = cascades b index slot sound within ends in
+        let grant = by.grant in
+        let test : Grant → Bool = λ g. is_revoked b b.size g || is_lent b (listed_below b slot) g in
+        let passes : test grant ≡ true
+        = elim by.cause [
+          | inl named ↦
+              let against : is_against (b.deed index) grant ≡ true = rw by.deed (against-named by.revocation grant named) in
+              rw (revokes-below b.size index grant by.within against) refl
+          | inr falls ↦
+              let earlier = falls.earlier in
+              let reached = ended-reached n index falls.bearer (omega arith) (omega arith) falls.ends in
+              let listed = listed-all slot falls.bearer earlier reached in
+              or_right (is_revoked b b.size grant) _ (lent-in (listed_below b slot) falls.bearer falls.giver grant listed falls.at (lends-given falls.giver grant falls.lends))
+        ] in
+        and_from (is_open b slot) _ (unended index slot ends) (ap (λ found. option_map_or test found false) by.at ∙ passes)
+
+    -- so it is listed
     ended-listed : (index slot : ℕ) → slot < length (slots_of b) → serial_ends b index slot ≡ true → In slot (listed_slots b)
     ended-listed index slot within ends =
-        let by = revoked b index slot sound within ends in
-        let grant = get_or (slots_of b) slot no_grant in
-        let at = slice_get-get_or (slots_of b) slot no_grant within in
-        let concerned : concerns_grant (b.deed index) grant ≡ true = rw by.deed (by.concerned grant at) in
-        let may : may_be_ended b slot ≡ true = rw at (and_from (is_none (end_of (start b) slot)) _ (unended index slot ends) (revokes-below b.size index grant by.within concerned)) in
-        listed-all (length (slots_of b)) slot within may
+        listed-all (length (slots_of b)) slot within (ended-reached (suc slot) index slot (omega arith) within ends)
 
     -- so they may have the words of the batch's ends
     pub listed-right : IsListed b (listed_slots b)
     listed-right =
         let good = good-below (length (slots_of b)) in record {
           within = good.below;
-          unended = λ r has. is-none (end_of (start b) (slot_at (listed_slots b) r)) (and_parts (is_none (end_of (start b) (slot_at (listed_slots b) r))) _ (good.test r has)).0;
+          unended = λ r has. is-none (end_of (start b) (slot_at (listed_slots b) r)) (good.endless r has);
           apart = good.apart;
           every = ended-listed;
         }

@@ -1,6 +1,6 @@
 -- The constant data of a batch of a log: the range, and the slots whose ends have words.
 use Rattle.std.specs.Prelude.{◌<◌, ℕ, List}
-use Rattle.log_machine.specs.Supplied.{Ranged, batch_in}
+use Rattle.log_batch.specs.Supplied.{Ranged, batch_in}
 use Rattle.words.specs.Layout.{IsListed}
 
 pub record Key : Type 0 where

@@ -1,3 +1,4 @@
+pub mod Holders
 pub mod Listing
-pub mod Revoked
+pub mod Reach
 pub mod Keys

@@ -1,38 +1,53 @@
--- Which slots have a word for their record's end: those in force before the batch, of a kind and on a table of which the batch
--- has a revocation. A revocation takes away grants of its own kind on its own table alone: P. P. Griffiths and B. W. Wade, "An
--- Authorization Mechanism for a Relational Database System", ACM TODS 1 (1976). That each such grant has a place for its end
--- before anything runs is as each version has its placeholder: J. M. Faleiro and D. J. Abadi, "Rethinking Serializable
--- Multiversion Concurrency Control", PVLDB 8 (2015), section 3.
+-- Which slots have a word for their record's end: those without an end before the batch that its revocations may reach. They
+-- reach the grants to whom they are against, of their kind on their table, and with a grant that they reach the later ones by
+-- whom it gives the option: P. P. Griffiths and B. W. Wade, "An Authorization Mechanism for a Relational Database System", ACM
+-- TODS 1 (1976). That each such grant has a place for its end before anything runs is as each version has its placeholder:
+-- J. M. Faleiro and D. J. Abadi, "Rethinking Serializable Multiversion Concurrency Control", PVLDB 8 (2015), section 3.
 use Rattle.std.specs.Prelude.{◌&&◌, ◌||◌, ◌++◌, ℕ, zero, suc, Bool, false, Option, Some, None, is_none, List, [], ◌∷◌, length, slice_get, if◌then◌else◌}
+use Rattle.std.specs.List.{list_any}
 use Rattle.std.specs.Option.{option_map_or}
 use Rattle.model_base.specs.declared.deed.Deed.{Deed}
 use Rattle.model_base.specs.declared.deed.Deed.TheVariants.{Granting, Revoking}
 use Rattle.model_base.specs.declared.deed.Grant.{Grant}
-use Rattle.model_base.specs.Privileges.{concerns}
+use Rattle.grants.specs.Index.{is_by, is_to}
 use Rattle.bohm_core_base.specs.Batch.{Batch, slots_of}
 use Rattle.bohm_core_base.specs.Machine.{end_of, start}
 
--- whether there is a deed, and it is a revocation of the grant's kind on its table
-abbrev pub concerns_grant : Option Deed → Grant → Bool
-concerns_grant None grant = false
-concerns_grant (Some (Granting made)) grant = false
-concerns_grant (Some (Revoking revocation)) grant = concerns revocation grant
+-- whether there is a deed, and it is a revocation of the grant's kind on its table against its grantee
+abbrev pub is_against : Option Deed → Grant → Bool
+is_against None grant = false
+is_against (Some (Granting made)) grant = false
+is_against (Some (Revoking revocation)) grant = is_to revocation.grantee revocation.kind revocation.table grant
 
--- whether one of so many places may revoke a grant of that kind on that table
-abbrev pub may_revoke : Batch → ℕ → Grant → Bool
-may_revoke batch zero grant = false
-may_revoke batch (suc index) grant = concerns_grant (batch.deed index) grant || may_revoke batch index grant
+-- whether one of so many places may make such a revocation
+abbrev pub is_revoked : Batch → ℕ → Grant → Bool
+is_revoked batch zero grant = false
+is_revoked batch (suc index) grant = is_against (batch.deed index) grant || is_revoked batch index grant
 
--- whether the batch may end the record of a slot
-abbrev pub may_be_ended : Batch → ℕ → Bool
-may_be_ended batch slot =
-    is_none (end_of (start batch) slot) && option_map_or (may_revoke batch batch.size) (slice_get (slots_of batch) slot) false
+-- whether the first grant gives the grantor of the second the option, of its kind on its table
+abbrev pub lends : Grant → Grant → Bool
+lends giver grant = giver.option && is_by giver.grantee giver.kind giver.table grant
 
--- those of so many slots whose records the batch may end, in order
+-- whether the grant of one of these slots does
+abbrev pub is_lent : Batch → List ℕ → Grant → Bool
+is_lent batch slots grant =
+    list_any (λ slot. option_map_or (λ giver. lends giver grant) (slice_get (slots_of batch) slot) false) slots
+
+-- whether the record of a slot has no end before the batch
+abbrev pub is_open : Batch → ℕ → Bool
+is_open batch slot = is_none (end_of (start batch) slot)
+
+-- whether the batch may reach the slot, where these are the slots below it that it may reach
+abbrev pub is_reached : Batch → List ℕ → ℕ → Bool
+is_reached batch listed slot =
+    is_open batch slot
+    && option_map_or (λ grant. is_revoked batch batch.size grant || is_lent batch listed grant) (slice_get (slots_of batch) slot) false
+
+-- those of so many slots that the batch may reach, in order
 abbrev pub listed_below : Batch → ℕ → List ℕ
 listed_below batch zero = []
 listed_below batch (suc slot) =
-    if may_be_ended batch slot then listed_below batch slot ++ slot ∷ [] else listed_below batch slot
+    if is_reached batch (listed_below batch slot) slot then listed_below batch slot ++ slot ∷ [] else listed_below batch slot
 
 -- all of them
 abbrev pub listed_slots : Batch → List ℕ

@@ -1,10 +1,10 @@
 //! The constant data of a batch of a log.
 
 ghost use Rattle.std.specs.Prelude.{◌≡◌, ◌<◌, length};
-ghost use Rattle.log_machine.specs.Supplied.{batch_in};
+ghost use Rattle.log_batch.specs.Supplied.{batch_in};
 
-use bohm_core::Statements;
-use log_machine::LogBatch;
+use log_batch::{LogBatch, batches_of_logs_are_sound};
+use reading::words_length;
 use std::marker::Model;
 use words::Placed;
 
@@ -59,11 +59,14 @@ impl Placed for LogKey<'_> {
     ghost listed = { λ key. key.slots };
 
     fn places(&self) -> usize {
-        self.batch.places()
+        // A range of a log is a batch that the machine's law speaks of.
+        batches_of_logs_are_sound();
+        let _log = self.batch.log();
+        self.batch.size()
     }
 
     fn words_length(&self, index: usize) -> usize {
-        self.batch.words_length(index)
+        words_length(&self.batch, index)
     }
 
     fn ends(&self) -> usize {

@@ -5,9 +5,10 @@
 #![tactic(auto)]
 
 mod ended;
+mod holders;
 mod key;
 mod log_words;
-mod revoked;
+mod reach;
 
 pub use ended::ended_slots;
 pub use key::LogKey;

@@ -1,0 +1,73 @@
+//! Users, each with a kind on a table.
+
+ghost use Rattle.std.specs.Prelude.{◌≡◌, ◌||◌, not, false, IfOk, OnOk};
+ghost use Rattle.log_words.specs.Holders.{has_holder, holder_of, kind_code, same_holder};
+ghost use Rattle.log_words.specs.declared.holders.Holder.{Holder};
+
+use model_base::{Kind, Table, User};
+use std::alloc::{AllocError, Global};
+use std::collections::BTreeSet;
+
+/// A user with a table and the code of a kind.
+#[derive(Clone, Copy, PartialEq, Eq, PartialOrd, Ord)]
+pub(crate) struct Holder {
+    user: User,
+    table: Table,
+    kind: u8,
+}
+
+/// The code of a kind.
+fn kind_code(kind: Kind) -> u8
+    ensures { result ≡ kind_code kind }
+{
+    match kind {
+        Kind::Read => 0,
+        Kind::Insert => 1,
+        Kind::Update => 2,
+        Kind::Delete => 3,
+    }
+}
+
+/// A user with a kind on a table.
+pub(crate) fn holder_of(user: User, kind: Kind, table: Table) -> Holder
+    ensures { result ≡ holder_of user kind table }
+{
+    Holder {
+        user,
+        table,
+        kind: kind_code(kind),
+    }
+}
+
+/// A set of users, each with a kind on a table.
+#[derive(Drop)]
+pub(crate) struct Holders {
+    holders: BTreeSet<Holder>,
+}
+
+impl Holders {
+    /// Nobody.
+    pub(crate) fn new(alloc: Global) -> Self
+        ensures { (holder : Holder) → has_holder result holder ≡ false }
+    {
+        Holders {
+            holders: BTreeSet::new(alloc),
+        }
+    }
+
+    /// Whether it is among them.
+    pub(crate) fn has(&self, holder: Holder) -> bool
+        ensures { result ≡ has_holder self.now holder }
+    {
+        self.holders.contains(&holder)
+    }
+
+    /// One more, if it isn't among them; answers whether it wasn't. On `Err` memory was refused.
+    pub(crate) fn put(&mut self, holder: Holder) -> Result<bool, AllocError>
+        ensures put { OnOk result ((other : Holder) → has_holder self.new other ≡ (same_holder holder other || has_holder self.old other)) }
+        ensures was { IfOk result (λ is_new. is_new ≡ not (has_holder self.old holder)) }
+    {
+        let is_new = self.holders.insert(holder)?;
+        Ok(is_new)
+    }
+}

@@ -1,0 +1,243 @@
+//! Which slots the revocations of a batch may reach.
+
+ghost use Rattle.std.specs.Prelude.{◌≡◌, ◌<◌, ◌≤◌, ◌+◌, ◌++◌, ◌∷◌, ◌||◌, ◌&&◌, ◌==◌, [], ℕ, suc, not, true, IfOk, OnOk, length, slice_get, Some};
+ghost use Rattle.model_base.specs.declared.deed.Grant.{Grant};
+ghost use Rattle.grants.specs.Index.{IsNext};
+ghost use Rattle.bohm_core_base.specs.Batch.{slots_of};
+ghost use Rattle.log_batch.specs.Earlier.{earlier_count, earlier_grants};
+ghost use Rattle.log_batch.specs.Supplied.{batch_in};
+ghost use Rattle.log_words.specs.Holders.{grantee_of, grantor_of, has_holder};
+ghost use Rattle.log_words.specs.Listing.{is_open, is_reached, lends};
+ghost use Rattle.log_words.specs.Reach.{Adds, AreSeeds, IsDue, IsReach, is_of, is_one_of};
+
+use crate::holders::{Holders, holder_of};
+use log_batch::LogBatch;
+use model_base::{Deed, Grant, Kind, Table, User};
+use std::alloc::{AllocError, Global};
+use std::collections::BTreeSet;
+
+/// As which party of a grant a user is looked for.
+#[derive(Clone, Copy)]
+enum Party {
+    Grantee,
+    Grantor,
+}
+
+/// The slots that are found, to whom they give an option, and against whom the batch has revocations.
+#[derive(Drop)]
+pub(crate) struct Reach {
+    slots: Vec<usize>,
+    lent: Holders,
+    revoked: Holders,
+}
+
+/// The least slot at or above this one whose grant was made before the batch and has the user as this party, of the kind on
+/// the table.
+fn next_of(
+    batch: &LogBatch<'_>,
+    party: Party,
+    user: User,
+    kind: Kind,
+    table: Table,
+    from: usize,
+) -> Option<usize>
+    ensures { IsNext (is_of party user kind table) (earlier_grants (batch_in batch.now)) from result }
+{
+    match party {
+        Party::Grantee => batch.earlier_to(user, kind, table, from),
+        Party::Grantor => batch.earlier_by(user, kind, table, from),
+    }
+}
+
+/// The slot is due, if its record has no end before the batch.
+fn add_slot(batch: &LogBatch<'_>, slot: usize, due: &mut BTreeSet<usize>) -> Result<(), AllocError>
+    requires { slot < length (slots_of (batch_in batch.now)) }
+    ensures { OnOk result ((j : ℕ) → is_one_of due.new.keys j ≡ ((is_open (batch_in batch.now) slot && (slot == j)) || is_one_of due.old.keys j)) }
+{
+    let unended = batch.end_at_first(slot).is_none();
+    if unended {
+        due.insert(slot)?;
+    }
+    Ok(())
+}
+
+/// The slots from this one on are due, as `add_slot` says, whose grants were made before the batch and have the user as this
+/// party, of the kind on the table.
+fn add_grants(
+    batch: &LogBatch<'_>,
+    party: Party,
+    user: User,
+    kind: Kind,
+    table: Table,
+    start: usize,
+    due: &mut BTreeSet<usize>,
+) -> Result<(), AllocError>
+    ensures { OnOk result (Adds (batch_in batch.now) (is_of party user kind table) start (earlier_count (batch_in batch.now)) due.old.keys due.new.keys) }
+{
+    let end = batch.earlier_count();
+    let mut from = start;
+    while from < end {
+        let Some(slot) = next_of(batch, party, user, kind, table, from) else {
+            return Ok(());
+        };
+        add_slot(batch, slot, due)?;
+        from = slot + 1;
+    }
+    Ok(())
+}
+
+/// The deed of a place, if there is one and it is a revocation: it is against its grantee, whose grants from before the batch
+/// are due.
+fn put_deed(
+    batch: &LogBatch<'_>,
+    index: usize,
+    deed: Option<Deed>,
+    revoked: &mut Holders,
+    due: &mut BTreeSet<usize>,
+) -> Result<(), AllocError>
+    requires deed { deed ≡ (batch_in batch.now).deed index }
+    requires seeds { AreSeeds (batch_in batch.now) index revoked.old due.old.keys }
+    ensures { OnOk result (AreSeeds (batch_in batch.now) (suc index) revoked.new due.new.keys) }
+{
+    let Some(Deed::Revoking(revocation)) = deed else {
+        return Ok(());
+    };
+    let (user, kind, table) = (revocation.grantee, revocation.kind, revocation.table);
+    if revoked.put(holder_of(user, kind, table))? {
+        add_grants(batch, Party::Grantee, user, kind, table, 0, due)?;
+    }
+    Ok(())
+}
+
+/// The revocations that the batch may make.
+fn put_deeds(
+    batch: &LogBatch<'_>,
+    revoked: &mut Holders,
+    due: &mut BTreeSet<usize>,
+) -> Result<(), AllocError>
+    requires { AreSeeds (batch_in batch.now) 0 revoked.old due.old.keys }
+    ensures { OnOk result (AreSeeds (batch_in batch.now) batch.now.size revoked.new due.new.keys) }
+{
+    let first = batch.first_place();
+    for index in 0..batch.size() {
+        let deed = batch.statement(index).deed_at(first + index as u64);
+        put_deed(batch, index, deed, revoked, due)?;
+    }
+    Ok(())
+}
+
+impl Reach {
+    /// One more slot. Answers whether its grant gives the option to one to whom none of the slots before it did.
+    fn take(&mut self, slot: usize, grant: &Grant) -> Result<bool, AllocError>
+        ensures slots { OnOk result (self.new.slots.items ≡ self.old.slots.items ++ slot ∷ []) }
+        ensures lent { OnOk result ((other : Grant) → has_holder self.new.lent (grantor_of other) ≡ (lends grant.now other || has_holder self.old.lent (grantor_of other))) }
+        ensures revoked { OnOk result ((holder : Grant) → has_holder self.new.revoked (grantee_of holder) ≡ has_holder self.old.revoked (grantee_of holder)) }
+        ensures was { IfOk result (λ is_new. is_new ≡ (grant.now.option && not (has_holder self.old.lent (grantee_of grant.now)))) }
+    {
+        self.slots.push(slot)?;
+        if grant.option {
+            let is_new = self
+                .lent
+                .put(holder_of(grant.grantee, grant.kind, grant.table))?;
+            Ok(is_new)
+        } else {
+            Ok(false)
+        }
+    }
+
+    /// A slot before the batch that it may reach, and the next: with the slot, the later ones are due by whom its grant gives
+    /// the option. They are looked up once for each user.
+    fn take_earlier(
+        &mut self,
+        batch: &LogBatch<'_>,
+        slot: usize,
+        next: usize,
+        due: &mut BTreeSet<usize>,
+    ) -> Result<(), AllocError>
+        requires within { slot < earlier_count (batch_in batch.now) }
+        requires next { next ≡ suc slot }
+        requires reached { is_reached (batch_in batch.now) self.old.slots.items slot ≡ true }
+        requires reach { IsReach (batch_in batch.now) slot self.old }
+        requires due { IsDue (batch_in batch.now) next self.old.slots.items due.old.keys }
+        ensures reach { OnOk result (IsReach (batch_in batch.now) next self.new) }
+        ensures due { OnOk result (IsDue (batch_in batch.now) next self.new.slots.items due.new.keys) }
+    {
+        let _slots = batch.earlier_count();
+        let grant = batch.grant(slot);
+        if self.take(slot, &grant)? {
+            let (user, kind, table) = (grant.grantee, grant.kind, grant.table);
+            add_grants(batch, Party::Grantor, user, kind, table, next, due)?;
+        }
+        Ok(())
+    }
+
+    /// All slots before the batch that it may reach, from those on that are due by its revocations.
+    fn take_all_earlier(
+        &mut self,
+        batch: &LogBatch<'_>,
+        due: &mut BTreeSet<usize>,
+    ) -> Result<(), AllocError>
+        requires reach { IsReach (batch_in batch.now) 0 self.old }
+        requires due { IsDue (batch_in batch.now) 0 self.old.slots.items due.old.keys }
+        ensures { OnOk result (IsReach (batch_in batch.now) (earlier_count (batch_in batch.now)) self.new) }
+    {
+        let _slots = batch.earlier_count();
+        let mut low = 0;
+        while let Some(slot) = due.pop_first() {
+            low = slot + 1;
+            self.take_earlier(batch, slot, low, due)?;
+        }
+        Ok(())
+    }
+
+    /// A slot of a grant that the batch may make, if it may reach it.
+    fn judge_own(&mut self, batch: &LogBatch<'_>, slot: usize) -> Result<(), AllocError>
+        requires within { slot < length (slots_of (batch_in batch.now)) }
+        requires reach { IsReach (batch_in batch.now) slot self.old }
+        ensures { OnOk result (IsReach (batch_in batch.now) (suc slot) self.new) }
+    {
+        let grant = batch.grant(slot);
+        let is_open = batch.end_at_first(slot).is_none();
+        let is_revoked = self
+            .revoked
+            .has(holder_of(grant.grantee, grant.kind, grant.table));
+        let is_lent = self
+            .lent
+            .has(holder_of(grant.grantor, grant.kind, grant.table));
+        if is_open && (is_revoked || is_lent) {
+            let _is_new = self.take(slot, &grant)?;
+        }
+        Ok(())
+    }
+
+    /// All slots that the batch may reach. An error is want of memory.
+    pub(crate) fn of(alloc: Global, batch: &LogBatch<'_>) -> Result<Reach, AllocError>
+        ensures { IfOk result (λ reach. IsReach (batch_in batch.now) (length (slots_of (batch_in batch.now))) reach) }
+    {
+        let mut revoked = Holders::new(alloc);
+        let mut due = BTreeSet::new(alloc);
+        put_deeds(batch, &mut revoked, &mut due)?;
+        let mut reach = Reach {
+            slots: Vec::new(alloc),
+            lent: Holders::new(alloc),
+            revoked,
+        };
+        reach.take_all_earlier(batch, &mut due)?;
+        for slot in batch.earlier_count()..batch.slot_count() {
+            reach.judge_own(batch, slot)?;
+        }
+        Ok(reach)
+    }
+
+    /// The slots.
+    pub(crate) fn into_slots(self) -> Vec<usize>
+        ensures { result ≡ self.slots }
+    {
+        let Reach {
+            slots,
+            lent: _,
+            revoked: _,
+        } = self;
+        slots
+    }
+}

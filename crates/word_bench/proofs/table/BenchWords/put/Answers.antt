@@ -1,0 +1,10 @@
+use Rattle.std.proofs.Common.{◌<◌, ℕ, subst, sym}
+use Rattle.atomic_table.specs.Table.{keeps}
+use Rattle.word_bench.proofs.table.BenchWords.put.Goals as goal
+
+pub store-requires : goal.store-requires
+store-requires c = (
+  c.requires.ours,
+  subst (λ (count : ℕ). c.args.at < count) (sym c.args.self.now.wide) c.requires.within,
+  λ state holds long seen small. (c.args.seat.now.me.0, keeps, tt, tt, tt),
+)
