@@ -1,0 +1,116 @@
+-- Which places a pass holds.
+use Rattle.std.proofs.Common.{◌≡◌, ◌≢◌, ◌↔◌, ℕ, suc, List, [], ◌∷◌, ◌++◌, false, refl, sym, ap, ◌∙◌, subst, inl, inr, ⊎_elim, eq-eqb}
+use Rattle.std.specs.Prelude.{if◌then◌else◌, Some, None}
+use Rattle.std.proofs.lemmas.Bool.{cases_eq, ne_eqb}
+use Rattle.bohm_core_base.specs.declared.event.Event.{Event}
+use Rattle.bohm_core_base.specs.declared.event.Event.TheVariants.{Claim, End, Fill, Finish, GiveBack}
+use Rattle.words.specs.declared.view.View.{View}
+use Rattle.words.specs.Tells.{FoundHeld}
+use Rattle.words.specs.Views.{Holds, HoldsNone, In, Stored, is_about, one_end, one_more, track, turn, with_event, with_known, with_sighting}
+use Rattle.filling_base.specs.Goings.{HoldsJust, HoldsOthers}
+
+-- one more event
+track-snoc : (i : ℕ) (t : Stored) (l : List Event) (e : Event) → track i t (l ++ e ∷ []) ≡ (if is_about i e then turn (track i t l) e else track i t l)
+track-snoc i t [] e = refl
+track-snoc i t (f ∷ l) e = track-snoc i (if is_about i f then turn t f else t) l e
+
+some-none : (m : ℕ) (js : List ℕ) (t : Stored) → t ≡ None → t ≡ Some (m, js) → ⊥
+some-none m js t nothing some = let both : None ≡ Some (m, js) = sym nothing ∙ some in absurd (cc)
+
+-- an event about another place changes nothing of this one
+pub elsewhere : (v : View) (e : Event) (i m : ℕ) (js : List ℕ) → is_about i e ≡ false → Holds v i m js ↔ Holds (with_event v e) i m js
+elsewhere v e i m js other =
+    let is : track i None (v.events ++ e ∷ []) ≡ track i None v.events = track-snoc i None v.events e ∙ rw other refl in
+    ((λ holds. is ∙ holds), (λ holds. sym is ∙ holds))
+
+pub claimed-holds : (v : View) (a i : ℕ) → Holds (with_event v (Claim a i)) i 0 []
+claimed-holds v a i = track-snoc i None v.events (Claim a i) ∙ rw (eq-eqb i i refl) refl
+
+pub filled-holds : (v : View) (a i m : ℕ) (js : List ℕ) → Holds v i m js → Holds (with_event v (Fill a i)) i (suc m) js
+filled-holds v a i m js holds = track-snoc i None v.events (Fill a i) ∙ rw (eq-eqb i i refl) (ap one_more holds)
+
+pub ended-holds : (v : View) (a i slot m : ℕ) (js : List ℕ) → Holds v i m js → Holds (with_event v (End a i slot)) i m (js ++ slot ∷ [])
+ended-holds v a i slot m js holds = track-snoc i None v.events (End a i slot) ∙ rw (eq-eqb i i refl) (ap (one_end slot) holds)
+
+pub finished-free : (v : View) (a i m : ℕ) (js : List ℕ) → ¬ (Holds (with_event v (Finish a i)) i m js)
+finished-free v a i m js holds =
+    some-none m js (track i None (v.events ++ Finish a i ∷ [])) (track-snoc i None v.events (Finish a i) ∙ rw (eq-eqb i i refl) refl) holds
+
+given_back-free : (v : View) (a i m : ℕ) (js : List ℕ) → ¬ (Holds (with_event v (GiveBack a i)) i m js)
+given_back-free v a i m js holds =
+    some-none m js (track i None (v.events ++ GiveBack a i ∷ [])) (track-snoc i None v.events (GiveBack a i) ∙ rw (eq-eqb i i refl) refl) holds
+
+-- what a step about one place leaves alone
+pub others-same : (i : ℕ) (v : View) → HoldsOthers i v v
+others-same i v other m js differ = ((λ holds. holds), (λ holds. holds))
+
+pub others-then : (i : ℕ) (u v w : View) → HoldsOthers i u v → HoldsOthers i v w → HoldsOthers i u w
+others-then i u v w a b other m js differ =
+    let one = a other m js differ in
+    let two = b other m js differ in
+    ((λ holds. two.0 (one.0 holds)), (λ holds. one.1 (two.1 holds)))
+
+pub others-fill : (v : View) (a i : ℕ) → HoldsOthers i v (with_event v (Fill a i))
+others-fill v a i other m js differ = elsewhere v (Fill a i) other m js (ne_eqb i other (λ is. differ (sym is)))
+
+pub others-end : (v : View) (a i slot : ℕ) → HoldsOthers i v (with_event v (End a i slot))
+others-end v a i slot other m js differ = elsewhere v (End a i slot) other m js (ne_eqb i other (λ is. differ (sym is)))
+
+pub others-finish : (v : View) (a i : ℕ) → HoldsOthers i v (with_known (with_event v (Finish a i)) i)
+others-finish v a i other m js differ = elsewhere v (Finish a i) other m js (ne_eqb i other (λ is. differ (sym is)))
+
+others-back : (v : View) (a i : ℕ) → HoldsOthers i v (with_event v (GiveBack a i))
+others-back v a i other m js differ = elsewhere v (GiveBack a i) other m js (ne_eqb i other (λ is. differ (sym is)))
+
+pub holds-nothing : (v : View) → HoldsNone v → HoldsJust v []
+holds-nothing v none = record { these = λ i has. absurd has; only = λ i m js holds. none i m js holds }
+
+pub held-nothing : (v w : View) → w ≡ v → HoldsJust v [] → HoldsNone w
+held-nothing v w is held i m js holds = held.only i m js (subst (λ (u : View). Holds u i m js) is holds)
+
+pub same-events : (v w : View) (xs : List ℕ) → w.events ≡ v.events → HoldsJust v xs → HoldsJust w xs
+same-events v w xs is held = record {
+  these = λ i has. ap (track i None) is ∙ held.these i has;
+  only = λ i m js holds. held.only i m js (ap (track i None) (sym is) ∙ holds);
+}
+
+pub reorder : (v : View) (xs ys : List ℕ) → ((i : ℕ) → In i xs → In i ys) → ((i : ℕ) → In i ys → In i xs) → HoldsJust v xs → HoldsJust v ys
+reorder v xs ys to from held = record {
+  these = λ i has. held.these i (from i has);
+  only = λ i m js holds. to i (held.only i m js holds);
+}
+
+takes-at : (v : View) (a r : ℕ) (xs : List ℕ) → HoldsJust v xs → ((i : ℕ) → In i xs → r ≢ i) → HoldsJust (with_event v (Claim a r)) (r ∷ xs)
+takes-at v a r xs held apart = record {
+  these = λ i has. ⊎_elim
+      (λ is. subst (λ (j : ℕ). Holds (with_event v (Claim a r)) j 0 []) (sym is) (claimed-holds v a r))
+      (λ old. (elsewhere v (Claim a r) i 0 [] (ne_eqb r i (apart i old))).0 (held.these i old)) has;
+  only = λ i m js holds. elim (cases_eq i r) [
+    | inl is ↦ inl is
+    | inr differ ↦ inr (held.only i m js ((elsewhere v (Claim a r) i m js (ne_eqb r i (λ is. differ (sym is)))).1 holds))
+  ];
+}
+
+pub takes : (v w : View) (a r : ℕ) (xs : List ℕ) → HoldsJust v xs → ((i : ℕ) → In i xs → r ≢ i) → w ≡ with_event v (Claim a r) → HoldsJust w (r ∷ xs)
+takes v w a r xs held apart is = subst (λ (u : View). HoldsJust u (r ∷ xs)) (sym is) (takes-at v a r xs held apart)
+
+pub frees : (v w : View) (x : ℕ) (xs : List ℕ) → HoldsJust v (x ∷ xs) → ((i : ℕ) → In i xs → x ≢ i)
+    → HoldsOthers x v w → ((m : ℕ) (js : List ℕ) → ¬ (Holds w x m js)) → HoldsJust w xs
+frees v w x xs held apart others free = record {
+  these = λ i has. (others i 0 [] (λ is. apart i has (sym is))).0 (held.these i (inr has));
+  only = λ i m js holds. elim (cases_eq i x) [
+    | inl is ↦ absurd (free m js (subst (λ (j : ℕ). Holds w j m js) is holds))
+    | inr differ ↦ ⊎_elim (λ is. absurd (differ is)) (λ old. old) (held.only i m js ((others i m js differ).1 holds))
+  ];
+}
+
+gives-at : (v : View) (a x : ℕ) (xs : List ℕ) → HoldsJust v (x ∷ xs) → ((i : ℕ) → In i xs → x ≢ i) → HoldsJust (with_event v (GiveBack a x)) xs
+gives-at v a x xs held apart = frees v (with_event v (GiveBack a x)) x xs held apart (others-back v a x) (λ m js. given_back-free v a x m js)
+
+pub gives : (v w : View) (a x : ℕ) (xs : List ℕ) → HoldsJust v (x ∷ xs) → ((i : ℕ) → In i xs → x ≢ i) → w ≡ with_event v (GiveBack a x) → HoldsJust w xs
+gives v w a x xs held apart is = subst (λ (u : View). HoldsJust u xs) (sym is) (gives-at v a x xs held apart)
+
+-- a place that is found held is another's, if the pass doesn't hold it
+pub met : (v w : View) (r : ℕ) (xs : List ℕ) → HoldsJust v xs → ¬ (In r xs) → FoundHeld r v w → (w ≡ with_sighting v r) × (v.sole ≡ false)
+met v w r xs held out found =
+    ⊎_elim (λ own. absurd (out (held.only r own.1.0 own.1.1 own.1.2))) (λ other. other) found

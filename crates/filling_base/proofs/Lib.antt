@@ -1,0 +1,12 @@
+pub mod Members
+pub mod Going
+pub mod Holding
+pub mod Learning
+pub mod Falling
+pub mod Paths
+pub mod Costs
+pub mod Seeing
+pub mod Steps
+pub mod Walking
+pub mod Releasing
+pub mod Loops

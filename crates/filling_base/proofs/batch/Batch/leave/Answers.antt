@@ -1,0 +1,51 @@
+use Rattle.std.proofs.Common.{◌≡◌, ◌<◌, [], sym, subst, arith}
+use Rattle.std.proofs.lemmas.Grind.{common_steps}
+use Rattle.bohm_core_base.specs.Batch.{Batch}
+use Rattle.words.specs.Views.{KnowsReferences}
+use Rattle.filling_base.specs.References.{IsRevocation}
+use Rattle.filling_base.specs.Walks.{spot}
+use Rattle.filling_base.proofs.Paths.{knows-all, path-top}
+use Rattle.filling_base.proofs.Steps.{ended, starved, went-out}
+use Rattle.filling_base.proofs.batch.Batch.leave.Goals as goal
+
+pub fill-holding-requires-clause-within : goal.fill-holding-requires-clause-within
+fill-holding-requires-clause-within g c =
+    let invariant = c.self.invariant in
+    let view = c.self.view_is in
+    let same : g.K.Placed.batch c.args.self.now.key ≡ g.K.Placed.batch c.self.inside.key = cc in
+    let s = spot c.args.walk in
+    let top = path-top (g.K.Placed.batch c.args.self.now.key) s.view.known s.frames s.at c.requires.walks.path in
+    let within = c.requires.within in
+    subst (λ (b : Batch). s.at < b.size) same (omega arith)
+
+pub fill-holding-requires-clause-ready : goal.fill-holding-requires-clause-ready
+fill-holding-requires-clause-ready g c =
+    let invariant = c.self.invariant in
+    let view = c.self.view_is in
+    let same : g.K.Placed.batch c.args.self.now.key ≡ g.K.Placed.batch c.self.inside.key = cc in
+    let s = spot c.args.walk in
+    subst (λ (b : Batch). KnowsReferences b s.view s.at) same
+    (knows-all (g.K.Placed.batch c.args.self.now.key) s.view s.at s.next c.requires.all c.requires.walks.ready)
+
+pub returns-in-Err-clause-stepped : goal.returns-in-Err-clause-stepped
+returns-in-Err-clause-stepped g c =
+    let invariant = c.self.invariant in
+    let view = c.self.view_is in
+    let same : g.K.Placed.batch c.args.self.now.key ≡ g.K.Placed.batch c.self.inside.key = cc in
+    let s = spot c.args.walk in
+    let told = rw c.in-Err.is at c.fill-holding.ensures.tells in
+    starved (g.K.Placed.batch c.args.self.now.key) s.view c.fill-holding.result.0.view s.at s.next s.frames c.requires.walks told.0
+    (subst (λ (b : Batch). IsRevocation b s.at) (sym same) told.1)
+
+pub returns-in-None-clause-stepped : goal.returns-in-None-clause-stepped
+returns-in-None-clause-stepped g c =
+    let s = spot c.args.walk in
+    let empty : c.args.walk.stack.items ≡ [] = grind (arith, common_steps) in
+    let told = rw c.in-Ok.is at c.fill-holding.ensures.tells in
+    ended (g.K.Placed.batch c.args.self.now.key) s.view c.fill-holding.result.0.view s.at s.next s.frames c.pop.new.self.items c.requires.walks told empty
+
+pub returns-in-Some-clause-stepped : goal.returns-in-Some-clause-stepped
+returns-in-Some-clause-stepped g c =
+    let s = spot c.args.walk in
+    let told = rw c.in-Ok.is at c.fill-holding.ensures.tells in
+    went-out (g.K.Placed.batch c.args.self.now.key) s.view c.fill-holding.result.0.view s.at s.next s.frames c.pop.new.self.items c.in-Some.frame c.requires.walks told c.in-Some.ensures.items

@@ -1,0 +1,45 @@
+use Rattle.std.proofs.Common.{sym, ◌∙◌, subst}
+use Rattle.words.specs.Passes.{Passing}
+use Rattle.filling_base.specs.declared.run.Tried.TheVariants.{Done}
+use Rattle.filling_base.specs.Tries.{Tells}
+use Rattle.filling_base.specs.Walks.{spot}
+use Rattle.filling_base.proofs.Going.{same-self, same-then}
+use Rattle.filling_base.proofs.Walking.{begun, busy, out-of-memory, over, round}
+use Rattle.filling_base.proofs.batch.Batch.run.Goals as goal
+
+pub steps-init : goal.steps-init
+steps-init g c = record {
+  ours = c.requires.ours;
+  same = same-self c.args.holding;
+  runs = begun (g.K.Placed.batch c.args.self.now.key) c.args.index c.args.holding.view c.new.result.items c.requires.held c.new.ensures.items;
+}
+
+pub steps-preserved : goal.steps-preserved
+steps-preserved g c =
+    let i = c.steps.invariant in
+    let stepped = rw c.in-Went.is at c.step-next.ensures.stepped in
+    let same = c.step-next.ensures.same in record {
+      ours = same.table ∙ i.ours;
+      same = same-then c.args.holding c.steps.walk.holding c.step-next.result.0.holding i.same same;
+      runs = round (g.K.Placed.batch c.args.self.now.key) c.args.index c.args.holding.view (spot c.steps.walk) (spot c.step-next.result.0) i.runs stepped;
+    }
+
+pub returns-in-Over-clause-tells : goal.returns-in-Over-clause-tells
+returns-in-Over-clause-tells g c =
+    let b = g.K.Placed.batch c.args.self.now.key in
+    let v = c.args.holding.view in
+    let stepped = rw c.in-Over.is at c.step-next.ensures.stepped in
+    subst (λ (p : Passing). Tells b c.args.index v Done p.view) (sym c.end.ensures)
+    (over b c.args.index v (spot c.steps.walk) (spot c.step-next.result.0) c.steps.invariant.runs stepped)
+
+pub returns-in-Busy-clause-tells : goal.returns-in-Busy-clause-tells
+returns-in-Busy-clause-tells g c =
+    let stepped = rw c.in-Busy.is at c.step-next.ensures.stepped in
+    busy (g.K.Placed.batch c.args.self.now.key) c.args.index c.in-Busy.other c.args.holding.view c.release.result.view (spot c.steps.walk) (spot c.step-next.result.0)
+    c.steps.invariant.runs stepped c.release.ensures.released
+
+pub returns-in-NoMemory-clause-tells : goal.returns-in-NoMemory-clause-tells
+returns-in-NoMemory-clause-tells g c =
+    let stepped = rw c.in-NoMemory.is at c.step-next.ensures.stepped in
+    out-of-memory (g.K.Placed.batch c.args.self.now.key) c.args.index c.args.holding.view c.release-in-NoMemory.result.view (spot c.steps.walk) (spot c.step-next.result.0)
+    c.steps.invariant.runs stepped c.release-in-NoMemory.ensures.released

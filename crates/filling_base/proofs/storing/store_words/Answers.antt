@@ -1,0 +1,29 @@
+use Rattle.std.proofs.Common.{◌+◌, [], ap, ◌∙◌, arith}
+use Rattle.words.specs.Passes.{Passing}
+use Rattle.filling_base.proofs.Going.{same-on, same-self, same-then}
+use Rattle.filling_base.proofs.Loops.{begun-storing, filled-more}
+use Rattle.filling_base.proofs.storing.store_words.Goals as goal
+
+pub loop-number-init : goal.loop-number-init
+loop-number-init g c = record {
+  ours = c.requires.ours;
+  same = same-self c.args.holding.now;
+  stores = begun-storing c.args.index c.args.holding.now.view 0 [] c.requires.held;
+}
+
+pub fill-requires-clause-held : goal.fill-requires-clause-held
+fill-requires-clause-held g c = ([], c.loop-number.invariant.stores.holds)
+
+pub fill-requires-clause-ready : goal.fill-requires-clause-ready
+fill-requires-clause-ready g c other has = c.loop-number.invariant.stores.goes.knows other (c.requires.ready other has)
+
+pub loop-number-preserved : goal.loop-number-preserved
+loop-number-preserved g c =
+    let i = c.loop-number.invariant in
+    let old = c.loop-number.holding in
+    let same = same-on old c.fill.new.pass _ c.fill.ensures in record {
+      ours = same.table ∙ i.ours;
+      same = same-then c.args.holding.now old c.fill.new.pass i.same same;
+      stores = filled-more c.args.index old.number c.loop-number.number (c.loop-number.number + 1) c.args.holding.now.view old.view c.fill.new.pass.view [] i.stores
+          (ap (λ (p : Passing). p.view) c.fill.ensures) (omega arith);
+    }

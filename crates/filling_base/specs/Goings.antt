@@ -1,0 +1,50 @@
+-- How a pass goes on through several steps.
+use Rattle.std.specs.Prelude.{◌≡◌, ◌≢◌, ◌↔◌, ℕ, ◌≤◌, List, [], ◌++◌}
+use Rattle.bohm_core_base.specs.declared.event.Event.{Event}
+use Rattle.bohm_core_base.specs.declared.event.Event.TheVariants.{GiveBack}
+use Rattle.words.specs.declared.view.View.{View}
+use Rattle.words.specs.Passes.{Passing}
+use Rattle.words.specs.Views.{Holds, In}
+
+-- the same pass, through which no fewer bodies were run
+pub record IsSamePass (pass after : Passing) : Type 0 where
+  pub table : after.table ≡ pass.table
+  pub number : after.number ≡ pass.number
+  pub bodies : pass.bodies ≤ after.bodies
+
+-- what it knew it knows, and its own events go on; of these, only such places are given back
+pub record Goes (MayGiveBack : ℕ → Type 0) (view after : View) : Type 0 where
+  pub knows : (index : ℕ) → In index view.known → In index after.known
+  pub events : List Event
+  pub adds : after.events ≡ view.events ++ events
+  pub gives_back : (actor index : ℕ) → In (GiveBack actor index) events → MayGiveBack index
+  pub kept : after.kept ≡ view.kept
+  pub sole : after.sole ≡ view.sole
+
+-- no place at all
+abbrev pub NoPlace : ℕ → Type 0
+NoPlace index = ⊥
+
+-- the pass holds these places, with nothing stored, and no other
+pub record HoldsJust (view : View) (held : List ℕ) : Type 0 where
+  pub these : (index : ℕ) → In index held → Holds view index 0 []
+  pub only : (index count : ℕ) (ended : List ℕ) → Holds view index count ended → In index held
+
+-- of all places but one it holds the same, with the same stored
+abbrev pub HoldsOthers : ℕ → View → View → Type 0
+HoldsOthers index view after =
+    (other count : ℕ) (ended : List ℕ) → other ≢ index → Holds view other count ended ↔ Holds after other count ended
+
+-- it may only have learnt that places are done
+pub record OnlyLearns (view after : View) : Type 0 where
+  pub goes : Goes NoPlace view after
+  pub events : after.events ≡ view.events
+  pub sightings : after.sightings ≡ view.sightings
+
+-- it knows the place done, and doesn't hold it any more; of the others it holds the same
+pub record Finishes (index : ℕ) (view after : View) : Type 0 where
+  pub goes : Goes NoPlace view after
+  pub sightings : after.sightings ≡ view.sightings
+  pub known : In index after.known
+  pub others : HoldsOthers index view after
+  pub free : (count : ℕ) (ended : List ℕ) → ¬ (Holds after index count ended)

@@ -1,0 +1,5 @@
+pub mod Goings
+pub mod References
+pub mod Storing
+pub mod Tries
+pub mod Walks

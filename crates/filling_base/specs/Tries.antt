@@ -1,0 +1,46 @@
+-- What comes of a place that is asked for.
+use Rattle.std.specs.Prelude.{◌≡◌, ◌⊎◌, ℕ, ◌≤◌, [], ◌∷◌, ◌++◌, length, Result, Ok, Err, false}
+use Rattle.bohm_core_base.specs.Batch.{Batch}
+use Rattle.words.specs.declared.view.View.{View}
+use Rattle.words.specs.Views.{In, IsSettled, KnowsReferences}
+use Rattle.filling_base.specs.declared.run.Tried.{Tried}
+use Rattle.filling_base.specs.declared.run.Tried.TheVariants.{Done, Busy, NoMemory}
+use Rattle.filling_base.specs.Goings.{Finishes, Goes, NoPlace, OnlyLearns}
+use Rattle.filling_base.specs.References.{IsRevocation}
+
+-- what the pass knows tells that the place is done
+abbrev pub IsToldDone : Batch → View → ℕ → Type 0
+IsToldDone batch view index = In index view.known ⊎ IsSettled batch view index
+
+-- the pass doesn't know done all that the place is referred to
+abbrev pub HasToWait : Batch → View → ℕ → Type 0
+HasToWait batch view index = ¬ (KnowsReferences batch view index)
+
+-- the place may be given back for want of memory
+abbrev pub MayLackMemory : Batch → View → ℕ → Type 0
+MayLackMemory batch view index = HasToWait batch view index ⊎ IsRevocation batch index
+
+-- a place, at most the one asked for, was found held by another pass when this one had so many events, as many as the call
+-- began with at least; the pass isn't a sole one, and couldn't tell that the place is done
+pub record MeetsHeld (batch : Batch) (index other : ℕ) (view after : View) : Type 0 where
+  pub most : other ≤ index
+  pub shared : view.sole ≡ false
+  pub untold : ¬ (IsToldDone batch view other)
+  pub count : ℕ
+  pub began : length view.events ≤ count
+  pub ended : count ≤ length after.events
+  pub sighting : after.sightings ≡ view.sightings ++ (other, count) ∷ []
+
+-- what came of a place that was asked for. It is known done, and none was given back; or another was held, and what was given
+-- back had to wait; or memory was wanting, which it isn't where the place has no revocation and all its references were known
+-- done, and what was given back had to wait or may revoke
+abbrev pub Tells : Batch → ℕ → View → Tried → View → Type 0
+Tells batch index view Done after = Goes NoPlace view after × (after.sightings ≡ view.sightings) × In index after.known
+Tells batch index view (Busy other) after = Goes (HasToWait batch view) view after × MeetsHeld batch index other view after
+Tells batch index view NoMemory after =
+    Goes (MayLackMemory batch view) view after × (after.sightings ≡ view.sightings) × (KnowsReferences batch view index → IsRevocation batch index)
+
+-- what came of filling a place: it is finished; or memory was wanting, which only a revocation's may be, and nothing was stored
+abbrev pub FillTells : {A E : Type 0} → Batch → ℕ → View → Result A E → View → Type 0
+FillTells batch index view (Ok _) after = Finishes index view after
+FillTells batch index view (Err _) after = OnlyLearns view after × IsRevocation batch index

@@ -1,0 +1,131 @@
+-- What a call holds, and what a step of it does.
+use Rattle.std.specs.Prelude.{◌≡◌, ◌⊎◌, ℕ, zero, suc, ◌+◌, ◌*◌, ◌-◌, ◌^◌, ◌<◌, ◌≤◌, List, [], ◌∷◌, ◌++◌, length, false}
+use Rattle.bohm_core_base.specs.Batch.{Batch, references}
+use Rattle.words.specs.declared.view.View.{View}
+use Rattle.words.specs.Views.{In}
+use Rattle.filling_base.specs.declared.walk.Frame.{Frame}
+use Rattle.filling_base.specs.declared.walk.Walk.{Walk}
+use Rattle.filling_base.specs.declared.walk.Step.{Step}
+use Rattle.filling_base.specs.declared.walk.Step.TheVariants.{Went, Over, Busy, NoMemory}
+use Rattle.filling_base.specs.Goings.{Goes, HoldsJust, NoPlace}
+use Rattle.filling_base.specs.References.{reference}
+use Rattle.filling_base.specs.Tries.{HasToWait, IsToldDone, MayLackMemory}
+
+-- the places that wait
+abbrev pub waiting : List Frame → List ℕ
+waiting [] = []
+waiting (frame ∷ frames) = frame.index ∷ waiting frames
+
+-- the places that the first so many references of a place name are among these
+abbrev pub KnownTo : Batch → List ℕ → ℕ → ℕ → Type 0
+KnownTo batch known index count =
+    (number other : ℕ) → number < count → reference batch index number ≡ suc other → In other known
+
+-- the place of the frame waits for another, which one of its references names, and those before that are known done
+pub record WaitsFor (batch : Batch) (known : List ℕ) (frame : Frame) (other : ℕ) : Type 0 where
+  pub number : ℕ
+  pub next : frame.next ≡ suc number
+  pub short : number < length (references batch frame.index)
+  pub ready : KnownTo batch known frame.index number
+  pub names : reference batch frame.index number ≡ suc other
+
+-- the place that waits at the bottom, or else the one at hand
+abbrev pub bottom : List Frame → ℕ → ℕ
+bottom [] at = at
+bottom (frame ∷ frames) at = frame.index
+
+-- each place waits for the next one, the last for the one at hand
+abbrev pub IsPath : Batch → List ℕ → List Frame → ℕ → Type 0
+IsPath batch known [] at = Unit {0}
+IsPath batch known (frame ∷ frames) at = WaitsFor batch known frame (bottom frames at) × IsPath batch known frames at
+
+-- what a pass knows, the place at hand, how many of its references are known done, and the places that wait
+pub record Spot : Type 0 where
+  pub view : View
+  pub at : ℕ
+  pub next : ℕ
+  pub frames : List Frame
+
+abbrev pub spot : Walk → Spot
+spot walk = record { view = walk.holding.view; at = walk.at; next = walk.next; frames = walk.stack.items }
+
+-- the place that the call was asked for
+abbrev pub asked : Spot → ℕ
+asked spot = bottom spot.frames spot.at
+
+-- the places that the call holds
+abbrev pub held : Spot → List ℕ
+held spot = spot.at ∷ waiting spot.frames
+
+pub record IsWalk (batch : Batch) (spot : Spot) : Type 0 where
+  pub path : IsPath batch spot.view.known spot.frames spot.at
+  pub ready : KnownTo batch spot.view.known spot.at spot.next
+  pub short : spot.next ≤ length (references batch spot.at)
+  pub holds : HoldsJust spot.view (held spot)
+
+-- more than two for each place, and more than the references of each
+abbrev pub widest_below : Batch → ℕ → ℕ
+widest_below batch zero = 2
+widest_below batch (suc index) = length (references batch index) + widest_below batch index
+
+-- no fewer than the steps for a place, with so many of its references known done
+unfoldable pub cost : Batch → ℕ → ℕ → ℕ
+cost batch index count = (suc (length (references batch index)) - count) * widest_below batch batch.size ^ index
+
+abbrev pub costs : Batch → List Frame → ℕ
+costs batch [] = 0
+costs batch (frame ∷ frames) = cost batch frame.index frame.next + costs batch frames
+
+-- no fewer than the steps that are left
+abbrev pub left : Batch → Spot → ℕ
+left batch spot = cost batch spot.at spot.next + costs batch spot.frames
+
+-- the walk goes on; a place begins to wait only where one of its references isn't known done
+pub record Onward (batch : Batch) (spot next : Spot) : Type 0 where
+  pub walks : IsWalk batch next
+  pub goes : Goes NoPlace spot.view next.view
+  pub sightings : next.view.sightings ≡ spot.view.sightings
+  pub for : asked next ≡ asked spot
+  pub less : left batch next < left batch spot
+  pub waits : (index : ℕ) → In index (waiting next.frames) → In index (waiting spot.frames) ⊎ HasToWait batch spot.view index
+
+-- the place asked for is done, and none is held
+pub record Ended (spot next : Spot) : Type 0 where
+  pub goes : Goes NoPlace spot.view next.view
+  pub sightings : next.view.sightings ≡ spot.view.sightings
+  pub known : In (asked spot) next.view.known
+  pub holds : HoldsJust next.view []
+
+-- the place at hand and those that wait are the same, and nothing was claimed, given back or stored
+pub record Stays (batch : Batch) (spot next : Spot) : Type 0 where
+  pub walks : IsWalk batch next
+  pub goes : Goes NoPlace spot.view next.view
+  pub events : next.view.events ≡ spot.view.events
+  pub at : next.at ≡ spot.at
+  pub frames : next.frames ≡ spot.frames
+
+-- a place to which the one at hand is referred was found held by another pass
+pub record Met (other : ℕ) (batch : Batch) (spot next : Spot) : Type 0 where
+  pub stays : Stays batch spot next
+  pub sightings : next.view.sightings ≡ spot.view.sightings ++ (other, length spot.view.events) ∷ []
+  pub most : other ≤ asked spot
+  pub shared : spot.view.sole ≡ false
+  pub untold : ¬ (IsToldDone batch spot.view other)
+  pub waits : HasToWait batch spot.view spot.at
+
+-- memory was wanting, for the place at hand to wait or to revoke
+pub record Lacked (batch : Batch) (spot next : Spot) : Type 0 where
+  pub stays : Stays batch spot next
+  pub sightings : next.view.sightings ≡ spot.view.sightings
+  pub lacks : MayLackMemory batch spot.view spot.at
+
+abbrev pub Stepped : Batch → Spot → Step → Spot → Type 0
+Stepped batch spot Went next = Onward batch spot next
+Stepped batch spot Over next = Ended spot next
+Stepped batch spot (Busy other) next = Met other batch spot next
+Stepped batch spot NoMemory next = Lacked batch spot next
+
+-- it gave back what it held
+pub record Released (held : List ℕ) (view after : View) : Type 0 where
+  pub goes : Goes (λ index. In index held) view after
+  pub sightings : after.sightings ≡ view.sightings

@@ -1,0 +1,82 @@
+//! Runs a place that is asked for.
+
+ghost use Rattle.std.specs.Prelude.{◌≡◌, ◌<◌, [], ◌∷◌};
+ghost use Rattle.words.specs.Passes.{IsPassOf};
+ghost use Rattle.filling_base.specs.Goings.{HoldsJust, IsSamePass};
+ghost use Rattle.filling_base.specs.Tries.{IsToldDone, Tells};
+
+use crate::batch::Batch;
+use crate::fills::Fills;
+use crate::walk::{Step, Walk};
+use words::{Claimed, Holding, Pass, Seen};
+
+/// What came of a place that was asked for.
+#[derive(Clone, Copy, PartialEq, Eq, Debug)]
+pub enum Tried {
+    /// The place is done.
+    Done,
+    /// The place of this index was held by another pass.
+    Busy(usize),
+    /// Memory was wanting.
+    NoMemory,
+}
+
+impl<K: Fills> Batch<K> {
+    // Runs a place that the pass holds, and no other, with nothing stored.
+    fn run(&self, holding: Holding, index: usize) -> (Pass, Tried)
+        requires ours { IsPassOf self.now holding }
+        requires within { index < (K.batch self.now.key).size }
+        requires held { HoldsJust holding.view (index ∷ []) }
+        ensures same { IsSamePass holding result.0 }
+        ensures tells { Tells (K.batch self.now.key) index holding.view result.1 result.0.view }
+    {
+        let mut walk = Walk {
+            holding,
+            at: index,
+            next: 0,
+            stack: Vec::new(self.alloc),
+        };
+        'steps: loop {
+            let (next, step) = self.step(walk);
+            match step {
+                Step::Went => walk = next,
+                Step::Over => {
+                    let Walk {
+                        holding,
+                        at: _,
+                        next: _,
+                        stack: _,
+                    } = next;
+                    return (holding.end(), Tried::Done);
+                }
+                Step::Busy(other) => return (self.release(next), Tried::Busy(other)),
+                Step::NoMemory => return (self.release(next), Tried::NoMemory),
+            }
+        }
+    }
+
+    /// Runs a place, and before it those that it is referred to and that aren't done. The pass holds none afterwards, and what
+    /// was finished on the way stays finished. `Busy` tells a place, at most the one asked for, that another pass held at a step
+    /// of this call; all claims of the call were given back. `NoMemory` is not answered for a place without a revocation whose
+    /// references the pass knew done. A place is given back only if one of its references wasn't known done as the call began,
+    /// or for want of memory for a revocation.
+    pub fn try_run(&self, pass: Pass, index: usize) -> (Pass, Tried)
+        requires ours { IsPassOf self.now pass }
+        requires within { index < (K.batch self.now.key).size }
+        ensures same { IsSamePass pass result.0 }
+        ensures tells { Tells (K.batch self.now.key) index pass.view result.1 result.0.view }
+        // What the pass knows done is answered so, and what is settled by that.
+        ensures told { IsToldDone (K.batch self.now.key) pass.view index → result.1 ≡ Tried.Done }
+    {
+        let mut holding = Holding::begin(pass);
+        match self.words.look(&mut holding, index) {
+            Seen::Done => (holding.end(), Tried::Done),
+            Seen::Held => (holding.end(), Tried::Busy(index)),
+            Seen::Free => match self.words.claim(&mut holding, index) {
+                Claimed::Done => (holding.end(), Tried::Done),
+                Claimed::Held => (holding.end(), Tried::Busy(index)),
+                Claimed::Won => self.run(holding, index),
+            },
+        }
+    }
+}

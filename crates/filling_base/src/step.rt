@@ -1,0 +1,105 @@
+//! One step of a walk.
+
+ghost use Rattle.std.specs.Prelude.{◌≡◌, ◌<◌, ◌≤◌, suc, length};
+ghost use Rattle.bohm_core_base.specs.Batch.{references};
+ghost use Rattle.words.specs.Passes.{IsPassOf};
+ghost use Rattle.filling_base.specs.Goings.{IsSamePass};
+ghost use Rattle.filling_base.specs.References.{reference};
+ghost use Rattle.filling_base.specs.Tries.{IsToldDone};
+ghost use Rattle.filling_base.specs.Walks.{IsWalk, Stepped, asked, spot};
+
+use crate::batch::Batch;
+use crate::fills::Fills;
+use crate::walk::{Frame, Step, Walk};
+use words::{Claimed, Seen};
+
+impl<K: Fills> Batch<K> {
+    // Goes on with a place that the one at hand is referred to, if it can be claimed. Room to wait for it is made first.
+    fn enter(&self, mut walk: Walk, index: usize, next: usize) -> (Walk, Step)
+        requires ours { IsPassOf self.now walk.holding }
+        requires within { asked (spot walk) < (K.batch self.now.key).size }
+        requires walks { IsWalk (K.batch self.now.key) (spot walk) }
+        requires short { walk.next < length (references (K.batch self.now.key) walk.at) }
+        requires next { next ≡ suc walk.next }
+        requires names { reference (K.batch self.now.key) walk.at walk.next ≡ suc index }
+        requires untold { ¬ (IsToldDone (K.batch self.now.key) walk.holding.view index) }
+        ensures same { IsSamePass walk.holding result.0.holding }
+        ensures stepped { Stepped (K.batch self.now.key) (spot walk) result.1 (spot result.0) }
+    {
+        let frame = Frame {
+            index: walk.at,
+            next,
+        };
+        if walk.stack.push(frame).is_err() {
+            return (walk, Step::NoMemory);
+        }
+        match self.words.claim(&mut walk.holding, index) {
+            Claimed::Won => {
+                walk.at = index;
+                walk.next = 0;
+                (walk, Step::Went)
+            }
+            Claimed::Held => {
+                let _ = walk.stack.pop();
+                (walk, Step::Busy(index))
+            }
+            Claimed::Done => {
+                let _ = walk.stack.pop();
+                walk.next = next;
+                (walk, Step::Went)
+            }
+        }
+    }
+
+    // Fills the place at hand, and goes back to the one that waits for it.
+    fn leave(&self, mut walk: Walk) -> (Walk, Step)
+        requires ours { IsPassOf self.now walk.holding }
+        requires within { asked (spot walk) < (K.batch self.now.key).size }
+        requires walks { IsWalk (K.batch self.now.key) (spot walk) }
+        requires all { length (references (K.batch self.now.key) walk.at) ≤ walk.next }
+        ensures same { IsSamePass walk.holding result.0.holding }
+        ensures stepped { Stepped (K.batch self.now.key) (spot walk) result.1 (spot result.0) }
+    {
+        let (holding, filled) = self.key.fill(&self.words, walk.holding, walk.at);
+        walk.holding = holding;
+        match filled {
+            Err(_) => (walk, Step::NoMemory),
+            Ok(()) => match walk.stack.pop() {
+                None => (walk, Step::Over),
+                Some(frame) => {
+                    walk.at = frame.index;
+                    walk.next = frame.next;
+                    (walk, Step::Went)
+                }
+            },
+        }
+    }
+
+    // Looks at the next reference of the place at hand, or fills the place.
+    pub(crate) fn step(&self, mut walk: Walk) -> (Walk, Step)
+        requires ours { IsPassOf self.now walk.holding }
+        requires within { asked (spot walk) < (K.batch self.now.key).size }
+        requires walks { IsWalk (K.batch self.now.key) (spot walk) }
+        ensures same { IsSamePass walk.holding result.0.holding }
+        ensures stepped { Stepped (K.batch self.now.key) (spot walk) result.1 (spot result.0) }
+    {
+        if walk.next >= self.key.references_length(walk.at) {
+            return self.leave(walk);
+        }
+        let next = walk.next + 1;
+        match self.key.reference(walk.at, walk.next) {
+            None => {
+                walk.next = next;
+                (walk, Step::Went)
+            }
+            Some(index) => match self.words.look(&mut walk.holding, index) {
+                Seen::Free => self.enter(walk, index, next),
+                Seen::Held => (walk, Step::Busy(index)),
+                Seen::Done => {
+                    walk.next = next;
+                    (walk, Step::Went)
+                }
+            },
+        }
+    }
+}
