@@ -1,38 +1,41 @@
 //! A reader and a writer whose bytes and failures are counted.
 
+use crate::telling::{tell, text_of};
 use log_text_base::Counted;
+use std::alloc::Global;
 use std::io::{Read, Write};
-use std::test::Fail;
 
-#[test]
-fn counts_what_is_read(rt: HostRuntime) -> Result<(), Fail> {
-    let mut reader = Counted::new(b"four".as_slice());
+/// Reads three times three bytes. Tells how many came each time, and what is counted then.
+fn tell_reads(rt: &impl Print, name: &str, mut reader: Counted<&'static [u8]>) {
     let mut buffer = [0u8; 3];
-    assert_eq!(rt; reader.read(&mut buffer)?, 3);
-    assert_eq!(rt; reader.read(&mut buffer)?, 1);
-    assert_eq!(rt; (reader.given, reader.errors), (4, 0));
-    Ok(())
+    for _ in 0..3 {
+        let came = reader.read(&mut buffer).ok();
+        tell(rt, name, &(came, reader.given, reader.errors));
+    }
 }
 
-#[test]
-fn a_reader_ends_at_its_limit(rt: HostRuntime) {
-    let mut reader = Counted {
+/// Writes four bytes and then none, and flushes.
+fn tell_writes(rt: &impl Print, alloc: Global) {
+    let mut writer = Counted::new(Vec::new(alloc));
+    let four = writer.write(b"four").ok();
+    let none = writer.write(b"").ok();
+    let flushed = writer.flush().is_ok();
+    let came = text_of(writer.inner.as_slice());
+    tell(
+        rt,
+        "bytes written",
+        &((four, none, flushed), writer.errors, came),
+    );
+}
+
+/// Tells what is counted.
+pub fn tell_counted_bytes(rt: &impl Print, alloc: Global) {
+    tell_reads(rt, "bytes read", Counted::new(b"four".as_slice()));
+    let full = Counted {
         inner: b"more".as_slice(),
         errors: 0,
         given: 1 << 62,
     };
-    let mut buffer = [0u8; 3];
-    assert!(rt; reader.read(&mut buffer).is_err());
-    assert_eq!(rt; (reader.given, reader.errors), (1 << 62, 1));
-}
-
-#[test]
-fn counts_what_is_not_written(rt: HostRuntime) -> Result<(), Fail> {
-    let mut writer = Counted::new(Vec::new(rt.alloc()));
-    assert_eq!(rt; writer.write(b"four")?, 4);
-    assert_eq!(rt; writer.write(b"")?, 0);
-    writer.flush()?;
-    assert_eq!(rt; writer.errors, 0);
-    assert_eq!(rt; writer.inner.as_slice(), b"four".as_slice());
-    Ok(())
+    tell_reads(rt, "bytes read at the limit", full);
+    tell_writes(rt, alloc);
 }

@@ -1,16 +1,17 @@
 //! Worked examples of outcomes and rows with their words.
 
-ghost use Rattle.std.specs.Prelude.{◌≡◌, length, IfOk};
+ghost use Rattle.std.specs.Prelude.{◌≡◌, ◌<◌, ◌≤◌, ◌^◌, length, IfOk};
 ghost use Rattle.model_base.specs.Outcomes.{needs};
-ghost use Rattle.own_words.specs.Words.{outputs_of};
+ghost use Rattle.own_words.specs.Words.{cause_word, outputs_of, second_detail};
 
+use crate::fault::TrialFault;
+use crate::telling::tell;
 use model_base::{
     Access, Cause, DeedDone, DeedForm, Form, Items, Key, Kind, Kinds, Need, Outcome, Outputs,
     Reason, Register, Row, Step, Table, User,
 };
 use own_words::{OwnWords, bits_of, decoded, row_of, value_of};
 use std::alloc::{AllocError, Global};
-use std::test::Fail;
 
 /// The revocation of READ on table 0 from user 1.
 fn revoking() -> Form
@@ -77,187 +78,141 @@ fn answering(alloc: Global) -> Result<Form, AllocError>
     })
 }
 
-/// The need to insert into table 0.
-fn inserting() -> Need {
-    Need {
-        table: Table(0),
-        kind: Kind::Insert,
-        option: false,
-    }
+/// Tells the words of an outcome, and the outcome that they tell.
+fn tell_words(rt: &impl Print, alloc: Global, form: &Form, outcome: &Outcome)
+    requires needs { length (needs form.now) ≤ 2 }
+    requires outputs { outputs_of form.now ≤ 1 }
+    requires detail { second_detail outcome.now < 2 ^ 64 }
+{
+    let words = OwnWords::header(form, outcome);
+    let told = decoded(form, words.as_slice(), Items::empty(alloc));
+    tell(rt, "the words of an outcome", &(words.as_slice(), &told));
 }
 
-/// The need of a denied place, and why it isn't held.
-fn denial(outcome: &Outcome) -> Option<(Need, Cause)> {
-    match outcome {
-        Outcome::Denied { need, cause } => Some((*need, *cause)),
-        _ => None,
-    }
+/// Tells what words tell that are of no outcome.
+fn tell_no_words(rt: &impl Print, alloc: Global, words: &[u64]) {
+    let told = decoded(&revoking(), words, Items::empty(alloc));
+    tell(rt, "no words of an outcome", &(words, &told));
 }
 
-/// The outputs of a done place.
-fn outputs_of_done(outcome: &Outcome) -> Option<Outputs> {
-    match outcome {
-        Outcome::Done { outputs, .. } => Some(*outputs),
-        _ => None,
-    }
-}
-
-#[test]
-fn a_done_revocation(rt: HostRuntime) {
-    let form = revoking();
-    let outcome = Outcome::Done {
-        outputs: Outputs::new(),
-        deed: DeedDone::Revoked(Items::empty(rt.alloc())),
-    };
-    let words = OwnWords::header(&form, &outcome);
-    assert_eq!(rt; words.as_slice(), [1, 0, 0, 0].as_slice());
-    let told = decoded(&form, words.as_slice(), Items::empty(rt.alloc()));
-    assert!(rt;
-        matches!(
-            told,
-            Outcome::Done {
-                deed: DeedDone::Revoked(_),
-                ..
-            }
-        )
-    );
-}
-
-#[test]
-fn an_output(rt: HostRuntime) -> Result<(), Fail> {
-    let form = answering(rt.alloc())?;
+/// The one output 9.
+fn nine() -> Outputs {
     let mut outputs = Outputs::new();
     outputs.push(9);
-    let outcome = Outcome::Done {
-        outputs,
-        deed: DeedDone::None,
-    };
-    let words = OwnWords::header(&form, &outcome);
-    assert_eq!(rt; words.as_slice(), [1, 0, 0, 1, 9].as_slice());
-    let told = decoded(&form, words.as_slice(), Items::empty(rt.alloc()));
-    let outputs = outputs_of_done(&told).ok_or("not done")?;
-    assert_eq!(rt; outputs.as_slice(), [9].as_slice());
-    assert!(rt;
-        matches!(
-            told,
-            Outcome::Done {
-                deed: DeedDone::None,
-                ..
-            }
-        )
-    );
+    outputs
+}
+
+/// Tells an outcome of a statement that reads and inserts a row.
+fn tell_touching(rt: &impl Print, alloc: Global, outcome: &Outcome) -> Result<(), TrialFault>
+    requires { second_detail outcome.now < 2 ^ 64 }
+{
+    let form = touching(alloc)?;
+    tell_words(rt, alloc, &form, outcome);
     Ok(())
 }
 
-#[test]
-fn an_output_that_was_not_given(rt: HostRuntime) -> Result<(), Fail> {
-    let form = answering(rt.alloc())?;
-    let words = OwnWords::header(&form, &Outcome::Undeclared { step: 0 });
-    assert_eq!(rt; words.as_slice(), [5, 0, 0, 0, 0].as_slice());
+/// Tells an outcome of a statement with one OUT step.
+fn tell_answering(rt: &impl Print, alloc: Global, outcome: &Outcome) -> Result<(), TrialFault>
+    requires { second_detail outcome.now < 2 ^ 64 }
+{
+    let form = answering(alloc)?;
+    tell_words(rt, alloc, &form, outcome);
     Ok(())
 }
 
-#[test]
-fn numbers(rt: HostRuntime) {
-    assert_eq!(rt; bits_of(-1), 18_446_744_073_709_551_615);
-    assert_eq!(rt; bits_of(i64::MIN), 9_223_372_036_854_775_808);
-    assert_eq!(rt; value_of(18_446_744_073_709_551_615), -1);
-    assert_eq!(rt; value_of(9_223_372_036_854_775_808), i64::MIN);
+/// Tells an outcome of a revocation.
+fn tell_revoking(rt: &impl Print, alloc: Global, outcome: &Outcome)
+    requires { second_detail outcome.now < 2 ^ 64 }
+{
+    tell_words(rt, alloc, &revoking(), outcome);
 }
 
-#[test]
-fn a_need_that_was_taken(rt: HostRuntime) -> Result<(), Fail> {
-    let form = touching(rt.alloc())?;
-    let outcome = Outcome::Denied {
-        need: inserting(),
-        cause: Cause::Taken(5),
-    };
-    let words = OwnWords::header(&form, &outcome);
-    assert_eq!(rt; words.as_slice(), [3, 1, 6, 0].as_slice());
-    let told = decoded(&form, words.as_slice(), Items::empty(rt.alloc()));
-    assert_eq!(rt; denial(&told), Some((inserting(), Cause::Taken(5))));
-    Ok(())
+/// Why the need to insert into table 0 isn't held.
+fn denial(cause: Cause) -> Outcome
+    ensures { second_detail result ≡ cause_word cause }
+{
+    Outcome::Denied {
+        need: Need {
+            table: Table(0),
+            kind: Kind::Insert,
+            option: false,
+        },
+        cause,
+    }
 }
 
-#[test]
-fn a_need_that_never_was(rt: HostRuntime) -> Result<(), Fail> {
-    let form = touching(rt.alloc())?;
-    let outcome = Outcome::Denied {
-        need: inserting(),
-        cause: Cause::Never,
-    };
-    let words = OwnWords::header(&form, &outcome);
-    assert_eq!(rt; words.as_slice(), [3, 1, 0, 0].as_slice());
-    let told = decoded(&form, words.as_slice(), Items::empty(rt.alloc()));
-    assert_eq!(rt; denial(&told), Some((inserting(), Cause::Never)));
-    Ok(())
+/// Tells a need that isn't held, the second of its statement.
+fn tell_denied(rt: &impl Print, alloc: Global) -> Result<(), TrialFault> {
+    tell_touching(rt, alloc, &denial(Cause::Taken(5)))?;
+    tell_touching(rt, alloc, &denial(Cause::Never))
 }
 
-#[test]
-fn an_abortion(rt: HostRuntime) {
-    let form = revoking();
-    let outcome = Outcome::Aborted {
-        step: 2,
-        reason: Reason::Overflow,
-    };
-    let words = OwnWords::header(&form, &outcome);
-    assert_eq!(rt; words.as_slice(), [4, 2, 2, 0].as_slice());
-    let told = decoded(&form, words.as_slice(), Items::empty(rt.alloc()));
-    assert!(rt;
-        matches!(
-            told,
-            Outcome::Aborted {
-                step: 2,
-                reason: Reason::Overflow
-            }
-        )
-    );
+/// Tells what is done, with a revocation that ended nothing and with an output.
+fn tell_done(rt: &impl Print, alloc: Global) -> Result<(), TrialFault> {
+    let (outputs, deed) = (Outputs::new(), DeedDone::Revoked(Items::empty(alloc)));
+    tell_revoking(rt, alloc, &Outcome::Done { outputs, deed });
+    let (outputs, deed) = (nine(), DeedDone::None);
+    tell_answering(rt, alloc, &Outcome::Done { outputs, deed })
 }
 
-#[test]
-fn an_undeclared_step(rt: HostRuntime) {
-    let form = revoking();
-    let words = OwnWords::header(&form, &Outcome::Undeclared { step: 3 });
-    assert_eq!(rt; words.as_slice(), [5, 3, 0, 0].as_slice());
-    let told = decoded(&form, words.as_slice(), Items::empty(rt.alloc()));
-    assert!(rt; matches!(told, Outcome::Undeclared { step: 3 }));
+/// Tells what isn't done, and a creation.
+fn tell_others(rt: &impl Print, alloc: Global) -> Result<(), TrialFault> {
+    let (step, reason) = (2, Reason::Overflow);
+    tell_revoking(rt, alloc, &Outcome::Aborted { step, reason });
+    tell_revoking(rt, alloc, &Outcome::Undeclared { step: 3 });
+    tell_words(rt, alloc, &creating(), &Outcome::Created);
+    tell_answering(rt, alloc, &Outcome::Undeclared { step: 0 })
 }
 
-#[test]
-fn a_created_table(rt: HostRuntime) {
-    let form = creating();
-    let words = OwnWords::header(&form, &Outcome::Created);
-    assert_eq!(rt; words.as_slice(), [2, 0, 0, 0].as_slice());
-    let told = decoded(&form, words.as_slice(), Items::empty(rt.alloc()));
-    assert!(rt; matches!(told, Outcome::Created));
+/// The row of two columns that the words from a number on tell.
+fn row_from(words: &OwnWords, number: usize) -> Option<Row> {
+    let words = words.as_slice();
+    if words.len() < number {
+        return None;
+    }
+    row_of(2, &words[number..])
 }
 
-#[test]
-fn words_that_tell_nothing(rt: HostRuntime) {
-    let form = revoking();
-    let none = decoded(&form, &[], Items::empty(rt.alloc()));
-    assert!(rt; matches!(none, Outcome::Undeclared { step: 0 }));
-    let no_need = decoded(&form, &[3, 4, 0], Items::empty(rt.alloc()));
-    assert!(rt; matches!(no_need, Outcome::Undeclared { step: 4 }));
-    let no_reason = decoded(&form, &[4, 1, 4], Items::empty(rt.alloc()));
-    assert!(rt; matches!(no_reason, Outcome::Undeclared { step: 1 }));
-}
-
-#[test]
-fn rows(rt: HostRuntime) {
+/// A row of two columns.
+fn row() -> Row
+    ensures { length result ≡ 2 }
+{
     let mut row = Row::new();
     row.push(-1);
     row.push(7);
+    row
+}
+
+/// Tells the words of a version cell without a row and of one with a row, and the rows that they tell.
+fn tell_rows(rt: &impl Print) {
     let mut words = OwnWords::header(&creating(), &Outcome::Created);
-    assert_eq!(rt; words.len(), 4);
+    if words.len() > 4 {
+        return;
+    }
     words.push_row(2, None);
-    assert_eq!(rt; words.len(), 7);
-    words.push_row(2, Some(&row));
-    assert_eq!(rt;
-        words.as_slice(),
-        [2, 0, 0, 0, 0, 0, 0, 1, 18_446_744_073_709_551_615, 7].as_slice()
-    );
-    assert_eq!(rt; words.len(), 10);
-    assert_eq!(rt; row_of(2, &words.as_slice()[4..]), None);
-    assert_eq!(rt; row_of(2, &words.as_slice()[7..]), Some(row));
+    let without = words.len();
+    words.push_row(2, Some(&row()));
+    tell(rt, "the words of cells", &(without, words.as_slice()));
+    let (first, second) = (row_from(&words, 4), row_from(&words, 7));
+    tell(rt, "their rows", &(first, second));
+}
+
+/// Tells numbers as 64 bits, and what such tell.
+fn tell_numbers(rt: &impl Print) {
+    tell(rt, "bits", &(bits_of(-1), bits_of(i64::MIN)));
+    let (last, half) = (18_446_744_073_709_551_615, 9_223_372_036_854_775_808);
+    tell(rt, "values", &(value_of(last), value_of(half)));
+}
+
+/// Tells outcomes and rows with their words.
+pub fn tell_outcome_words(rt: &impl Print, alloc: Global) -> Result<(), TrialFault> {
+    tell_done(rt, alloc)?;
+    tell_denied(rt, alloc)?;
+    tell_others(rt, alloc)?;
+    tell_no_words(rt, alloc, &[]);
+    tell_no_words(rt, alloc, &[3, 4, 0]);
+    tell_no_words(rt, alloc, &[4, 1, 4]);
+    tell_rows(rt);
+    tell_numbers(rt);
+    Ok(())
 }

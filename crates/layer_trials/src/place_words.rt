@@ -21,6 +21,8 @@ ghost use Rattle.body.specs.Shape.{FitsColumns, HasColumns};
 ghost use Rattle.answering.specs.Answering.{IsShaped, columns_in};
 ghost use Rattle.layer_trials.specs.Examples.{IsExample};
 
+use crate::fault::TrialFault;
+use crate::telling::tell;
 use answering::{ended, own_words};
 use body::{RowSource, Window, filled};
 use grants::{Book, Records, holds_option};
@@ -28,10 +30,7 @@ use model_base::{
     Access, DeedForm, Form, Grant, Items, Key, Kind, Kinds, Place, Register, Revocation, Row,
     RowName, Statement, Step, Table, User,
 };
-use own_words::OwnWords;
 use std::alloc::{AllocError, Global};
-use std::process::Abort;
-use std::test::Fail;
 
 const ALICE: User = User(0);
 
@@ -172,19 +171,18 @@ fn revoking(user: User, grantee: User) -> Statement
 
 /// Makes the grant of a privilege on table 0, after each condition was tested.
 fn give(
-    rt: &impl Abort,
     book: &mut Book,
     place: Place,
     kind: Kind,
     users: (User, User, bool),
-) -> Result<(), Fail> {
+) -> Result<(), TrialFault> {
     let (grantor, grantee, option) = users;
-    assert!(rt; book.is_later(place), "at {place}");
-    assert!(rt; !book.tables().is_empty(), "at {place}");
-    let mut view = book.at(place);
-    assert!(rt; view.covers(TABLE), "at {place}");
-    let held = holds_option(&mut view, grantor, kind, TABLE);
-    assert!(rt; held, "at {place}");
+    if !book.is_later(place) || book.tables().is_empty() || !book.at(place).covers(TABLE) {
+        return Err(TrialFault::Deed);
+    }
+    if !holds_option(&mut book.at(place), grantor, kind, TABLE) {
+        return Err(TrialFault::Deed);
+    }
     book.grant(Grant {
         place,
         grantor,
@@ -196,46 +194,55 @@ fn give(
     Ok(())
 }
 
-/// The book of the log that the examples share.
-fn shared(rt: &impl Abort, alloc: Global) -> Result<Book, Fail> {
-    let mut book = Book::new(alloc);
+/// Makes the deeds of the log that the examples share.
+fn put_shared(book: &mut Book) -> Result<(), TrialFault> {
+    if !book.is_later(0) || book.tables().len() > 0 {
+        return Err(TrialFault::Deed);
+    }
     book.add_table(ALICE, 0)?;
-    give(rt, &mut book, 1, Kind::Read, (ALICE, BOB, true))?;
-    give(rt, &mut book, 2, Kind::Read, (BOB, CAROL, false))?;
-    give(rt, &mut book, 3, Kind::Update, (ALICE, BOB, false))?;
-    Ok(book)
+    give(book, 1, Kind::Read, (ALICE, BOB, true))?;
+    give(book, 2, Kind::Read, (BOB, CAROL, false))?;
+    give(book, 3, Kind::Update, (ALICE, BOB, false))
 }
 
-/// The words of the statement at a place, where each row is found so.
-fn words(
-    rt: &impl Abort,
-    book: &Book,
-    place: Place,
-    statement: &Statement,
-    row: Option<Row>,
-) -> OwnWords
+/// Tells the words of the statement at a place, where each row is found so, if the book covers its table.
+fn tell_words(rt: &impl Print, book: &Book, place: Place, statement: &Statement, row: Option<Row>)
     requires example { IsExample statement.now }
     requires columns { HasColumns 2 row }
 {
     let mut view = book.at(place);
-    assert!(rt; view.covers(TABLE), "at {place}");
-    let window = window_of(statement, row);
-    own_words(statement, &[2], window, &mut view)
+    if view.covers(TABLE) {
+        let window = window_of(statement, row);
+        let words = own_words(statement, &[2], window, &mut view);
+        tell(rt, "  words", &words.as_slice());
+    }
 }
 
-/// What the statement ends at a place.
-fn ends(
-    rt: &impl Abort,
-    alloc: Global,
-    book: &Book,
-    place: Place,
-    statement: &Statement,
-) -> Result<Vec<Place>, AllocError>
+/// Tells what the statement ends at a place, if the book covers its table.
+fn tell_ends(rt: &impl Print, alloc: Global, book: &Book, place: Place, statement: &Statement)
     requires { IsExample statement.now }
 {
     let mut view = book.at(place);
-    assert!(rt; view.covers(TABLE), "at {place}");
-    ended(alloc, statement, &mut view)
+    if view.covers(TABLE) {
+        let ends = ended(alloc, statement, &mut view);
+        tell(rt, "  ends", &ends);
+    }
+}
+
+/// Tells the words of the statement at a place and what it ends, where each row is absent.
+fn tell_both(
+    rt: &impl Print,
+    alloc: Global,
+    book: &Book,
+    name: &str,
+    place: Place,
+    statement: &Statement,
+)
+    requires { IsExample statement.now }
+{
+    tell(rt, name, &place);
+    tell_words(rt, book, place, statement, None);
+    tell_ends(rt, alloc, book, place, statement);
 }
 
 /// The first column is read and given, and the second gets it.
@@ -261,52 +268,10 @@ fn copying(alloc: Global, user: User) -> Result<Statement, AllocError>
     run(alloc, user, steps)
 }
 
-#[test]
-fn a_done_transaction(rt: HostRuntime) -> Result<(), Fail> {
-    let book = shared(&rt, rt.alloc())?;
-    let statement = copying(rt.alloc(), ALICE)?;
-    let words = words(&rt, &book, 4, &statement, Some(row(5, 7)));
-    assert_eq!(rt; words.as_slice(), [1, 0, 0, 1, 5, 1, 5, 5].as_slice());
-    Ok(())
-}
-
-/// Bob lacks INSERT, the second of the needs, which he never held.
-#[test]
-fn a_denied_transaction(rt: HostRuntime) -> Result<(), Fail> {
-    let book = shared(&rt, rt.alloc())?;
-    let statement = copying(rt.alloc(), BOB)?;
-    let words = words(&rt, &book, 4, &statement, Some(row(5, 7)));
-    assert_eq!(rt; words.as_slice(), [3, 1, 0, 0, 0, 1, 5, 7].as_slice());
-    Ok(())
-}
-
-/// Behind the revocation of place 4 Carol lacks READ, the first of the needs.
-#[test]
-fn a_denied_transaction_names_the_revocation(rt: HostRuntime) -> Result<(), Fail> {
-    let mut book = shared(&rt, rt.alloc())?;
-    assert!(rt; book.is_later(4));
-    assert!(rt; !book.tables().is_empty());
-    let (grantor, grantee, kind) = (ALICE, BOB, Kind::Read);
-    let place = 4;
-    let revocation = Revocation {
-        place,
-        grantor,
-        grantee,
-        kind,
-        table: TABLE,
-    };
-    book.revoke(rt.alloc(), &revocation)?;
-    let statement = copying(rt.alloc(), CAROL)?;
-    let words = words(&rt, &book, 5, &statement, None);
-    assert_eq!(rt; words.as_slice(), [3, 0, 5, 0, 0, 0, 0, 0].as_slice());
-    Ok(())
-}
-
-/// The step before the last stored a number, which isn't in the cell.
-#[test]
-fn an_aborted_transaction(rt: HostRuntime) -> Result<(), Fail> {
-    let alloc = rt.alloc();
-    let book = shared(&rt, alloc)?;
+/// The step before the last stores a number, which isn't in the cell, since the last aborts.
+fn aborting(alloc: Global, user: User) -> Result<Statement, AllocError>
+    ensures { IfOk result IsExample }
+{
     let (of, row_name) = (Register::new(0), RowName::Number(1));
     let steps = vec![in alloc;
         Step::Store {
@@ -317,17 +282,13 @@ fn an_aborted_transaction(rt: HostRuntime) -> Result<(), Fail> {
         },
         Step::Check { of },
     ]?;
-    let statement = run(alloc, ALICE, steps)?;
-    let words = words(&rt, &book, 4, &statement, Some(row(5, 7)));
-    assert_eq!(rt; words.as_slice(), [4, 1, 3, 0, 1, 5, 7].as_slice());
-    Ok(())
+    run(alloc, user, steps)
 }
 
 /// The row is deleted, and then another is read that isn't declared.
-#[test]
-fn an_undeclared_transaction(rt: HostRuntime) -> Result<(), Fail> {
-    let alloc = rt.alloc();
-    let book = shared(&rt, alloc)?;
+fn straying(alloc: Global, user: User) -> Result<Statement, AllocError>
+    ensures { IfOk result IsExample }
+{
     let (to, table) = (Register::new(0), TABLE);
     let steps = vec![in alloc;
         Step::Delete {
@@ -340,62 +301,106 @@ fn an_undeclared_transaction(rt: HostRuntime) -> Result<(), Fail> {
             row: RowName::Number(3)
         },
     ]?;
-    let statement = run(alloc, ALICE, steps)?;
-    let words = words(&rt, &book, 4, &statement, Some(row(5, 7)));
-    assert_eq!(rt; words.as_slice(), [5, 1, 0, 0, 1, 5, 7].as_slice());
-    Ok(())
+    run(alloc, user, steps)
 }
 
-#[test]
-fn a_deletion(rt: HostRuntime) -> Result<(), Fail> {
-    let alloc = rt.alloc();
-    let book = shared(&rt, alloc)?;
+/// The row is deleted.
+fn deleting(alloc: Global, user: User) -> Result<Statement, AllocError>
+    ensures { IfOk result IsExample }
+{
     let (table, name) = (TABLE, RowName::Number(1));
     let steps = vec![in alloc; Step::Delete { table, row: name }]?;
-    let statement = run(alloc, ALICE, steps)?;
-    let words = words(&rt, &book, 4, &statement, Some(row(5, 7)));
-    assert_eq!(rt; words.as_slice(), [1, 0, 0, 0, 0, 0, 0].as_slice());
+    run(alloc, user, steps)
+}
+
+/// The bodies of the examples.
+#[derive(Clone, Copy, Debug)]
+enum Body {
+    Copying,
+    Aborting,
+    Straying,
+    Deleting,
+}
+
+/// The transaction of a user with this body.
+fn transaction(alloc: Global, user: User, body: Body) -> Result<Statement, AllocError>
+    ensures { IfOk result IsExample }
+{
+    match body {
+        Body::Copying => copying(alloc, user),
+        Body::Aborting => aborting(alloc, user),
+        Body::Straying => straying(alloc, user),
+        Body::Deleting => deleting(alloc, user),
+    }
+}
+
+/// Tells the words of a transaction, where each row is found so.
+fn tell_body(
+    rt: &impl Print,
+    alloc: Global,
+    book: &Book,
+    asked: (User, Body),
+    row: Option<Row>,
+) -> Result<(), TrialFault>
+    requires { HasColumns 2 row }
+{
+    let (user, body) = asked;
+    tell(rt, "a transaction", &asked);
+    let statement = transaction(alloc, user, body)?;
+    tell_words(rt, book, 5, &statement, row);
     Ok(())
 }
 
-#[test]
-fn a_created_table(rt: HostRuntime) -> Result<(), Fail> {
-    let book = shared(&rt, rt.alloc())?;
-    let words = words(&rt, &book, 4, &creating(), None);
-    assert_eq!(rt; words.as_slice(), [2, 0, 0, 0].as_slice());
-    let ended = ends(&rt, rt.alloc(), &book, 4, &creating())?;
-    assert!(rt; ended.is_empty());
+/// Tells the words of transactions. Bob lacks INSERT, the second of the needs, which he never held.
+fn tell_bodies(rt: &impl Print, alloc: Global, book: &Book) -> Result<(), TrialFault> {
+    for asked in [
+        (ALICE, Body::Copying),
+        (BOB, Body::Copying),
+        (ALICE, Body::Aborting),
+        (ALICE, Body::Straying),
+        (ALICE, Body::Deleting),
+    ] {
+        tell_body(rt, alloc, book, asked, Some(row(5, 7)))?;
+    }
     Ok(())
 }
 
-/// Bob's option bears Carol's grant, which ends with his.
-#[test]
-fn a_revocation(rt: HostRuntime) -> Result<(), Fail> {
-    let book = shared(&rt, rt.alloc())?;
-    let statement = revoking(ALICE, BOB);
-    let ended = ends(&rt, rt.alloc(), &book, 4, &statement)?;
-    assert_eq!(rt; ended.as_slice(), [1, 2].as_slice());
-    let words = words(&rt, &book, 4, &statement, None);
-    assert_eq!(rt; words.as_slice(), [1, 0, 0, 0].as_slice());
+/// Tells the words and the ends of a creation and of deeds. Bob's option bears Carol's grant, which ends with his, but isn't
+/// made at place 2 yet.
+fn tell_deeds(rt: &impl Print, alloc: Global, book: &Book) {
+    tell_both(rt, alloc, book, "a creation", 4, &creating());
+    tell_both(rt, alloc, book, "a grant", 4, &granting(BOB));
+    tell_both(rt, alloc, book, "a revocation", 4, &revoking(ALICE, BOB));
+    tell_both(rt, alloc, book, "a revocation", 2, &revoking(ALICE, BOB));
+}
+
+/// Makes the revocation of place 4.
+fn revoke(alloc: Global, book: &mut Book) -> Result<(), TrialFault> {
+    let (place, grantor, grantee, kind) = (4, ALICE, BOB, Kind::Read);
+    if !book.is_later(place) || book.tables().is_empty() {
+        return Err(TrialFault::Deed);
+    }
+    let revocation = Revocation {
+        place,
+        grantor,
+        grantee,
+        kind,
+        table: TABLE,
+    };
+    book.revoke(alloc, &revocation)?;
     Ok(())
 }
 
-/// At place 2 Carol's grant isn't made yet.
-#[test]
-fn a_revocation_at_an_earlier_place(rt: HostRuntime) -> Result<(), Fail> {
-    let book = shared(&rt, rt.alloc())?;
-    let ended = ends(&rt, rt.alloc(), &book, 2, &revoking(ALICE, BOB))?;
-    assert_eq!(rt; ended.as_slice(), [1].as_slice());
-    Ok(())
+/// Tells the words of places and what they end. Behind the revocation of place 4 Carol lacks READ, the first of the needs.
+fn tell_with(rt: &impl Print, alloc: Global, book: &mut Book) -> Result<(), TrialFault> {
+    put_shared(book)?;
+    tell_bodies(rt, alloc, book)?;
+    tell_deeds(rt, alloc, book);
+    revoke(alloc, book)?;
+    tell_body(rt, alloc, book, (CAROL, Body::Copying), None)
 }
 
-#[test]
-fn a_grant(rt: HostRuntime) -> Result<(), Fail> {
-    let book = shared(&rt, rt.alloc())?;
-    let statement = granting(BOB);
-    let ended = ends(&rt, rt.alloc(), &book, 4, &statement)?;
-    assert!(rt; ended.is_empty());
-    let words = words(&rt, &book, 4, &statement, None);
-    assert_eq!(rt; words.as_slice(), [1, 0, 0, 0].as_slice());
-    Ok(())
+/// Tells the words of places and what they end.
+pub fn tell_place_words(rt: &impl Print, alloc: Global) -> Result<(), TrialFault> {
+    tell_with(rt, alloc, &mut Book::new(alloc))
 }

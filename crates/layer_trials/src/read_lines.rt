@@ -1,22 +1,24 @@
 //! Lines that cross the buffer's end, and readers that give few bytes at a time or fail.
 
-ghost use Rattle.std.specs.Prelude.{None};
+ghost use Rattle.std.specs.Prelude.{None, ◌<◌, ◌≤◌, ◌+◌, ◌^◌, length};
+ghost use Rattle.log_text_base.specs.Ahead.{ahead};
 
-use log_text_base::{Counted, LineReader, ReadFault};
-use std::alloc::AllocError;
+use crate::fault::TrialFault;
+use crate::telling::text_of;
+use log_text_base::{Counted, LineReader};
+use std::alloc::{AllocError, Global};
 use std::io;
 use std::io::{ErrorKind, Read};
-use std::test::Fail;
 
 /// Gives so many bytes of a text at a time, and at its end perhaps an error.
 #[derive(Drop)]
-struct Pieces {
-    text: &'static [u8],
+struct Pieces<'a> {
+    text: &'a [u8],
     most: usize,
     fails: bool,
 }
 
-impl Read for Pieces {
+impl Read for Pieces<'_> {
     ghost remaining = { λ _. None };
 
     fn read(&mut self, buf: &mut [u8]) -> io::Result<usize> {
@@ -30,105 +32,121 @@ impl Read for Pieces {
     }
 }
 
-/// So many times the byte, and then an LF.
-fn put_line(text: &mut Vec<u8>, byte: u8, len: usize) -> Result<(), AllocError> {
-    for _ in 0..len {
-        text.push(byte)?;
+/// Puts a piece so many times behind a text.
+fn put_piece(text: &mut Vec<u8>, piece: &str, times: usize) -> Result<(), AllocError> {
+    for _ in 0..times {
+        text.extend_from_slice(piece.as_bytes())?;
     }
-    text.push(b'\n')?;
     Ok(())
 }
 
-#[test]
-fn keeps_the_first_4097_bytes(rt: HostRuntime) -> Result<(), Fail> {
-    let mut input = Vec::new(rt.alloc());
-    put_line(&mut input, b'a', 4096)?;
-    put_line(&mut input, b'b', 4097)?;
-    put_line(&mut input, b'c', 10_000)?;
-    input.extend_from_slice(b"\nlast")?;
-    let mut reader = Counted::new(input.as_slice());
-    let mut lines = LineReader::new(rt.alloc())?;
-    assert!(rt; lines.next_line(&mut reader)?);
-    assert_eq!(rt; lines.line().len(), 4096);
-    assert!(rt; lines.line().iter().all(|b| *b == b'a'));
-    assert!(rt; lines.next_line(&mut reader)?);
-    assert_eq!(rt; lines.line().len(), 4097);
-    assert!(rt; lines.next_line(&mut reader)?);
-    assert_eq!(rt; lines.line().len(), 4097);
-    assert!(rt; lines.line().iter().all(|b| *b == b'c'));
-    assert!(rt; lines.next_line(&mut reader)?);
-    assert_eq!(rt; lines.line(), b"".as_slice());
-    assert!(rt; lines.next_line(&mut reader)?);
-    assert_eq!(rt; lines.line(), b"last".as_slice());
-    assert!(rt; !lines.next_line(&mut reader)?);
-    assert_eq!(rt; reader.errors, 0);
+/// The text of pieces, each so many times.
+fn text_of_pieces(alloc: Global, pieces: &[(&str, usize)]) -> Result<Vec<u8>, AllocError> {
+    let mut text = Vec::new(alloc);
+    for (piece, times) in pieces {
+        put_piece(&mut text, piece, *times)?;
+    }
+    Ok(text)
+}
+
+/// The byte of which the whole line is made, if it is of one.
+fn byte_of(line: &[u8]) -> Option<u8> {
+    let first = *line.first()?;
+    line.iter().all(|byte| *byte == first).then_some(first)
+}
+
+/// A line, if it is short.
+fn shortened(line: &[u8]) -> &str {
+    if line.len() > 20 {
+        return "a long line";
+    }
+    text_of(line)
+}
+
+/// Asks for so many lines. Tells of each the answer, and the line that is there then.
+fn tell_calls(
+    rt: &impl Print,
+    name: &str,
+    lines: &mut LineReader,
+    reader: &mut Counted<Pieces<'_>>,
+    calls: usize,
+)
+    requires { 0 < length (ahead lines.old) → reader.old.given ≤ 2 ^ 62 + 65536 }
+{
+    for _ in 0..calls {
+        let answer = lines.next_line(reader);
+        let line = lines.line();
+        let (len, byte, short) = (line.len(), byte_of(line), shortened(line));
+        let (given, errors) = (reader.given, reader.errors);
+        let _ = println!(rt;
+            "{name}: {answer:?}, {len} bytes, each {byte:?}: '{short}'; given: {given}, failures: {errors}"
+        );
+    }
+}
+
+/// Tells so many lines of a reader.
+fn tell_lines(
+    rt: &impl Print,
+    alloc: Global,
+    name: &str,
+    pieces: Pieces<'_>,
+    calls: usize,
+) -> Result<(), TrialFault> {
+    let mut lines = LineReader::new(alloc)?;
+    tell_calls(rt, name, &mut lines, &mut Counted::new(pieces), calls);
     Ok(())
 }
 
-#[test]
-fn reads_over_the_buffers_end(rt: HostRuntime) -> Result<(), Fail> {
-    let mut input = Vec::new(rt.alloc());
-    put_line(&mut input, b'a', 65_529)?;
-    input.extend_from_slice(b"hello world\n")?;
-    put_line(&mut input, b'b', 140_000)?;
-    input.extend_from_slice(b"\n")?;
-    let mut reader = Counted::new(input.as_slice());
-    let mut lines = LineReader::new(rt.alloc())?;
-    assert!(rt; lines.next_line(&mut reader)?);
-    assert_eq!(rt; lines.line().len(), 4097);
-    assert!(rt; lines.next_line(&mut reader)?);
-    assert_eq!(rt; lines.line(), b"hello world".as_slice());
-    assert!(rt; lines.next_line(&mut reader)?);
-    assert_eq!(rt; lines.line().len(), 4097);
-    assert!(rt; lines.next_line(&mut reader)?);
-    assert_eq!(rt; lines.line(), b"".as_slice());
-    assert!(rt; !lines.next_line(&mut reader)?);
-    Ok(())
+/// Lines of 4,096 and 4,097 bytes and of more, an empty one, and a last one without LF.
+const LONG: [(&str, usize); 7] = [
+    ("a", 4096),
+    ("\n", 1),
+    ("b", 4097),
+    ("\n", 1),
+    ("c", 10_000),
+    ("\n\n", 1),
+    ("last", 1),
+];
+
+/// Lines that cross the ends of the buffer, of 65,536 bytes.
+const CROSSING: [(&str, usize); 4] = [
+    ("a", 65_529),
+    ("\nhello world\n", 1),
+    ("b", 140_000),
+    ("\n\n", 1),
+];
+
+/// Lines of a text that comes at once.
+fn tell_pieces(
+    rt: &impl Print,
+    alloc: Global,
+    name: &str,
+    pieces: &[(&str, usize)],
+) -> Result<(), TrialFault> {
+    let text = text_of_pieces(alloc, pieces)?;
+    let reader = Pieces {
+        text: text.as_slice(),
+        most: 1 << 20,
+        fails: false,
+    };
+    tell_lines(rt, alloc, name, reader, 6)
 }
 
-#[test]
-fn an_empty_text_has_no_line(rt: HostRuntime) -> Result<(), Fail> {
-    let mut reader = Counted::new(b"".as_slice());
-    let mut lines = LineReader::new(rt.alloc())?;
-    assert!(rt; !lines.next_line(&mut reader)?);
-    assert_eq!(rt; lines.line(), b"".as_slice());
-    Ok(())
-}
-
-#[test]
-fn reads_byte_by_byte(rt: HostRuntime) -> Result<(), Fail> {
-    let text = b"one\n\ntwo".as_slice();
-    let mut reader = Counted::new(Pieces {
-        text,
+/// Tells the lines of several readers.
+pub fn tell_read_lines(rt: &impl Print, alloc: Global) -> Result<(), TrialFault> {
+    tell_pieces(rt, alloc, "long lines", &LONG)?;
+    tell_pieces(rt, alloc, "lines over the buffer's end", &CROSSING)?;
+    tell_pieces(rt, alloc, "lines of an empty text", &[])?;
+    let slow = Pieces {
+        text: b"one\n\ntwo",
         most: 1,
         fails: false,
-    });
-    let mut lines = LineReader::new(rt.alloc())?;
-    assert!(rt; lines.next_line(&mut reader)?);
-    assert_eq!(rt; lines.line(), b"one".as_slice());
-    assert!(rt; lines.next_line(&mut reader)?);
-    assert_eq!(rt; lines.line(), b"".as_slice());
-    assert!(rt; lines.next_line(&mut reader)?);
-    assert_eq!(rt; lines.line(), b"two".as_slice());
-    assert!(rt; !lines.next_line(&mut reader)?);
-    assert_eq!(rt; reader.given, 8);
-    Ok(())
-}
-
-#[test]
-fn answers_an_error_of_the_reader(rt: HostRuntime) -> Result<(), Fail> {
-    let text = b"one\ntwo".as_slice();
-    let mut reader = Counted::new(Pieces {
-        text,
+    };
+    tell_lines(rt, alloc, "lines byte by byte", slow, 4)?;
+    let failing = Pieces {
+        text: b"one\ntwo",
         most: 5,
         fails: true,
-    });
-    let mut lines = LineReader::new(rt.alloc())?;
-    assert!(rt; lines.next_line(&mut reader)?);
-    assert_eq!(rt; lines.line(), b"one".as_slice());
-    assert_eq!(rt; lines.next_line(&mut reader), Err(ReadFault::Read));
-    assert_eq!(rt; reader.errors, 1);
-    assert_eq!(rt; lines.next_line(&mut reader), Err(ReadFault::Read));
-    assert_eq!(rt; reader.errors, 2);
-    Ok(())
+    };
+    tell_lines(rt, alloc, "lines of a reader that fails", failing, 3)
 }

@@ -6,10 +6,11 @@ ghost use Rattle.bohm_core_base.specs.Batch.{was_done};
 ghost use Rattle.bohm_core_base.specs.Machine.{references_of};
 ghost use Rattle.layer_trials.specs.Countdown.{countdown, is_open, number_by, number_of, word_at};
 
-use bohm_core::{Event, Hold, Machine, State, Statements};
+use crate::fault::TrialFault;
+use crate::telling::tell;
+use bohm_core::{Event, Machine, State, Statements};
 use model_base::Place;
 use std::alloc::{AllocError, Global};
-use std::test::Fail;
 
 /// Two places, each of which takes one from a number that is 9 at first, and revokes the one grant.
 #[derive(Drop)]
@@ -146,14 +147,7 @@ impl Statements for Countdown {
     }
 }
 
-/// The batch, its two places placed in both partitions, after these events.
-fn after(alloc: Global, events: &[Event]) -> Result<Machine<Countdown>, AllocError> {
-    let mut machine = Machine::new(alloc, Countdown { alloc })?;
-    machine.run_events(&PLACES)?;
-    machine.run_events(events)?;
-    Ok(machine)
-}
-
+/// The two places are placed in both partitions.
 const PLACES: [Event; 4] = [
     Event::Place { partition: 0 },
     Event::Place { partition: 1 },
@@ -161,8 +155,14 @@ const PLACES: [Event; 4] = [
     Event::Place { partition: 0 },
 ];
 
+/// One of two partitions places a place, and an actor would take it.
+const UNPLACED: [Event; 2] = [
+    Event::Place { partition: 0 },
+    Event::Claim { actor: 1, index: 0 },
+];
+
 /// The actor takes the place, stores three words, ends the record if it must, and is done.
-fn whole(actor: u64, index: usize) -> [Event; 6] {
+const fn whole(actor: u64, index: usize) -> [Event; 6] {
     [
         Event::Claim { actor, index },
         Event::Fill { actor, index },
@@ -177,49 +177,64 @@ fn whole(actor: u64, index: usize) -> [Event; 6] {
     ]
 }
 
-#[test]
-fn an_unplaced_place_stays_free(rt: HostRuntime) -> Result<(), Fail> {
-    let alloc = rt.alloc();
+/// A place is given back, taken by another, and not given back with a word.
+const GIVEN_BACK: [Event; 6] = [
+    Event::Claim { actor: 1, index: 0 },
+    Event::GiveBack { actor: 1, index: 0 },
+    Event::Claim { actor: 2, index: 0 },
+    Event::Fill { actor: 2, index: 0 },
+    Event::GiveBack { actor: 2, index: 0 },
+    Event::Fill { actor: 1, index: 0 },
+];
+
+/// Tells what is stored of both places and of the one record.
+fn tell_state(rt: &impl Print, state: &State) {
+    for index in 0..2 {
+        tell(rt, "  place", &(state.hold(index), state.own(index)));
+    }
+    tell(rt, "  the record", &state.end(0));
+}
+
+/// Makes events, list by list, and tells what they come to.
+fn tell_events(
+    rt: &impl Print,
+    name: &str,
+    machine: &mut Machine<Countdown>,
+    lists: &[&[Event]],
+) -> Result<(), TrialFault> {
+    for events in lists {
+        machine.run_events(events)?;
+    }
+    tell(
+        rt,
+        name,
+        &(machine.statements().places(), machine.state().places()),
+    );
+    tell_state(rt, machine.state());
+    Ok(())
+}
+
+/// Tells what events come to.
+fn tell_after(
+    rt: &impl Print,
+    alloc: Global,
+    name: &str,
+    lists: &[&[Event]],
+) -> Result<(), TrialFault> {
     let mut machine = Machine::new(alloc, Countdown { alloc })?;
-    machine.apply(&Event::Place { partition: 0 })?;
-    machine.apply(&Event::Claim { actor: 1, index: 0 })?;
-    assert_eq!(rt; machine.state().hold(0), Hold::Free);
-    assert_eq!(rt; machine.statements().places(), 2);
-    Ok(())
+    tell_events(rt, name, &mut machine, lists)
 }
 
-#[test]
-fn a_later_place_waits(rt: HostRuntime) -> Result<(), Fail> {
-    let machine = after(rt.alloc(), &whole(1, 1))?;
-    assert_eq!(rt; machine.state().hold(1), Hold::Held { actor: 1 });
-    assert_eq!(rt; machine.state().own(1).len(), 0);
-    Ok(())
-}
-
-#[test]
-fn places_take_one_each(rt: HostRuntime) -> Result<(), Fail> {
-    let mut machine = after(rt.alloc(), &whole(1, 0))?;
-    machine.run_events(&whole(2, 1))?;
-    let state = machine.state();
-    assert_eq!(rt; state.own(0), [1, 1, 8].as_slice());
-    assert_eq!(rt; state.own(1), [1, 1, 7].as_slice());
-    assert_eq!(rt; state.hold(1), Hold::Done);
-    assert_eq!(rt; state.end(0), Some(3));
-    Ok(())
-}
-
-#[test]
-fn only_an_untouched_place_is_given_back(rt: HostRuntime) -> Result<(), Fail> {
-    let events = [
-        Event::Claim { actor: 1, index: 0 },
-        Event::GiveBack { actor: 1, index: 0 },
-        Event::Claim { actor: 2, index: 0 },
-        Event::Fill { actor: 2, index: 0 },
-        Event::GiveBack { actor: 2, index: 0 },
-        Event::Fill { actor: 1, index: 0 },
-    ];
-    let machine = after(rt.alloc(), &events)?;
-    assert_eq!(rt; machine.state().hold(0), Hold::Held { actor: 2 });
-    assert_eq!(rt; machine.state().own(0), [1].as_slice());
-    Ok(())
+/// Tells rows of events on the small batch.
+pub fn tell_small_batch(rt: &impl Print, alloc: Global) -> Result<(), TrialFault> {
+    let (first, second) = (whole(1, 0), whole(2, 1));
+    tell_after(rt, alloc, "an unplaced place stays free", &[&UNPLACED])?;
+    tell_after(rt, alloc, "a later place waits", &[&PLACES, &whole(1, 1)])?;
+    tell_after(rt, alloc, "each takes one", &[&PLACES, &first, &second])?;
+    tell_after(
+        rt,
+        alloc,
+        "only an untouched place is given back",
+        &[&PLACES, &GIVEN_BACK],
+    )
 }

@@ -2,10 +2,12 @@
 
 ghost use Rattle.std.specs.Prelude.{None};
 
-use log_text_base::{Counted, PIECE_LEN, WriteFault, flush, write_much, write_out, write_pending};
+use crate::fault::TrialFault;
+use crate::telling::{tell, text_of};
+use log_text_base::{Counted, PIECE_LEN, flush, write_much, write_out, write_pending};
+use std::alloc::{AllocError, Global};
 use std::io;
 use std::io::{ErrorKind, Write};
-use std::test::Fail;
 
 /// Takes so many bytes a write, for so many writes, and may fail to flush.
 #[derive(Drop)]
@@ -37,65 +39,96 @@ impl Write for Taking {
     }
 }
 
-#[test]
-fn writes_byte_by_byte(rt: HostRuntime) {
-    let mut writer = Counted::new(Taking {
-        taken: Vec::new(rt.alloc()),
-        most: 1,
-        writes: 100,
-        flushes: true,
-    });
-    assert!(rt; write_out(&mut writer, b"four").is_ok());
-    assert!(rt; flush(&mut writer).is_ok());
-    assert_eq!(rt; writer.inner.taken.as_slice(), b"four".as_slice());
-    assert_eq!(rt; (writer.inner.writes, writer.errors), (96, 0));
+/// Tells what a writer took, how many writes it has left, and how many failures were counted.
+fn tell_taken(rt: &impl Print, writer: &Counted<Taking>) {
+    let (writes, errors) = (writer.inner.writes, writer.errors);
+    let taken = text_of(writer.inner.taken.as_slice());
+    let _ = println!(rt; "  taken: '{taken}', writes left: {writes}, failures: {errors}");
 }
 
-#[test]
-fn tries_no_piece_again(rt: HostRuntime) -> Result<(), Fail> {
-    let mut writer = Counted::new(Taking {
-        taken: Vec::new(rt.alloc()),
-        most: 3,
-        writes: 1,
-        flushes: false,
-    });
-    let mut pending = Vec::new(rt.alloc());
-    pending.extend_from_slice(b"four")?;
-    assert_eq!(rt; write_pending(&mut writer, &mut pending), Err(WriteFault));
-    assert_eq!(rt; writer.inner.taken.as_slice(), b"fou".as_slice());
-    assert!(rt; pending.is_empty());
-    assert_eq!(rt; writer.errors, 1);
-    assert_eq!(rt; flush(&mut writer), Err(WriteFault));
-    assert_eq!(rt; writer.errors, 2);
+/// Writes a piece and flushes. Tells each answer, and what was taken.
+fn tell_piece(rt: &impl Print, name: &str, writer: &mut Counted<Taking>) {
+    let written = write_out(writer, b"four");
+    tell(rt, name, &written);
+    tell_taken(rt, writer);
+    let flushed = flush(writer);
+    tell(rt, "  flushed", &flushed);
+    tell_taken(rt, writer);
+}
+
+/// Tells what a writer takes of a piece.
+fn tell_writer(rt: &impl Print, name: &str, taking: Taking) {
+    tell_piece(rt, name, &mut Counted::new(taking));
+}
+
+/// Writes what is pending, and flushes. Tells each answer, and what was taken.
+fn tell_pending(rt: &impl Print, writer: &mut Counted<Taking>, pending: &mut Vec<u8>) {
+    let written = write_pending(writer, pending);
+    tell(rt, "what is pending", &(written, pending.len()));
+    tell_taken(rt, writer);
+    let flushed = flush(writer);
+    tell(rt, "  flushed", &flushed);
+    tell_taken(rt, writer);
+}
+
+/// Writes what is pending into a writer that takes three bytes once, and can't flush.
+fn tell_failing(rt: &impl Print, alloc: Global) -> Result<(), TrialFault> {
+    let mut pending = Vec::from_slice(alloc, b"four")?;
+    let mut writer = Counted::new(writer_of(alloc, 3, 1, false));
+    tell_pending(rt, &mut writer, &mut pending);
     Ok(())
 }
 
-#[test]
-fn a_write_that_takes_no_byte_fails(rt: HostRuntime) {
-    let mut writer = Counted::new(Taking {
-        taken: Vec::new(rt.alloc()),
-        most: 0,
-        writes: 100,
-        flushes: true,
-    });
-    assert_eq!(rt; write_out(&mut writer, b"four"), Err(WriteFault));
-    assert_eq!(rt; (writer.inner.writes, writer.errors), (99, 1));
-}
-
-#[test]
-fn writes_what_is_much(rt: HostRuntime) -> Result<(), Fail> {
-    let mut writer = Counted::new(Vec::new(rt.alloc()));
-    let mut pending = Vec::new(rt.alloc());
-    for _ in 0..PIECE_LEN - 1 {
-        pending.push(b'a')?;
+/// A writer that has taken nothing.
+fn writer_of(alloc: Global, most: usize, writes: u64, flushes: bool) -> Taking {
+    Taking {
+        taken: Vec::new(alloc),
+        most,
+        writes,
+        flushes,
     }
-    assert!(rt; write_much(&mut writer, &mut pending).is_ok());
-    assert_eq!(rt; (writer.inner.len(), pending.len()), (0, PIECE_LEN - 1));
+}
+
+/// So many bytes.
+fn bytes(alloc: Global, count: usize) -> Result<Vec<u8>, AllocError> {
+    let mut bytes = Vec::new(alloc);
+    for _ in 0..count {
+        bytes.push(b'a')?;
+    }
+    Ok(bytes)
+}
+
+/// Writes what is pending if it is much: a byte less than a piece, a piece, and three bytes more, which are written at last.
+fn tell_much(
+    rt: &impl Print,
+    writer: &mut Counted<Vec<u8>>,
+    pending: &mut Vec<u8>,
+) -> Result<(), TrialFault> {
+    let little = write_much(writer, pending);
+    tell(rt, "little", &(little, writer.inner.len(), pending.len()));
     pending.push(b'b')?;
-    assert!(rt; write_much(&mut writer, &mut pending).is_ok());
-    assert_eq!(rt; (writer.inner.len(), pending.len()), (PIECE_LEN, 0));
+    let much = write_much(writer, pending);
+    tell(rt, "much", &(much, writer.inner.len(), pending.len()));
     pending.extend_from_slice(b"end")?;
-    assert!(rt; write_pending(&mut writer, &mut pending).is_ok());
-    assert_eq!(rt; writer.inner.len(), PIECE_LEN + 3);
+    let rest = write_pending(writer, pending);
+    tell(rt, "the rest", &(rest, writer.inner.len(), pending.len()));
     Ok(())
+}
+
+/// Tells what is written of bytes that become much.
+fn tell_growing(rt: &impl Print, alloc: Global) -> Result<(), TrialFault> {
+    let mut pending = bytes(alloc, PIECE_LEN - 1)?;
+    tell_much(rt, &mut Counted::new(Vec::new(alloc)), &mut pending)
+}
+
+/// Tells what several writers take.
+pub fn tell_written_pieces(rt: &impl Print, alloc: Global) -> Result<(), TrialFault> {
+    tell_writer(rt, "a piece byte by byte", writer_of(alloc, 1, 100, true));
+    tell_writer(
+        rt,
+        "a piece of which nothing is taken",
+        writer_of(alloc, 0, 100, true),
+    );
+    tell_failing(rt, alloc)?;
+    tell_growing(rt, alloc)
 }

@@ -11,7 +11,8 @@ use bohm_core::Machine;
 use bohm_core_base::Event;
 use chains::Chains;
 use grants::Book;
-use log_machine::LogBatch;
+use log_batch::LogBatch;
+use log_machine::OfLog;
 use log_text::parse_line;
 use model_base::Place;
 use placing::{Part, merge, place};
@@ -100,18 +101,18 @@ pub fn machine_of<'a>(
     before: &'a Before,
     range: Range<Place>,
     partitions: usize,
-) -> Result<Machine<LogBatch<'a>>, AllocError>
+) -> Result<Machine<OfLog<'a>>, AllocError>
     requires partitions { 0 < partitions }
     requires order { range.start ≤ range.end }
     requires within { range.end ≤ length log.now.statements }
     requires before { IsBefore before.now log.now.statements range.start }
 {
     let batch = batch_of(alloc, log, before, range, partitions)?;
-    Machine::new(alloc, batch)
+    Machine::new(alloc, OfLog::new(batch))
 }
 
 /// Makes the event, and once more where memory was refused, after which nothing has changed.
-pub fn make(machine: &mut Machine<LogBatch<'_>>, event: &Event) -> Result<(), AllocError> {
+pub fn make(machine: &mut Machine<OfLog<'_>>, event: &Event) -> Result<(), AllocError> {
     match machine.apply(event) {
         Ok(()) => Ok(()),
         Err(_) => machine.apply(event),

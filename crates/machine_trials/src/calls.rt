@@ -2,7 +2,7 @@
 
 use crate::batches::{batch_of, log_of, nothing};
 use crate::fault::TrialFault;
-use log_machine::LogBatch;
+use log_batch::LogBatch;
 use model_base::{Form, Key, Table};
 use std::alloc::Global;
 

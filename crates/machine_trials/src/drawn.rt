@@ -8,7 +8,7 @@ use crate::draws::{Draws, drawn_event};
 use crate::telling::outcome_at;
 use bohm_core::{Machine, State};
 use bohm_core_base::Event;
-use log_machine::LogBatch;
+use log_machine::OfLog;
 use model::serial;
 use model_base::{DeedDone, Outcome, Place};
 use sequencer::Log;
@@ -57,7 +57,7 @@ struct Counts {
 }
 
 /// Both partitions place all places.
-fn place_all(machine: &mut Machine<LogBatch<'_>>) -> Result<(), AllocError> {
+fn place_all(machine: &mut Machine<OfLog<'_>>) -> Result<(), AllocError> {
     for _ in 0..LINES.len() {
         machine.run_events(&[Event::Place { partition: 0 }, Event::Place { partition: 1 }])?;
     }
@@ -72,7 +72,7 @@ fn has_late_reader(state: &State) -> bool {
 
 /// Makes so many drawn events of some places. Answers whether an end was set before the reader had a word.
 fn run_drawn(
-    machine: &mut Machine<LogBatch<'_>>,
+    machine: &mut Machine<OfLog<'_>>,
     draws: &mut Draws,
     indices: &[usize],
     events: u64,
@@ -90,7 +90,7 @@ fn run_drawn(
 
 /// Makes the events of a drawn list. Half of the lists begin when all is placed. In half of them a drawn number of events are
 /// of the other places, before any is of the reader.
-fn run_list(machine: &mut Machine<LogBatch<'_>>, draws: &mut Draws) -> Result<bool, AllocError> {
+fn run_list(machine: &mut Machine<OfLog<'_>>, draws: &mut Draws) -> Result<bool, AllocError> {
     if draws.below(2) == 0 {
         place_all(machine)?;
     }
@@ -104,7 +104,7 @@ fn run_list(machine: &mut Machine<LogBatch<'_>>, draws: &mut Draws) -> Result<bo
 fn compare_places(
     rt: &impl Abort,
     alloc: Global,
-    machine: &Machine<LogBatch<'_>>,
+    machine: &Machine<OfLog<'_>>,
     outcomes: &[Outcome],
 ) -> Result<u32, AllocError> {
     let mut done: u32 = 0;
@@ -133,11 +133,11 @@ fn ends_grant(outcomes: &[Outcome], place: Place, granted: Place) -> bool {
 }
 
 /// How many ends are set, each by a revocation of the serial run.
-fn compare_ends(rt: &impl Abort, machine: &Machine<LogBatch<'_>>, outcomes: &[Outcome]) -> u32 {
+fn compare_ends(rt: &impl Abort, machine: &Machine<OfLog<'_>>, outcomes: &[Outcome]) -> u32 {
     let mut ended: u32 = 0;
-    for slot in 0..machine.statements().slot_count() {
+    for slot in 0..machine.statements().batch().slot_count() {
         if let Some(end) = machine.state().end(slot) {
-            let granted = machine.statements().grant(slot).place;
+            let granted = machine.statements().batch().grant(slot).place;
             assert!(rt; ends_grant(outcomes, end, granted), "of {slot}");
             ended = ended.saturating_add(1);
         }

@@ -1,5 +1,6 @@
 //! The machine over logs, tried: rows of events on a whole log and on a batch in the middle of it, each event told with what
-//! it changed, and the calls of a batch. What is printed is compared with `stdout`. Drawn lists of events are the test.
+//! it changed, the calls of a batch, and which grants one may end. What is printed is compared with `stdout`. Drawn lists of
+//! events are the test.
 #![tactic(auto)]
 
 mod batches;
@@ -8,6 +9,7 @@ mod calls;
 mod drawn;
 #[cfg(test)]
 mod draws;
+mod ended;
 mod fault;
 mod middle;
 mod shared;
@@ -16,6 +18,7 @@ mod whole;
 mod worked;
 
 use calls::tell_calls;
+use ended::tell_ended;
 use fault::TrialFault;
 use middle::tell_middle;
 use shared::tell_shared;
@@ -28,6 +31,7 @@ fn run(rt: &impl Print, alloc: Global) -> Result<(), TrialFault> {
     tell_whole(rt, alloc)?;
     tell_middle(rt, alloc)?;
     tell_shared(rt, alloc)?;
+    tell_ended(rt, alloc)?;
     tell_calls(rt, alloc)
 }
 

@@ -10,7 +10,7 @@ use crate::telling::{tell_events, tell_found};
 use crate::worked::{LINES, before_the_reader, begins_worked};
 use bohm_core::Machine;
 use bohm_core_base::Event;
-use log_machine::LogBatch;
+use log_machine::OfLog;
 use sequencer::Log;
 use std::alloc::Global;
 
@@ -111,7 +111,7 @@ const READING: [Event; 12] = [
 fn tell_row(
     rt: &impl Print,
     alloc: Global,
-    machine: &mut Machine<LogBatch<'_>>,
+    machine: &mut Machine<OfLog<'_>>,
 ) -> Result<(), TrialFault> {
     tell_events(rt, alloc, machine, &PLACING)?;
     tell_events(rt, alloc, machine, &TAKING)?;
@@ -128,7 +128,7 @@ fn tell_last_two(rt: &impl Print, alloc: Global, log: &Log) -> Result<(), TrialF
 {
     let before = before_the_reader(alloc)?;
     let mut machine = machine_of(alloc, log, &before, 3..5, 1)?;
-    tell_batch(rt, machine.statements())?;
+    tell_batch(rt, machine.statements().batch())?;
     tell_row(rt, alloc, &mut machine)
 }
 

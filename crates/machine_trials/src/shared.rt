@@ -7,7 +7,7 @@ ghost use Rattle.bohm_core_base.specs.declared.hold.Hold.TheVariants.{Done};
 ghost use Rattle.bohm_core_base.specs.Batch.{references, slots_of, words_length};
 ghost use Rattle.bohm_core_base.specs.Machine.{hold_of};
 ghost use Rattle.bohm_core_base.specs.Serial.{serial_ends, serial_words};
-ghost use Rattle.log_machine.specs.Supplied.{batch_in};
+ghost use Rattle.log_batch.specs.Supplied.{batch_in};
 ghost use Rattle.words.specs.Passes.{IsPassOf};
 ghost use Rattle.words.specs.Views.{Holds, In};
 ghost use Rattle.machine_trials.specs.Worked.{BeginsWorked};
@@ -15,9 +15,10 @@ ghost use Rattle.machine_trials.specs.Worked.{BeginsWorked};
 use crate::batches::{batch_of, log_of};
 use crate::fault::TrialFault;
 use crate::worked::{LINES, before_the_reader, begins_worked};
-use bohm_core::{Machine, Statements, done_places_are_serial};
+use bohm_core::{Machine, done_places_are_serial};
 use bohm_core_base::{Event, Hold};
-use log_machine::LogBatch;
+use log_batch::LogBatch;
+use log_machine::OfLog;
 use log_words::{LogKey, LogWords, ended_slots};
 use sequencer::Log;
 use std::alloc::Global;
@@ -43,7 +44,7 @@ const REVOKING: [Event; 9] = [
 ];
 
 /// Whether the machine has done the place.
-fn is_done(machine: &Machine<LogBatch<'_>>, index: usize) -> bool
+fn is_done(machine: &Machine<OfLog<'_>>, index: usize) -> bool
     ensures { IsTrue result → hold_of machine.now.state index ≡ Done }
 {
     match machine.state().hold(index) {
@@ -53,7 +54,7 @@ fn is_done(machine: &Machine<LogBatch<'_>>, index: usize) -> bool
 }
 
 /// The own words of a place that the machine has done: those of the serial run.
-fn serial_own<'a>(machine: &'a Machine<LogBatch<'_>>, index: usize) -> &'a [u64]
+fn serial_own<'a>(machine: &'a Machine<OfLog<'_>>, index: usize) -> &'a [u64]
     requires { hold_of machine.now.state index ≡ Done }
     ensures { result.now ≡ serial_words (batch_in machine.now.statements) index }
 {
@@ -62,14 +63,14 @@ fn serial_own<'a>(machine: &'a Machine<LogBatch<'_>>, index: usize) -> &'a [u64]
 }
 
 /// Whether a place that the machine has done ends the record of a slot by the serial run.
-fn ends_slot(machine: &Machine<LogBatch<'_>>, index: usize, slot: usize) -> bool
+fn ends_slot(machine: &Machine<OfLog<'_>>, index: usize, slot: usize) -> bool
     requires within { index < machine.now.statements.size }
     requires done { hold_of machine.now.state index ≡ Done }
     requires slot { slot < length (slots_of (batch_in machine.now.statements)) }
     ensures { result ≡ serial_ends (batch_in machine.now.statements) index slot }
 {
     done_places_are_serial();
-    let place = machine.statements().first_place() + index as u64;
+    let place = machine.statements().batch().first_place() + index as u64;
     machine.state().is_ended_by(slot, place)
 }
 
@@ -81,7 +82,7 @@ fn are_base(references: &[usize]) -> bool
 }
 
 /// Whether a place that the machine has done refers to none of the batch.
-fn refers_to_none(machine: &Machine<LogBatch<'_>>, index: usize) -> bool
+fn refers_to_none(machine: &Machine<OfLog<'_>>, index: usize) -> bool
     requires { hold_of machine.now.state index ≡ Done }
     ensures { IsTrue result → (other : ℕ) → ¬ (In (suc other) (references (batch_in machine.now.statements) index)) }
 {
@@ -98,7 +99,7 @@ fn word_at(own: &[u64], number: usize) -> u64
 
 /// Stores all own words of a place that is held with nothing stored.
 fn store_words(
-    machine: &Machine<LogBatch<'_>>,
+    machine: &Machine<OfLog<'_>>,
     words: &LogWords<'_>,
     holding: &mut Holding,
     index: usize,
@@ -114,7 +115,7 @@ fn store_words(
 {
     own_events_tell_what_is_held();
     let own = serial_own(machine, index);
-    for number in 0..words.key().batch().words_length(index) {
+    for number in 0..words.key().words_length(index) {
         let word = word_at(own, number);
         words.words().fill(holding, index, number, word);
     }
@@ -122,7 +123,7 @@ fn store_words(
 
 /// Sets the one listed end, if the place ends that record by the serial run, and finishes the place. Answers whether it did.
 fn finish(
-    machine: &Machine<LogBatch<'_>>,
+    machine: &Machine<OfLog<'_>>,
     words: &LogWords<'_>,
     holding: &mut Holding,
     index: usize,
@@ -153,7 +154,7 @@ fn finish(
 }
 
 /// The first pass stores all of the revocation, which it holds, and finishes it.
-fn revoke(machine: &Machine<LogBatch<'_>>, words: &LogWords<'_>, holding: &mut Holding) -> bool
+fn revoke(machine: &Machine<OfLog<'_>>, words: &LogWords<'_>, holding: &mut Holding) -> bool
     requires same { machine.now.statements ≡ words.now.key.batch }
     requires size { words.now.key.batch.size ≡ 2 }
     requires done { hold_of machine.now.state 1 ≡ Done }
@@ -178,7 +179,7 @@ fn tell_revocation(
     passes_keep_what_they_know();
     let key = words.key();
     let _ends = key.ends();
-    let (count, ends) = (key.batch().words_length(1), key.slots().len());
+    let (count, ends) = (key.words_length(1), key.slots().len());
     match words.words().look(holding, 1) {
         Seen::Done if count > 0 && ends > 0 => {
             let outcome = words.words().own(holding, 1, 0);
@@ -218,7 +219,7 @@ fn tell_reader(
 /// Tells the row of calls.
 fn tell_calls(
     rt: &impl Print,
-    machine: &Machine<LogBatch<'_>>,
+    machine: &Machine<OfLog<'_>>,
     words: &LogWords<'_>,
     pass: Pass,
 ) -> Result<(), TrialFault>
@@ -249,7 +250,7 @@ fn tell_calls(
 fn tell_batch_words(
     rt: &impl Print,
     alloc: Global,
-    machine: &Machine<LogBatch<'_>>,
+    machine: &Machine<OfLog<'_>>,
     batch: LogBatch<'_>,
 ) -> Result<(), TrialFault>
     requires same { machine.now.statements ≡ batch }
@@ -268,7 +269,7 @@ fn tell_words(rt: &impl Print, alloc: Global, log: &Log) -> Result<(), TrialFaul
     requires begins { BeginsWorked log.now.statements }
 {
     let before = before_the_reader(alloc)?;
-    let mut machine = Machine::new(alloc, batch_of(alloc, log, &before, 3..5, 1)?)?;
+    let mut machine = Machine::new(alloc, OfLog::new(batch_of(alloc, log, &before, 3..5, 1)?))?;
     machine.run_events(&REVOKING)?;
     if !is_done(&machine, 1) {
         return Err(TrialFault::OtherLog);

@@ -4,7 +4,7 @@ use crate::batches::make;
 use crate::fault::TrialFault;
 use bohm_core::{Machine, State};
 use bohm_core_base::Event;
-use log_machine::{LogBatch, done_ends, done_words};
+use log_machine::{OfLog, done_ends, done_words};
 use model_base::{DeedDone, Items, Outcome};
 use own_words::decoded;
 use std::alloc::{AllocError, Global};
@@ -74,10 +74,10 @@ fn concerned(alloc: Global, state: &State, event: Event) -> Result<String, Alloc
 pub fn tell_event(
     rt: &impl Print,
     alloc: Global,
-    machine: &mut Machine<LogBatch<'_>>,
+    machine: &mut Machine<OfLog<'_>>,
     event: Event,
 ) -> Result<(), TrialFault> {
-    let partitions = machine.statements().partition_count();
+    let partitions = machine.statements().batch().partition_count();
     let before = picture(alloc, machine.state(), partitions)?;
     make(machine, &event)?;
     let after = picture(alloc, machine.state(), partitions)?;
@@ -94,7 +94,7 @@ pub fn tell_event(
 pub fn tell_events(
     rt: &impl Print,
     alloc: Global,
-    machine: &mut Machine<LogBatch<'_>>,
+    machine: &mut Machine<OfLog<'_>>,
     events: &[Event],
 ) -> Result<(), TrialFault> {
     for event in events {
@@ -128,17 +128,17 @@ fn tell_outcome(rt: &impl Print, outcome: &Outcome) -> Result<(), TrialFault> {
 /// The outcome of a place of the batch by its own words and the ends of records, if the place is done.
 pub fn outcome_at(
     alloc: Global,
-    machine: &Machine<LogBatch<'_>>,
+    machine: &Machine<OfLog<'_>>,
     index: usize,
 ) -> Result<Option<Outcome>, AllocError> {
-    if index >= machine.statements().size() {
+    if index >= machine.statements().batch().size() {
         return Ok(None);
     }
     let Some(own) = done_words(machine, index) else {
         return Ok(None);
     };
     let ended = done_ends(alloc, machine, index)?.unwrap_or(Vec::new(alloc));
-    let form = &machine.statements().statement(index).form;
+    let form = &machine.statements().batch().statement(index).form;
     Ok(Some(decoded(form, own, Items::new(ended))))
 }
 
@@ -146,7 +146,7 @@ pub fn outcome_at(
 fn tell_place(
     rt: &impl Print,
     alloc: Global,
-    machine: &Machine<LogBatch<'_>>,
+    machine: &Machine<OfLog<'_>>,
     index: usize,
 ) -> Result<(), TrialFault> {
     let (references, own) = (
@@ -161,9 +161,9 @@ fn tell_place(
 }
 
 /// Tells where the record of each slot ended.
-fn tell_slots(rt: &impl Print, machine: &Machine<LogBatch<'_>>) -> Result<(), TrialFault> {
-    for slot in 0..machine.statements().slot_count() {
-        let place = machine.statements().grant(slot).place;
+fn tell_slots(rt: &impl Print, machine: &Machine<OfLog<'_>>) -> Result<(), TrialFault> {
+    for slot in 0..machine.statements().batch().slot_count() {
+        let place = machine.statements().batch().grant(slot).place;
         let end = machine.state().end(slot);
         println!(rt; "slot {slot}: the grant of {place} ended at {end:?}")?;
     }
@@ -174,9 +174,9 @@ fn tell_slots(rt: &impl Print, machine: &Machine<LogBatch<'_>>) -> Result<(), Tr
 pub fn tell_found(
     rt: &impl Print,
     alloc: Global,
-    machine: &Machine<LogBatch<'_>>,
+    machine: &Machine<OfLog<'_>>,
 ) -> Result<(), TrialFault> {
-    for index in 0..machine.statements().size() {
+    for index in 0..machine.statements().batch().size() {
         tell_place(rt, alloc, machine, index)?;
     }
     tell_slots(rt, machine)

@@ -8,7 +8,7 @@ use crate::telling::{tell_events, tell_found};
 use crate::worked::LINES;
 use bohm_core::Machine;
 use bohm_core_base::Event;
-use log_machine::LogBatch;
+use log_machine::OfLog;
 use sequencer::Log;
 use std::alloc::Global;
 
@@ -92,7 +92,7 @@ const THREE: [Event; 3] = [
 fn tell_first(
     rt: &impl Print,
     alloc: Global,
-    machine: &mut Machine<LogBatch<'_>>,
+    machine: &mut Machine<OfLog<'_>>,
     placing: &[Event],
 ) -> Result<(), TrialFault> {
     for _ in 0..4 {
@@ -106,7 +106,7 @@ fn tell_first(
 fn tell_last(
     rt: &impl Print,
     alloc: Global,
-    machine: &mut Machine<LogBatch<'_>>,
+    machine: &mut Machine<OfLog<'_>>,
     placing: &[Event],
 ) -> Result<(), TrialFault> {
     tell_events(rt, alloc, machine, placing)?;

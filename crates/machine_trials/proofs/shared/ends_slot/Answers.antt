@@ -2,7 +2,7 @@ use Rattle.std.proofs.Common.{◌≡◌, ◌+◌, ℕ, sym, ap, ◌∙◌, subst
 use Rattle.bohm_core_base.specs.declared.hold.Hold.TheVariants.{Done}
 use Rattle.bohm_core_base.specs.Machine.{State, end_of, hold_of}
 use Rattle.bohm_core_base.specs.Serial.{is_end, serial_ends}
-use Rattle.log_machine.specs.Supplied.{batch_in}
+use Rattle.log_batch.specs.Supplied.{batch_in}
 use Rattle.machine_trials.proofs.Sharing.{ends-serial}
 use Rattle.machine_trials.proofs.shared.ends_slot.Goals as goal
 

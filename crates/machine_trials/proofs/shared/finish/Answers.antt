@@ -1,7 +1,7 @@
 use Rattle.std.proofs.Common.{◌≡◌, ℕ, suc, List, [], ◌∷◌, length, sym, ap, ◌∙◌, subst, arith}
 use Rattle.bohm_core_base.specs.declared.event.Event.TheVariants.{End}
 use Rattle.bohm_core_base.specs.Batch.{references, words_length}
-use Rattle.log_machine.specs.Supplied.{batch_in}
+use Rattle.log_batch.specs.Supplied.{batch_in}
 use Rattle.words.specs.Layout.{IsListed, slot_at}
 use Rattle.words.specs.Passes.{Passing, goes_on}
 use Rattle.words.specs.Tells.{HoldsWhole}

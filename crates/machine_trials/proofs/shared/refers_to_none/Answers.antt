@@ -4,7 +4,7 @@ use Rattle.bohm_core_base.specs.declared.hold.Hold.{Hold}
 use Rattle.bohm_core_base.specs.declared.hold.Hold.TheVariants.{Done, Free}
 use Rattle.bohm_core_base.specs.Batch.{references}
 use Rattle.bohm_core_base.specs.Machine.{State, hold_of, references_of}
-use Rattle.log_machine.specs.Supplied.{batch_in}
+use Rattle.log_batch.specs.Supplied.{batch_in}
 use Rattle.machine_trials.proofs.Sharing.{none-in}
 use Rattle.machine_trials.proofs.shared.refers_to_none.Goals as goal
 

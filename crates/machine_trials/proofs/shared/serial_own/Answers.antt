@@ -2,7 +2,7 @@ use Rattle.std.proofs.Common.{◌≡◌, sym, ap, ◌∙◌, subst}
 use Rattle.bohm_core_base.specs.declared.hold.Hold.TheVariants.{Done}
 use Rattle.bohm_core_base.specs.Machine.{State, hold_of, own_of}
 use Rattle.bohm_core_base.specs.Serial.{serial_words}
-use Rattle.log_machine.specs.Supplied.{batch_in}
+use Rattle.log_batch.specs.Supplied.{batch_in}
 use Rattle.machine_trials.proofs.shared.serial_own.Goals as goal
 
 pub returns : goal.returns

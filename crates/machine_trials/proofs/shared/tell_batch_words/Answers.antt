@@ -1,6 +1,6 @@
 use Rattle.std.proofs.Common.{◌≡◌, ℕ, suc, subst, rules}
 use Rattle.bohm_core_base.specs.Batch.{references}
-use Rattle.log_machine.specs.Supplied.{batch_in}
+use Rattle.log_batch.specs.Supplied.{batch_in}
 use Rattle.words.specs.Views.{In}
 use Rattle.machine_trials.proofs.shared.tell_batch_words.Goals as goal
 
