@@ -1,10 +1,10 @@
 -- A grant that a revocation takes out of force is named by it, or was given the option by one that it takes out of force too.
-use Rattle.std.proofs.Common.{◌≡◌, ◌<◌, ◌≤◌, ◌&&◌, ◌||◌, not, ℕ, zero, suc, Bool, true, false, Some, List, [], ◌∷◌, ◌++◌, length, filter, get_or, refl, sym, ◌∙◌, ap, subst, append_assoc, arith, inl, inr}
+use Rattle.std.proofs.Common.{◌≡◌, ◌<◌, ◌≤◌, ◌||◌, not, ℕ, zero, suc, Bool, true, false, Some, List, [], ◌∷◌, ◌++◌, length, filter, refl, sym, ◌∙◌, ap, subst, append_assoc, arith, inl, inr}
 use Rattle.std.specs.Prelude.{◌==◌, ◌⊎◌, All, slice_get}
 use Rattle.std.specs.List.{list_any}
 use Rattle.std.proofs.lemmas.Bool.{and_from, and_parts, eq-eqb, not_from_false, not-true, or_cases, or_from, or_right, true≢false}
 use Rattle.std.proofs.lemmas.List.{get_or-map}
-use Rattle.std.proofs.lemmas.List.Elements.{All-cons, All-get_or, All-head, All-map, All-nil, All-push, All-tail, All-weaker}
+use Rattle.std.proofs.lemmas.List.Elements.{All-cons, All-head, All-nil, All-push, All-tail, All-weaker}
 use Rattle.std.proofs.lemmas.List.Folds.{list_any-append}
 use Rattle.std.proofs.lemmas.Option.{get_or_from_slice_get, slice_get-get_or}
 use Rattle.model_base.specs.declared.deed.Deed.{Deed}
@@ -12,8 +12,8 @@ use Rattle.model_base.specs.declared.deed.Deed.TheVariants.{Revoking}
 use Rattle.model_base.specs.declared.deed.Grant.{Grant}
 use Rattle.model_base.specs.declared.deed.Revocation.{Revocation}
 use Rattle.model_base.specs.declared.deed.Need.{Need}
-use Rattle.model_base.specs.Privileges.{IsProper, gives, has, is_among, kept, names, option_of, owns, place_of, replayed, erased}
-use Rattle.model_base.specs.Laws.{IsPart, IsRising}
+use Rattle.model_base.specs.Privileges.{gives, has, is_among, kept, names, option_of, owns, place_of, replayed, erased}
+use Rattle.model_base.specs.Laws.{IsRising}
 use Rattle.model_base.specs.Records.{grants_of}
 use Rattle.model_base.proofs.Replay.{by_cases, kept-revoke}
 use Rattle.model_base.proofs.Parts.{part-all, part-beginning, part-filter, part-part, part-replayed}

@@ -1,5 +1,5 @@
 -- What the slots that a place is shown ask for.
-use Rattle.std.proofs.Common.{◌≡◌, ◌+◌, ◌&&◌, ℕ, zero, suc, Bool, Option, Some, None, List, [], ◌∷◌, length, sym}
+use Rattle.std.proofs.Common.{◌≡◌, ◌+◌, ◌&&◌, ℕ, zero, suc, Bool, Option, Some, None, List, [], ◌∷◌, sym}
 use Rattle.std.specs.Prelude.{nat_lt, slice_get}
 use Rattle.model_base.specs.declared.deed.Grant.{Grant}
 use Rattle.model_base.proofs.Replay.{by_cases}

@@ -1,5 +1,5 @@
 -- The rows that references show, word by word, and that they are those of the log.
-use Rattle.std.proofs.Common.{◌≡◌, ◌≢◌, ◌<◌, ◌≤◌, ◌+◌, ◌++◌, ℕ, zero, suc, List, [], ◌∷◌, Option, Some, None, drop, get_or, length, map, take, refl, sym, ap, ◌∙◌, arith}
+use Rattle.std.proofs.Common.{◌≡◌, ◌≢◌, ◌<◌, ◌+◌, ◌++◌, ℕ, zero, suc, List, [], ◌∷◌, Some, None, drop, get_or, length, map, take, refl, sym, ap, ◌∙◌, arith}
 use Rattle.std.specs.Prelude.{slice_get}
 use Rattle.std.proofs.lemmas.List.{drop_more, get_or-map, get_or_append_left, length-append, length-map, map-append, take_more}
 use Rattle.model_base.specs.declared.reference.Reference.{Reference}
@@ -8,12 +8,11 @@ use Rattle.model_base.specs.declared.row.Key.{Key}
 use Rattle.model_base.specs.declared.statement.Access.{Access as Declared}
 use Rattle.model_base.specs.declared.statement.Statement.{Statement}
 use Rattle.model_base.specs.Outcomes.{rows_before}
-use Rattle.model_base.specs.References.{references as references_in, tables_of}
+use Rattle.model_base.specs.References.{references as references_in}
 use Rattle.model_base.specs.Versions.{accesses_of}
 use Rattle.body.proofs.Shapes.{logs_have_shape}
 use Rattle.own_words.specs.Words.{signed}
-use Rattle.bohm_core_base.specs.Batch.{Access, Batch, Row, IsSound, prior, references, row_from, writer}
-use Rattle.bohm_core_base.specs.Serial.{world_before}
+use Rattle.bohm_core_base.specs.Batch.{Access, Batch, prior, references, row_from, writer}
 use Rattle.bohm_core_base.proofs.Rows.{final_row, row-right}
 use Rattle.log_batch.specs.Laws.{IsOfLog, word_of}
 use Rattle.log_batch.specs.Shown.{access_of, row_bits, row_numbers}

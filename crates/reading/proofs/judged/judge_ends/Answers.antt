@@ -1,10 +1,10 @@
-use Rattle.std.proofs.Common.{◌≡◌, ◌<◌, ◌+◌, ℕ, List, Some, Vec, Global, sym, ap, ◌∙◌, subst, arith}
+use Rattle.std.proofs.Common.{◌≡◌, ◌+◌, ℕ, List, Some, Vec, Global, sym, ap, ◌∙◌, subst, arith}
 use Rattle.std.specs.Prelude.{All, IsSome, slice_get}
 use Rattle.std.proofs.lemmas.Result.{IfOk-weaker}
 use Rattle.model_base.specs.declared.deed.Deed.{Deed}
 use Rattle.model_base.specs.declared.statement.Statement.{Statement}
 use Rattle.model_base.specs.Outcomes.{deed_of, deeds_before, owners}
-use Rattle.model_base.specs.References.{deed_tables, tables_of}
+use Rattle.model_base.specs.References.{tables_of}
 use Rattle.grants.specs.View.{Shows}
 use Rattle.answering.specs.Answering.{ended_by_deed}
 use Rattle.bohm_core_base.specs.Batch.{Batch}

@@ -1,4 +1,4 @@
-use Rattle.std.proofs.Common.{◌≡◌, ◌≤◌, ◌<◌, sym, ◌∙◌, arith, length}
+use Rattle.std.proofs.Common.{◌≤◌, sym, ◌∙◌, arith, length}
 use Rattle.grants.specs.Index.{is_by}
 use Rattle.bohm_core_base.specs.Batch.{slots_of}
 use Rattle.log_batch.specs.Supplied.{batch_in}

@@ -1,7 +1,6 @@
-use Rattle.std.proofs.Common.{◌≡◌, ◌<◌, ◌≤◌, ◌+◌, ◌-◌, ◌/◌, ℕ, Some, arith, inl, inr, ap, sym, ◌∙◌}
+use Rattle.std.proofs.Common.{◌≡◌, ◌<◌, ◌≤◌, ◌+◌, ◌-◌, ◌/◌, Some, arith, inl, inr, ap, sym, ◌∙◌}
 use Rattle.std.specs.Prelude.{slice_get}
 use Rattle.std.proofs.lemmas.Bool.{cases_lt}
-use Rattle.model_base.specs.declared.deed.Grant.{Grant}
 use Rattle.bohm_core_base.specs.Batch.{slots_of}
 use Rattle.log_batch.specs.Supplied.{batch_in}
 use Rattle.log_batch.proofs.Counted.{sound_batch}
