@@ -10,7 +10,7 @@ use model_base::{Access, Cause, DeedForm, Form, Kind, Need, User};
 
 /// A need that a user doesn't hold, with its cause.
 #[derive(Clone, Copy, PartialEq, Eq, Debug)]
-pub struct Lack {
+pub(crate) struct Lack {
     pub need: Need,
     pub cause: Cause,
 }
@@ -101,7 +101,7 @@ fn missing_of_deed<V: Records>(view: &mut V, user: User, deed: &DeedForm) -> Opt
 }
 
 /// The first need of a statement's form that the user doesn't hold.
-pub fn first_lack<V: Records>(view: &mut V, user: User, form: &Form) -> Option<Lack>
+pub(crate) fn first_lack<V: Records>(view: &mut V, user: User, form: &Form) -> Option<Lack>
     requires { Covers (V.shown view.old) (needs form.now) }
     ensures lack { result ≡ first_lack (V.shown view.old) user (needs form.now) }
     ensures same { V.shown view.new ≡ V.shown view.old }

@@ -237,7 +237,7 @@ impl<'a> LogBatch<'a> {
     }
 
     /// The least slot at or above this one whose grant was made before the batch and is to the user, of the kind on the table,
-    /// in force or not. It takes no memory, and a time that grows with the logarithm of the number of grants.
+    /// in force or not. It takes no memory, and what the book's index takes: the logarithm of the number of such grants.
     pub fn earlier_to(&self, user: User, kind: Kind, table: Table, from: usize) -> Option<usize>
         ensures { IsNext (is_to user kind table) (earlier_grants (batch_in self.now)) from result }
     {
@@ -246,7 +246,7 @@ impl<'a> LogBatch<'a> {
     }
 
     /// The least slot at or above this one whose grant was made before the batch and is by the user, of the kind on the table,
-    /// in force or not. It takes no memory, and a time that grows with the logarithm of the number of grants.
+    /// in force or not. It takes no memory, and what the book's index takes: the logarithm of the number of such grants.
     pub fn earlier_by(&self, user: User, kind: Kind, table: Table, from: usize) -> Option<usize>
         ensures { IsNext (is_by user kind table) (earlier_grants (batch_in self.now)) from result }
     {
