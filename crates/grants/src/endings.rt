@@ -16,15 +16,15 @@ pub(crate) struct Ending {
     pub slot: usize,
 }
 
-/// How many of the endings, which are in order, are at the place or below it. Where all are, the last one tells.
+/// How many of the endings, which are in order, are at the place or below it. Where all are below, the last one tells.
 fn endings_to(endings: &[Ending], place: Place) -> usize
     requires { AreInOrder endings.now }
     ensures bound { result ≤ length endings.now }
     ensures below { (k : ℕ) (d : Ending) → k < result → (slice_index_or endings.now k d).place ≤ place }
-    ensures above { (k : ℕ) (d : Ending) → result ≤ k → k < length endings.now → place ≤ (slice_index_or endings.now k d).place }
+    ensures above { (k : ℕ) (d : Ending) → result ≤ k → k < length endings.now → place < (slice_index_or endings.now k d).place }
 {
     if reaches(endings, place) {
-        endings.partition_point(|ending| ending.place < place)
+        endings.partition_point(|ending| ending.place <= place)
     } else {
         endings.len()
     }
@@ -54,8 +54,8 @@ fn note_one(endings: &mut Vec<Ending>, ending: Ending) -> Result<(), AllocError>
     Ok(())
 }
 
-/// Notes the ends of some slots, each at once, unless later ones were noted before: these are moved. On `Err` memory was
-/// refused, and some of them are noted.
+/// Notes the ends of some slots, each behind those at its place and below; where later ones were noted before, these are
+/// moved. On `Err` memory was refused, and some of them are noted.
 pub(crate) fn note(endings: &mut Vec<Ending>, ends: &[End]) -> Result<(), AllocError>
     requires order { AreInOrder endings.old.items }
     ensures order { AreInOrder endings.new.items }

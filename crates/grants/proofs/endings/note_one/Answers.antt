@@ -1,4 +1,4 @@
-use Rattle.std.proofs.Common.{◌<◌, ◌≤◌, ◌||◌, ℕ, List, get_or, length, sym, ◌∙◌, ap, subst}
+use Rattle.std.proofs.Common.{◌<◌, ◌≤◌, ◌||◌, ℕ, List, get_or, length, sym, ◌∙◌, ap, subst, arith}
 use Rattle.std.proofs.lemmas.List.Sorted.{IsNonDecreasingBy-insert}
 use Rattle.grants.specs.declared.endings.Ending.{Ending}
 use Rattle.grants.specs.Marks.{AreInOrder, has_ending}
@@ -15,7 +15,7 @@ returns-clause-order c =
     (IsNonDecreasingBy-insert (λ (e : Ending). e.place) old i c.args.ending c.requires.order
     (subst (λ (es : List Ending). i ≤ length es) is c.endings_to-i.ensures.bound)
     (subst (λ (es : List Ending). (k : ℕ) (d : Ending) → k < i → (get_or es k d).place ≤ place) is c.endings_to-i.ensures.below)
-    (subst (λ (es : List Ending). (k : ℕ) (d : Ending) → i ≤ k → k < length es → place ≤ (get_or es k d).place) is c.endings_to-i.ensures.above))
+    (subst (λ (es : List Ending). (k : ℕ) (d : Ending) → i ≤ k → k < length es → place ≤ (get_or es k d).place) is (λ k d low less. let later = c.endings_to-i.ensures.above k d low less in omega (arith, later))))
 
 pub returns-clause-kept : goal.returns-clause-kept
 returns-clause-kept c = λ place slot was.
