@@ -20,7 +20,7 @@ const LAST: usize = 65535;
 const SHARED: usize = 1000;
 
 /// Asks for each place once, and counts those that are done then.
-fn ask_for_all(batch: &Batch<Chain>, size: usize, pass: Pass) -> (Pass, usize)
+pub(crate) fn ask_for_all(batch: &Batch<Chain>, size: usize, pass: Pass) -> (Pass, usize)
     requires ours { IsPassOf batch.now pass }
     requires size { size ≡ batch.now.key.size }
     ensures { IsPassOf batch.now result.0 }

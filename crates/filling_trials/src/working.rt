@@ -1,0 +1,48 @@
+//! Workers on a chain.
+
+use crate::asking::ask_for_all;
+use crate::chain::Chain;
+use crate::fault::TrialFault;
+use filling_base::Batch;
+use std::alloc::Global;
+use std::sync::Wait;
+use std::sync::atomic::{AtomicUsize, Ordering};
+use std::thread::Threads;
+use workers::{Gate, run_workers};
+
+/// The places of the chain.
+const PLACES: usize = 1000;
+
+/// Counts the places that workers were told done.
+#[derive(Drop)]
+struct Counting {
+    done: AtomicUsize,
+}
+
+impl Gate for Counting {
+    fn before(&self, _index: usize) {}
+
+    fn after(&self, _index: usize) {
+        self.done.fetch_add(1, Ordering::SeqCst);
+    }
+}
+
+/// Tells what comes of a chain that so many workers run, whether each was told each place done, and how many places are done
+/// once they are joined.
+pub fn tell_workers<R: Threads + Wait + Print + Sync>(
+    rt: &R,
+    alloc: Global,
+    workers: usize,
+) -> Result<(), TrialFault> {
+    let (batch, pass) = Batch::new(alloc, Chain { size: PLACES })?;
+    let gate = Counting {
+        done: AtomicUsize::new(0),
+    };
+    let (pass, worked) = run_workers(rt, &batch, &gate, pass, workers);
+    let told = gate.done.load(Ordering::SeqCst) >= PLACES.saturating_mul(workers.max(1));
+    let (_, done) = ask_for_all(&batch, PLACES, pass);
+    println!(rt;
+        "{workers} workers: {worked:?}, each was told all {PLACES} places: {told}, {done} are done"
+    )?;
+    Ok(())
+}
