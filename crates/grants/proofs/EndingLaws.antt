@@ -84,6 +84,15 @@ all_below endings last place order at low k d less =
     let up = order k (length endings - 1) d (omega arith) (omega arith) in
     omega arith
 
+-- and where it is at the place or below, all are
+pub all_to : (endings : List Ending) (last : Ending) (place : ℕ) → AreInOrder endings → slice_get endings (length endings - 1) ≡ Some last → last.place ≤ place
+    → (k : ℕ) (d : Ending) → k < length endings → (get_or endings k d).place ≤ place
+all_to endings last place order at low k d less =
+    let there : get_or endings (length endings - 1) d ≡ last = get_or_from_slice_get endings (length endings - 1) last d at in
+    let same : (get_or endings (length endings - 1) d).place ≡ last.place = ap (λ (e : Ending). e.place) there in
+    let up = order k (length endings - 1) d (omega arith) (omega arith) in
+    omega arith
+
 pub none_there : {X : Type 0} (xs : List X) → slice_get xs (length xs - 1) ≡ None → (k : ℕ) → k < length xs → ⊥
 none_there [] none k less = omega arith
 none_there (x ∷ []) none k less = cc

@@ -25,3 +25,4 @@ pub mod SideLaws
 pub mod SlotsLaws
 pub mod Lookups
 pub mod EndingLaws
+pub mod EndedLaws

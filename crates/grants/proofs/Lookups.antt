@@ -3,16 +3,15 @@ use Rattle.std.proofs.Common.{◌≡◌, ℕ, zero, suc, ◌<◌, ◌≤◌, ◌
 use Rattle.std.specs.Prelude.{◌==◌, ◌≢◌, slice_get}
 use Rattle.std.specs.List.{list_any}
 use Rattle.std.specs.List.Sorted.{IsNonDecreasingBy, IsPartitionPoint}
-use Rattle.std.proofs.lemmas.Bool.{true≢false, and_parts, cases_lt, lt-ltb, le-ltb, ne_eqb}
+use Rattle.std.proofs.lemmas.Bool.{true≢false, and_parts, cases_lt, lt-ltb, le-ltb}
 use Rattle.std.proofs.lemmas.Option.{get_or_from_slice_get, slice_get_within}
 use Rattle.model_base.specs.declared.deed.Grant.{Grant}
 use Rattle.model_base.specs.declared.deed.Record.{Record}
 use Rattle.model_base.specs.Laws.{IsRising}
 use Rattle.model_base.specs.Records.{end_below, ended_at, recorded}
 use Rattle.model_base.proofs.Replay.{by_cases}
-use Rattle.grants.specs.Book.{AreRising, IsUnendedOf, end_slot, end_slots, reopen_slot, reopened}
+use Rattle.grants.specs.Book.{AreRising, end_slot, reopen_slot, reopened}
 use Rattle.grants.specs.declared.book.Creation.{Creation}
-use Rattle.grants.specs.declared.book.End.{End}
 use Rattle.grants.proofs.RevokeLaws.{same_grant}
 use Rattle.grants.proofs.Walks.{length-recorded}
 
@@ -61,7 +60,7 @@ records_rise (x ∷ xs) rising zero (suc j) d le less =
 records_rise (x ∷ xs) rising (suc i) zero d le less = absurd (omega arith)
 records_rise (x ∷ xs) rising (suc i) (suc j) d le less = records_rise xs rising.1 i j d (omega arith) (omega arith)
 
-rise_at : (entries : List Record) → IsRising (recorded entries) → (i j : ℕ) (a b : Record) → slice_get entries i ≡ Some a → slice_get entries j ≡ Some b → i < j → a.grant.place < b.grant.place
+pub rise_at : (entries : List Record) → IsRising (recorded entries) → (i j : ℕ) (a b : Record) → slice_get entries i ≡ Some a → slice_get entries j ≡ Some b → i < j → a.grant.place < b.grant.place
 rise_at [] rising i j a b at_i at_j less = absurd (cc)
 rise_at (x ∷ xs) rising i zero a b at_i at_j less = absurd (omega arith)
 rise_at (x ∷ xs) rising zero (suc j) a b at_i at_j less =
@@ -84,64 +83,6 @@ module _ (entries : List Record) (place slot : ℕ) (point : IsPartitionPoint (�
   told_above k entry at low =
       let here = get_or_from_slice_get entries k entry entry at in
       less_false entry.grant.place place (subst (λ (e : Record). ltb e.grant.place place ≡ false) here (point.1 k entry low (slice_get_within entries k entry at)))
-
-and_no : (a b : Bool) → b ≡ false → (a && b) ≡ false
-and_no true b is = is
-and_no false b is = refl
-
--- the record of a grant's place, if it is there, is the first that isn't below it
-module _ (entries : List Record) (rising : IsRising (recorded entries)) (made slot : ℕ)
-    (below : (k : ℕ) (entry : Record) → slice_get entries k ≡ Some entry → k < slot → entry.grant.place < made)
-    (above : (k : ℕ) (entry : Record) → slice_get entries k ≡ Some entry → slot ≤ k → made ≤ entry.grant.place) where
-  apart_below : (k : ℕ) (entry : Record) → slice_get entries k ≡ Some entry → k < slot → (made == entry.grant.place) ≡ false
-  apart_below k entry at less = let low = below k entry at less in ne_eqb made entry.grant.place (λ same. omega arith)
-
-  apart_above : (first : Record) → slice_get entries slot ≡ Some first → (k : ℕ) (entry : Record) → slice_get entries k ≡ Some entry → slot < k → (made == entry.grant.place) ≡ false
-  apart_above first here k entry at more =
-      let low = above slot first here (omega arith) in
-      let high = rise_at entries rising slot k first entry here at more in
-      ne_eqb made entry.grant.place (λ same. omega arith)
-
-  pub unended_here : (first : Record) → slice_get entries slot ≡ Some first → (is_none first.end && (made == first.grant.place)) ≡ true → IsUnendedOf entries made (Some slot)
-  unended_here first here is = (
-    (first, here, is),
-    λ k entry at apart.
-        elim (cases_lt k slot) [
-          | inl less ↦ apart_below k entry at less
-          | inr more ↦ apart_above first here k entry at (above_slot k slot more apart)
-        ],
-  )
-    where
-      above_slot : (k slot : ℕ) → slot ≤ k → k ≢ slot → slot < k
-      above_slot k slot le ne = elim (cases_lt slot k) [ inl less ↦ less | inr more ↦ absurd (ne (omega arith)) ]
-
-  pub unended_other : (first : Record) → slice_get entries slot ≡ Some first → (is_none first.end && (made == first.grant.place)) ≡ false → IsUnendedOf entries made None
-  unended_other first here isnt = λ k entry at.
-      elim (cases_lt k slot) [
-        | inl less ↦ and_no (is_none entry.end) (made == entry.grant.place) (apart_below k entry at less)
-        | inr more ↦
-            elim (cases_lt slot k) [
-              | inl above_it ↦ and_no (is_none entry.end) (made == entry.grant.place) (apart_above first here k entry at above_it)
-              | inr not_above ↦
-                  let same : slot ≡ k = omega arith in
-                  let there : Some first ≡ Some entry = sym here ∙ ap (slice_get entries) same ∙ at in
-                  let one : first ≡ entry = cc in
-                  subst (λ (e : Record). (is_none e.end && (made == e.grant.place)) ≡ false) one isnt
-            ]
-      ]
-
-  pub unended_past : slice_get entries slot ≡ None → IsUnendedOf entries made None
-  unended_past none = λ k entry at.
-      elim (cases_lt k slot) [
-        | inl less ↦ and_no (is_none entry.end) (made == entry.grant.place) (apart_below k entry at less)
-        | inr more ↦ absurd (no_more entries slot k entry none more at)
-      ]
-    where
-      no_more : (es : List Record) (i j : ℕ) (e : Record) → slice_get es i ≡ None → i ≤ j → slice_get es j ≡ Some e → ⊥
-      no_more [] i j e is le at = let both : None ≡ Some e = at in cc
-      no_more (x ∷ es) zero j e is le at = let both : Some x ≡ None = is in cc
-      no_more (x ∷ es) (suc i) zero e is le at = omega arith
-      no_more (x ∷ es) (suc i) (suc j) e is le at = no_more es i j e is (omega arith) at
 
 -- one place more among those that end
 module _ (place : ℕ) (before : List ℕ) (made : ℕ) where
@@ -174,13 +115,6 @@ module _ (place : ℕ) (before : List ℕ) (made : ℕ) where
       listed-more entry.grant.place ∙ or_not (list_any (λ q. q == entry.grant.place) before) (made == entry.grant.place) apart in
       rw same refl
 
-  -- a record that has an end, or isn't of that place
-  ended-idle : (entry : Record) → (is_none entry.end && (made == entry.grant.place)) ≡ false → ended_at place now entry ≡ ended_at place before entry
-  ended-idle entry idle =
-      by_cases (is_none entry.end)
-      (λ free. ended-apart entry (rw free at idle))
-      (λ over. rw over refl)
-
   or_last : (a : Bool) → (a || true) ≡ true
   or_last true = refl
   or_last false = refl
@@ -196,13 +130,6 @@ module _ (place : ℕ) (before : List ℕ) (made : ℕ) where
   abbrev with_end : Grant → Record
   with_end g = record { grant = g; end = Some place }
 
-  -- if there is no such record, nothing more ends
-  pub ends_none : (entries : List Record) → IsUnendedOf entries made None → map (ended_at place before) entries ≡ map (ended_at place now) entries
-  ends_none [] none = refl
-  ends_none (x ∷ xs) none =
-      ap (λ (e : Record). e ∷ map (ended_at place before) xs) (sym (ended-idle x (none 0 x refl)))
-      ∙ ap (λ r. ended_at place now x ∷ r) (ends_none xs (λ k entry at. none (suc k) entry at))
-
   ends_apart : (entries : List Record) → ((k : ℕ) (entry : Record) → slice_get entries k ≡ Some entry → (made == entry.grant.place) ≡ false)
       → map (ended_at place before) entries ≡ map (ended_at place now) entries
   ends_apart [] apart = refl
@@ -210,29 +137,22 @@ module _ (place : ℕ) (before : List ℕ) (made : ℕ) where
       ap (λ (e : Record). e ∷ map (ended_at place before) xs) (sym (ended-apart x (apart 0 x refl)))
       ∙ ap (λ r. ended_at place now x ∷ r) (ends_apart xs (λ k entry at. apart (suc k) entry at))
 
-  -- if there is one, it ends
-  pub ends_one : (entries : List Record) (slot : ℕ) → IsUnendedOf entries made (Some slot) → end_slot (map (ended_at place before) entries) slot place ≡ map (ended_at place now) entries
-  ends_one entries slot unended = one entries slot unended.0.0 unended.0.1 unended.0.2 unended.1
-    where
-      one : (entries : List Record) (slot : ℕ) (found : Record) → slice_get entries slot ≡ Some found → (is_none found.end && (made == found.grant.place)) ≡ true
-          → ((k : ℕ) (entry : Record) → slice_get entries k ≡ Some entry → k ≢ slot → (made == entry.grant.place) ≡ false)
-          → end_slot (map (ended_at place before) entries) slot place ≡ map (ended_at place now) entries
-      one [] slot found at is others = refl
-      one (x ∷ xs) zero found at is others =
-          let same : found ≡ x = cc in
-          let here = ended-here x (subst (λ (e : Record). (is_none e.end && (made == e.grant.place)) ≡ true) same is) in
-          let head : record { grant = (ended_at place before x).grant; end = Some place } ≡ ended_at place now x =
-          ap (λ (g : Grant). with_end g) (same_grant place before x) ∙ sym here in
-          ap (λ (e : Record). e ∷ map (ended_at place before) xs) head
-          ∙ ap (λ r. ended_at place now x ∷ r) (ends_apart xs (λ k entry there. others (suc k) entry there (λ zero_is. absurd (omega arith))))
-      one (x ∷ xs) (suc slot) found at is others =
-          let apart = ended-apart x (others 0 x refl (λ zero_is. absurd (omega arith))) in
-          ap (λ (e : Record). e ∷ end_slot (map (ended_at place before) xs) slot place) (sym apart)
-          ∙ ap (λ r. ended_at place now x ∷ r) (one xs slot found at is (λ k entry there ne. others (suc k) entry there (λ same. ne (omega arith))))
-
-pub end_slots-append : (entries : List Record) (ends : List End) (end : End) → end_slots entries (ends ++ end ∷ []) ≡ end_slot (end_slots entries ends) end.slot end.place
-end_slots-append entries [] end = refl
-end_slots-append entries (first ∷ ends) end = end_slots-append (end_slot entries first.slot first.place) ends end
+  -- a record of that place without an end, which no other is of, ends
+  pub ends_one : (entries : List Record) (slot : ℕ) (found : Record) → slice_get entries slot ≡ Some found → (is_none found.end && (made == found.grant.place)) ≡ true
+      → ((k : ℕ) (entry : Record) → slice_get entries k ≡ Some entry → k ≢ slot → (made == entry.grant.place) ≡ false)
+      → end_slot (map (ended_at place before) entries) slot place ≡ map (ended_at place now) entries
+  ends_one [] slot found at is others = refl
+  ends_one (x ∷ xs) zero found at is others =
+      let same : found ≡ x = cc in
+      let here = ended-here x (subst (λ (e : Record). (is_none e.end && (made == e.grant.place)) ≡ true) same is) in
+      let head : record { grant = (ended_at place before x).grant; end = Some place } ≡ ended_at place now x =
+      ap (λ (g : Grant). with_end g) (same_grant place before x) ∙ sym here in
+      ap (λ (e : Record). e ∷ map (ended_at place before) xs) head
+      ∙ ap (λ r. ended_at place now x ∷ r) (ends_apart xs (λ k entry there. others (suc k) entry there (λ zero_is. absurd (omega arith))))
+  ends_one (x ∷ xs) (suc slot) found at is others =
+      let apart = ended-apart x (others 0 x refl (λ zero_is. absurd (omega arith))) in
+      ap (λ (e : Record). e ∷ end_slot (map (ended_at place before) xs) slot place) (sym apart)
+      ∙ ap (λ r. ended_at place now x ∷ r) (ends_one xs slot found at is (λ k entry there ne. others (suc k) entry there (λ same. ne (omega arith))))
 
 -- the record of a slot as it stood at a place
 pub put_reopened : (entries : List Record) (slot place : ℕ) (d : Record) → slot < length entries → put entries slot (reopened place (get_or entries slot d)) ≡ reopen_slot place slot entries

@@ -17,7 +17,8 @@ slots_in_order (x ∷ xs) rise zero (suc j) d le less = let above = rise.0 j d (
 slots_in_order (x ∷ xs) rise (suc i) zero d le less = absurd (omega arith)
 slots_in_order (x ∷ xs) rise (suc i) (suc j) d le less = slots_in_order xs rise.1 i j d (omega arith) (omega arith)
 
-none_under : (slots : List ℕ) (low k : ℕ) → All (λ later. low < later) slots → k ≤ low → is_one_of slots k ≡ false
+-- below and at the first of slots that rise none is found
+pub none_under : (slots : List ℕ) (low k : ℕ) → All (λ later. low < later) slots → k ≤ low → is_one_of slots k ≡ false
 none_under [] low k above le = refl
 none_under (x ∷ xs) low k above le =
     let first : low < x = All-head (λ later. low < later) x xs above in

@@ -1,16 +1,17 @@
 //! The book of grants: each grant that was made, with its end.
 
-ghost use Rattle.std.specs.Prelude.{Decides, ◌+◌, ◌≡◌, ◌<◌, ◌++◌, ◌∷◌, [], ℕ, List, All, IfOk, IsTrue, OnErr, OnOk, length};
+ghost use Rattle.std.specs.Prelude.{Decides, ◌+◌, ◌≡◌, ◌<◌, ◌++◌, ◌∷◌, [], ℕ, List, All, IfOk, IsTrue, OnErr, OnOk, length, map};
 ghost use Rattle.model_base.specs.declared.deed.Deed.TheVariants.{Granting, Revoking};
 ghost use Rattle.model_base.specs.declared.deed.Deed.{Deed};
 ghost use Rattle.model_base.specs.Privileges.{ended_by, option_of, place_of};
-ghost use Rattle.model_base.specs.Records.{deeds_below, recorded};
+ghost use Rattle.model_base.specs.Records.{deeds_below, ended_at, recorded};
 ghost use Rattle.grants.specs.Index.{IsNext, is_by, is_to};
 ghost use Rattle.grants.specs.declared.book.End.{End};
 ghost use Rattle.grants.specs.declared.book.Creation.{Creation};
 
-use crate::cascade::to_end;
-use crate::entries::{append_tables, ends_of, lies_below, records_below, tables_below};
+use crate::cascade::cascade;
+use crate::ended::Ended;
+use crate::entries::{append_tables, lies_below, records_below, tables_below};
 use crate::indexed::IndexedRecords;
 use crate::records::Records;
 use model_base::{Grant, Kind, Place, Record, Revocation, Table, User};
@@ -52,7 +53,7 @@ impl Model for Book {
 }
 
 impl Book {
-    ghost use Rattle.grants.specs.Book.{Continues, IsLater, IsSound, ShowsBook, cut_book, extended, owners_of, table_of, view_of, with_ends, with_grant, with_table};
+    ghost use Rattle.grants.specs.Book.{Continues, IsLater, IsSound, ShowsBook, cut_book, end_slots, extended, owners_of, table_of, view_of, with_ends, with_grant, with_table};
     ghost use Rattle.grants.specs.View.{Shows, holds_in};
 
     /// A book without tables and grants. It takes no memory.
@@ -145,20 +146,25 @@ impl Book {
         self.records.next_by(user, kind, table, from)
     }
 
-    /// The places of the grants that the revocation takes out of force.
-    fn to_end(&self, alloc: Global, revocation: &Revocation) -> Result<Vec<Place>, AllocError>
+    /// What the revocation takes out of force: the ends of these grants, and their places.
+    fn cascade(&self, alloc: Global, revocation: &Revocation) -> Result<Ended, AllocError>
+        requires later { IsLater self.now revocation.now.place }
         requires table { revocation.now.table < length self.now.tables }
-        ensures { IfOk result (λ ends. (owners : List ℕ) (deeds : List Deed) → ShowsBook self.now owners deeds
-            → All (λ deed. place_of deed < revocation.now.place) deeds → ends.items ≡ ended_by owners deeds revocation.now) }
+        ensures ended { IfOk result (λ ended. (owners : List ℕ) (deeds : List Deed) → ShowsBook self.now owners deeds
+            → All (λ deed. place_of deed < revocation.now.place) deeds → ended.places ≡ ended_by owners deeds revocation.now) }
+        ensures slots { IfOk result (λ ended. All (λ (end : End). end.slot < length self.now.records) ended.ends) }
+        ensures value { IfOk result (λ ended. end_slots self.now.records ended.ends ≡ map (ended_at revocation.now.place ended.places) self.now.records) }
     {
+        // A book is sound, as its accessors say, and so each place has one record.
+        let _tables = self.tables();
         let mut view = self.at(revocation.place);
-        let ended = to_end(alloc, &mut view, revocation)?;
+        let ended = cascade(alloc, &mut view, revocation)?;
         Ok(ended)
     }
 
     /// Ends the grants that the revocation takes out of force, at its place, and answers their places in rising order. The
     /// place has to lie above all of the book, and the table to be one of its tables. It costs what `to_end` does on the
-    /// book's view, and for each grant that ends a time that grows with the logarithm of the number of grants. On `Err`
+    /// book's view, and for each grant that ends a time that doesn't grow with the number of grants, on average. On `Err`
     /// memory was refused, and the book is as it was.
     pub fn revoke(
         &mut self,
@@ -175,10 +181,9 @@ impl Book {
         ensures later { OnOk result ((next : ℕ) → revocation.now.place < next → IsLater self.new next) }
         ensures err { OnErr result (self.new ≡ self.old) }
     {
-        let ended = self.to_end(alloc, revocation)?;
-        let ends = ends_of(alloc, self.records.as_slice(), &ended, revocation.place)?;
-        self.records.end(&ends)?;
-        Ok(ended)
+        let ended = self.cascade(alloc, revocation)?;
+        self.records.end(ended.ends())?;
+        Ok(ended.into_places())
     }
 
     /// Whether the place lies above those of all tables, grants and ends of the book. It looks once at each, so it is there for
@@ -197,8 +202,9 @@ impl Book {
     /// Adds tables and grants behind the others, the grants without an end, and then ends records by their slots. What is
     /// so put together has to be a book. Where the book showed some deeds, and the grants and ends are what more deeds make
     /// of their records, it then shows them all. Each table and each grant costs a time that doesn't grow with their number, on
-    /// average, and so does each end, unless ends at later places were put before it: these are moved, and found in a time that
-    /// grows with the logarithm of their number. On `Err` memory was refused, and the book is as it was.
+    /// average, and each end the logarithm of the number of these ends. Only where the book has ends at later places than a new
+    /// one are they moved for it, and found in a time that grows with the logarithm of their number. On `Err` memory was
+    /// refused, and the book is as it was.
     pub fn extend(
         &mut self,
         tables: &[Creation],

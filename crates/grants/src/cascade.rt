@@ -8,9 +8,10 @@ ghost use Rattle.model_base.specs.Privileges.{concerns, ended_by, names};
 ghost use Rattle.model_base.specs.declared.deed.Deed.{Deed};
 ghost use Rattle.model_base.specs.declared.deed.Grant.{Grant};
 ghost use Rattle.grants.specs.Pass.{cascade, concerned, concerned_grants, is_one_of, outlasts};
-ghost use Rattle.grants.specs.Work.{AllPassed, AreDue, ArePassed, AreWalked, HaveSameKeys, bears, keepers};
+ghost use Rattle.grants.specs.Work.{AllPassed, AreDue, AreEnds, ArePassed, AreWalked, HaveSameKeys, bears, keepers, slots_of};
 ghost use Rattle.grants.specs.View.{Shows, slot_at};
 
+use crate::ended::Ended;
 use crate::records::Records;
 use model_base::{Grant, Place, Revocation, User};
 use std::alloc::{AllocError, Global};
@@ -43,19 +44,18 @@ fn bears<V: Records>(view: &mut V, i: usize, revocation: &Revocation, user: User
 }
 
 /// Whether the slot has such a grant and hasn't ended.
-#[tactic(auto, using(crate::proofs::Holders::contains_one))]
 fn stands<V: Records>(
     view: &mut V,
     i: usize,
     revocation: &Revocation,
-    ended: &BTreeSet<usize>,
+    ended: &Ended,
     user: User,
 ) -> bool
     requires within { i < length (V.shown view.old).slots }
-    ensures value { result ≡ (bears revocation.now user (slot_at (V.shown view.old) i) && not (is_one_of ended.now.keys i)) }
+    ensures value { result ≡ (bears revocation.now user (slot_at (V.shown view.old) i) && not (is_one_of (slots_of ended.now.ends) i)) }
     ensures same { V.shown view.new ≡ V.shown view.old }
 {
-    bears(view, i, revocation, user) && !ended.contains(&i)
+    bears(view, i, revocation, user) && !ended.contains(i)
 }
 
 /// The first slot below another that gives the user the option and hasn't ended, where none below `start` does. It is not below
@@ -63,15 +63,15 @@ fn stands<V: Records>(
 fn first_bearer<V: Records>(
     view: &mut V,
     revocation: &Revocation,
-    ended: &BTreeSet<usize>,
+    ended: &Ended,
     user: User,
     start: usize,
     below: usize,
 ) -> usize
     requires within { below ≤ length (V.shown view.old).slots }
-    requires passed { ArePassed revocation.now (V.shown view.old) ended.now.keys user start }
-    ensures passed { ArePassed revocation.now (V.shown view.old) ended.now.keys user result }
-    ensures found { result < below → (bears revocation.now user (slot_at (V.shown view.old) result) && not (is_one_of ended.now.keys result)) ≡ true }
+    requires passed { ArePassed revocation.now (V.shown view.old) (slots_of ended.now.ends) user start }
+    ensures passed { ArePassed revocation.now (V.shown view.old) (slots_of ended.now.ends) user result }
+    ensures found { result < below → (bears revocation.now user (slot_at (V.shown view.old) result) && not (is_one_of (slots_of ended.now.ends) result)) ≡ true }
     ensures same { V.shown view.new ≡ V.shown view.old }
 {
     let mut from = start;
@@ -110,15 +110,15 @@ fn pass(asked: &mut BTreeMap<User, usize>, user: User, slot: usize)
 fn keeps<V: Records>(
     view: &mut V,
     revocation: &Revocation,
-    ended: &BTreeSet<usize>,
+    ended: &Ended,
     asked: &mut BTreeMap<User, usize>,
     user: User,
     below: usize,
 ) -> bool
     requires within { below ≤ length (V.shown view.old).slots }
-    requires passed { AllPassed revocation.now (V.shown view.old) ended.now.keys asked.old }
-    ensures value { result ≡ is_one_of (keepers revocation.now (V.shown view.old) ended.now.keys below) user }
-    ensures passed { AllPassed revocation.now (V.shown view.old) ended.now.keys asked.new }
+    requires passed { AllPassed revocation.now (V.shown view.old) (slots_of ended.now.ends) asked.old }
+    ensures value { result ≡ is_one_of (keepers revocation.now (V.shown view.old) (slots_of ended.now.ends) below) user }
+    ensures passed { AllPassed revocation.now (V.shown view.old) (slots_of ended.now.ends) asked.new }
     ensures users { HaveSameKeys asked.old asked.new }
     ensures same { V.shown view.new ≡ V.shown view.old }
 {
@@ -134,15 +134,15 @@ fn stays<V: Records>(
     view: &mut V,
     owner: User,
     revocation: &Revocation,
-    ended: &BTreeSet<usize>,
+    ended: &Ended,
     asked: &mut BTreeMap<User, usize>,
     grant: &Grant,
     slot: usize,
 ) -> bool
     requires within { slot ≤ length (V.shown view.old).slots }
-    requires passed { AllPassed revocation.now (V.shown view.old) ended.now.keys asked.old }
-    ensures value { result ≡ outlasts owner (keepers revocation.now (V.shown view.old) ended.now.keys slot) revocation.now grant.now }
-    ensures passed { AllPassed revocation.now (V.shown view.old) ended.now.keys asked.new }
+    requires passed { AllPassed revocation.now (V.shown view.old) (slots_of ended.now.ends) asked.old }
+    ensures value { result ≡ outlasts owner (keepers revocation.now (V.shown view.old) (slots_of ended.now.ends) slot) revocation.now grant.now }
+    ensures passed { AllPassed revocation.now (V.shown view.old) (slots_of ended.now.ends) asked.new }
     ensures users { HaveSameKeys asked.old asked.new }
     ensures same { V.shown view.new ≡ V.shown view.old }
 {
@@ -254,7 +254,7 @@ fn lose<V: Records>(
 struct Work {
     due: BTreeSet<usize>,
     asked: BTreeMap<User, usize>,
-    ended: BTreeSet<usize>,
+    ended: Ended,
 }
 
 /// One slot that is due: either its grant ends, or its grantee keeps what it gives. With a grant that ends and had the
@@ -266,21 +266,22 @@ fn judge<V: Records>(
     slot: usize,
     next: usize,
     work: &mut Work,
-    places: &mut Vec<Place>,
 ) -> Result<(), AllocError>
     requires within { slot < length (V.shown view.old).slots }
     requires next { next ≡ slot + 1 }
-    requires due { AreDue revocation.now (V.shown view.old) work.old.due.keys work.old.ended.keys next }
+    requires due { AreDue revocation.now (V.shown view.old) work.old.due.keys (slots_of work.old.ended.ends) next }
     requires walked { AreWalked revocation.now (V.shown view.old) work.old.due.keys work.old.asked next }
-    requires passed { AllPassed revocation.now (V.shown view.old) work.old.ended.keys work.old.asked }
-    requires behind { (e : ℕ) → is_one_of work.old.ended.keys e ≡ true → e < slot }
-    ensures due { OnOk result (AreDue revocation.now (V.shown view.old) work.new.due.keys work.new.ended.keys next) }
+    requires passed { AllPassed revocation.now (V.shown view.old) (slots_of work.old.ended.ends) work.old.asked }
+    requires behind { (e : ℕ) → is_one_of (slots_of work.old.ended.ends) e ≡ true → e < slot }
+    requires ends { AreEnds revocation.now (V.shown view.old) work.old.ended.ends work.old.ended.places }
+    ensures due { OnOk result (AreDue revocation.now (V.shown view.old) work.new.due.keys (slots_of work.new.ended.ends) next) }
     ensures walked { OnOk result (AreWalked revocation.now (V.shown view.old) work.new.due.keys work.new.asked next) }
-    ensures passed { OnOk result (AllPassed revocation.now (V.shown view.old) work.new.ended.keys work.new.asked) }
-    ensures whole { OnOk result (places.new.items ++ cascade owner revocation.now (keepers revocation.now (V.shown view.old) work.new.ended.keys next)
+    ensures passed { OnOk result (AllPassed revocation.now (V.shown view.old) (slots_of work.new.ended.ends) work.new.asked) }
+    ensures whole { OnOk result (work.new.ended.places ++ cascade owner revocation.now (keepers revocation.now (V.shown view.old) (slots_of work.new.ended.ends) next)
         (concerned_grants revocation.now (drop next (V.shown view.old).slots))
-        ≡ places.old.items ++ cascade owner revocation.now (keepers revocation.now (V.shown view.old) work.old.ended.keys slot)
+        ≡ work.old.ended.places ++ cascade owner revocation.now (keepers revocation.now (V.shown view.old) (slots_of work.old.ended.ends) slot)
         (concerned_grants revocation.now (drop slot (V.shown view.old).slots))) }
+    ensures ends { OnOk result (AreEnds revocation.now (V.shown view.old) work.new.ended.ends work.new.ended.places) }
     ensures same { V.shown view.new ≡ V.shown view.old }
 {
     let Some(grant) = concerned(view, slot, revocation) else {
@@ -297,8 +298,7 @@ fn judge<V: Records>(
     ) {
         return Ok(());
     }
-    places.push(grant.place)?;
-    work.ended.insert(slot)?;
+    work.ended.push(slot, revocation.place, grant.place)?;
     if grant.option {
         lose(
             view,
@@ -310,6 +310,36 @@ fn judge<V: Records>(
         )?;
     }
     Ok(())
+}
+
+/// What the revocation takes out of force: the ends of these grants, and their places, in rising order.
+pub(crate) fn cascade<V: Records>(
+    alloc: Global,
+    view: &mut V,
+    revocation: &Revocation,
+) -> Result<Ended, AllocError>
+    requires covered { IsSome ((V.shown view.old).owner revocation.now.table) }
+    requires now { revocation.now.place ≡ (V.shown view.old).place }
+    ensures ended { IfOk result (λ ended. (owners : List ℕ) (deeds : List Deed) → Shows (V.shown view.old) owners deeds
+        → ended.places ≡ ended_by owners deeds revocation.now) }
+    ensures ends { IfOk result (λ ended. AreEnds revocation.now (V.shown view.old) ended.ends ended.places) }
+    ensures same { V.shown view.new ≡ V.shown view.old }
+{
+    let owner = view.owner(revocation.table);
+    // That there are so many slots bounds the next one.
+    let _slots = view.slots();
+    let due = named(alloc, view, revocation)?;
+    let mut work = Work {
+        due,
+        asked: BTreeMap::new(alloc),
+        ended: Ended::new(alloc),
+    };
+    let mut next = 0;
+    while let Some(slot) = work.due.pop_first() {
+        next = slot + 1;
+        judge(view, owner, revocation, slot, next, &mut work)?;
+    }
+    Ok(work.ended)
 }
 
 /// The places of the grants that the revocation takes out of force, in rising order: what the deeds of the view's place
@@ -331,20 +361,6 @@ pub fn to_end<V: Records>(
         → ends.items ≡ ended_by owners deeds revocation.now) }
     ensures same { V.shown view.new ≡ V.shown view.old }
 {
-    let owner = view.owner(revocation.table);
-    // That there are so many slots bounds the next one.
-    let _slots = view.slots();
-    let due = named(alloc, view, revocation)?;
-    let mut work = Work {
-        due,
-        asked: BTreeMap::new(alloc),
-        ended: BTreeSet::new(alloc),
-    };
-    let mut places = Vec::new(alloc);
-    let mut next = 0;
-    while let Some(slot) = work.due.pop_first() {
-        next = slot + 1;
-        judge(view, owner, revocation, slot, next, &mut work, &mut places)?;
-    }
-    Ok(places)
+    let ended = cascade(alloc, view, revocation)?;
+    Ok(ended.into_places())
 }

@@ -1,16 +1,15 @@
 //! Tables and records in the order of their places.
 
-ghost use Rattle.std.specs.Prelude.{filter, nat_lt, is_none, vec_capacity, vec_len, ◌&&◌, ◌==◌, ◌+◌, ◌≤◌, ◌≡◌, ◌<◌, ◌++◌, ◌∷◌, [], ℕ, List, All, IfOk, OnOk, Some, length, map, slice_get, take};
+ghost use Rattle.std.specs.Prelude.{filter, nat_lt, vec_capacity, vec_len, ◌+◌, ◌≤◌, ◌≡◌, ◌<◌, ◌++◌, ℕ, All, Some, length, slice_get, take};
 ghost use Rattle.model_base.specs.declared.deed.Record.{Record};
 ghost use Rattle.model_base.specs.Laws.{IsRising};
-ghost use Rattle.model_base.specs.Records.{ended_at, recorded};
-ghost use Rattle.grants.specs.Book.{AreRising, IsUnendedOf, end_slot, end_slots, lies_below, reopen_slot, reopened};
+ghost use Rattle.model_base.specs.Records.{recorded};
+ghost use Rattle.grants.specs.Book.{AreRising, end_slot, end_slots, lies_below, reopen_slot, reopened};
 ghost use Rattle.grants.specs.declared.book.Creation.{Creation};
 ghost use Rattle.grants.specs.declared.book.End.{End};
 
 use crate::book::{Creation, End};
 use model_base::{Place, Record};
-use std::alloc::{AllocError, Global};
 
 /// Whether the grant and its end lie below the place.
 pub(crate) fn lies_below(entry: &Record, place: Place) -> bool
@@ -75,81 +74,6 @@ pub(crate) fn records_below(records: &[Record], place: Place) -> usize
     ensures above { (k : ℕ) (entry : Record) → slice_get records.now k ≡ Some entry → result ≤ k → place ≤ entry.grant.place }
 {
     records.partition_point(|record| record.grant.place < place)
-}
-
-/// The record of a slot, if there is one.
-fn record_at(records: &[Record], slot: usize) -> Option<Record>
-    ensures { result ≡ slice_get records.now slot }
-{
-    records.get(slot).copied()
-}
-
-/// Whether the record has no end, and its grant was made at the place.
-fn is_unended_of(entry: &Record, made: Place) -> bool
-    ensures { result ≡ (is_none entry.now.end && (made == entry.now.grant.place)) }
-{
-    entry.end.is_none() && made == entry.grant.place
-}
-
-/// The slot of the record that has no end and whose grant was made at the place. The places of the grants rise, so it takes a
-/// time that grows with the logarithm of their number.
-fn unended_slot(records: &[Record], made: Place) -> Option<usize>
-    requires { IsRising (recorded records.now) }
-    ensures { IsUnendedOf records.now made result }
-{
-    let slot = records_below(records, made);
-    match record_at(records, slot) {
-        Some(entry) => {
-            if is_unended_of(&entry, made) {
-                Some(slot)
-            } else {
-                None
-            }
-        }
-        None => None,
-    }
-}
-
-/// Adds the end that a revocation at a place gives the grant that was made at another, if that has no end.
-fn add_end(
-    ends: &mut Vec<End>,
-    records: &[Record],
-    made: Place,
-    place: Place,
-) -> Result<(), AllocError>
-    requires { IsRising (recorded records.now) }
-    ensures slots { OnOk result (All (λ (end : End). end.slot < length records.now) ends.old.items
-        → All (λ (end : End). end.slot < length records.now) ends.new.items) }
-    ensures value { OnOk result ((before : List ℕ) → end_slots records.now ends.old.items ≡ map (ended_at place before) records.now
-        → end_slots records.now ends.new.items ≡ map (ended_at place (before ++ made ∷ [])) records.now) }
-{
-    match unended_slot(records, made) {
-        Some(slot) => {
-            ends.push(End { slot, place })?;
-            Ok(())
-        }
-        None => Ok(()),
-    }
-}
-
-/// The ends that a revocation at a place gives: one for each of the records without an end whose grants were made at these
-/// places. Each place is looked up in a time that grows with the logarithm of the number of records.
-#[tactic(auto, using(crate::proofs::Lookups::ended_none))]
-pub(crate) fn ends_of(
-    alloc: Global,
-    records: &[Record],
-    ended: &[Place],
-    place: Place,
-) -> Result<Vec<End>, AllocError>
-    requires { IsRising (recorded records.now) }
-    ensures slots { IfOk result (λ ends. All (λ (end : End). end.slot < length records.now) ends.items) }
-    ensures value { IfOk result (λ ends. end_slots records.now ends.items ≡ map (ended_at place ended.now) records.now) }
-{
-    let mut ends = Vec::new(alloc);
-    for made in ended {
-        add_end(&mut ends, records, *made, place)?;
-    }
-    Ok(ends)
 }
 
 /// Forgets the end of a slot's record if it doesn't lie below the place.

@@ -9,7 +9,7 @@ ghost use Rattle.grants.specs.Sides.{IsPushed, IsSame, by_side, to_side};
 ghost use Rattle.grants.specs.declared.book.End.{End};
 
 use crate::book::End;
-use crate::endings::{Ending, note, pop_from};
+use crate::endings::{Ending, note, note_by_place, pop_from};
 use crate::entries::{reopen_slot, set_ends};
 use crate::index::{Index, Side, side_of};
 use model_base::{Grant, Kind, Place, Record, Table, User};
@@ -124,6 +124,17 @@ impl IndexedRecords {
         Ok(())
     }
 
+    /// The same, where the places of the ends don't rise: they are noted in the order of their places.
+    fn end_mixed(&mut self, ends: &[End]) -> Result<(), AllocError>
+        requires { All (λ (end : End). end.slot < length self.old) ends.now }
+        ensures ok { OnOk result (self.new ≡ end_slots self.old ends.now) }
+        ensures err { OnErr result (self.new ≡ self.old) }
+    {
+        note_by_place(&mut self.endings, ends)?;
+        set_ends(&mut self.records, ends);
+        Ok(())
+    }
+
     /// Adds the records of grants last, and then ends records by their slots. On `Err` memory was refused, and more records
     /// may be behind those that were there.
     fn put(&mut self, grants: &[Grant], ends: &[End]) -> Result<(), AllocError>
@@ -134,7 +145,7 @@ impl IndexedRecords {
         for grant in grants {
             self.push(*grant)?;
         }
-        self.end(ends)?;
+        self.end_mixed(ends)?;
         Ok(())
     }
 

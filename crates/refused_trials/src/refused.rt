@@ -4,7 +4,7 @@
 ghost use Rattle.std.specs.Prelude.{◌≡◌, ◌<◌, OnErr, length};
 ghost use Rattle.grants.specs.Book.{IsLater};
 
-use grants::{Book, Creation, Records, holds_option, to_end};
+use grants::{Book, Creation, End, Records, holds_option, to_end};
 use model_base::{Grant, Kind, Place, Record, Revocation, Table, User};
 use std::alloc::{AllocError, Global};
 use std::process::Abort;
@@ -177,27 +177,35 @@ fn unlink(place: Place, user: u32) -> Revocation {
     }
 }
 
-/// Puts a table and a grant of its owner behind the others.
-fn extended(book: &mut Book, creation: &Creation, grant: &Grant) -> Result<(), AllocError>
+/// Puts a table and a grant of its owner behind the others, and ends the grant at a place.
+fn extended(
+    book: &mut Book,
+    creation: &Creation,
+    grant: &Grant,
+    place: Place,
+) -> Result<(), AllocError>
     requires later { IsLater book.old creation.now.place }
     requires room { length book.old.tables < 65536 }
     requires table { grant.now.table ≡ length book.old.tables }
     requires grantor { grant.now.grantor ≡ creation.now.owner }
     requires place { creation.now.place < grant.now.place }
+    requires end { grant.now.place < place }
     ensures { OnErr result (book.new ≡ book.old) }
 {
     // A book is sound, as its accessors say.
     let _tables = book.tables();
-    book.extend(&[*creation], &[*grant], &[])
+    let slot = book.records().len();
+    book.extend(&[*creation], &[*grant], &[End { slot, place }])
 }
 
-/// Puts a table and a grant of its owner behind the others, all in one call.
+/// Puts a table and a grant of its owner behind the others, and ends the grant at a place, all in one call.
 fn extend(
     rt: &impl Abort,
     alloc: Global,
     book: &mut Book,
     creation: &Creation,
     grant: &Grant,
+    place: Place,
 ) -> Result<(), Fail> {
     let number = book.tables().len();
     assert!(rt; book.is_later(creation.place));
@@ -205,14 +213,15 @@ fn extend(
     assert!(rt; grant.table.0 as usize == number);
     assert!(rt; grant.grantor.0 == creation.owner.0);
     assert!(rt; creation.place < grant.place);
+    assert!(rt; grant.place < place);
     let before = copied_book(alloc, book)?;
-    if extended(book, creation, grant).is_err() {
+    if extended(book, creation, grant, place).is_err() {
         expect_same(rt, book, &before);
-        extended(book, creation, grant)?;
+        extended(book, creation, grant, place)?;
     }
     let record = Record {
         grant: *grant,
-        end: None,
+        end: Some(place),
     };
     assert_eq!(rt;
         book.tables().split_last(),
@@ -262,7 +271,8 @@ fn refused_parts_leave_a_book(rt: HostRuntime) -> Result<(), Fail> {
             table: Table(number),
             ..link(place.saturating_add(1), number)
         };
-        extend(&rt, rt.alloc(), &mut book, &creation, &grant)?;
+        let end = place.saturating_add(2);
+        extend(&rt, rt.alloc(), &mut book, &creation, &grant, end)?;
     }
     Ok(())
 }

@@ -1,8 +1,8 @@
-use Rattle.std.proofs.Common.{◌≡◌, ◌≤◌, ◌&&◌, not, true, false, sym, ◌∙◌, ap, subst, arith, inl, inr}
+use Rattle.std.proofs.Common.{◌≡◌, ◌≤◌, ◌&&◌, not, false, sym, ◌∙◌, ap, subst, arith, inl, inr}
 use Rattle.std.proofs.lemmas.Bool.{cases_lt}
 use Rattle.grants.specs.Index.{AreAsked}
 use Rattle.grants.specs.Pass.{is_one_of}
-use Rattle.grants.specs.Work.{bears}
+use Rattle.grants.specs.Work.{bears, slots_of}
 use Rattle.grants.specs.View.{View, slot_at}
 use Rattle.grants.proofs.Asked.{none_until, stood}
 use Rattle.grants.proofs.cascade.first_bearer.Goals as goal
@@ -12,18 +12,18 @@ returns-then-stands-clause-passed g c =
     let view = g.V.Records.shown c.args.view.now in
     let asked = g.V.Records.asked c.loop-from.view in
     let are : AreAsked view asked = subst (λ (v : View). AreAsked v asked) c.loop-from.invariant.same c.in-Some.ensures.asked in
-    none_until view asked are c.args.revocation.now c.args.ended.now.keys c.args.user c.loop-from.from c.in-Some.i c.loop-from.invariant.none c.in-Some.ensures.next.2
+    none_until view asked are c.args.revocation.now (slots_of c.args.ended.now.ends) c.args.user c.loop-from.from c.in-Some.i c.loop-from.invariant.none c.in-Some.ensures.next.2
 
 pub returns-then-stands-clause-found : goal.returns-then-stands-clause-found
 returns-then-stands-clause-found g c = λ less.
-    let ended = c.args.ended.now.keys in
+    let ended = slots_of c.args.ended.now.ends in
     ap (λ (v : View). bears c.args.revocation.now c.args.user (slot_at v c.in-Some.i) && not (is_one_of ended c.in-Some.i)) (sym (c.in-Some.ensures.same ∙ c.loop-from.invariant.same))
     ∙ sym c.stands.ensures.value ∙ c.if-stands.true
 
 pub loop-from-preserved : goal.loop-from-preserved
 loop-from-preserved g c =
     let view = g.V.Records.shown c.args.view.now in
-    let ended = c.args.ended.now.keys in
+    let ended = slots_of c.args.ended.now.ends in
     let i = c.in-Some.i in
     let same = c.in-Some.ensures.same ∙ c.loop-from.invariant.same in
     let none : (bears c.args.revocation.now c.args.user (slot_at view i) && not (is_one_of ended i)) ≡ false =
@@ -48,11 +48,11 @@ returns-in_default-clause-passed g c =
     let asked = g.V.Records.asked c.loop-from.view in
     let are : AreAsked view asked = subst (λ (v : View). AreAsked v asked) c.loop-from.invariant.same c.in-Some.ensures.asked in
     let over : c.args.below ≤ c.in-Some.i = omega (arith, c.if-i-below.false) in
-    λ k less. none_until view asked are c.args.revocation.now c.args.ended.now.keys c.args.user c.loop-from.from c.in-Some.i c.loop-from.invariant.none c.in-Some.ensures.next.2 k (omega arith)
+    λ k less. none_until view asked are c.args.revocation.now (slots_of c.args.ended.now.ends) c.args.user c.loop-from.from c.in-Some.i c.loop-from.invariant.none c.in-Some.ensures.next.2 k (omega arith)
 
 pub returns-in_default-2-clause-passed : goal.returns-in_default-2-clause-passed
 returns-in_default-2-clause-passed g c =
     let view = g.V.Records.shown c.args.view.now in
     let asked = g.V.Records.asked c.loop-from.view in
     let are : AreAsked view asked = subst (λ (v : View). AreAsked v asked) c.loop-from.invariant.same c.in_default.ensures.asked in
-    none_until view asked are c.args.revocation.now c.args.ended.now.keys c.args.user c.loop-from.from c.args.below c.loop-from.invariant.none (λ k from less. c.in_default.ensures.next k from)
+    none_until view asked are c.args.revocation.now (slots_of c.args.ended.now.ends) c.args.user c.loop-from.from c.args.below c.loop-from.invariant.none (λ k from less. c.in_default.ensures.next k from)

@@ -1,6 +1,6 @@
 use Rattle.std.proofs.Common.{◌-◌, ◌≡◌, ◌<◌, ℕ, false}
 use Rattle.grants.specs.Pass.{is_one_of}
-use Rattle.grants.specs.Work.{bears}
+use Rattle.grants.specs.Work.{bears, slots_of}
 use Rattle.grants.specs.View.{slot_at}
 use Rattle.grants.proofs.cascade.first_bearer.Given as goal
 
@@ -8,7 +8,7 @@ use Rattle.grants.proofs.cascade.first_bearer.Given as goal
 abbrev pub invariant-loop-from : goal.invariant-loop-from
 invariant-loop-from g l = record {
   same : g.V.Records.shown l.view ≡ g.V.Records.shown l.initial.view;
-  none : (k : ℕ) → k < l.from → is_one_of l.ended.keys k ≡ false → bears l.revocation l.user (slot_at (g.V.Records.shown l.initial.view) k) ≡ false;
+  none : (k : ℕ) → k < l.from → is_one_of (slots_of l.ended.ends) k ≡ false → bears l.revocation l.user (slot_at (g.V.Records.shown l.initial.view) k) ≡ false;
 }
 
 abbrev pub decreases-loop-from : goal.decreases-loop-from

@@ -1,30 +1,31 @@
-use Rattle.std.proofs.Common.{◌≡◌, ◌<◌, ◌≤◌, ◌++◌, Some, length, true, false, sym, ◌∙◌, ap, subst, arith, inl}
+use Rattle.std.proofs.Common.{◌≡◌, ◌<◌, ◌≤◌, ◌++◌, Some, length, true, false, refl, sym, ◌∙◌, ap, subst, arith, inl}
 use Rattle.std.specs.Prelude.{◌⊎◌}
 use Rattle.std.proofs.lemmas.Bool.{true≢false}
 use Rattle.grants.specs.Pass.{concerned, is_one_of, outlasts}
-use Rattle.grants.specs.Work.{AllPassed, keepers, AreWalked}
+use Rattle.grants.specs.Work.{AllPassed, AreWalked, keepers, slots_of}
 use Rattle.grants.specs.View.{View, slot_at}
 use Rattle.grants.proofs.Asking.{passed_ended, walked_same}
-use Rattle.grants.proofs.Worklist.{due_more, nothing, one_more, over_none, over_staying, unended_at, whole_ending}
+use Rattle.grants.proofs.EndedLaws.{are_more, end_more}
+use Rattle.grants.proofs.Worklist.{due_more, nothing, over_none, over_staying, unended_at, whole_ending}
 use Rattle.grants.proofs.cascade.judge.Goals as goal
 
 pub returns-in_default-clause-whole : goal.returns-in_default-clause-whole
 returns-in_default-clause-whole g c =
     let view = g.V.Records.shown c.args.view.now in
     rw (c.requires.next)
-    (ap (λ rest. c.args.places.now.items ++ rest)
-    (over_none c.args.revocation.now view c.args.owner c.args.work.now.ended.keys c.args.slot c.requires.within
+    (ap (λ rest. c.args.work.now.ended.places ++ rest)
+    (over_none c.args.revocation.now view c.args.owner (slots_of c.args.work.now.ended.ends) c.args.slot c.requires.within
     (nothing (concerned (slot_at view c.args.slot) c.args.revocation.now) (λ grant is. c.in_default.not-Some grant (c.concerned.ensures.value ∙ is)))))
 
 pub returns-then-stays-clause-whole : goal.returns-then-stays-clause-whole
 returns-then-stays-clause-whole g c =
     let view = g.V.Records.shown c.args.view.now in
-    let ended = c.args.work.now.ended.keys in
+    let ended = slots_of c.args.work.now.ended.ends in
     let found : concerned (slot_at view c.args.slot) c.args.revocation.now ≡ Some c.in-Some.grant = sym c.in-Some.ensures.value in
     let told : outlasts c.args.owner (keepers c.args.revocation.now view ended c.args.slot) c.args.revocation.now c.in-Some.grant ≡ true =
     ap (λ (v : View). outlasts c.args.owner (keepers c.args.revocation.now v ended c.args.slot) c.args.revocation.now c.in-Some.grant) (sym c.in-Some.ensures.same) ∙ sym c.stays.ensures.value ∙ c.if-stays.true in
     rw (c.requires.next)
-    (ap (λ rest. c.args.places.now.items ++ rest)
+    (ap (λ rest. c.args.work.now.ended.places ++ rest)
     (over_staying c.args.revocation.now view c.args.owner ended c.args.slot c.in-Some.grant c.requires.within found (unended_at ended c.args.slot c.requires.behind) told))
 
 pub returns-in_ok-lose-clause-due : goal.returns-in_ok-lose-clause-due
@@ -33,9 +34,9 @@ returns-in_ok-lose-clause-due g c =
     let seen = g.V.Records.shown c.stays.new.view in
     let same : seen ≡ view = c.if-stays.ensures.same ∙ c.in-Some.ensures.same in
     let found : concerned (slot_at view c.args.slot) c.args.revocation.now ≡ Some c.in-Some.grant = sym c.in-Some.ensures.value in
-    due_more c.args.revocation.now view c.args.slot c.args.work.now.due.keys c.lose.new.due.keys c.args.work.now.ended.keys c.insert.new.self.keys c.in-Some.grant c.args.next
+    due_more c.args.revocation.now view c.args.slot c.args.work.now.due.keys c.lose.new.due.keys (slots_of c.args.work.now.ended.ends) (slots_of c.push.new.self.ends) c.in-Some.grant c.args.next
     (omega (arith, c.requires.next)) c.requires.due found
-    (one_more c.args.work.now.ended c.insert.new.self c.args.slot c.in_ok-insert.ensures.updates)
+    (end_more c.args.work.now.ended.ends c.push.new.self.ends (record { slot = c.args.slot; place = c.args.revocation.now.place }) c.in_ok-push.ensures.ends)
     c.in_ok-lose.ensures.kept
     (λ j is. subst (λ (v : View). (is_one_of c.args.work.now.due.keys j ≡ true) ⊎ ((c.args.next ≤ j) × (j < length v.slots))) same (c.in_ok-lose.ensures.within j is))
     (λ _ j other from here by. c.in_ok-lose.ensures.found j other from (ap (λ (v : View). concerned (slot_at v j) c.args.revocation.now) same ∙ here) by)
@@ -43,35 +44,35 @@ returns-in_ok-lose-clause-due g c =
 pub returns-in_ok-lose-clause-whole : goal.returns-in_ok-lose-clause-whole
 returns-in_ok-lose-clause-whole g c =
     let view = g.V.Records.shown c.args.view.now in
-    let ended = c.args.work.now.ended.keys in
+    let ended = slots_of c.args.work.now.ended.ends in
     let found : concerned (slot_at view c.args.slot) c.args.revocation.now ≡ Some c.in-Some.grant = sym c.in-Some.ensures.value in
     let told : outlasts c.args.owner (keepers c.args.revocation.now view ended c.args.slot) c.args.revocation.now c.in-Some.grant ≡ false =
     ap (λ (v : View). outlasts c.args.owner (keepers c.args.revocation.now v ended c.args.slot) c.args.revocation.now c.in-Some.grant) (sym c.in-Some.ensures.same) ∙ sym c.stays.ensures.value ∙ c.if-stays.false in
-    whole_ending c.args.revocation.now view c.args.owner c.args.places.now.items c.push.new.self.items ended c.insert.new.self.keys c.args.slot c.args.next c.in-Some.grant
-    c.requires.next c.requires.within c.in_ok-push.ensures.items found (one_more c.args.work.now.ended c.insert.new.self c.args.slot c.in_ok-insert.ensures.updates) told
+    whole_ending c.args.revocation.now view c.args.owner c.args.work.now.ended.places c.push.new.self.places ended (slots_of c.push.new.self.ends) c.args.slot c.args.next c.in-Some.grant
+    c.requires.next c.requires.within c.in_ok-push.ensures.places found (end_more c.args.work.now.ended.ends c.push.new.self.ends (record { slot = c.args.slot; place = c.args.revocation.now.place }) c.in_ok-push.ensures.ends) told
 
 pub returns-else-grant-clause-due : goal.returns-else-grant-clause-due
 returns-else-grant-clause-due g c =
     let view = g.V.Records.shown c.args.view.now in
     let found : concerned (slot_at view c.args.slot) c.args.revocation.now ≡ Some c.in-Some.grant = sym c.in-Some.ensures.value in
-    due_more c.args.revocation.now view c.args.slot c.args.work.now.due.keys c.args.work.now.due.keys c.args.work.now.ended.keys c.insert.new.self.keys c.in-Some.grant c.args.next
+    due_more c.args.revocation.now view c.args.slot c.args.work.now.due.keys c.args.work.now.due.keys (slots_of c.args.work.now.ended.ends) (slots_of c.push.new.self.ends) c.in-Some.grant c.args.next
     (omega (arith, c.requires.next)) c.requires.due found
-    (one_more c.args.work.now.ended c.insert.new.self c.args.slot c.in_ok-insert.ensures.updates)
+    (end_more c.args.work.now.ended.ends c.push.new.self.ends (record { slot = c.args.slot; place = c.args.revocation.now.place }) c.in_ok-push.ensures.ends)
     (λ j is. is) (λ j is. inl is) (λ with j other from here by. absurd (true≢false (sym with ∙ c.if-grant.false)))
 
 pub returns-else-grant-clause-whole : goal.returns-else-grant-clause-whole
 returns-else-grant-clause-whole g c =
     let view = g.V.Records.shown c.args.view.now in
-    let ended = c.args.work.now.ended.keys in
+    let ended = slots_of c.args.work.now.ended.ends in
     let found : concerned (slot_at view c.args.slot) c.args.revocation.now ≡ Some c.in-Some.grant = sym c.in-Some.ensures.value in
     let told : outlasts c.args.owner (keepers c.args.revocation.now view ended c.args.slot) c.args.revocation.now c.in-Some.grant ≡ false =
     ap (λ (v : View). outlasts c.args.owner (keepers c.args.revocation.now v ended c.args.slot) c.args.revocation.now c.in-Some.grant) (sym c.in-Some.ensures.same) ∙ sym c.stays.ensures.value ∙ c.if-stays.false in
-    whole_ending c.args.revocation.now view c.args.owner c.args.places.now.items c.push.new.self.items ended c.insert.new.self.keys c.args.slot c.args.next c.in-Some.grant
-    c.requires.next c.requires.within c.in_ok-push.ensures.items found (one_more c.args.work.now.ended c.insert.new.self c.args.slot c.in_ok-insert.ensures.updates) told
+    whole_ending c.args.revocation.now view c.args.owner c.args.work.now.ended.places c.push.new.self.places ended (slots_of c.push.new.self.ends) c.args.slot c.args.next c.in-Some.grant
+    c.requires.next c.requires.within c.in_ok-push.ensures.places found (end_more c.args.work.now.ended.ends c.push.new.self.ends (record { slot = c.args.slot; place = c.args.revocation.now.place }) c.in_ok-push.ensures.ends) told
 
 pub stays-requires-clause-passed : goal.stays-requires-clause-passed
 stays-requires-clause-passed g c =
-    subst (λ (v : View). AllPassed c.args.revocation.now v c.args.work.now.ended.keys c.args.work.now.asked) (sym c.in-Some.ensures.same) c.requires.passed
+    subst (λ (v : View). AllPassed c.args.revocation.now v (slots_of c.args.work.now.ended.ends) c.args.work.now.asked) (sym c.in-Some.ensures.same) c.requires.passed
 
 pub returns-then-stays-clause-walked : goal.returns-then-stays-clause-walked
 returns-then-stays-clause-walked g c =
@@ -79,7 +80,7 @@ returns-then-stays-clause-walked g c =
 
 pub returns-then-stays-clause-passed : goal.returns-then-stays-clause-passed
 returns-then-stays-clause-passed g c =
-    subst (λ (v : View). AllPassed c.args.revocation.now v c.args.work.now.ended.keys c.stays.new.asked) c.in-Some.ensures.same c.stays.ensures.passed
+    subst (λ (v : View). AllPassed c.args.revocation.now v (slots_of c.args.work.now.ended.ends) c.stays.new.asked) c.in-Some.ensures.same c.stays.ensures.passed
 
 pub lose-requires : goal.lose-requires
 lose-requires g c =
@@ -93,11 +94,11 @@ returns-in_ok-lose-clause-walked g c =
 pub returns-in_ok-lose-clause-passed : goal.returns-in_ok-lose-clause-passed
 returns-in_ok-lose-clause-passed g c =
     let seen = g.V.Records.shown c.stays.new.view in
-    let before = subst (λ (v : View). AllPassed c.args.revocation.now v c.args.work.now.ended.keys c.stays.new.asked) (sym c.if-stays.ensures.same) c.stays.ensures.passed in
-    subst (λ (v : View). AllPassed c.args.revocation.now v c.insert.new.self.keys c.lose.new.asked) (c.if-stays.ensures.same ∙ c.in-Some.ensures.same)
-    (c.in_ok-lose.ensures.passed c.insert.new.self.keys
-    (passed_ended c.args.revocation.now seen c.args.work.now.ended.keys c.insert.new.self.keys c.args.slot c.stays.new.asked
-    (one_more c.args.work.now.ended c.insert.new.self c.args.slot c.in_ok-insert.ensures.updates) before))
+    let before = subst (λ (v : View). AllPassed c.args.revocation.now v (slots_of c.args.work.now.ended.ends) c.stays.new.asked) (sym c.if-stays.ensures.same) c.stays.ensures.passed in
+    subst (λ (v : View). AllPassed c.args.revocation.now v (slots_of c.push.new.self.ends) c.lose.new.asked) (c.if-stays.ensures.same ∙ c.in-Some.ensures.same)
+    (c.in_ok-lose.ensures.passed (slots_of c.push.new.self.ends)
+    (passed_ended c.args.revocation.now seen (slots_of c.args.work.now.ended.ends) (slots_of c.push.new.self.ends) c.args.slot c.stays.new.asked
+    (end_more c.args.work.now.ended.ends c.push.new.self.ends (record { slot = c.args.slot; place = c.args.revocation.now.place }) c.in_ok-push.ensures.ends) before))
 
 pub returns-else-grant-clause-walked : goal.returns-else-grant-clause-walked
 returns-else-grant-clause-walked g c =
@@ -106,6 +107,18 @@ returns-else-grant-clause-walked g c =
 pub returns-else-grant-clause-passed : goal.returns-else-grant-clause-passed
 returns-else-grant-clause-passed g c =
     let view = g.V.Records.shown c.args.view.now in
-    let before = subst (λ (v : View). AllPassed c.args.revocation.now v c.args.work.now.ended.keys c.stays.new.asked) c.in-Some.ensures.same c.stays.ensures.passed in
-    passed_ended c.args.revocation.now view c.args.work.now.ended.keys c.insert.new.self.keys c.args.slot c.stays.new.asked
-    (one_more c.args.work.now.ended c.insert.new.self c.args.slot c.in_ok-insert.ensures.updates) before
+    let before = subst (λ (v : View). AllPassed c.args.revocation.now v (slots_of c.args.work.now.ended.ends) c.stays.new.asked) c.in-Some.ensures.same c.stays.ensures.passed in
+    passed_ended c.args.revocation.now view (slots_of c.args.work.now.ended.ends) (slots_of c.push.new.self.ends) c.args.slot c.stays.new.asked
+    (end_more c.args.work.now.ended.ends c.push.new.self.ends (record { slot = c.args.slot; place = c.args.revocation.now.place }) c.in_ok-push.ensures.ends) before
+
+pub returns-in_ok-lose-clause-ends : goal.returns-in_ok-lose-clause-ends
+returns-in_ok-lose-clause-ends g c =
+    are_more c.args.revocation.now (g.V.Records.shown c.args.view.now) c.args.work.now.ended.ends c.push.new.self.ends c.args.work.now.ended.places c.push.new.self.places
+    (record { slot = c.args.slot; place = c.args.revocation.now.place }) c.in-Some.grant.place c.in_ok-push.ensures.ends c.in_ok-push.ensures.places c.requires.ends
+    (record { grant = c.in-Some.grant; found = sym c.in-Some.ensures.value; made_at = refl; place = refl })
+
+pub returns-else-grant-clause-ends : goal.returns-else-grant-clause-ends
+returns-else-grant-clause-ends g c =
+    are_more c.args.revocation.now (g.V.Records.shown c.args.view.now) c.args.work.now.ended.ends c.push.new.self.ends c.args.work.now.ended.places c.push.new.self.places
+    (record { slot = c.args.slot; place = c.args.revocation.now.place }) c.in-Some.grant.place c.in_ok-push.ensures.ends c.in_ok-push.ensures.places c.requires.ends
+    (record { grant = c.in-Some.grant; found = sym c.in-Some.ensures.value; made_at = refl; place = refl })

@@ -1,21 +1,21 @@
 use Rattle.std.proofs.Common.{sym, subst}
-use Rattle.grants.specs.Work.{ArePassed}
+use Rattle.grants.specs.Work.{ArePassed, slots_of}
 use Rattle.grants.proofs.Asking.{kept_by_first, passed_kept, passed_start, same_keys}
 use Rattle.grants.proofs.cascade.keeps.Goals as goal
 
 pub first_bearer-first-requires-clause-passed : goal.first_bearer-first-requires-clause-passed
 first_bearer-first-requires-clause-passed g c =
     let view = g.V.Records.shown c.args.view.now in
-    subst (ArePassed c.args.revocation.now view c.args.ended.now.keys c.args.user) (sym c.passed_by-start.ensures)
-    (passed_start c.args.revocation.now view c.args.ended.now.keys c.args.asked.now c.args.user c.requires.passed)
+    subst (ArePassed c.args.revocation.now view (slots_of c.args.ended.now.ends) c.args.user) (sym c.passed_by-start.ensures)
+    (passed_start c.args.revocation.now view (slots_of c.args.ended.now.ends) c.args.asked.now c.args.user c.requires.passed)
 
 pub returns-clause-value : goal.returns-clause-value
 returns-clause-value g c =
-    kept_by_first c.args.revocation.now (g.V.Records.shown c.args.view.now) c.args.ended.now.keys c.args.user c.first_bearer-first.result c.args.below c.first_bearer-first.ensures.passed c.first_bearer-first.ensures.found
+    kept_by_first c.args.revocation.now (g.V.Records.shown c.args.view.now) (slots_of c.args.ended.now.ends) c.args.user c.first_bearer-first.result c.args.below c.first_bearer-first.ensures.passed c.first_bearer-first.ensures.found
 
 pub returns-clause-passed : goal.returns-clause-passed
 returns-clause-passed g c =
-    passed_kept c.args.revocation.now (g.V.Records.shown c.args.view.now) c.args.asked.now c.pass.new.asked c.args.user c.first_bearer-first.result c.pass.ensures c.args.ended.now.keys
+    passed_kept c.args.revocation.now (g.V.Records.shown c.args.view.now) c.args.asked.now c.pass.new.asked c.args.user c.first_bearer-first.result c.pass.ensures (slots_of c.args.ended.now.ends)
     c.first_bearer-first.ensures.passed c.requires.passed
 
 pub returns-clause-users : goal.returns-clause-users

@@ -4,15 +4,15 @@ use Rattle.std.proofs.lemmas.List.Sorted.{IsPartitionPoint-from_clause, IsPartit
 use Rattle.grants.specs.declared.endings.Ending.{Ending}
 use Rattle.grants.proofs.endings.endings_to.Goals as goal
 
-pub returns-then-reaches-clause-below : goal.returns-then-reaches-clause-below
-returns-then-reaches-clause-below c = λ k d less.
+pub returns-then-goes_beyond-clause-below : goal.returns-then-goes_beyond-clause-below
+returns-then-goes_beyond-clause-below c = λ k d less.
     let es = c.args.endings.now in
     let parted = IsPartitionedBy-leb (λ (e : Ending). e.place) es c.args.place c.requires in
     let point = IsPartitionPoint-from_clause (λ (e : Ending). leb e.place c.args.place) es c.partition_point.result c.partition_point.ensures.partitioned parted (λ a r q k. search rules) in
     leb-true (get_or es k d).place c.args.place (point.0 k d (omega arith) less)
 
-pub returns-then-reaches-clause-above : goal.returns-then-reaches-clause-above
-returns-then-reaches-clause-above c = λ k d low less.
+pub returns-then-goes_beyond-clause-above : goal.returns-then-goes_beyond-clause-above
+returns-then-goes_beyond-clause-above c = λ k d low less.
     let es = c.args.endings.now in
     let parted = IsPartitionedBy-leb (λ (e : Ending). e.place) es c.args.place c.requires in
     let point = IsPartitionPoint-from_clause (λ (e : Ending). leb e.place c.args.place) es c.partition_point.result c.partition_point.ensures.partitioned parted (λ a r q k. search rules) in

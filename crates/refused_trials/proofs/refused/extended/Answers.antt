@@ -1,15 +1,21 @@
 -- The owner of a new table may grant on it.
-use Rattle.std.proofs.Common.{◌≡◌, ℕ, ◌<◌, true, List, [], ◌∷◌, ◌++◌, Option, Some, None, length, length-append, refl, arith, eq-eqb}
+use Rattle.std.proofs.Common.{◌≡◌, ℕ, ◌<◌, true, List, [], ◌∷◌, ◌++◌, Option, Some, None, length, length-append, map, refl, sym, ◌∙◌, ap, subst, arith, eq-eqb}
 use Rattle.std.specs.Prelude.{IfSome, slice_get}
 use Rattle.std.proofs.lemmas.List.Elements.{All-push, All-weaker}
 use Rattle.model_base.specs.declared.deed.Grant.{Grant}
 use Rattle.model_base.specs.declared.deed.Record.{Record}
 use Rattle.model_base.specs.Privileges.{option_of}
 use Rattle.grants.specs.View.{has_by, holds_in}
-use Rattle.grants.specs.Book.{Entries, IsLater, IsSound, owners_of, view_of, with_grant, with_table}
+use Rattle.model_base.specs.Records.{ended_at}
+use Rattle.grants.specs.Book.{Entries, IsLater, IsSound, end_slot, owners_of, unended, view_of, with_grant, with_table}
 use Rattle.grants.specs.declared.book.Creation.{Creation}
+use Rattle.grants.specs.declared.book.End.{End}
 use Rattle.grants.proofs.BookLaws.{sound_table}
+use Rattle.grants.proofs.EndedLaws.{IsOpen, ends_open}
 use Rattle.grants.proofs.GrantLaws.{sound_grant}
+use Rattle.grants.proofs.LaterLaws.{later_grant}
+use Rattle.grants.proofs.Lookups.{ended_none}
+use Rattle.grants.proofs.RevokeLaws.{sound_revoke}
 use Rattle.refused_trials.proofs.refused.extended.Goals as goal
 
 -- the owner of the last table
@@ -47,6 +53,27 @@ sound_more book creation grant sound later room table grantor less =
     sound_grant (with_table book creation) grant (sound_table book creation sound later room) (later_still book creation grant.place later less)
     (omega (arith, length-append book.tables (creation ∷ []), table)) (owner_holds book creation grant table grantor)
 
+last_is : (entries : List Record) (entry : Record) → slice_get (entries ++ entry ∷ []) (length entries) ≡ Some entry
+last_is [] entry = refl
+last_is (first ∷ entries) entry = last_is entries entry
+
+-- the last grant may end behind all
+last_ended : (book : Entries) (grant : Grant) (slot place : ℕ) → IsSound (with_grant book grant) → IsLater (with_grant book grant) place → slot ≡ length book.records
+    → IsSound (record { tables = book.tables; records = end_slot (book.records ++ unended grant ∷ []) slot place })
+last_ended book grant slot place sound later is =
+    let entries = book.records ++ unended grant ∷ [] in
+    let end : End = record { slot = slot; place = place } in
+    let last : IsOpen entries place end grant.place =
+    record { entry = unended grant; there = ap (slice_get entries) is ∙ last_is book.records (unended grant); unended = refl; made_at = refl; same = refl } in
+    let ended : end_slot entries slot place ≡ map (ended_at place (grant.place ∷ [])) entries =
+    ap (λ (es : List Record). end_slot es slot place) (ended_none place entries) ∙ ends_open entries sound.rising place [] end grant.place last in
+    subst (λ (es : List Record). IsSound (record { tables = book.tables; records = es })) (sym ended) (sound_revoke (with_grant book grant) place (grant.place ∷ []) sound later)
+
 pub extend-requires-clause-sound : goal.extend-requires-clause-sound
 extend-requires-clause-sound c =
-    sound_more c.args.book.now c.args.creation.now c.args.grant.now c.tables-tables.ensures.sound c.requires.later c.requires.room c.requires.table c.requires.grantor c.requires.place
+    let book = c.args.book.now in
+    let creation = c.args.creation.now in
+    let grant = c.args.grant.now in
+    let here = sound_more book creation grant c.tables-tables.ensures.sound c.requires.later c.requires.room c.requires.table c.requires.grantor c.requires.place in
+    let later = later_still book creation grant.place c.requires.later c.requires.place in
+    last_ended (with_table book creation) grant (length c.records-slot.result.now) c.args.place here (later_grant (with_table book creation) grant later c.args.place c.requires.end) (ap length c.records-slot.ensures.records)

@@ -13,3 +13,8 @@ compare_exchange-requires g c =
       subst (λ w. Allows (λ s. legal (g.K.Placed.batch w.key) (g.K.Placed.listed w.key) s.words s.views) w.table.slots seat.id seat.me c.args.at (λ n. either (n == 0) 1 n) (g.M.Play.then (step w.table.slots c.args.at 0 1 none) seat.me))
           (sym c.self.view_is) c.requires.allows,
     )
+
+pub returns-clause-then : goal.returns-clause-then
+returns-clause-then g c =
+    subst (λ w. g.M.Play.then (step w.table.slots c.args.at 0 1 none) c.args.seat.now.me c.compare_exchange.result c.compare_exchange.new.seat.me) c.self.view_is
+    c.compare_exchange.ensures.2

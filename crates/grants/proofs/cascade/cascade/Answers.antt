@@ -4,17 +4,17 @@ use Rattle.std.proofs.lemmas.Bool.{true≢false}
 use Rattle.std.proofs.lemmas.List.{append-nil}
 use Rattle.std.proofs.Math.ListN.{drop_of_length-le}
 use Rattle.grants.specs.Pass.{cascade, concerned_grants}
-use Rattle.grants.specs.Work.{AllPassed, AreDue, keepers, AreWalked}
+use Rattle.grants.specs.Work.{AllPassed, AreDue, AreEnds, AreWalked, keepers, slots_of}
 use Rattle.grants.specs.View.{Shows, View}
 use Rattle.grants.proofs.SlotLaws.{pass_ends}
 use Rattle.grants.proofs.Worklist.{IsFirstDue, ends_from, first_due, none_due, nothing, over_free, walked_rest}
 use Rattle.grants.proofs.Borne.{shows_borne}
-use Rattle.grants.proofs.cascade.to_end.Goals as goal
+use Rattle.grants.proofs.cascade.cascade.Goals as goal
 
 pub overflow_add-next : goal.overflow_add-next
 overflow_add-next g c =
     let view = g.V.Records.shown c.named.new.view in
-    let first : IsFirstDue c.args.revocation.now view c.loop-slot.work.due.keys c.pop_first.new.self.keys c.loop-slot.work.ended.keys c.loop-slot.next c.in-Some.slot =
+    let first : IsFirstDue c.args.revocation.now view c.loop-slot.work.due.keys c.pop_first.new.self.keys (slots_of c.loop-slot.work.ended.ends) c.loop-slot.next c.in-Some.slot =
     first_due c.args.revocation.now view _ _ _ _ _ c.loop-slot.invariant.due c.in-Some.ensures.removal c.in-Some.ensures.all_above in
     let same : length view.slots ≡ c.slots-slots.result = ap (λ (v : View). length v.slots) c.in_ok-due.ensures.same ∙ sym c.slots-slots.ensures in
     omega (arith, first.within, same, c.slots-slots.type_inv)
@@ -22,22 +22,22 @@ overflow_add-next g c =
 pub judge-requires-clause-within : goal.judge-requires-clause-within
 judge-requires-clause-within g c =
     let view = g.V.Records.shown c.named.new.view in
-    let first : IsFirstDue c.args.revocation.now view c.loop-slot.work.due.keys c.pop_first.new.self.keys c.loop-slot.work.ended.keys c.loop-slot.next c.in-Some.slot =
+    let first : IsFirstDue c.args.revocation.now view c.loop-slot.work.due.keys c.pop_first.new.self.keys (slots_of c.loop-slot.work.ended.ends) c.loop-slot.next c.in-Some.slot =
     first_due c.args.revocation.now view _ _ _ _ _ c.loop-slot.invariant.due c.in-Some.ensures.removal c.in-Some.ensures.all_above in
     subst (λ (v : View). c.in-Some.slot < length v.slots) (sym c.loop-slot.invariant.same) first.within
 
 pub judge-requires-clause-due : goal.judge-requires-clause-due
 judge-requires-clause-due g c =
     let view = g.V.Records.shown c.named.new.view in
-    let first : IsFirstDue c.args.revocation.now view c.loop-slot.work.due.keys c.pop_first.new.self.keys c.loop-slot.work.ended.keys c.loop-slot.next c.in-Some.slot =
+    let first : IsFirstDue c.args.revocation.now view c.loop-slot.work.due.keys c.pop_first.new.self.keys (slots_of c.loop-slot.work.ended.ends) c.loop-slot.next c.in-Some.slot =
     first_due c.args.revocation.now view _ _ _ _ _ c.loop-slot.invariant.due c.in-Some.ensures.removal c.in-Some.ensures.all_above in
-    subst (λ (v : View). AreDue c.args.revocation.now v c.pop_first.new.self.keys c.loop-slot.work.ended.keys (c.in-Some.slot + 1)) (sym c.loop-slot.invariant.same)
+    subst (λ (v : View). AreDue c.args.revocation.now v c.pop_first.new.self.keys (slots_of c.loop-slot.work.ended.ends) (c.in-Some.slot + 1)) (sym c.loop-slot.invariant.same)
     (first.after (c.in-Some.slot + 1) refl)
 
 pub judge-requires-clause-walked : goal.judge-requires-clause-walked
 judge-requires-clause-walked g c =
     let view = g.V.Records.shown c.named.new.view in
-    let first : IsFirstDue c.args.revocation.now view c.loop-slot.work.due.keys c.pop_first.new.self.keys c.loop-slot.work.ended.keys c.loop-slot.next c.in-Some.slot =
+    let first : IsFirstDue c.args.revocation.now view c.loop-slot.work.due.keys c.pop_first.new.self.keys (slots_of c.loop-slot.work.ended.ends) c.loop-slot.next c.in-Some.slot =
     first_due c.args.revocation.now view _ _ _ _ _ c.loop-slot.invariant.due c.in-Some.ensures.removal c.in-Some.ensures.all_above in
     subst (λ (v : View). AreWalked c.args.revocation.now v c.pop_first.new.self.keys c.loop-slot.work.asked (c.in-Some.slot + 1)) (sym c.loop-slot.invariant.same)
     (walked_rest c.args.revocation.now view c.loop-slot.work.due.keys c.pop_first.new.self.keys c.loop-slot.work.asked c.loop-slot.next (c.in-Some.slot + 1) c.in-Some.slot first.from refl
@@ -45,19 +45,23 @@ judge-requires-clause-walked g c =
 
 pub judge-requires-clause-passed : goal.judge-requires-clause-passed
 judge-requires-clause-passed g c =
-    subst (λ (v : View). AllPassed c.args.revocation.now v c.loop-slot.work.ended.keys c.loop-slot.work.asked) (sym c.loop-slot.invariant.same) c.loop-slot.invariant.passed
+    subst (λ (v : View). AllPassed c.args.revocation.now v (slots_of c.loop-slot.work.ended.ends) c.loop-slot.work.asked) (sym c.loop-slot.invariant.same) c.loop-slot.invariant.passed
 
 pub judge-requires-clause-behind : goal.judge-requires-clause-behind
 judge-requires-clause-behind g c =
     let view = g.V.Records.shown c.named.new.view in
-    let first : IsFirstDue c.args.revocation.now view c.loop-slot.work.due.keys c.pop_first.new.self.keys c.loop-slot.work.ended.keys c.loop-slot.next c.in-Some.slot =
+    let first : IsFirstDue c.args.revocation.now view c.loop-slot.work.due.keys c.pop_first.new.self.keys (slots_of c.loop-slot.work.ended.ends) c.loop-slot.next c.in-Some.slot =
     first_due c.args.revocation.now view _ _ _ _ _ c.loop-slot.invariant.due c.in-Some.ensures.removal c.in-Some.ensures.all_above in
     first.behind
+
+pub judge-requires-clause-ends : goal.judge-requires-clause-ends
+judge-requires-clause-ends g c =
+    subst (λ (v : View). AreEnds c.args.revocation.now v c.loop-slot.work.ended.ends c.loop-slot.work.ended.places) (sym c.loop-slot.invariant.same) c.loop-slot.invariant.ends
 
 pub loop-slot-smaller : goal.loop-slot-smaller
 loop-slot-smaller g c =
     let view = g.V.Records.shown c.named.new.view in
-    let first : IsFirstDue c.args.revocation.now view c.loop-slot.work.due.keys c.pop_first.new.self.keys c.loop-slot.work.ended.keys c.loop-slot.next c.in-Some.slot =
+    let first : IsFirstDue c.args.revocation.now view c.loop-slot.work.due.keys c.pop_first.new.self.keys (slots_of c.loop-slot.work.ended.ends) c.loop-slot.next c.in-Some.slot =
     first_due c.args.revocation.now view _ _ _ _ _ c.loop-slot.invariant.due c.in-Some.ensures.removal c.in-Some.ensures.all_above in
     let old : length (g.V.Records.shown c.loop-slot.view).slots ≡ length view.slots = ap (λ (v : View). length v.slots) c.loop-slot.invariant.same in
     let new : length (g.V.Records.shown c.judge.new.view).slots ≡ length view.slots = ap (λ (v : View). length v.slots) (c.in_ok-judge.ensures.same ∙ c.loop-slot.invariant.same) in
@@ -70,22 +74,23 @@ loop-slot-preserved g c =
     let owner = c.owner-owner.result in
     let slot = c.in-Some.slot in
     let seen = c.loop-slot.invariant.same in
-    let first : IsFirstDue revocation view c.loop-slot.work.due.keys c.pop_first.new.self.keys c.loop-slot.work.ended.keys c.loop-slot.next slot =
+    let first : IsFirstDue revocation view c.loop-slot.work.due.keys c.pop_first.new.self.keys (slots_of c.loop-slot.work.ended.ends) c.loop-slot.next slot =
     first_due revocation view _ _ _ _ _ c.loop-slot.invariant.due c.in-Some.ensures.removal c.in-Some.ensures.all_above in
     record {
       same = c.in_ok-judge.ensures.same ∙ seen;
-      due = subst (λ (v : View). AreDue revocation v c.judge.new.work.due.keys c.judge.new.work.ended.keys (slot + 1)) seen c.in_ok-judge.ensures.due;
+      due = subst (λ (v : View). AreDue revocation v c.judge.new.work.due.keys (slots_of c.judge.new.work.ended.ends) (slot + 1)) seen c.in_ok-judge.ensures.due;
       walked = subst (λ (v : View). AreWalked revocation v c.judge.new.work.due.keys c.judge.new.work.asked (slot + 1)) seen c.in_ok-judge.ensures.walked;
-      passed = subst (λ (v : View). AllPassed revocation v c.judge.new.work.ended.keys c.judge.new.work.asked) seen c.in_ok-judge.ensures.passed;
+      passed = subst (λ (v : View). AllPassed revocation v (slots_of c.judge.new.work.ended.ends) c.judge.new.work.asked) seen c.in_ok-judge.ensures.passed;
+      ends = subst (λ (v : View). AreEnds revocation v c.judge.new.work.ended.ends c.judge.new.work.ended.places) seen c.in_ok-judge.ensures.ends;
       next = omega (arith, first.within);
       whole = λ borne.
-          let judged : c.judge.new.places.items ++ ends_from revocation view owner c.judge.new.work.ended.keys (slot + 1) ≡ c.loop-slot.places.items ++ ends_from revocation view owner c.loop-slot.work.ended.keys slot =
-          subst (λ (v : View). c.judge.new.places.items ++ ends_from revocation v owner c.judge.new.work.ended.keys (slot + 1) ≡ c.loop-slot.places.items ++ ends_from revocation v owner c.loop-slot.work.ended.keys slot)
+          let judged : c.judge.new.work.ended.places ++ ends_from revocation view owner (slots_of c.judge.new.work.ended.ends) (slot + 1) ≡ c.loop-slot.work.ended.places ++ ends_from revocation view owner (slots_of c.loop-slot.work.ended.ends) slot =
+          subst (λ (v : View). c.judge.new.work.ended.places ++ ends_from revocation v owner (slots_of c.judge.new.work.ended.ends) (slot + 1) ≡ c.loop-slot.work.ended.places ++ ends_from revocation v owner (slots_of c.loop-slot.work.ended.ends) slot)
           seen c.in_ok-judge.ensures.whole in
-          let on : ends_from revocation view owner c.loop-slot.work.ended.keys slot ≡ ends_from revocation view owner c.loop-slot.work.ended.keys c.loop-slot.next =
-          over_free revocation view owner borne c.loop-slot.work.due.keys c.loop-slot.work.ended.keys c.loop-slot.next c.loop-slot.invariant.due (slot - c.loop-slot.next) c.loop-slot.next slot
+          let on : ends_from revocation view owner (slots_of c.loop-slot.work.ended.ends) slot ≡ ends_from revocation view owner (slots_of c.loop-slot.work.ended.ends) c.loop-slot.next =
+          over_free revocation view owner borne c.loop-slot.work.due.keys (slots_of c.loop-slot.work.ended.ends) c.loop-slot.next c.loop-slot.invariant.due (slot - c.loop-slot.next) c.loop-slot.next slot
           (omega (arith, first.from)) (omega arith) (omega (arith, first.within)) first.free in
-          judged ∙ ap (λ rest. c.loop-slot.places.items ++ rest) on ∙ c.loop-slot.invariant.whole borne;
+          judged ∙ ap (λ rest. c.loop-slot.work.ended.places ++ rest) on ∙ c.loop-slot.invariant.whole borne;
     }
 
 pub returns-clause-ended : goal.returns-clause-ended
@@ -98,11 +103,15 @@ returns-clause-ended g c = λ owners deeds shows.
     let owned : view.owner revocation.table ≡ Some owner = ap (λ (v : View). v.owner revocation.table) same ∙ c.owner-owner.ensures in
     let borne = shows_borne view owners deeds revocation owner here owned in
     let end = length view.slots in
-    let on : ends_from revocation view owner c.loop-slot.work.ended.keys end ≡ ends_from revocation view owner c.loop-slot.work.ended.keys c.loop-slot.next =
-    over_free revocation view owner borne c.loop-slot.work.due.keys c.loop-slot.work.ended.keys c.loop-slot.next c.loop-slot.invariant.due (end - c.loop-slot.next) c.loop-slot.next end
+    let on : ends_from revocation view owner (slots_of c.loop-slot.work.ended.ends) end ≡ ends_from revocation view owner (slots_of c.loop-slot.work.ended.ends) c.loop-slot.next =
+    over_free revocation view owner borne c.loop-slot.work.due.keys (slots_of c.loop-slot.work.ended.ends) c.loop-slot.next c.loop-slot.invariant.due (end - c.loop-slot.next) c.loop-slot.next end
     (omega (arith, c.loop-slot.invariant.next)) (omega arith) (omega arith) (λ j _ _. none_due c.loop-slot.work.due.keys (λ more. true≢false (sym (c.pop_first.ensures.variant.1 more) ∙ ap is_some (nothing c.pop_first.result c.in_default.not-Some))) j) in
     let none : drop end view.slots ≡ [] = drop_of_length-le view.slots (omega arith) in
-    sym (ap (λ slots. c.loop-slot.places.items ++ cascade owner revocation (keepers revocation view c.loop-slot.work.ended.keys end) (concerned_grants revocation slots)) none ∙ append-nil c.loop-slot.places.items)
-    ∙ ap (λ rest. c.loop-slot.places.items ++ rest) on
+    sym (ap (λ slots. c.loop-slot.work.ended.places ++ cascade owner revocation (keepers revocation view (slots_of c.loop-slot.work.ended.ends) end) (concerned_grants revocation slots)) none ∙ append-nil c.loop-slot.work.ended.places)
+    ∙ ap (λ rest. c.loop-slot.work.ended.places ++ rest) on
     ∙ c.loop-slot.invariant.whole borne
     ∙ pass_ends view owners deeds revocation owner here owned
+
+pub returns-clause-ends : goal.returns-clause-ends
+returns-clause-ends g c =
+    subst (λ (v : View). AreEnds c.args.revocation.now v c.loop-slot.work.ended.ends c.loop-slot.work.ended.places) c.in_ok-due.ensures.same c.loop-slot.invariant.ends

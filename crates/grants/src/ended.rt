@@ -1,0 +1,95 @@
+//! What a revocation has ended so far.
+
+ghost use Rattle.std.specs.Prelude.{◌==◌, ◌≡◌, ◌<◌, ◌++◌, ◌∷◌, [], ℕ, false, true, OnOk, slice_get};
+ghost use Rattle.std.specs.Option.{option_map_or};
+ghost use Rattle.grants.specs.Pass.{is_one_of};
+ghost use Rattle.grants.specs.Sides.{AreAscending};
+ghost use Rattle.grants.specs.Work.{slots_of};
+ghost use Rattle.grants.specs.declared.book.End.{End};
+
+use crate::book::End;
+use model_base::Place;
+use std::alloc::{AllocError, Global};
+use std::marker::Model;
+
+/// Whether the end of an index, if there is one, is of the slot.
+fn is_of(ends: &[End], i: usize, slot: usize) -> bool
+    ensures { result ≡ option_map_or (λ (end : End). end.slot == slot) (slice_get ends.now i) false }
+{
+    match ends.get(i) {
+        Some(end) => end.slot == slot,
+        None => false,
+    }
+}
+
+/// Whether one of the ends, whose slots rise, is of the slot. It takes a time that grows with the logarithm of their number.
+fn has_end(ends: &[End], slot: usize) -> bool
+    requires { AreAscending (slots_of ends.now) }
+    ensures { result ≡ is_one_of (slots_of ends.now) slot }
+{
+    let i = ends.partition_point(|end| end.slot < slot);
+    is_of(ends, i, slot)
+}
+
+/// The ends of some slots, which rise, and the places of their grants.
+#[derive(Drop)]
+pub(crate) struct Ended {
+    ends: Vec<End>,
+    places: Vec<Place>,
+}
+
+impl Model for Ended {
+    ghost use Rattle.grants.specs.Sides.{AreAscending};
+    ghost use Rattle.grants.specs.Work.{Ends, slots_of};
+
+    ghost Value = { Ends };
+
+    ghost view = { λ ended. record { ends = ended.ends.items; places = ended.places.items } };
+
+    ghost invariant = { λ ended. AreAscending (slots_of ended.ends.items) };
+}
+
+impl Ended {
+    /// No ends. It takes no memory.
+    pub fn new(alloc: Global) -> Self
+        ensures ends { result.ends ≡ [] }
+        ensures places { result.places ≡ [] }
+    {
+        Ended {
+            ends: Vec::new(alloc),
+            places: Vec::new(alloc),
+        }
+    }
+
+    /// Adds the end of a slot above the others at a place, and the place where its grant was made. On `Err` memory was refused.
+    pub fn push(&mut self, slot: usize, place: Place, made: Place) -> Result<(), AllocError>
+        requires { (other : ℕ) → is_one_of (slots_of self.old.ends) other ≡ true → other < slot }
+        ensures ends { OnOk result (self.new.ends ≡ self.old.ends ++ record { slot = slot; place = place } ∷ []) }
+        ensures places { OnOk result (self.new.places ≡ self.old.places ++ made ∷ []) }
+    {
+        self.places.push(made)?;
+        self.ends.push(End { slot, place })?;
+        Ok(())
+    }
+
+    /// Whether the slot has an end.
+    pub fn contains(&self, slot: usize) -> bool
+        ensures { result ≡ is_one_of (slots_of self.now.ends) slot }
+    {
+        has_end(self.ends.as_slice(), slot)
+    }
+
+    /// The ends.
+    pub fn ends(&self) -> &[End]
+        ensures { result.now ≡ self.now.ends }
+    {
+        &self.ends
+    }
+
+    /// The places of the grants.
+    pub fn into_places(self) -> Vec<Place>
+        ensures { result.items ≡ self.places }
+    {
+        self.places
+    }
+}
