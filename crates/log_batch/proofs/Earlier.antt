@@ -1,5 +1,5 @@
 -- The book has the grants of the slots that come first.
-use Rattle.std.proofs.Common.{◌≡◌, ◌≤◌, ◌++◌, suc, List, [], ◌∷◌, length, length-append, take, refl, sym, ap, ◌∙◌, arith}
+use Rattle.std.proofs.Common.{◌≡◌, ◌≤◌, ◌++◌, suc, List, [], ◌∷◌, length, length-append, take, drop, refl, sym, ap, ◌∙◌, arith}
 use Rattle.model_base.specs.declared.deed.Grant.{Grant}
 use Rattle.model_base.specs.declared.deed.Record.{Record}
 use Rattle.model_base.specs.Outcomes.{deeds_before, owners}
@@ -8,13 +8,17 @@ use Rattle.model_base.proofs.Recorded.{recorded-records}
 use Rattle.bohm_core_base.specs.Batch.{slots_of}
 use Rattle.grants.specs.Book.{Entries}
 use Rattle.log_batch.specs.LogBatch.{Range, batch_of}
-use Rattle.log_batch.specs.Earlier.{earlier_count, earlier_grants}
+use Rattle.log_batch.specs.Earlier.{earlier_count, earlier_grants, own_grants}
 use Rattle.log_batch.proofs.Named.{slots-split}
 use Rattle.log_batch.specs.Named.{grants_named}
 
 take-first : (first more : List Grant) → take (length first) (first ++ more) ≡ first
 take-first [] more = refl
 take-first (grant ∷ first) more = ap (λ l. grant ∷ l) (take-first first more)
+
+drop-first : (first more : List Grant) → drop (length first) (first ++ more) ≡ more
+drop-first [] more = refl
+drop-first (grant ∷ first) more = drop-first first more
 
 module _ (range : Range) where
   abbrev before : List Grant
@@ -27,6 +31,11 @@ module _ (range : Range) where
   module _ (entries : Entries) (same : entries.records ≡ records (owners range.log) (deeds_before range.log range.first)) where
     pub book-earlier : recorded entries.records ≡ earlier_grants (batch_of range)
     book-earlier = ap recorded same ∙ recorded-records (owners range.log) (deeds_before range.log range.first) ∙ sym earlier-before
+
+    pub book-behind : (named : List Grant) → recorded entries.records ++ named ≡ slots_of (batch_of range) → named ≡ own_grants (batch_of range)
+    book-behind named slots =
+        let are = ap recorded same ∙ recorded-records (owners range.log) (deeds_before range.log range.first) in
+        sym (drop-first before named) ∙ ap (λ (l : List Grant). drop (length before) l) (ap (λ (l : List Grant). l ++ named) (sym are) ∙ slots)
 
     pub book-count : length entries.records ≡ earlier_count (batch_of range)
     book-count = sym (long entries.records) ∙ ap (λ (l : List Grant). length l) (ap recorded same ∙ recorded-records (owners range.log) (deeds_before range.log range.first))

@@ -13,6 +13,7 @@ pub mod SerialRuns
 pub mod LogsRight
 pub mod SlotsEnded
 pub mod LogsEnded
+pub mod SerialEnded
 pub mod Named
 pub mod Before
 pub mod Counted

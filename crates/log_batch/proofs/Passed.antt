@@ -1,5 +1,5 @@
--- What a walk over the slots of a batch finds.
-use Rattle.std.proofs.Common.{◌≡◌, ◌⊎◌, ◌<◌, ◌≤◌, ◌+◌, ℕ, zero, suc, Bool, true, false, Some, List, [], ◌∷◌, length, take, refl, sym, ◌∙◌, ap, arith, inl, inr}
+-- What is found among the slots of a batch.
+use Rattle.std.proofs.Common.{◌≡◌, ◌<◌, ◌≤◌, ◌+◌, ◌-◌, ℕ, zero, suc, Bool, true, false, Some, None, List, [], ◌∷◌, length, take, drop, refl, sym, ◌∙◌, ap, arith, inl, inr}
 use Rattle.std.specs.Prelude.{slice_get}
 use Rattle.std.specs.Option.{option_map_or}
 use Rattle.std.proofs.lemmas.Bool.{cases_lt}
@@ -14,6 +14,12 @@ taken-at grants zero k less = absurd (omega arith)
 taken-at [] (suc count) k less = refl
 taken-at (first ∷ grants) (suc count) zero less = refl
 taken-at (first ∷ grants) (suc count) (suc k) less = taken-at grants count k (omega arith)
+
+behind-at : (grants : List Grant) (count k : ℕ) → slice_get (drop count grants) k ≡ slice_get grants (count + k)
+behind-at grants zero k = let same : k ≡ 0 + k = omega arith in ap (λ i. slice_get grants i) same
+behind-at [] (suc count) k = refl
+behind-at (first ∷ grants) (suc count) k =
+    let same : suc (count + k) ≡ suc count + k = omega arith in behind-at grants count k ∙ ap (λ i. slice_get (first ∷ grants) i) same
 
 taken-past : (passes : Grant → Bool) (grants : List Grant) (count k : ℕ) → count ≤ k → passes_at passes (take count grants) k ≡ false
 taken-past passes grants count k over =
@@ -33,34 +39,39 @@ module _ (passes : Grant → Bool) (grants : List Grant) where
         | inr over ↦ absurd (let both : true ≡ false = sym next.1 ∙ taken-past passes grants count i over in cc)
       ]
 
-  -- where none is found among them, none passes up to where a walk begins
-  pub none-taken : (count from start : ℕ) → (start ≤ from) ⊎ (start ≤ count) → ((k : ℕ) → from ≤ k → passes_at passes (take count grants) k ≡ false)
-      → (k : ℕ) → from ≤ k → k < start → passes_at passes grants k ≡ false
-  none-taken count from start where_ none k low high =
-      elim where_ [
-        | inl early ↦ absurd (omega (arith, early))
-        | inr within ↦ ap (λ found. option_map_or passes found false) (sym (taken-at grants count k (omega (arith, within)))) ∙ none k low
+  passes-behind : (count k : ℕ) → passes_at passes (drop count grants) k ≡ passes_at passes grants (count + k)
+  passes-behind count k = ap (λ found. option_map_or passes found false) (behind-at grants count k)
+
+  -- where none is found among them, the first of the others is the first of all
+  not-before : (count from i : ℕ) → ((k : ℕ) → from ≤ k → passes_at passes (take count grants) k ≡ false)
+      → ((k : ℕ) → from - count ≤ k → k < i → passes_at passes (drop count grants) k ≡ false)
+      → (k : ℕ) → from ≤ k → k < count + i → passes_at passes grants k ≡ false
+  not-before count from i none before k low high =
+      elim (cases_lt k count) [
+        | inl less ↦ ap (λ found. option_map_or passes found false) (sym (taken-at grants count k less)) ∙ none k low
+        | inr over ↦
+            let is : count + (k - count) ≡ k = omega arith in
+            ap (passes_at passes grants) (sym is) ∙ sym (passes-behind count (k - count)) ∙ before (k - count) (omega arith) (omega arith)
       ]
+
+  pub first-behind : (count from i : ℕ) → ((k : ℕ) → from ≤ k → passes_at passes (take count grants) k ≡ false)
+      → IsNext passes (drop count grants) (from - count) (Some i) → IsNext passes grants from (Some (count + i))
+  first-behind count from i none next =
+      let low = next.0 in (omega arith, sym (passes-behind count i) ∙ next.1, not-before count from i none next.2)
+
+  pub none-behind : (count from : ℕ) → ((k : ℕ) → from ≤ k → passes_at passes (take count grants) k ≡ false)
+      → IsNext passes (drop count grants) (from - count) None → IsNext passes grants from None
+  none-behind count from none next k low =
+      not-before count from (suc k) none (λ other above less. next other above) k low (omega arith)
 
   -- a grant that is there passes where it is asked for
   pub asked_here : (k : ℕ) (grant : Grant) → slice_get grants k ≡ Some grant → passes_at passes grants k ≡ passes grant
   asked_here k grant at = ap (λ found. option_map_or passes found false) at
 
-  -- one more that doesn't pass
-  pub asked_more : (from i : ℕ) (grant : Grant) → slice_get grants i ≡ Some grant → passes grant ≡ false
-      → ((k : ℕ) → from ≤ k → k < i → passes_at passes grants k ≡ false)
-      → (k : ℕ) → from ≤ k → k < i + 1 → passes_at passes grants k ≡ false
-  asked_more from i grant at not before k low high =
-      elim (cases_lt k i) [
-        | inl earlier ↦ before k low earlier
-        | inr later ↦ let here : k ≡ i = omega arith in ap (passes_at passes grants) here ∙ asked_here i grant at ∙ not
-      ]
-
-  -- nor does any past the end
-  pub asked_all : (from i : ℕ) → length grants ≤ i → ((k : ℕ) → from ≤ k → k < i → passes_at passes grants k ≡ false)
-      → (k : ℕ) → from ≤ k → passes_at passes grants k ≡ false
-  asked_all from i over before k low =
-      elim (cases_lt k i) [
-        | inl earlier ↦ before k low earlier
-        | inr later ↦ ap (λ found. option_map_or passes found false) (slice_get_past grants k (omega arith))
+  -- one that passes is there
+  pub asked-within : (k : ℕ) → passes_at passes grants k ≡ true → k < length grants
+  asked-within k passed =
+      elim (cases_lt k (length grants)) [
+        | inl less ↦ less
+        | inr over ↦ absurd (let both : true ≡ false = sym passed ∙ ap (λ found. option_map_or passes found false) (slice_get_past grants k (omega arith)) in cc)
       ]

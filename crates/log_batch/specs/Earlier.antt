@@ -1,5 +1,5 @@
--- The slots of a batch whose grants were made before it.
-use Rattle.std.specs.Prelude.{ℕ, List, length, take}
+-- The slots of a batch whose grants were made before it, and the others.
+use Rattle.std.specs.Prelude.{ℕ, List, drop, length, take}
 use Rattle.model_base.specs.declared.deed.Grant.{Grant}
 use Rattle.model_base.specs.Records.{grants_of}
 use Rattle.bohm_core_base.specs.Batch.{Batch, slots_of}
@@ -11,3 +11,7 @@ earlier_count batch = length (grants_of batch.before)
 -- their grants
 abbrev pub earlier_grants : Batch → List Grant
 earlier_grants batch = take (earlier_count batch) (slots_of batch)
+
+-- and the grants that the batch may make itself
+abbrev pub own_grants : Batch → List Grant
+own_grants batch = drop (earlier_count batch) (slots_of batch)

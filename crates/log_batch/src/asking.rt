@@ -9,7 +9,6 @@ ghost use Rattle.log_batch.specs.Supplied.{batch_in};
 
 use crate::batch::LogBatch;
 use bohm_core_base::slots_stand_in_order;
-use grants::{is_by, is_to};
 use model_base::{Kind, Place, Table, User};
 
 impl LogBatch<'_> {
@@ -52,36 +51,32 @@ impl LogBatch<'_> {
     }
 
     /// The least slot at or above this one whose grant, made or not, is to this user, of this kind on this table, in force or
-    /// not. It takes no memory. Of the grants before the batch it finds one in a time that grows with the logarithm of their
-    /// number; at those that the batch may make it looks one by one.
+    /// not. It takes no memory, and a time that grows with the logarithm of the number of such grants.
     pub fn next_to(&self, user: User, kind: Kind, table: Table, from: usize) -> Option<usize>
         ensures { IsNext (is_to user kind table) (slots_of (batch_in self.now)) from result }
     {
         if let Some(slot) = self.earlier_to(user, kind, table, from) {
             return Some(slot);
         }
-        for slot in from.max(self.earlier_count())..self.slot_count() {
-            if is_to(&self.grant(slot), user, kind, table) {
-                return Some(slot);
-            }
+        let earlier = self.earlier_count();
+        match self.own_to(user, kind, table, from.saturating_sub(earlier)) {
+            Some(slot) => Some(earlier + slot),
+            None => None,
         }
-        None
     }
 
     /// The least slot at or above this one whose grant, made or not, is by this user, of this kind on this table, in force or
-    /// not. It takes no memory. Of the grants before the batch it finds one in a time that grows with the logarithm of their
-    /// number; at those that the batch may make it looks one by one.
+    /// not. It takes no memory, and a time that grows with the logarithm of the number of such grants.
     pub fn next_by(&self, user: User, kind: Kind, table: Table, from: usize) -> Option<usize>
         ensures { IsNext (is_by user kind table) (slots_of (batch_in self.now)) from result }
     {
         if let Some(slot) = self.earlier_by(user, kind, table, from) {
             return Some(slot);
         }
-        for slot in from.max(self.earlier_count())..self.slot_count() {
-            if is_by(&self.grant(slot), user, kind, table) {
-                return Some(slot);
-            }
+        let earlier = self.earlier_count();
+        match self.own_by(user, kind, table, from.saturating_sub(earlier)) {
+            Some(slot) => Some(earlier + slot),
+            None => None,
         }
-        None
     }
 }

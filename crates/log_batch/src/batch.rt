@@ -1,6 +1,6 @@
 //! A range of a log as a batch.
 
-ghost use Rattle.std.specs.Prelude.{◌≡◌, ◌<◌, ◌≤◌, ◌+◌, ◌-◌, ◌++◌, ℕ, List, None, Some, length, slice_get, slice_index_or, IfOk, OnOk};
+ghost use Rattle.std.specs.Prelude.{◌≡◌, ◌<◌, ◌≤◌, ◌+◌, ◌-◌, ◌++◌, ℕ, List, None, Some, length, slice_get, slice_index_or, ◌^◌, IfOk, IfSome, OnOk};
 ghost use Rattle.std.specs.Option.{MatchOption, option_to_list};
 ghost use Rattle.model_base.specs.Records.{grants_of};
 ghost use Rattle.model_base.specs.Outcomes.{deeds_before, owners, rows_before};
@@ -12,11 +12,11 @@ ghost use Rattle.sequencer.specs.Taken.{IsTaken, IsWhole};
 ghost use Rattle.bohm_core_base.specs.Batch.{slots_of};
 ghost use Rattle.bohm_core_base.specs.Machine.{end_of, start};
 ghost use Rattle.log_batch.specs.Laws.{IsOfLog};
-ghost use Rattle.log_batch.specs.Earlier.{earlier_count, earlier_grants};
+ghost use Rattle.log_batch.specs.Earlier.{earlier_count, earlier_grants, own_grants};
 ghost use Rattle.log_batch.specs.Named.{grants_named};
 
 use chains::Chains;
-use grants::{Book, Records};
+use grants::{Book, IndexedGrants, Records};
 use model_base::{Deed, Grant, Key, Kind, Place, Reference, Row, Statement, Table, User};
 use placing::Refs;
 use sequencer::Log;
@@ -33,7 +33,7 @@ pub struct LogBatch<'a> {
     chains: &'a Chains,
     book: &'a Book,
     references: Refs,
-    named: Vec<Grant>,
+    named: IndexedGrants,
     first: Place,
     size: usize,
     partitions: usize,
@@ -47,12 +47,12 @@ impl<'a> Model for LogBatch<'a> {
     ghost view = { λ batch. record { log = batch.log.now; first = batch.first; size = batch.size; partitions = batch.partitions } };
 
     ghost invariant = { λ batch. IsSupplied (record { log = batch.log.now; first = batch.first; size = batch.size; partitions = batch.partitions })
-        batch.chains.now batch.book.now batch.references batch.named.items };
+        batch.chains.now batch.book.now batch.references batch.named };
 }
 
 /// Puts the grant behind the others, if the deed is one.
-fn push_grant(grants: &mut Vec<Grant>, deed: Option<Deed>) -> Result<(), AllocError>
-    ensures { OnOk result (grants.new.items ≡ grants.old.items ++ grants_of (option_to_list deed)) }
+fn push_grant(grants: &mut IndexedGrants, deed: Option<Deed>) -> Result<(), AllocError>
+    ensures { OnOk result (grants.new ≡ grants.old ++ grants_of (option_to_list deed)) }
 {
     if let Some(Deed::Granting(grant)) = deed {
         grants.push(grant)?;
@@ -61,12 +61,12 @@ fn push_grant(grants: &mut Vec<Grant>, deed: Option<Deed>) -> Result<(), AllocEr
 }
 
 /// The grants that the statements of the places may make, in order.
-fn named_grants(alloc: Global, log: &Log, range: Range<Place>) -> Result<Vec<Grant>, AllocError>
+fn named_grants(alloc: Global, log: &Log, range: Range<Place>) -> Result<IndexedGrants, AllocError>
     requires order { range.start ≤ range.end }
     requires within { range.end ≤ length log.now.statements }
-    ensures { IfOk result (λ grants. grants.items ≡ grants_named log.now.statements range.start (range.end - range.start)) }
+    ensures { IfOk result (λ grants. grants ≡ grants_named log.now.statements range.start (range.end - range.start)) }
 {
-    let mut grants = Vec::new(alloc);
+    let mut grants = IndexedGrants::new(alloc);
     let statements = log.statements();
     for place in range.start..range.end {
         push_grant(&mut grants, statements[place as usize].deed_at(place))?;
@@ -211,7 +211,7 @@ impl<'a> LogBatch<'a> {
         if slot < records.len() {
             records[slot].grant
         } else {
-            self.named[slot - records.len()]
+            self.named.grant(slot - records.len())
         }
     }
 
@@ -252,5 +252,25 @@ impl<'a> LogBatch<'a> {
     {
         let mut view = self.book.at(self.first);
         view.next_by(user, kind, table, from)
+    }
+
+    /// The least of the grants that the batch may make, counted from 0, at or above this one that is to the user, of the kind on
+    /// the table. It takes no memory, and the logarithm of the number of such grants.
+    pub(crate) fn own_to(&self, user: User, kind: Kind, table: Table, from: usize) -> Option<usize>
+        ensures next { IsNext (is_to user kind table) (own_grants (batch_in self.now)) from result }
+        ensures within { IfSome result (λ slot. earlier_count (batch_in self.now) + slot < 2 ^ 64) }
+    {
+        let _count = self.slot_count();
+        self.named.next_to(user, kind, table, from)
+    }
+
+    /// The least of the grants that the batch may make, counted from 0, at or above this one that is by the user, of the kind on
+    /// the table. It takes no memory, and the logarithm of the number of such grants.
+    pub(crate) fn own_by(&self, user: User, kind: Kind, table: Table, from: usize) -> Option<usize>
+        ensures next { IsNext (is_by user kind table) (own_grants (batch_in self.now)) from result }
+        ensures within { IfSome result (λ slot. earlier_count (batch_in self.now) + slot < 2 ^ 64) }
+    {
+        let _count = self.slot_count();
+        self.named.next_by(user, kind, table, from)
     }
 }

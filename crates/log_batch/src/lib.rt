@@ -11,5 +11,6 @@ mod laws;
 pub use batch::LogBatch;
 pub use laws::{
     batches_of_logs_are_sound, done_places_of_logs_are_serial, references_are_of_the_log,
-    serial_answers_tell, serial_runs_agree, serial_words_are_of_the_log,
+    serial_answers_tell, serial_ends_are_of_the_log, serial_runs_agree,
+    serial_words_are_of_the_log,
 };

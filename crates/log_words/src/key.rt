@@ -51,6 +51,14 @@ impl<'a> LogKey<'a> {
     {
         self.slots.as_slice()
     }
+
+    /// The batch, without the slots.
+    pub fn into_batch(self) -> LogBatch<'a>
+        ensures { result ≡ self.entry.batch }
+    {
+        let LogKey { batch, slots: _ } = self;
+        batch
+    }
 }
 
 impl Placed for LogKey<'_> {

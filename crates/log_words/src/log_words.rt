@@ -1,12 +1,14 @@
 //! The words of a batch of a log, beside the batch.
 
 ghost use Rattle.std.specs.Prelude.{◌≡◌, IfOk};
-ghost use Rattle.words.specs.Passes.{first_pass};
+ghost use Rattle.log_batch.specs.Supplied.{batch_in};
+ghost use Rattle.words.specs.Closing.{IsSettledBy};
+ghost use Rattle.words.specs.Passes.{IsPassOf, first_pass};
 
 use crate::key::LogKey;
 use std::alloc::{AllocError, Global};
 use std::marker::Model;
-use words::{BatchWords, Pass};
+use words::{BatchWords, Closed, Pass};
 
 /// A batch of a log with its words.
 #[derive(Drop)]
@@ -49,5 +51,16 @@ impl<'a> LogWords<'a> {
         ensures { result.now ≡ self.now }
     {
         &self.words
+    }
+
+    /// The batch, and its words as they stand. Each place whose claim is done has the own words and the ends of the serial run,
+    /// and of any other place the words are a beginning of them.
+    pub fn close(self, pass: Pass) -> (LogKey<'a>, Closed)
+        requires { IsPassOf self pass }
+        ensures key { result.0 ≡ self.entry.key }
+        ensures settled { IsSettledBy (batch_in self.entry.key.batch) self.entry.key.slots result.1 }
+    {
+        let LogWords { key, words } = self;
+        (key, words.close(pass))
     }
 }

@@ -1,22 +1,31 @@
-use Rattle.std.proofs.Common.{◌≤◌, sym, ◌∙◌, arith, length}
-use Rattle.grants.specs.Index.{is_by}
+use Rattle.std.proofs.Common.{◌≡◌, ◌-◌, ◌+◌, ℕ, Option, None, Some, ap, sym, subst, ◌∙◌}
+use Rattle.grants.specs.Index.{IsNext, is_by}
 use Rattle.bohm_core_base.specs.Batch.{slots_of}
+use Rattle.log_batch.specs.Earlier.{earlier_count, earlier_grants, own_grants}
 use Rattle.log_batch.specs.Supplied.{batch_in}
-use Rattle.log_batch.proofs.Passed.{asked_all, asked_here, asked_more}
+use Rattle.log_batch.proofs.Passed.{first-behind, first-taken, none-behind}
 use Rattle.log_batch.proofs.batch.LogBatch.next_by.Goals as goal
 
-pub returns-then-is_by : goal.returns-then-is_by
-returns-then-is_by c = (
-  omega (arith, c.loop-slot.auto.slot),
-  asked_here (is_by c.args.user c.args.kind c.args.table) (slots_of (batch_in c.args.self.now)) c.loop-slot.slot c.grant.result c.grant.ensures ∙ sym c.is_by.ensures ∙ c.if-is_by.true,
-  c.loop-slot.invariant,
-)
+pub returns-in-Some : goal.returns-in-Some
+returns-in-Some c =
+    let batch = batch_in c.args.self.now in
+    first-taken (is_by c.args.user c.args.kind c.args.table) (slots_of batch) (earlier_count batch) c.args.from c.in-Some.slot c.in-Some.ensures
 
-pub loop-slot-preserved : goal.loop-slot-preserved
-loop-slot-preserved c =
-    asked_more (is_by c.args.user c.args.kind c.args.table) (slots_of (batch_in c.args.self.now)) c.args.from c.loop-slot.slot c.grant.result c.grant.ensures (sym c.is_by.ensures ∙ c.if-is_by.false) c.loop-slot.invariant
+pub returns-in-None : goal.returns-in-None
+returns-in-None c =
+    let batch = batch_in c.args.self.now in
+    let passes = is_by c.args.user c.args.kind c.args.table in
+    let none = subst (λ (found : Option ℕ). IsNext passes (earlier_grants batch) c.args.from found) c.in_default.is c.earlier_by.ensures in
+    let from = c.saturating_sub.ensures ∙ ap (λ (count : ℕ). c.args.from - count) c.earlier_count-earlier.ensures.value in
+    none-behind passes (slots_of batch) (earlier_count batch) c.args.from none
+    (subst (λ (first : ℕ). IsNext passes (own_grants batch) first None) from c.in-None.ensures.next)
 
-pub returns : goal.returns
-returns c =
-    let over : length (slots_of (batch_in c.args.self.now)) ≤ c.loop-slot.slot = omega (arith, c.loop-slot-test.false, c.slot_count-slot-end.ensures) in
-    asked_all (is_by c.args.user c.args.kind c.args.table) (slots_of (batch_in c.args.self.now)) c.args.from c.loop-slot.slot over c.loop-slot.invariant
+pub returns-in-Some-own_by : goal.returns-in-Some-own_by
+returns-in-Some-own_by c =
+    let batch = batch_in c.args.self.now in
+    let passes = is_by c.args.user c.args.kind c.args.table in
+    let none = subst (λ (found : Option ℕ). IsNext passes (earlier_grants batch) c.args.from found) c.in_default.is c.earlier_by.ensures in
+    let from = c.saturating_sub.ensures ∙ ap (λ (count : ℕ). c.args.from - count) c.earlier_count-earlier.ensures.value in
+    subst (λ (count : ℕ). IsNext passes (slots_of batch) c.args.from (Some (count + c.in-Some-own_by.slot))) (sym c.earlier_count-earlier.ensures.value)
+    (first-behind passes (slots_of batch) (earlier_count batch) c.args.from c.in-Some-own_by.slot none
+    (subst (λ (first : ℕ). IsNext passes (own_grants batch) first (Some c.in-Some-own_by.slot)) from c.in-Some-own_by.ensures.next))
