@@ -22,6 +22,7 @@ use log_machine::OfLog;
 use log_words::{LogKey, LogWords, ended_slots};
 use sequencer::Log;
 use std::alloc::Global;
+use taking::Closed;
 use words::{
     Claimed, Holding, Pass, Placed, Seen, own_events_tell_what_is_held, passes_keep_what_they_know,
 };
@@ -246,6 +247,26 @@ fn tell_calls(
     tell_revocation(rt, words, &mut other)
 }
 
+/// Tells the claims of the two places when the words are closed, and what each is when the batch is finished behind them.
+fn tell_closed(
+    rt: &impl Print,
+    alloc: Global,
+    words: LogWords<'_>,
+    pass: Pass,
+) -> Result<(), TrialFault>
+    requires ours { IsPassOf words pass }
+    requires size { words.key.batch.size ≡ 2 }
+{
+    let (key, closed) = words.close(pass);
+    let (reader, revocation) = (closed.claim(0), closed.claim(1));
+    println!(rt; "closed, the claims of 3 and 4 are {reader} and {revocation}")?;
+    let done = finishing::finish(alloc, key, &closed)?;
+    let (reader, revocation) = (done.own(0), done.own(1));
+    let ended = done.ended(alloc, 1)?;
+    println!(rt; "finished, 3 has {reader:?} and 4 has {revocation:?} and ended {ended:?}")?;
+    Ok(())
+}
+
 /// Tells the row of calls on the words of a batch of two places, of which a machine has done the second.
 fn tell_batch_words(
     rt: &impl Print,
@@ -260,7 +281,9 @@ fn tell_batch_words(
 {
     let slots = ended_slots(alloc, &batch)?;
     let (words, pass) = LogWords::new(alloc, LogKey::new(batch, slots))?;
-    tell_calls(rt, machine, &words, pass)
+    let (pass, last) = words.words().split(pass);
+    tell_calls(rt, machine, &words, pass)?;
+    tell_closed(rt, alloc, words, last)
 }
 
 /// Tells the row of calls on the reader and the revocation of a log that begins with the worked three statements.

@@ -1,0 +1,10 @@
+use Rattle.std.proofs.Common.{sym, subst}
+use Rattle.log_batch.specs.Supplied.{Ranged, batch_in}
+use Rattle.finishing.specs.Standing.{HasDone}
+use Rattle.finishing.proofs.Kept.{settled-done}
+use Rattle.finishing.proofs.running.finish.Goals as goal
+
+pub complete_all-requires-clause-closed : goal.complete_all-requires-clause-closed
+complete_all-requires-clause-closed c =
+    subst (λ (ranged : Ranged). HasDone (batch_in ranged) c.args.closed.now) (sym c.batch.ensures)
+    (settled-done (batch_in c.args.key.batch) c.args.key.slots c.args.closed.now c.requires)

@@ -1,0 +1,4 @@
+pub mod Lists
+pub mod Ends
+pub mod Standing
+pub mod Finished

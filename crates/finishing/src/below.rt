@@ -1,0 +1,86 @@
+//! What a place of a batch is told by the places below it.
+
+ghost use Rattle.std.specs.Prelude.{◌≡◌, ◌<◌, slice_index_or};
+ghost use Rattle.log_batch.specs.Supplied.{batch_in};
+
+use crate::standing::Standing;
+use log_batch::LogBatch;
+use model_base::Place;
+use reading::Told;
+use std::marker::Model;
+
+/// A place of a batch of which all places below it stand.
+#[derive(Drop)]
+pub(crate) struct Below<'a> {
+    batch: &'a LogBatch<'a>,
+    standing: &'a Standing,
+    index: usize,
+}
+
+impl<'a> Model for Below<'a> {
+    ghost use Rattle.std.specs.Prelude.{◌<◌};
+    ghost use Rattle.log_batch.specs.Laws.{IsOfLog};
+    ghost use Rattle.log_batch.specs.Supplied.{batch_in, range_of};
+    ghost use Rattle.reading.specs.Closed.{Indexed};
+    ghost use Rattle.finishing.specs.Standing.{StandTo};
+
+    ghost Value = { Indexed };
+
+    ghost view = { λ place. record { ranged = place.batch.now; index = place.index } };
+
+    ghost invariant = { λ place. StandTo (batch_in place.batch.now) place.index place.standing.now
+        × (place.index < place.batch.now.size) × IsOfLog (range_of place.batch.now) };
+}
+
+/// The word of an index, or 0 past the last.
+fn word_at(words: &[u64], index: usize) -> u64
+    ensures { result ≡ slice_index_or words.now index 0 }
+{
+    if index < words.len() { words[index] } else { 0 }
+}
+
+impl<'a> Below<'a> {
+    ghost use Rattle.finishing.specs.Standing.{StandTo};
+
+    /// The place of an index, as a reader of what stands below it.
+    pub(crate) fn new(batch: &'a LogBatch<'a>, standing: &'a Standing, index: usize) -> Self
+        requires stands { StandTo (batch_in batch.now) index standing.now }
+        requires within { index < batch.now.size }
+        ensures { result ≡ record { ranged = batch.now; index = index } }
+    {
+        let _log = batch.log();
+        Below {
+            batch,
+            standing,
+            index,
+        }
+    }
+}
+
+impl Told for Below<'_> {
+    ghost use Rattle.reading.specs.Closed.{reader_of};
+    ghost use Rattle.reading.specs.Told.{no_work};
+
+    ghost told = { reader_of };
+
+    ghost kept = { λ _. no_work };
+
+    fn reader(&self) -> usize {
+        self.index
+    }
+
+    fn own(&mut self, index: usize, number: usize) -> u64 {
+        word_at(self.standing.words.at(index), number)
+    }
+
+    fn was_done(&mut self, index: usize) -> bool {
+        word_at(self.standing.words.at(index), 0) == 1
+    }
+
+    fn end(&mut self, slot: usize) -> Option<Place> {
+        match self.standing.ends.of(slot) {
+            Some(end) => Some(end),
+            None => self.batch.end_at_first(slot),
+        }
+    }
+}

@@ -1,0 +1,94 @@
+//! What a closed batch has of the places that are done.
+
+ghost use Rattle.std.specs.Prelude.{◌≡◌, ◌<◌, ℕ, None, suc, IfOk, OnOk, length};
+ghost use Rattle.bohm_core_base.specs.Batch.{slots_of};
+ghost use Rattle.bohm_core_base.specs.Serial.{serial_words};
+ghost use Rattle.log_batch.specs.Supplied.{batch_in};
+ghost use Rattle.words.specs.Closing.{IsSettledBy, claim_in};
+ghost use Rattle.finishing.specs.Ends.{AreTold, IsTaken, told_end};
+ghost use Rattle.finishing.specs.Standing.{HasDone, StandTo, TellsDone};
+
+use crate::ends::Ends;
+use crate::judging::judge;
+use crate::standing::Standing;
+use log_batch::LogBatch;
+use log_words::LogKey;
+use reading::words_length;
+use std::alloc::{AllocError, Global};
+use words::{Closed, Placed};
+
+/// The claim of a place that is done.
+const DONE: u64 = 2;
+
+/// Tells the end of a slot's record that a word says: 0 for none, or one more than the place that ended it.
+fn take_end(slot: usize, word: u64, ends: &mut Ends) -> Result<(), AllocError>
+    ensures { OnOk result (IsTaken slot word ends.old ends.new) }
+{
+    if word != 0 {
+        ends.tell(slot, word - 1)?;
+    }
+    Ok(())
+}
+
+/// Tells all ends that a closed batch has.
+pub(crate) fn take_ends(
+    key: &LogKey<'_>,
+    closed: &Closed,
+    ends: &mut Ends,
+) -> Result<(), AllocError>
+    requires settled { IsSettledBy (batch_in key.now.batch) key.now.slots closed.now }
+    requires none { (slot : ℕ) → told_end ends.old slot ≡ None }
+    ensures told { OnOk result (AreTold (batch_in key.now.batch) ends.new) }
+    ensures done { OnOk result (TellsDone (batch_in key.now.batch) closed.now ends.new) }
+{
+    let _listed = key.ends();
+    for (number, slot) in key.slots().iter().enumerate() {
+        take_end(*slot, closed.end(number), ends)?;
+    }
+    Ok(())
+}
+
+/// The own words of a place that is done in a closed batch.
+fn copied(
+    alloc: Global,
+    batch: &LogBatch<'_>,
+    closed: &Closed,
+    index: usize,
+) -> Result<Vec<u64>, AllocError>
+    requires within { index < batch.now.size }
+    requires closed { HasDone (batch_in batch.now) closed.now }
+    requires done { claim_in closed.now index ≡ 2 }
+    ensures { IfOk result (λ words. words.items ≡ serial_words (batch_in batch.now) index) }
+{
+    let _log = batch.log();
+    let count = words_length(batch, index);
+    let mut words = Vec::with_capacity(alloc, count)?;
+    for number in 0..count {
+        words.push(closed.own(index, number))?;
+    }
+    Ok(words)
+}
+
+/// Completes a place behind those below it: what a closed batch has of it if it is done there, or else it is run. An error is
+/// want of memory.
+pub(crate) fn complete(
+    alloc: Global,
+    batch: &LogBatch<'_>,
+    closed: &Closed,
+    index: usize,
+    standing: &mut Standing,
+) -> Result<(), AllocError>
+    requires within { index < batch.now.size }
+    requires closed { HasDone (batch_in batch.now) closed.now }
+    requires done { TellsDone (batch_in batch.now) closed.now standing.old.ends }
+    requires stands { StandTo (batch_in batch.now) index standing.old }
+    ensures done { OnOk result (TellsDone (batch_in batch.now) closed.now standing.new.ends) }
+    ensures stands { OnOk result (StandTo (batch_in batch.now) (suc index) standing.new) }
+{
+    if closed.claim(index) != DONE {
+        return judge(alloc, batch, index, standing);
+    }
+    let words = copied(alloc, batch, closed, index)?;
+    standing.words.push(words.as_slice())?;
+    Ok(())
+}

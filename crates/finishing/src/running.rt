@@ -1,0 +1,82 @@
+//! All places of a batch, one after another.
+
+ghost use Rattle.std.specs.Prelude.{◌≡◌, IfOk, OnOk};
+ghost use Rattle.log_batch.specs.Supplied.{batch_in};
+ghost use Rattle.words.specs.Closing.{IsSettledBy};
+ghost use Rattle.finishing.specs.Standing.{HasDone, StandTo, TellsDone};
+
+use crate::copying::{complete, take_ends};
+use crate::finished::Finished;
+use crate::judging::judge;
+use crate::standing::Standing;
+use log_batch::LogBatch;
+use log_words::LogKey;
+use std::alloc::{AllocError, Global};
+use words::Closed;
+
+/// Runs all places.
+fn judge_all(alloc: Global, batch: &LogBatch<'_>, standing: &mut Standing) -> Result<(), AllocError>
+    requires { StandTo (batch_in batch.now) 0 standing.old }
+    ensures { OnOk result (StandTo (batch_in batch.now) batch.now.size standing.new) }
+{
+    for index in 0..batch.size() {
+        judge(alloc, batch, index, standing)?;
+    }
+    Ok(())
+}
+
+/// Completes all places, behind what a closed batch has of those that are done.
+fn complete_all(
+    alloc: Global,
+    batch: &LogBatch<'_>,
+    closed: &Closed,
+    standing: &mut Standing,
+) -> Result<(), AllocError>
+    requires closed { HasDone (batch_in batch.now) closed.now }
+    requires done { TellsDone (batch_in batch.now) closed.now standing.old.ends }
+    requires stands { StandTo (batch_in batch.now) 0 standing.old }
+    ensures { OnOk result (StandTo (batch_in batch.now) batch.now.size standing.new) }
+{
+    for index in 0..batch.size() {
+        complete(alloc, batch, closed, index, standing)?;
+    }
+    Ok(())
+}
+
+/// What a closed batch has of the places that are done.
+fn taken(alloc: Global, key: &LogKey<'_>, closed: &Closed) -> Result<Standing, AllocError>
+    requires { IsSettledBy (batch_in key.now.batch) key.now.slots closed.now }
+    ensures done { IfOk result (λ standing. TellsDone (batch_in key.now.batch) closed.now standing.ends) }
+    ensures stands { IfOk result (λ standing. StandTo (batch_in key.now.batch) 0 standing) }
+{
+    let mut standing = Standing::new(alloc);
+    take_ends(key, closed, &mut standing.ends)?;
+    Ok(standing)
+}
+
+/// Runs the places of a batch one after another, on this thread: each has then what its place in the log comes to, and what its
+/// revocation ended. An error is want of memory. A place costs what its body and its needs cost, and a revocation besides, for
+/// each grant that it ends, a time that grows with the logarithm of the number of those that the batch ends.
+pub fn run_in_order<'a>(alloc: Global, batch: LogBatch<'a>) -> Result<Finished<'a>, AllocError>
+    ensures { IfOk result (λ done. done ≡ record { log = batch.entry.log; first = batch.entry.first; size = batch.entry.size }) }
+{
+    let mut standing = Standing::new(alloc);
+    judge_all(alloc, &batch, &mut standing)?;
+    Finished::of(alloc, batch, standing)
+}
+
+/// Completes a batch that no worker can reach any more, on this thread: what its words have of each place that is done is kept,
+/// and the others are run, those among them that a worker held when it was dropped. An error is want of memory.
+pub fn finish<'a>(
+    alloc: Global,
+    key: LogKey<'a>,
+    closed: &Closed,
+) -> Result<Finished<'a>, AllocError>
+    requires { IsSettledBy (batch_in key.batch) key.slots closed.now }
+    ensures { IfOk result (λ done. done
+        ≡ record { log = key.entry.batch.log; first = key.entry.batch.first; size = key.entry.batch.size }) }
+{
+    let mut standing = taken(alloc, &key, closed)?;
+    complete_all(alloc, key.batch(), closed, &mut standing)?;
+    Finished::of(alloc, key.into_batch(), standing)
+}

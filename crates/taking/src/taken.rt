@@ -1,0 +1,89 @@
+//! What the places of a finished batch come to.
+
+ghost use Rattle.std.specs.Prelude.{◌≡◌, ◌<◌, ◌≤◌, ◌+◌, ◌-◌, ◌++◌, ◌^◌, IfOk, OnOk, Some, length, slice_get};
+ghost use Rattle.model_base.specs.declared.outcome.Outcome.{Outcome};
+ghost use Rattle.model_base.specs.Outcomes.{outcome};
+ghost use Rattle.chains.specs.Store.{versions_at, versions_between};
+ghost use Rattle.own_words.specs.Places.{words_at};
+ghost use Rattle.own_words.specs.Words.{ended_in, outputs_of};
+ghost use Rattle.sequencer.specs.Taken.{columns_by};
+ghost use Rattle.taking.specs.Span.{AreOutcomes};
+
+use crate::cells::{behind, push_versions};
+use crate::closed::Closed;
+use chains::Version;
+use model_base::{Items, Outcome, Place};
+use own_words::{decoded, outputs_of};
+use sequencer::Log;
+use std::alloc::{AllocError, Global};
+use std::ops::Range;
+
+/// What the places of a batch come to: their outcomes, and the versions of rows that they leave, in order.
+#[derive(Drop)]
+pub struct Taken {
+    pub outcomes: Vec<Outcome>,
+    pub versions: Vec<Version>,
+}
+
+/// The outcome that the own words of a place tell, with the places of the grants that its revocation ended.
+#[tactic(auto, using(crate::proofs::Told::outcome_told))]
+fn outcome_of(log: &Log, place: Place, own: &[u64], ended: Vec<Place>) -> Outcome
+    requires within { place < length log.now.statements }
+    requires words { own.now ≡ words_at (columns_by log.now.names) log.now.statements place }
+    requires ended { (found : Outcome) → outcome log.now.statements place ≡ Some found → ended.items ≡ ended_in found }
+    ensures { outcome log.now.statements place ≡ Some result }
+{
+    let _len = log.len();
+    let statement = &log.statements()[place as usize];
+    decoded(&statement.form, own, Items::new(ended))
+}
+
+/// Puts the versions that a place leaves behind the others, by its own words.
+fn push_left(
+    versions: &mut Vec<Version>,
+    log: &Log,
+    place: Place,
+    own: &[u64],
+) -> Result<(), AllocError>
+    requires within { place < length log.now.statements }
+    requires words { own.now ≡ words_at (columns_by log.now.names) log.now.statements place }
+    ensures { OnOk result (versions.new.items ≡ versions.old.items ++ versions_at log.now.statements place) }
+{
+    let _len = log.len();
+    let statement = &log.statements()[place as usize];
+    let cells = behind(own, 4 + outputs_of(&statement.form));
+    push_versions(
+        versions,
+        log.all_columns(),
+        place,
+        statement.accesses(),
+        cells,
+    )
+}
+
+/// What the places of a finished batch of the log come to. An error is want of memory.
+pub fn take<C: Closed>(
+    alloc: Global,
+    log: &Log,
+    closed: &C,
+    range: Range<Place>,
+) -> Result<Taken, AllocError>
+    requires order { range.start ≤ range.end }
+    requires within { range.end ≤ length log.now.statements }
+    requires span { C.span closed.now ≡ record { log = log.now; first = range.start; size = range.end - range.start } }
+    ensures outcomes { IfOk result (λ taken. AreOutcomes log.now.statements range.start (range.end - range.start) taken.outcomes.items) }
+    ensures versions { IfOk result (λ taken. taken.versions.items ≡ versions_between log.now.statements range.start range.end) }
+{
+    let _len = log.len();
+    let size = (range.end - range.start) as usize;
+    let mut outcomes = Vec::new(alloc);
+    let mut versions = Vec::new(alloc);
+    for index in 0..size {
+        let place = range.start + index as u64;
+        let own = closed.own(index);
+        let ended = closed.ended(alloc, index)?;
+        outcomes.push(outcome_of(log, place, own, ended))?;
+        push_left(&mut versions, log, place, own)?;
+    }
+    Ok(Taken { outcomes, versions })
+}
