@@ -1,0 +1,7 @@
+pub mod Lists
+pub mod InOrder
+pub mod Numbered
+pub mod Telling
+pub mod Referring
+pub mod Endings
+pub mod Decoding

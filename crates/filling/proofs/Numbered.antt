@@ -1,0 +1,252 @@
+-- The numbers of the listed ends of the grants of some places.
+use Rattle.std.proofs.Common.{◌≡◌, ◌≢◌, ℕ, zero, suc, ◌+◌, ◌<◌, ◌==◌, true, false, cond, Option, Some, None, List, [], ◌∷◌, ◌++◌, length, get_or, drop, drop-cons, add-one, append_assoc, refl, sym, ap, ◌∙◌, subst, arith, inl, inr, ⊎_elim}
+use Rattle.std.specs.Prelude.{nat_lt, slice_get}
+use Rattle.std.specs.List.{list_any, position_or_len}
+use Rattle.std.specs.Option.{MatchOption, option_to_list}
+use Rattle.std.proofs.lemmas.Bool.{cases_lt, eq-eqb, eqb-true, le-ltb, lt-ltb, true≢false}
+use Rattle.std.proofs.lemmas.List.{get_or-map}
+use Rattle.std.proofs.lemmas.List.Quantifiers.{position-Some}
+use Rattle.std.proofs.lemmas.List.Sums.{fails_before_first, position_or_len_is}
+use Rattle.std.proofs.lemmas.Option.{slice_get-get_or, slice_get_within}
+use Rattle.model_base.specs.declared.deed.Grant.{Grant}
+use Rattle.model_base.specs.declared.deed.Kind.TheVariants.{Read}
+use Rattle.model_base.proofs.Replay.{by_cases}
+use Rattle.bohm_core_base.specs.Batch.{Batch, place_at, slots_of}
+use Rattle.bohm_core_base.specs.Serial.{serial_ends}
+use Rattle.words.specs.Layout.{IsListed, slot_at}
+use Rattle.words.specs.Views.{In}
+use Rattle.filling_base.specs.Storing.{IsEnding, slot_of}
+use Rattle.filling.specs.Numbers.{number_at, numbers_at}
+use Rattle.filling.proofs.Lists.{Rises, above-at, any-in, at-in, in-any, in-at}
+
+-- a grant that stands for none
+abbrev no_grant : Grant
+no_grant = record { place = 0; grantor = 0; grantee = 0; kind = Read; table = 0; option = false }
+
+-- the grant of a slot, with its place
+pub grant-there : (b : Batch) (slot : ℕ) → slot < length (slots_of b) → (grant : Grant) × (slice_get (slots_of b) slot ≡ Some grant) × (place_at b slot ≡ grant.place)
+grant-there b slot within =
+    (get_or (slots_of b) slot no_grant, slice_get-get_or (slots_of b) slot no_grant within, get_or-map (λ (grant : Grant). grant.place) (slots_of b) slot no_grant 0 within)
+
+-- the place of a slot whose grant is given
+pub grant-place : (b : Batch) (slot : ℕ) (grant : Grant) → slice_get (slots_of b) slot ≡ Some grant → place_at b slot ≡ grant.place
+grant-place b slot grant at =
+    let there = grant-there b slot (slice_get_within (slots_of b) slot grant at) in
+    let both : Some there.0 ≡ Some grant = sym there.1 ∙ at in
+    let same : there.0 ≡ grant = cc in
+    there.2 ∙ ap (λ (one : Grant). one.place) same
+
+module _ (b : Batch) (listed : List ℕ) (place : ℕ) where
+  at-fails : (n : ℕ) → place_at b (slot_at listed n) ≢ place → (place_at b (get_or listed n 0) == place) ≡ false
+  at-fails n other = by_cases (place_at b (get_or listed n 0) == place) (λ is. absurd (other (eqb-true (place_at b (get_or listed n 0)) place is))) (λ is. is)
+
+  -- no listed end is of the place
+  pub number-none : ((n : ℕ) → n < length listed → place_at b (slot_at listed n) ≢ place) → None ≡ number_at b listed place
+  number-none none =
+      let last = position_or_len_is (λ slot. place_at b slot == place) listed (length listed) 0 (omega arith) (λ k low. at-fails k (none k low)) (λ low. absurd (omega arith)) in
+      sym (ap (λ n. cond (nat_lt n (length listed)) (Some n) None) last ∙ ap (λ test. cond test (Some (length listed)) None) (le-ltb (length listed) (length listed) (omega arith)))
+
+  -- just one is
+  pub number-some : (m : ℕ) → m < length listed → place_at b (slot_at listed m) ≡ place → ((n : ℕ) → n < length listed → place_at b (slot_at listed n) ≡ place → n ≡ m)
+      → Some m ≡ number_at b listed place
+  number-some m within is only =
+      let here = position_or_len_is (λ slot. place_at b slot == place) listed m 0 (omega arith)
+      (λ k low. at-fails k (λ also. let same = only k (omega arith) also in omega arith))
+      (λ low. eq-eqb (place_at b (get_or listed m 0)) place is) in
+      sym (ap (λ n. cond (nat_lt n (length listed)) (Some n) None) here ∙ ap (λ test. cond test (Some m) None) (lt-ltb m (length listed) within))
+
+  -- what a number found tells
+  pub number-right : (m : ℕ) → number_at b listed place ≡ Some m → (m < length listed) × (place_at b (slot_at listed m) ≡ place)
+  number-right m found =
+      let told = position-Some (λ slot. place_at b slot == place) listed m 0 found in
+      (told.0, eqb-true (place_at b (get_or listed m 0)) place told.1)
+
+  -- a listed end of the place has a number
+  pub number-there : (n : ℕ) → n < length listed → place_at b (slot_at listed n) ≡ place → (m : ℕ) × (number_at b listed place ≡ Some m)
+  number-there n within is =
+      elim (cases_lt (position_or_len (λ slot. place_at b slot == place) listed) (length listed)) [
+        | inl less ↦ (position_or_len (λ slot. place_at b slot == place) listed, ap (λ test. cond test (Some (position_or_len (λ slot. place_at b slot == place) listed)) None) (lt-ltb (position_or_len (λ slot. place_at b slot == place) listed) (length listed) less))
+        | inr more ↦ absurd (let fails = fails_before_first (λ slot. place_at b slot == place) listed n 0 (omega arith) in true≢false (sym (eq-eqb (place_at b (get_or listed n 0)) place is) ∙ fails))
+      ]
+
+  -- the number, by the slot of the place's grant and its number in the list
+  module _ (right : IsListed b listed) (found : Option ℕ)
+      (tells : MatchOption found ((slot : ℕ) (grant : Grant) → slice_get (slots_of b) slot ≡ Some grant → grant.place ≢ place)
+      (λ slot. (grant : Grant) × (slice_get (slots_of b) slot ≡ Some grant) × (grant.place ≡ place)))
+      (only : (slot : ℕ) (grant : Grant) → slice_get (slots_of b) slot ≡ Some grant → grant.place ≡ place → found ≡ Some slot) where
+    listed-only : (n : ℕ) → n < length listed → place_at b (slot_at listed n) ≡ place → found ≡ Some (slot_at listed n)
+    listed-only n within is =
+        let there = grant-there b (slot_at listed n) (right.within n within) in
+        only (slot_at listed n) there.0 there.1 (sym there.2 ∙ is)
+
+    pub number-unslotted : found ≡ None → None ≡ number_at b listed place
+    number-unslotted is = number-none (λ n within at. let both : Some (slot_at listed n) ≡ None = sym (listed-only n within at) ∙ is in cc)
+
+    pub number-unlisted : (slot : ℕ) → found ≡ Some slot → ¬ (In slot listed) → None ≡ number_at b listed place
+    number-unlisted slot is out =
+        number-none (λ n within at.
+        let both : Some (slot_at listed n) ≡ Some slot = sym (listed-only n within at) ∙ is in
+        let same : slot_at listed n ≡ slot = cc in
+        out (subst (λ s. In s listed) same (at-in listed n within)))
+
+    pub number-listed : (slot m : ℕ) → found ≡ Some slot → m < length listed → slot_at listed m ≡ slot → Some m ≡ number_at b listed place
+    number-listed slot m is within at =
+        let here = rw is at tells in
+        number-some m within (ap (place_at b) at ∙ grant-place b slot here.0 here.1 ∙ here.2)
+        (λ n low also.
+        let both : Some (slot_at listed n) ≡ Some slot = sym (listed-only n low also) ∙ is in
+        let same : slot_at listed n ≡ slot = cc in
+        right.apart n m low within (same ∙ sym at))
+
+    -- so it is what a search for the slot gives
+    pub number-searched : (slot : ℕ) (number : Option ℕ) → found ≡ Some slot
+        → MatchOption number (¬ (In slot listed)) (λ m. (m < length listed) × (slot_at listed m ≡ slot)) → number ≡ number_at b listed place
+    number-searched slot None is out = number-unlisted slot is out
+    number-searched slot (Some m) is at = number-listed slot m is at.0 at.1
+
+-- the places of numbered ends
+abbrev end_place : Batch → List ℕ → ℕ → ℕ
+end_place b listed number = place_at b (slot_at listed number)
+
+module _ (b : Batch) (listed : List ℕ) where
+  -- the first of a list, and the others, of an option before a list
+  numbers-some : (place : ℕ) (places : List ℕ) (m : ℕ) → number_at b listed place ≡ Some m → numbers_at b listed (place ∷ places) ≡ m ∷ numbers_at b listed places
+  numbers-some place places m found = ap (λ one. option_to_list one ++ numbers_at b listed places) found
+
+  numbers-none : (place : ℕ) (places : List ℕ) → number_at b listed place ≡ None → numbers_at b listed (place ∷ places) ≡ numbers_at b listed places
+  numbers-none place places found = ap (λ one. option_to_list one ++ numbers_at b listed places) found
+
+  by-number : {G : Type 0} (place : ℕ) → ((m : ℕ) → number_at b listed place ≡ Some m → G) → (number_at b listed place ≡ None → G) → G
+  by-number {G} place found none = cases (number_at b listed place) refl
+    where
+      cases : (one : Option ℕ) → number_at b listed place ≡ one → G
+      cases (Some m) is = found m is
+      cases None is = none is
+
+  -- each is the number of a listed end, whose place is one of the places
+  pub record IsOne (places : List ℕ) (number : ℕ) : Type 0 where
+    pub within : number < length listed
+    pub here : In (end_place b listed number) places
+
+  one-later : (place : ℕ) (places : List ℕ) (number : ℕ) → IsOne places number → IsOne (place ∷ places) number
+  one-later place places number one = record { within = one.within; here = inr one.here }
+
+  one-first : (place : ℕ) (places : List ℕ) (m : ℕ) (rest : List ℕ) → number_at b listed place ≡ Some m
+      → ((k : ℕ) → k < length rest → IsOne places (get_or rest k 0)) → (k : ℕ) → k < length (m ∷ rest) → IsOne (place ∷ places) (get_or (m ∷ rest) k 0)
+  one-first place places m rest found each zero low = let right = number-right b listed place m found in record { within = right.0; here = inl right.1 }
+  one-first place places m rest found each (suc k) low = one-later place places (get_or rest k 0) (each k (omega arith))
+
+  pub each-one : (places : List ℕ) → (k : ℕ) → k < length (numbers_at b listed places) → IsOne places (get_or (numbers_at b listed places) k 0)
+  each-one [] = λ k low. absurd (omega arith)
+  each-one (place ∷ places) =
+      by-number {G = (k : ℕ) → k < length (numbers_at b listed (place ∷ places)) → IsOne (place ∷ places) (get_or (numbers_at b listed (place ∷ places)) k 0)} place
+      (λ m found. rw (numbers-some place places m found) (one-first place places m (numbers_at b listed places) found (each-one places)))
+      (λ none. rw (numbers-none place places none) (λ k low. one-later place places (get_or (numbers_at b listed places) k 0) (each-one places k low)))
+
+  -- the places of the ends rise with the places
+  abbrev EndsRise : List ℕ → Type 0
+  EndsRise numbers = (k j : ℕ) → k < j → j < length numbers → end_place b listed (get_or numbers k 0) < end_place b listed (get_or numbers j 0)
+
+  rise-first : (m : ℕ) (rest : List ℕ) → ((j : ℕ) → j < length rest → end_place b listed m < end_place b listed (get_or rest j 0)) → EndsRise rest → EndsRise (m ∷ rest)
+  rise-first m rest above rise zero zero less low = absurd (omega arith)
+  rise-first m rest above rise zero (suc j) less low = above j (omega arith)
+  rise-first m rest above rise (suc k) zero less low = absurd (omega arith)
+  rise-first m rest above rise (suc k) (suc j) less low = rise k j (omega arith) (omega arith)
+
+  pub ends-rise : (places : List ℕ) → Rises places → EndsRise (numbers_at b listed places)
+  ends-rise [] rise = λ k j less low. absurd (omega arith)
+  ends-rise (place ∷ places) rise =
+      by-number {G = EndsRise (numbers_at b listed (place ∷ places))} place
+      (λ m found. rw (numbers-some place places m found)
+      (rise-first m (numbers_at b listed places)
+      (λ j low.
+      let right = number-right b listed place m found in
+      let above = above-at place (end_place b listed (get_or (numbers_at b listed places) j 0)) places rise.0 (each-one places j low).here in
+      let is = right.1 in
+      omega arith)
+      (ends-rise places rise.1)))
+      (λ none. rw (numbers-none place places none) (ends-rise places rise.1))
+
+  -- the number of each place is among them
+  abbrev IsAmong : ℕ → List ℕ → Type 0
+  IsAmong m numbers = (k : ℕ) × (k < length numbers) × (get_or numbers k 0 ≡ m)
+
+  among-later : (m n : ℕ) (rest : List ℕ) → IsAmong m rest → IsAmong m (n ∷ rest)
+  among-later m n rest at = let low = at.1 in (suc at.0, omega arith, at.2)
+
+  pub number-among : (places : List ℕ) (place m : ℕ) → In place places → number_at b listed place ≡ Some m → IsAmong m (numbers_at b listed places)
+  number-among [] place m has found = absurd has
+  number-among (other ∷ places) place m has found =
+      by-number {G = IsAmong m (numbers_at b listed (other ∷ places))} other
+      (λ n here. rw (numbers-some other places n here)
+      (⊎_elim
+      (λ is. let both : Some n ≡ Some m = sym here ∙ ap (number_at b listed) (sym is) ∙ found in let same : n ≡ m = cc in (0, omega arith, same))
+      (λ more. among-later m n (numbers_at b listed places) (number-among places place m more found))
+      has))
+      (λ none. rw (numbers-none other places none)
+      (⊎_elim
+      (λ is. let both : Some m ≡ None = sym found ∙ ap (number_at b listed) is ∙ none in absurd (let no : ⊥ = cc in no))
+      (λ more. number-among places place m more found)
+      has))
+
+  -- one step further through the places
+  pub numbers-more : (places before after whole : List ℕ) (k : ℕ) → k < length places → after ≡ before ++ option_to_list (number_at b listed (get_or places k 0))
+      → before ++ numbers_at b listed (drop k places) ≡ whole → after ++ numbers_at b listed (drop (k + 1) places) ≡ whole
+  numbers-more places before after whole k within is all =
+      let split : drop k places ≡ get_or places k 0 ∷ drop (suc k) places = drop-cons places k 0 within in
+      let next : drop (k + 1) places ≡ drop (suc k) places = ap (λ n. drop n places) (add-one k) in
+      ap (λ rest. after ++ numbers_at b listed rest) next
+      ∙ ap (λ front. front ++ numbers_at b listed (drop (suc k) places)) is
+      ∙ append_assoc before (option_to_list (number_at b listed (get_or places k 0))) (numbers_at b listed (drop (suc k) places))
+      ∙ ap (λ rest. before ++ numbers_at b listed rest) (sym split)
+      ∙ all
+
+-- the numbers of the places of the grants that a place ends are those of the ends that it sets
+pub ends-of_places : (b : Batch) (listed places : List ℕ) (index : ℕ) → IsListed b listed → Rises places
+    → ((slot : ℕ) (grant : Grant) → slice_get (slots_of b) slot ≡ Some grant → list_any (λ place. place == grant.place) places ≡ serial_ends b index slot)
+    → ((slot other : ℕ) (grant later : Grant) → slot < other → slice_get (slots_of b) slot ≡ Some grant → slice_get (slots_of b) other ≡ Some later → grant.place < later.place)
+    → IsEnding b listed index (numbers_at b listed places)
+ends-of_places b listed places index right rise ends order = record {
+  within = λ k low. (each-one b listed places k low).within;
+  right = λ k low.
+      let one = each-one b listed places k low in
+      let slot = slot_at listed (get_or (numbers_at b listed places) k 0) in
+      let there = grant-there b slot (right.within (get_or (numbers_at b listed places) k 0) one.within) in
+      sym (ends slot there.0 there.1) ∙ in-any there.0.place places (subst (λ p. In p places) there.2 one.here);
+  once = λ k j less low same.
+      let rise = ends-rise b listed places rise k j less low in
+      let equal = ap (place_at b) same in
+      omega arith;
+  all = λ slot within sets.
+      let there = grant-there b slot within in
+      let has = any-in there.0.place places (ends slot there.0 there.1 ∙ sets) in
+      let at = in-at slot listed (right.every index slot within sets) in
+      let place : place_at b (slot_at listed at.0) ≡ there.0.place = ap (place_at b) at.2 ∙ there.2 in
+      let number = number-there b listed there.0.place at.0 at.1 place in
+      let among = number-among b listed places there.0.place number.0 has number.1 in
+      let told = number-right b listed there.0.place number.0 number.1 in
+      let found : slot_of listed (numbers_at b listed places) among.0 ≡ slot_at listed number.0 = ap (slot_at listed) among.2 in
+      (among.0, among.1, found ∙ same-slot (slot_at listed number.0) slot (right.within number.0 told.0) within (told.1 ∙ sym there.2));
+}
+  where
+    -- no two slots have one place
+    same-slot : (s t : ℕ) → s < length (slots_of b) → t < length (slots_of b) → place_at b s ≡ place_at b t → s ≡ t
+    same-slot s t low high same =
+        let one = grant-there b s low in
+        let two = grant-there b t high in
+        elim (cases_lt s t) [
+          | inl less ↦ absurd (let up = order s t one.0 two.0 less one.1 two.1 in let a = one.2 in let c = two.2 in omega arith)
+          | inr more ↦ elim (cases_lt t s) [
+            | inl less ↦ absurd (let up = order t s two.0 one.0 less two.1 one.1 in let a = one.2 in let c = two.2 in omega arith)
+            | inr more' ↦ omega arith
+          ]
+        ]
+
+-- a place that wasn't done, or has no revocation, sets none
+pub ends-none : (b : Batch) (listed : List ℕ) (index : ℕ) → ((slot : ℕ) → slot < length (slots_of b) → serial_ends b index slot ≡ true → ⊥) → IsEnding b listed index []
+ends-none b listed index none = record {
+  within = λ k low. absurd (omega arith);
+  right = λ k low. absurd (omega arith);
+  once = λ k j less low. absurd (omega arith);
+  all = λ slot within sets. absurd (none slot within sets);
+}

@@ -1,0 +1,123 @@
+-- What a pass reads for a place of which it knows all references done.
+use Rattle.std.proofs.Common.{◌≡◌, ◌<◌, ◌+◌, ℕ, false, Option, Some, List, [], ◌∷◌, length, refl, sym, ap, ◌∙◌, subst, arith, ⊎_elim}
+use Rattle.std.proofs.lemmas.List.{append-nil}
+use Rattle.model_base.specs.Records.{end_below}
+use Rattle.model_base.proofs.Replay.{by_cases}
+use Rattle.bohm_core_base.specs.Batch.{Batch, references, slots_of}
+use Rattle.bohm_core_base.specs.Machine.{end_of, start}
+use Rattle.bohm_core_base.specs.Serial.{is_end, serial_ends, whole_end}
+use Rattle.bohm_core_base.proofs.Whole.{is_end-some}
+use Rattle.log_words.specs.Keys.{Key}
+use Rattle.reading.specs.Told.{IsDeedBefore, IsReferred, Work}
+use Rattle.words.specs.declared.view.View.{View}
+use Rattle.words.specs.Layout.{IsListed, end_told}
+use Rattle.words.specs.Passes.{IsPassOf, Passing, Words, goes_on}
+use Rattle.words.specs.Tells.{EndTells, FoundHeld}
+use Rattle.words.specs.Views.{HoldsNone, In, IsSettled, KnowsReferences, with_known, with_sighting}
+use Rattle.filling_base.specs.Goings.{IsSamePass, OnlyLearns}
+use Rattle.filling.specs.Readings.{IsEndBelow, IsReading, KeepsKnown, work_of}
+use Rattle.filling.proofs.Lists.{at-in, in-back, in-front}
+
+-- what a place is referred to is known done
+pub referred-known : (b : Batch) (v : View) (i other : ℕ) → KnowsReferences b v i → IsReferred (record { batch = b; index = i }) other → In other v.known
+referred-known b v i other knows is =
+    knows other (subst (λ word. In word (references b i)) is.here (at-in (references b i) is.number is.within))
+
+-- an earlier place with a deed on a table of the place is settled
+pub deed-settled : (b : Batch) (v : View) (i other : ℕ) → i < b.size → KnowsReferences b v i → IsDeedBefore (record { batch = b; index = i }) other → IsSettled b v other
+deed-settled b v i other within knows is = (i, is.table, is.before, within, knows, is.listed, is.deed)
+
+-- an end that is known, and one that a word tells
+pub end-early : (b : Batch) (v : View) (slot : ℕ) (end : Option ℕ) → whole_end b slot ≡ end → IsEndBelow b v slot end
+end-early b v slot end is index within knows listed = ap (end_below (b.first + index)) (sym is)
+
+pub end-word : (b : Batch) (v : View) (slot at word : ℕ) (end : Option ℕ) → at ≡ slot → EndTells b at v word → end ≡ end_told word → IsEndBelow b v slot end
+end-word b v slot at word end same tells is =
+    subst (λ s. IsEndBelow b v s end) same
+    (λ index within knows listed. ap (end_below (b.first + index)) is ∙ tells.below index within knows listed)
+
+-- a slot without a word has the end that it has before the batch
+pub end-unlisted : (b : Batch) (listed : List ℕ) (slot : ℕ) → IsListed b listed → slot < length (slots_of b)
+    → (((index : ℕ) → serial_ends b index slot ≡ false) → whole_end b slot ≡ end_of (start b) slot)
+    → ¬ (In slot listed) → whole_end b slot ≡ end_of (start b) slot
+end-unlisted b listed slot right within keeps out =
+    keeps (λ index. by_cases (serial_ends b index slot) (λ ends. absurd (out (right.every index slot within ends))) (λ none. none))
+
+-- a reading goes on where the pass only finds a place done, and where it stays
+pub reading-found : (words : Words Key) (key : Key) (pass after : Passing) (index other : ℕ) (named : Option (Words Key)) (known : List ℕ)
+    → after ≡ goes_on pass (with_known pass.view other)
+    → IsReading words key pass index named known → IsReading words key after index named known
+reading-found words key pass after index other named known is reading =
+    subst (λ p. IsReading words key p index named known) (sym is)
+    (record {
+      ours = reading.ours;
+      key = reading.key;
+      within = reading.within;
+      ready = λ one has. in-front one pass.view.known (other ∷ []) (reading.ready one has);
+      named = reading.named;
+      knows = λ one has. in-front one pass.view.known (other ∷ []) (reading.knows one has);
+    })
+
+-- the words that a reading is of are those that were named
+pub named-words : (words words' : Words Key) (named : Option (Words Key)) (pass : Passing) → Some words ≡ named → Some words' ≡ named → IsPassOf words' pass → IsPassOf words pass
+named-words words words' named pass is is' ours =
+    let both : Some words' ≡ Some words = is' ∙ sym is in
+    let same : words' ≡ words = cc in
+    ours ∙ ap (λ (w : Words Key). w.table) same
+
+-- a pass of the same work is the same, and it only learnt
+pub same-pass : (words : Words Key) (pass after : Passing) → IsPassOf words pass → IsPassOf words after → work_of after ≡ work_of pass → IsSamePass pass after
+same-pass words pass after ours ours' work =
+    let bodies = ap (λ (w : Work). w.bodies) work in record {
+      table = ours' ∙ sym ours;
+      number = ap (λ (w : Work). w.number) work;
+      bodies = omega arith;
+    }
+
+pub only-learns : (pass after : Passing) → KeepsKnown pass.view.known after.view.known → work_of after ≡ work_of pass → OnlyLearns pass.view after.view
+only-learns pass after knows work =
+    let events = ap (λ (w : Work). w.events) work in record {
+      goes = record {
+        knows = knows;
+        events = [];
+        adds = events ∙ sym (append-nil pass.view.events);
+        gives_back = λ actor index has. absurd has;
+        kept = ap (λ (w : Work). w.taken) work;
+        sole = ap (λ (w : Work). w.sole) work;
+      };
+      events = events;
+      sightings = ap (λ (w : Work). w.sightings) work;
+    }
+
+-- whether a place that is known done ended the record, by the end that its word tells
+pub record-ended : (b : Batch) (v : View) (slot word index : ℕ) (end : Option ℕ) → EndTells b slot v word → In index v.known → end ≡ end_told word
+    → is_end (b.first + index) end ≡ serial_ends b index slot
+unfolding serial_ends
+record-ended b v slot word index end tells known is =
+    let place = b.first + index in
+    ⊎_elim
+    (λ zero.
+    let none : is_end place end ≡ false = ap (is_end place) (is ∙ ap end_told zero) in
+    by_cases (is_end place (whole_end b slot))
+    (λ ends. absurd (let word-is = tells.ended index (is_end-some place (whole_end b slot) ends) known in omega arith))
+    (λ stays. none ∙ sym stays))
+    (λ some. ap (is_end place) (is ∙ ap end_told some.1) ∙ ap (is_end place) (sym some.2))
+    tells.none_or
+
+-- a pass that goes on to another view is the same
+pub same-goes : (pass after : Passing) (view : View) → after ≡ goes_on pass view → IsSamePass pass after
+same-goes pass after view is = subst (λ p. IsSamePass pass p) (sym is) (record { table = refl; number = refl; bodies = omega arith })
+
+-- and where it finds a place done it only learns that
+pub found-learns : (pass after : Passing) (index : ℕ) → after ≡ goes_on pass (with_known pass.view index) → OnlyLearns pass.view after.view × In index after.view.known
+found-learns pass after index is =
+    subst (λ (p : Passing). OnlyLearns pass.view p.view × In index p.view.known) (sym is)
+    (only-learns pass (goes_on pass (with_known pass.view index)) (λ one has. in-front one pass.view.known (index ∷ []) has) refl, in-back index pass.view.known)
+
+-- a pass that holds no place finds one held by another
+pub found-held : (v w : View) (index : ℕ) → HoldsNone v → FoundHeld index v w → w ≡ with_sighting v index
+found-held v w index idle found = ⊎_elim (λ mine. absurd (idle index mine.1.0 mine.1.1 mine.1.2)) (λ other. other.0) found
+
+-- through the steps of a look
+pub looked : (pass begun seen after : Passing) (view : View) → begun ≡ pass → seen ≡ goes_on begun seen.view → seen.view ≡ view → after ≡ seen → after ≡ goes_on pass view
+looked pass begun seen after view first goes is last = last ∙ goes ∙ ap (λ p. goes_on p seen.view) first ∙ ap (goes_on pass) is

@@ -1,0 +1,13 @@
+use Rattle.filling.proofs.Telling.{only-learns, same-pass}
+use Rattle.filling.proofs.ends.places_told.Goals as goal
+
+pub judge_places-requires-clause-knows : goal.judge_places-requires-clause-knows
+judge_places-requires-clause-knows c index has = has
+
+pub returns-clause-same : goal.returns-clause-same
+returns-clause-same c =
+    same-pass c.args.words.now c.args.holding c.judge_places.result.1 c.requires.ours c.judge_places.ensures.ours c.judge_places.ensures.work
+
+pub returns-clause-learns : goal.returns-clause-learns
+returns-clause-learns c =
+    only-learns c.args.holding c.judge_places.result.1 c.judge_places.ensures.knows c.judge_places.ensures.work

@@ -1,0 +1,54 @@
+-- A pass that reads for a place which it is about to fill.
+use Rattle.std.specs.Prelude.{◌≡◌, ◌<◌, ◌+◌, ℕ, true, Option, Some, List}
+use Rattle.model_base.specs.Records.{end_below}
+use Rattle.bohm_core_base.specs.Batch.{Batch, is_listed, table_at}
+use Rattle.bohm_core_base.specs.Serial.{whole_end}
+use Rattle.log_batch.specs.Supplied.{Ranged, batch_in}
+use Rattle.log_words.specs.Keys.{Key}
+use Rattle.reading.specs.Told.{Reader, Work}
+use Rattle.words.specs.declared.view.View.{View}
+use Rattle.words.specs.Passes.{IsPassOf, Passing, Words}
+use Rattle.words.specs.Views.{In, KnowsReferences}
+
+-- all of a pass but what it knows
+abbrev pub work_of : Passing → Work
+work_of pass = record {
+  number = pass.number;
+  events = pass.view.events;
+  taken = pass.view.kept;
+  sightings = pass.view.sightings;
+  bodies = pass.bodies;
+  sole = pass.view.sole;
+  spent = pass.view.spent;
+}
+
+-- a place of a log's range, by its index, and what the pass did that reads for it
+pub record Reading : Type 0 where
+  pub ranged : Ranged
+  pub index : ℕ
+  pub work : Work
+
+-- the place, as a reader
+abbrev pub reader_of : Reading → Reader
+reader_of reading = record { batch = batch_in reading.ranged; index = reading.index }
+
+-- for each place of which it is known that all its references are done, and on one of whose tables the slot's grant is, this end
+-- tells below the place what that of the serial run does
+abbrev pub IsEndBelow : Batch → View → ℕ → Option ℕ → Type 0
+IsEndBelow batch view slot end =
+    (index : ℕ) → index < batch.size → KnowsReferences batch view index → is_listed (batch.tables index) (table_at batch slot) ≡ true
+    → end_below (batch.first + index) end ≡ end_below (batch.first + index) (whole_end batch slot)
+
+-- what was known before is known
+abbrev pub KeepsKnown : List ℕ → List ℕ → Type 0
+KeepsKnown known after = (index : ℕ) → In index known → In index after
+
+-- the pass is one of the words, which are those of the key, and knows done all that the place is referred to. The words are
+-- those that were named before it began, and all is known that was known then
+pub record IsReading (words : Words Key) (mine : Key) (pass : Passing) (at : ℕ) (first : Option (Words Key)) (old : List ℕ) : Type 0 where
+  pub ours : IsPassOf words pass
+  pub key : words.key ≡ mine
+  pub within : at < mine.batch.size
+  pub ready : KnowsReferences (batch_in mine.batch) pass.view at
+  pub named : Some words ≡ first
+  pub knows : KeepsKnown old pass.view.known

@@ -1,0 +1,205 @@
+//! The ends that a place has to set.
+
+ghost use Rattle.std.specs.Prelude.{◌≡◌, ◌==◌, ◌<◌, ◌++◌, ℕ, IfOk, IsTrue, OnErr, OnOk, Some, false, slice_get, true};
+ghost use Rattle.std.specs.List.{list_any};
+ghost use Rattle.std.specs.List.Sorted.{IsStrictlyIncreasing};
+ghost use Rattle.std.specs.Option.{option_to_list};
+ghost use Rattle.model_base.specs.declared.deed.Grant.{Grant};
+ghost use Rattle.bohm_core_base.specs.Batch.{slots_of, was_done};
+ghost use Rattle.bohm_core_base.specs.Serial.{serial_ends, serial_words};
+ghost use Rattle.log_batch.specs.Supplied.{batch_in};
+ghost use Rattle.words.specs.Passes.{IsPassOf};
+ghost use Rattle.words.specs.Views.{KnowsReferences};
+ghost use Rattle.filling_base.specs.Goings.{IsSamePass, OnlyLearns};
+ghost use Rattle.filling_base.specs.References.{IsRevocation};
+ghost use Rattle.filling_base.specs.Storing.{IsEnding};
+ghost use Rattle.filling.specs.Numbers.{number_at, numbers_at};
+ghost use Rattle.filling.specs.Readings.{KeepsKnown, work_of};
+
+use crate::key::RangeKey;
+use crate::reader::{Named, PassReader};
+use bohm_core_base::{
+    records_end_by_done_places, records_end_by_revocations, slots_stand_in_order,
+};
+use log_batch::LogBatch;
+use model_base::{Deed, Place};
+use reading::ends_told;
+use std::alloc::AllocError;
+use std::marker::{Brand, PhantomData};
+use words::{BatchWords, Holding, Placed};
+
+// The deed that the place may make.
+fn deed_at(batch: &LogBatch, index: usize) -> Option<Deed>
+    requires { index < batch.now.size }
+    ensures { result ≡ (batch_in batch.now).deed index }
+{
+    let place = batch.first_place() + index as u64;
+    batch.statement(index).deed_at(place)
+}
+
+// Whether the place has a revocation.
+pub(crate) fn has_revocation(batch: &LogBatch, index: usize) -> bool
+    requires { index < batch.now.size }
+    ensures yes { IsTrue result → IsRevocation (batch_in batch.now) index }
+    ensures no { IsRevocation (batch_in batch.now) index → IsTrue result }
+{
+    match deed_at(batch, index) {
+        Some(Deed::Revoking(_)) => true,
+        Some(Deed::Granting(_)) => false,
+        None => false,
+    }
+}
+
+// Whether the place was done and has a revocation, where it is known whether it was done.
+fn was_revoking(batch: &LogBatch, index: usize, done: bool) -> bool
+    requires within { index < batch.now.size }
+    requires done { done ≡ was_done (serial_words (batch_in batch.now) index) }
+    ensures done { IsTrue result → was_done (serial_words (batch_in batch.now) index) ≡ true }
+    ensures yes { IsTrue result → IsRevocation (batch_in batch.now) index }
+    ensures no { result ≡ false → was_done (serial_words (batch_in batch.now) index) ≡ true → ¬ (IsRevocation (batch_in batch.now) index) }
+{
+    let revokes = has_revocation(batch, index);
+    done && revokes
+}
+
+// No end, which is what any other place sets.
+fn no_ends(key: &RangeKey<'_>, index: usize) -> Vec<usize>
+    requires { was_done (serial_words (batch_in key.now.batch) index) ≡ true → ¬ (IsRevocation (batch_in key.now.batch) index) }
+    ensures { IsEnding (batch_in key.now.batch) key.now.slots index result.items }
+{
+    records_end_by_done_places();
+    records_end_by_revocations();
+    let _places = key.places();
+    let _index = index;
+    Vec::new(key.batch().alloc())
+}
+
+// One more number, if the grant of the place has a listed end.
+fn put_number(key: &RangeKey<'_>, place: Place, numbers: &mut Vec<usize>) -> Result<(), AllocError>
+    ensures { OnOk result
+        (numbers.new.items ≡ numbers.old.items ++ option_to_list (number_at (batch_in key.now.batch) key.now.slots place)) }
+{
+    if let Some(number) = key.number_at(place) {
+        numbers.push(number)?;
+    }
+    Ok(())
+}
+
+// The numbers of the listed ends of the grants of these places.
+fn numbers_of(key: &RangeKey<'_>, places: &[Place]) -> Result<Vec<usize>, AllocError>
+    ensures { IfOk result (λ numbers. numbers.items ≡ numbers_at (batch_in key.now.batch) key.now.slots places.now) }
+{
+    let mut numbers = Vec::new(key.batch().alloc());
+    for place in places {
+        put_number(key, *place, &mut numbers)?;
+    }
+    Ok(numbers)
+}
+
+// The places of the grants that a done place ends, for the words that are named and a pass that keeps what is named.
+fn judge_places<'b, 'a, N: Named>(
+    key: &'b RangeKey<'a>,
+    words: &'b BatchWords<RangeKey<'a>>,
+    holding: Holding,
+    index: usize,
+) -> (Result<Vec<Place>, AllocError>, Holding)
+    requires ours { IsPassOf words.now holding }
+    requires key { words.now.key ≡ key.now }
+    requires within { index < key.now.batch.size }
+    requires ready { KnowsReferences (batch_in key.now.batch) holding.view index }
+    requires named { Some words.now ≡ N.words }
+    requires knows { KeepsKnown N.known holding.view.known }
+    requires done { was_done (serial_words (batch_in key.now.batch) index) ≡ true }
+    ensures ends { IfOk result.0 (λ places. (slot : ℕ) (grant : Grant) → slice_get (slots_of (batch_in key.now.batch)) slot ≡ Some grant
+        → list_any (λ place. place == grant.place) places.items ≡ serial_ends (batch_in key.now.batch) index slot) }
+    ensures order { IfOk result.0 (λ places. IsStrictlyIncreasing places.items) }
+    ensures ours { IsPassOf words.now result.1 }
+    ensures knows { KeepsKnown N.known result.1.view.known }
+    ensures work { work_of result.1 ≡ work_of holding }
+{
+    let reader = PassReader::<'_, '_, N> {
+        key,
+        words,
+        holding,
+        index,
+        named: PhantomData,
+    };
+    let (places, reader) = ends_told(key.batch().alloc(), key.batch(), reader);
+    let PassReader {
+        key: _,
+        words: _,
+        holding,
+        index: _,
+        named: _,
+    } = reader;
+    (places, holding)
+}
+
+// The places of the grants that a done place ends, in rising order, by a pass that knows done all that it is referred to; it
+// only learns. An error is want of memory.
+pub(crate) fn places_told<'b, 'a>(
+    key: &'b RangeKey<'a>,
+    words: &'b BatchWords<RangeKey<'a>>,
+    holding: Holding,
+    index: usize,
+) -> (Result<Vec<Place>, AllocError>, Holding)
+    requires ours { IsPassOf words.now holding }
+    requires key { words.now.key ≡ key.now }
+    requires within { index < key.now.batch.size }
+    requires ready { KnowsReferences (batch_in key.now.batch) holding.view index }
+    requires done { was_done (serial_words (batch_in key.now.batch) index) ≡ true }
+    ensures ends { IfOk result.0 (λ places. (slot : ℕ) (grant : Grant) → slice_get (slots_of (batch_in key.now.batch)) slot ≡ Some grant
+        → list_any (λ place. place == grant.place) places.items ≡ serial_ends (batch_in key.now.batch) index slot) }
+    ensures order { IfOk result.0 (λ places. IsStrictlyIncreasing places.items) }
+    ensures same { IsSamePass holding result.1 }
+    ensures learns { OnlyLearns holding.view result.1.view }
+{
+    judge_places::<Brand>(key, words, holding, index)
+}
+
+// The numbers of the ends that a done place sets, from the places of the grants.
+fn ends_numbered(
+    key: &RangeKey<'_>,
+    index: usize,
+    places: &[Place],
+) -> Result<Vec<usize>, AllocError>
+    requires order { IsStrictlyIncreasing places.now }
+    requires ends { (slot : ℕ) (grant : Grant) → slice_get (slots_of (batch_in key.now.batch)) slot ≡ Some grant
+        → list_any (λ place. place == grant.place) places.now ≡ serial_ends (batch_in key.now.batch) index slot }
+    ensures { IfOk result (λ ends. IsEnding (batch_in key.now.batch) key.now.slots index ends.items) }
+{
+    slots_stand_in_order();
+    let _places = key.places();
+    let _ends = key.ends();
+    let _index = index;
+    numbers_of(key, places)
+}
+
+// The numbers of the ends that a place sets, which for a place that isn't done or has no revocation are none. The pass knows
+// done all that it is referred to, and only learns. An error is want of memory, which only a revocation may have.
+pub(crate) fn ends_of<'b, 'a>(
+    key: &'b RangeKey<'a>,
+    words: &'b BatchWords<RangeKey<'a>>,
+    holding: Holding,
+    index: usize,
+    done: bool,
+) -> (Result<Vec<usize>, AllocError>, Holding)
+    requires ours { IsPassOf words.now holding }
+    requires key { words.now.key ≡ key.now }
+    requires within { index < key.now.batch.size }
+    requires ready { KnowsReferences (batch_in key.now.batch) holding.view index }
+    requires done { done ≡ was_done (serial_words (batch_in key.now.batch) index) }
+    ensures ends { IfOk result.0 (λ ends. IsEnding (batch_in key.now.batch) key.now.slots index ends.items) }
+    ensures revokes { OnErr result.0 (IsRevocation (batch_in key.now.batch) index) }
+    ensures same { IsSamePass holding result.1 }
+    ensures learns { OnlyLearns holding.view result.1.view }
+{
+    if !was_revoking(key.batch(), index, done) {
+        return (Ok(no_ends(key, index)), holding);
+    }
+    let (places, holding) = places_told(key, words, holding, index);
+    match places {
+        Ok(places) => (ends_numbered(key, index, places.as_slice()), holding),
+        Err(fault) => (Err(fault), holding),
+    }
+}

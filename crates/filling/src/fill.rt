@@ -1,0 +1,106 @@
+//! Fills a place of a batch of a log.
+
+ghost use Rattle.std.specs.Prelude.{◌≡◌, ◌<◌, [], length, slice_index_or};
+ghost use Rattle.model_base.specs.declared.reference.Reference.TheVariants.{Base};
+ghost use Rattle.bohm_core_base.specs.Batch.{was_done};
+ghost use Rattle.bohm_core_base.specs.Serial.{serial_words};
+ghost use Rattle.log_batch.specs.Laws.{word_of};
+ghost use Rattle.log_batch.specs.Supplied.{batch_in};
+ghost use Rattle.words.specs.Passes.{IsPassOf};
+ghost use Rattle.words.specs.Views.{Holds, KnowsReferences};
+ghost use Rattle.filling_base.specs.Goings.{Finishes, IsSamePass};
+ghost use Rattle.filling_base.specs.References.{reference_word};
+ghost use Rattle.filling_base.specs.Storing.{IsEnding};
+
+use crate::ends::ends_of;
+use crate::key::RangeKey;
+use crate::own::own_told;
+use filling_base::{Fills, learning_comes_before_storing, store};
+use model_base::{Place, Reference};
+use own_words::OwnWords;
+use std::alloc::AllocError;
+use words::{BatchWords, Holding, Placed};
+
+// The reference of this number.
+fn reference_at(references: &[Reference], number: usize) -> Reference
+    requires { number < length references.now }
+    ensures { result ≡ slice_index_or references.now number Base }
+{
+    references[number]
+}
+
+// The index of the place of a reference in the batch that begins here, if it is to a place.
+fn index_of(reference: Reference, first: Place) -> Option<usize>
+    ensures { reference_word result ≡ word_of first reference }
+{
+    match reference {
+        Reference::Base => None,
+        Reference::At(place) => Some(place.saturating_sub(first) as usize),
+    }
+}
+
+// Whether own words say that their place was done.
+#[tactic(auto, unfolding(bohm_core_base::specs::Batch::was_done))]
+fn says_done(own: &OwnWords) -> bool
+    ensures { result ≡ was_done own.now }
+{
+    match own.as_slice() {
+        [outcome, ..] => *outcome == 1,
+        [] => false,
+    }
+}
+
+// Stores the own words of a place that is held with nothing stored, sets its ends and finishes it.
+fn store_place<'a>(
+    key: &RangeKey<'a>,
+    words: &BatchWords<RangeKey<'a>>,
+    mut holding: Holding,
+    index: usize,
+    own: &OwnWords,
+    ends: &[usize],
+) -> Holding
+    requires ours { IsPassOf words.now holding }
+    requires key { words.now.key ≡ key.now }
+    requires within { index < key.now.batch.size }
+    requires held { Holds holding.view index 0 [] }
+    requires ready { KnowsReferences (batch_in key.now.batch) holding.view index }
+    requires own { own.now ≡ serial_words (batch_in key.now.batch) index }
+    requires ends { IsEnding (batch_in key.now.batch) key.now.slots index ends.now }
+    ensures same { IsSamePass holding result }
+    ensures finishes { Finishes index holding.view result.view }
+{
+    let _places = key.places();
+    let place = key.batch().first_place() + index as u64;
+    store(words, &mut holding, index, place, own.as_slice(), ends);
+    holding
+}
+
+impl Fills for RangeKey<'_> {
+    fn references_length(&self, index: usize) -> usize {
+        self.batch().references_at(index).len()
+    }
+
+    fn reference(&self, index: usize, number: usize) -> Option<usize> {
+        let references = self.batch().references_at(index);
+        let first = self.batch().first_place();
+        index_of(reference_at(references, number), first)
+    }
+
+    fn fill(
+        &self,
+        words: &BatchWords<Self>,
+        holding: Holding,
+        index: usize,
+    ) -> (Holding, Result<(), AllocError>) {
+        learning_comes_before_storing();
+        let (own, holding) = own_told(self, words, holding, index);
+        let (ends, holding) = ends_of(self, words, holding, index, says_done(&own));
+        match ends {
+            Ok(ends) => {
+                let holding = store_place(self, words, holding, index, &own, ends.as_slice());
+                (holding, Ok(()))
+            }
+            Err(fault) => (holding, Err(fault)),
+        }
+    }
+}

@@ -1,0 +1,16 @@
+//! Runs places of a batch of a log on the shared words, each after those that it is referred to, and tells their outcomes.
+//!
+//! After J. M. Faleiro and D. J. Abadi, "Rethinking Serializable Multiversion Concurrency Control", PVLDB 8 (2015),
+//! section 3: a thread evaluates a transaction once the versions that it reads are there, and then fills its placeholders.
+#![tactic(auto)]
+
+mod ends;
+mod fill;
+mod key;
+mod loads;
+mod outcomes;
+mod own;
+mod reader;
+
+pub use key::RangeKey;
+pub use outcomes::outcome;

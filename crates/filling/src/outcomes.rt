@@ -1,0 +1,221 @@
+//! What a place of a batch of a log came to.
+
+ghost use Rattle.std.specs.Prelude.{◌≡◌, ◌<◌, ◌≤◌, ◌++◌, ◌∷◌, [], IfOk, OnErr, OnOk, Some, length, take};
+ghost use Rattle.bohm_core_base.specs.Batch.{words_length};
+ghost use Rattle.bohm_core_base.specs.Serial.{serial_ends, serial_words};
+ghost use Rattle.log_batch.specs.Supplied.{batch_in};
+ghost use Rattle.words.specs.Layout.{slot_at};
+ghost use Rattle.words.specs.Passes.{IsPassOf};
+ghost use Rattle.words.specs.Views.{In};
+ghost use Rattle.filling_base.specs.Goings.{IsSamePass};
+ghost use Rattle.filling_base.specs.References.{IsRevocation};
+ghost use Rattle.filling.specs.Outcomes.{IsEndedList, OutcomeTells, ended_at, outcome_in};
+
+use crate::ends::has_revocation;
+use crate::key::RangeKey;
+use crate::loads::end_loaded;
+use answering::words_tell_outcomes;
+use bohm_core_base::slots_stand_in_order;
+use filling_base::Batch;
+use model_base::{Items, Outcome, Place};
+use own_words::decoded;
+use reading::words_length;
+use std::alloc::AllocError;
+use words::{BatchWords, Holding, Pass, Placed, Seen};
+
+// The own words of a place that the pass knows done: so many, and 0 behind them.
+fn load_own<K: Placed>(
+    key: &K,
+    words: &BatchWords<K>,
+    holding: &mut Holding,
+    index: usize,
+    count: usize,
+) -> [u64; 156]
+    requires ours { IsPassOf words.now holding.old }
+    requires key { words.now.key ≡ key.now }
+    requires within { index < (K.batch words.now.key).size }
+    requires known { In index holding.old.view.known }
+    requires count { count ≡ words_length (K.batch words.now.key) index }
+    requires few { count ≤ 156 }
+    ensures same { holding.new ≡ holding.old }
+    ensures value { take count result ≡ serial_words (K.batch words.now.key) index }
+{
+    let _places = key.places();
+    let mut own = [0u64; 156];
+    for number in 0..count {
+        own[number] = words.own(holding, index, number);
+    }
+    own
+}
+
+// Whether the place ended the record of a listed slot, by its end word.
+fn ended_record<'a>(
+    key: &RangeKey<'a>,
+    words: &BatchWords<RangeKey<'a>>,
+    holding: &mut Holding,
+    index: usize,
+    number: usize,
+) -> bool
+    requires ours { IsPassOf words.now holding.old }
+    requires key { words.now.key ≡ key.now }
+    requires within { index < key.now.batch.size }
+    requires known { In index holding.old.view.known }
+    requires listed { number < length key.now.slots }
+    ensures same { holding.new ≡ holding.old }
+    ensures value { result ≡ serial_ends (batch_in key.now.batch) index (slot_at key.now.slots number) }
+{
+    let place = key.batch().first_place() + index as u64;
+    match end_loaded(words, holding, number) {
+        Some(end) => end == place,
+        None => false,
+    }
+}
+
+// One more place, if the place ended the record of the listed slot.
+fn put_ended<'a>(
+    key: &RangeKey<'a>,
+    words: &BatchWords<RangeKey<'a>>,
+    holding: &mut Holding,
+    index: usize,
+    number: usize,
+    places: &mut Vec<Place>,
+) -> Result<(), AllocError>
+    requires ours { IsPassOf words.now holding.old }
+    requires key { words.now.key ≡ key.now }
+    requires within { index < key.now.batch.size }
+    requires known { In index holding.old.view.known }
+    requires listed { number < length key.now.slots }
+    ensures same { holding.new ≡ holding.old }
+    ensures put { OnOk result
+        (places.new.items ≡ places.old.items ++ ended_at (batch_in key.now.batch) (slot_at key.now.slots number ∷ []) index) }
+{
+    let _ends = key.ends();
+    if !ended_record(key, words, holding, index, number) {
+        return Ok(());
+    }
+    let grant = key.batch().grant(key.slots()[number]);
+    places.push(grant.place)?;
+    Ok(())
+}
+
+// The places of the grants whose listed ends name the place, which the pass knows done. An error is want of memory.
+fn ended_places<'a>(
+    key: &RangeKey<'a>,
+    words: &BatchWords<RangeKey<'a>>,
+    holding: &mut Holding,
+    index: usize,
+) -> Result<Vec<Place>, AllocError>
+    requires ours { IsPassOf words.now holding.old }
+    requires key { words.now.key ≡ key.now }
+    requires within { index < key.now.batch.size }
+    requires known { In index holding.old.view.known }
+    ensures same { holding.new ≡ holding.old }
+    ensures value { IfOk result (λ places. places.items ≡ ended_at (batch_in key.now.batch) key.now.slots index) }
+{
+    let _ends = key.ends();
+    let mut places = Vec::new(key.batch().alloc());
+    for number in 0..key.slots().len() {
+        put_ended(key, words, holding, index, number, &mut places)?;
+    }
+    Ok(places)
+}
+
+// The outcome that the own words of a place tell, which the pass knows done. Of a revocation the places of the grants are given
+// that it ended.
+fn outcome_told<'a>(
+    key: &RangeKey<'a>,
+    words: &BatchWords<RangeKey<'a>>,
+    holding: &mut Holding,
+    index: usize,
+    ended: Items<Place>,
+) -> Outcome
+    requires ours { IsPassOf words.now holding.old }
+    requires key { words.now.key ≡ key.now }
+    requires within { index < key.now.batch.size }
+    requires known { In index holding.old.view.known }
+    requires ended { IsEndedList key.now.batch index ended }
+    ensures same { holding.new ≡ holding.old }
+    ensures value { outcome_in key.now.batch index ≡ Some result }
+{
+    words_tell_outcomes();
+    let batch = key.batch();
+    let _log = batch.log();
+    let _first = batch.first_place();
+    let statement = batch.statement(index);
+    let count = words_length(batch, index);
+    let own = load_own(key, words, holding, index, count);
+    decoded(&statement.form, &own[..count], ended)
+}
+
+// The places of the grants that a place ended, if it has a revocation, as far as its outcome tells them. The pass knows it done.
+// An error is want of memory, which only a revocation may have.
+fn ended_list<'a>(
+    key: &RangeKey<'a>,
+    words: &BatchWords<RangeKey<'a>>,
+    holding: &mut Holding,
+    index: usize,
+) -> Result<Items<Place>, AllocError>
+    requires ours { IsPassOf words.now holding.old }
+    requires key { words.now.key ≡ key.now }
+    requires within { index < key.now.batch.size }
+    requires known { In index holding.old.view.known }
+    ensures same { holding.new ≡ holding.old }
+    ensures value { IfOk result (λ ended. IsEndedList key.now.batch index ended) }
+    ensures revokes { OnErr result (IsRevocation (batch_in key.now.batch) index) }
+{
+    slots_stand_in_order();
+    let batch = key.batch();
+    if !has_revocation(batch, index) {
+        return Ok(Items::empty(batch.alloc()));
+    }
+    let _log = batch.log();
+    let _statement = batch.statement(index);
+    let _slots = key.slots();
+    let _ends = key.ends();
+    let places = ended_places(key, words, holding, index)?;
+    Ok(Items::new(places))
+}
+
+// The outcome of a place that the pass knows done. An error is want of memory, which only a revocation may have.
+fn outcome_known<'a>(
+    key: &RangeKey<'a>,
+    words: &BatchWords<RangeKey<'a>>,
+    holding: &mut Holding,
+    index: usize,
+) -> Result<Outcome, AllocError>
+    requires ours { IsPassOf words.now holding.old }
+    requires key { words.now.key ≡ key.now }
+    requires within { index < key.now.batch.size }
+    requires known { In index holding.old.view.known }
+    ensures same { holding.new ≡ holding.old }
+    ensures value { IfOk result (λ found. outcome_in key.now.batch index ≡ Some found) }
+    ensures revokes { OnErr result (IsRevocation (batch_in key.now.batch) index) }
+{
+    let ended = ended_list(key, words, holding, index)?;
+    Ok(outcome_told(key, words, holding, index, ended))
+}
+
+/// The outcome of a place, if it is done: one load of its claim, its own words, and for a revocation the end words of the batch.
+/// It is told of each place that the pass knows done, and of one that the load finds done, which the pass knows from then on.
+/// There is none of a place that was free or that another pass held. An error is want of memory for the list of what a
+/// revocation ended; the pass knows the place done then too.
+pub fn outcome(
+    batch: &Batch<RangeKey<'_>>,
+    pass: Pass,
+    index: usize,
+) -> (Pass, Result<Option<Outcome>, AllocError>)
+    requires ours { IsPassOf batch.now pass }
+    requires within { index < batch.now.key.batch.size }
+    ensures same { IsSamePass pass result.0 }
+    ensures tells { OutcomeTells batch.now.key.batch index pass.view result.1 result.0.view }
+{
+    let mut holding = Holding::begin(pass);
+    match batch.words().look(&mut holding, index) {
+        Seen::Done => match outcome_known(batch.key(), batch.words(), &mut holding, index) {
+            Ok(found) => (holding.end(), Ok(Some(found))),
+            Err(fault) => (holding.end(), Err(fault)),
+        },
+        Seen::Free => (holding.end(), Ok(None)),
+        Seen::Held => (holding.end(), Ok(None)),
+    }
+}

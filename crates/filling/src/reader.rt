@@ -1,0 +1,69 @@
+//! A pass, as it reads for a place that it is about to fill.
+
+ghost use Rattle.std.specs.Prelude.{[], ℕ, List, None, Option};
+ghost use Rattle.log_words.specs.Keys.{Key};
+ghost use Rattle.words.specs.Passes.{Words};
+
+use crate::key::RangeKey;
+use crate::loads::{deed_was_done, end_at};
+use model_base::Place;
+use reading::Told;
+use std::marker::{Brand, Model, PhantomData};
+use words::{BatchWords, Holding, Placed};
+
+/// Which words a pass reads, and what it knew as it began, whoever has it as `&mut` meanwhile: a call picks both.
+pub(crate) trait Named {
+    ghost words: { Option (Words Key) };
+
+    ghost known: { List ℕ };
+}
+
+impl Named for Brand {
+    ghost words = { None };
+
+    ghost known = { [] };
+}
+
+/// A pass that knows done all that a place is referred to, and reads for it.
+pub(crate) struct PassReader<'b, 'a, N: Named> {
+    pub(crate) key: &'b RangeKey<'a>,
+    pub(crate) words: &'b BatchWords<RangeKey<'a>>,
+    pub(crate) holding: Holding,
+    pub(crate) index: usize,
+    pub(crate) named: PhantomData<N>,
+}
+
+impl<'b, 'a, N: Named> Model for PassReader<'b, 'a, N> {
+    ghost use Rattle.filling.specs.Readings.{IsReading, Reading, work_of};
+
+    ghost Value = { Reading };
+
+    ghost view = { λ reader. record { ranged = reader.key.now.batch; index = reader.index; work = work_of reader.holding } };
+
+    ghost invariant = { λ reader. IsReading reader.words.now reader.key.now reader.holding reader.index N.words N.known };
+}
+
+impl<N: Named> Told for PassReader<'_, '_, N> {
+    ghost use Rattle.filling.specs.Readings.{Reading, reader_of};
+
+    ghost told = { reader_of };
+
+    ghost kept = { λ (reading : Reading). reading.work };
+
+    fn reader(&self) -> usize {
+        let _places = self.key.places();
+        self.index
+    }
+
+    fn own(&mut self, index: usize, number: usize) -> u64 {
+        self.words.own(&mut self.holding, index, number)
+    }
+
+    fn was_done(&mut self, index: usize) -> bool {
+        deed_was_done(self.key, self.words, &mut self.holding, self.index, index)
+    }
+
+    fn end(&mut self, slot: usize) -> Option<Place> {
+        end_at(self.key, self.words, &mut self.holding, slot)
+    }
+}
