@@ -1,0 +1,57 @@
+-- A statement that the log takes names tables that are there.
+use Rattle.std.proofs.Common.{◌≡◌, ◌<◌, ℕ, Bool, true, false, not, List, [], Option, Some, None, length, refl, sym, ◌∙◌, inl, inr}
+use Rattle.std.specs.Prelude.{All, ◌||◌, nat_lt}
+use Rattle.std.proofs.lemmas.Bool.{ltb-true, or_cases, true≢false}
+use Rattle.std.proofs.lemmas.List.Elements.{All-cons, All-nil}
+use Rattle.model_base.specs.declared.statement.Form.{Form}
+use Rattle.model_base.specs.References.{deed_tables}
+use Rattle.log_text.specs.Statement.{Sentence}
+use Rattle.log_text.specs.declared.statement.RawDeed.{RawDeed}
+use Rattle.log_text.specs.declared.statement.RawForm.{RawForm}
+use Rattle.sequencer.specs.Names.{is_known, with_name}
+use Rattle.sequencer.specs.Catalog.{Names, numbered, numbered_deed, numbered_form}
+use Rattle.sequencer.specs.Refusal.{accesses_refusal, create_refusal, deed_refusal, form_refusal, name_refusal, refusal, steps_refusal, table_refusal, unless}
+use Rattle.sequencer.specs.declared.refused.Refused.{Refused}
+use Rattle.sequencer.proofs.Passed.{both_none, known-table, passes}
+use Rattle.standing.specs.Known.{IsKnown}
+
+not_true : (b : Bool) → not b ≡ true → b ≡ false
+not_true true is = absurd (true≢false (sym is))
+not_true false is = refl
+
+room : (names : Names) (table : List ℕ) (columns : ℕ) → create_refusal names table columns ≡ None → name_refusal names.tables table ≡ None → length names.tables < 65536
+room names table columns new few =
+    let unknown = not_true (is_known names.tables table) (passes (not (is_known names.tables table)) Refused.TableExists (both_none (unless (not (is_known names.tables table)) Refused.TableExists) _ new).0) in
+    elim (or_cases (nat_lt (length names.tables) 65536) (is_known names.tables table) (passes (nat_lt (length names.tables) 65536 || is_known names.tables table) Refused.TooManyNames few)) [
+      | inl less ↦ ltb-true (length names.tables) 65536 less
+      | inr known ↦ absurd (true≢false (sym known ∙ unknown))
+    ]
+
+known-deed : (names : Names) (users : List (List ℕ)) (deed : RawDeed) → deed_refusal names (Some deed) ≡ None
+    → All (λ table. table < length names.tables) (deed_tables (Form.Deed (numbered_deed (record names { users = users }) deed)))
+known-deed names users (RawDeed.Grant kind table grantee option) e =
+    All-cons (λ t. t < length names.tables) _ [] (known-table names table e) (All-nil (λ t. t < length names.tables))
+known-deed names users (RawDeed.Revoke kind table grantee) e =
+    All-cons (λ t. t < length names.tables) _ [] (known-table names table e) (All-nil (λ t. t < length names.tables))
+
+known-run : (names : Names) (users : List (List ℕ)) (accesses : List _) (steps : List _) (deed : Option RawDeed) → deed_refusal names deed ≡ None
+    → IsKnown (length names.tables) (numbered_form (record names { users = users }) (RawForm.Run accesses steps deed))
+known-run names users accesses steps None e = All-nil (λ t. t < length names.tables)
+known-run names users accesses steps (Some deed) e = known-deed names users deed e
+
+known-form : (names : Names) (users : List (List ℕ)) (form : RawForm) → form_refusal names form ≡ None → table_refusal names form ≡ None
+    → IsKnown (length names.tables) (numbered_form (record names { users = users }) form)
+known-form names users (RawForm.Create table columns) e few = room names table columns e few
+known-form names users (RawForm.Run accesses steps deed) e few =
+    let first = both_none (accesses_refusal names [] accesses) _ e in
+    let rest = both_none (steps_refusal names steps) (deed_refusal names deed) first.1 in
+    known-run names users accesses steps deed rest.1
+known-form names users (RawForm.Deed deed) e few = known-deed names users deed e
+
+-- so each that passes the tests
+pub known_new : (names : Names) (sentence : Sentence) → refusal names sentence ≡ None → IsKnown (length names.tables) (numbered names sentence).form
+known_new names sentence e =
+    let rest = both_none _ _ e in
+    let form = both_none _ _ rest.1 in
+    let few = both_none _ _ form.1 in
+    known-form names (with_name names.users sentence.user) sentence.form form.0 few.1

@@ -1,0 +1,9 @@
+use Rattle.engine.specs.Engine.{Run}
+use Rattle.engine.proofs.Advanced.{run_left}
+use Rattle.engine.proofs.run.Engine.sweep.Goals as goal
+
+pub invariant_of-self : goal.invariant_of-self
+invariant_of-self c =
+    let e = c.self.inside in
+    let run : Run = record { log = e.log; store = e.chains; book = e.book; outcomes = e.outcomes.items } in
+    run_left run c.sweep.new.self c.self.invariant c.sweep.ensures.swept.end (c.sweep.ensures.right e.log.statements)

@@ -1,0 +1,40 @@
+-- A log of which a beginning is finished, batch by batch. BOHM works in batches too: a batch is placed as a whole before it is
+-- run, and what stands behind it is what the next one finds (J. M. Faleiro and D. J. Abadi, "Rethinking Serializable Multiversion
+-- Concurrency Control", PVLDB 8, 2015, section 3). That each place is counted as finished with its whole batch is this project's
+-- own.
+use Rattle.std.specs.Prelude.{◌==◌, ◌&&◌, ◌≤◌, ◌-◌, ℕ, Bool, List, length, nat_le, nat_lt}
+use Rattle.model_base.specs.declared.outcome.Outcome.{Outcome}
+use Rattle.chains.specs.Store.{Store}
+use Rattle.grants.specs.Book.{Entries}
+use Rattle.sequencer.specs.Log.{Accepted}
+use Rattle.engine.specs.declared.crew.Crew.{Crew}
+use Rattle.standing.specs.Known.{AreKnown}
+use Rattle.standing.specs.Stands.{Stands}
+use Rattle.taking.specs.Span.{AreOutcomes}
+
+-- the log, the versions of rows, the book of grants, and the outcomes of the places that are finished
+pub record Run : Type 0 where
+  pub log : Accepted
+  pub store : Store
+  pub book : Entries
+  pub outcomes : List Outcome
+
+-- how many places are finished
+abbrev pub finished : Run → ℕ
+finished run = length run.outcomes
+
+-- versions and book stand before the first place that isn't finished, and the outcomes are the log's
+pub record IsRun (run : Run) : Type 0 where
+  pub within : finished run ≤ length run.log.statements
+  pub known : AreKnown run.log.statements
+  pub stands : Stands run.log.statements (finished run) run.store run.book
+  pub came : AreOutcomes run.log.statements 0 (finished run) run.outcomes
+
+-- whether the range may be run as the next batch, by so many workers and placers: it begins where the finished places end, lies
+-- in the log, and has 1 to 65,536 places; and there are 1 to 64 workers and 1 to 64 partitions
+abbrev pub may_run : Run → ℕ → ℕ → Crew → Bool
+may_run run first end crew =
+    (first == finished run)
+    && (nat_lt first end && nat_le end (length run.log.statements) && nat_le (end - first) 65536)
+    && (nat_le 1 crew.workers && nat_le crew.workers 64)
+    && (nat_le 1 crew.partitions && nat_le crew.partitions 64)

@@ -1,0 +1,287 @@
+//! A log of which a beginning is finished.
+
+ghost use Rattle.std.specs.Prelude.{◌≡◌, ◌<◌, ◌≤◌, ◌+◌, ◌-◌, ◌++◌, IfOk, length};
+ghost use Rattle.chains.specs.Store.{versions_between};
+ghost use Rattle.standing.specs.Stands.{Stands};
+ghost use Rattle.taking.specs.Span.{AreOutcomes};
+
+use crate::crew::Crew;
+use crate::fault::EngineFault;
+use chains::{BadMark, Chains, Trimmed};
+use grants::Book;
+use executing::execute;
+use log_batch::LogBatch;
+use log_text::RawStatement;
+use model_base::{Key, Outcome, Place, Row};
+use placers::references_of;
+use sequencer::{Log, Refused};
+use standing::advance;
+use std::alloc::{AllocError, Global};
+use std::marker::Model;
+use std::ops::Range;
+use std::sync::Wait;
+use std::thread::Threads;
+use taking::{Taken, take};
+use workers::Gate;
+
+/// How many places a batch has at most.
+const MOST_PLACES: u64 = 65_536;
+
+/// By how many workers a batch is run at most, and by how many partitions it is placed.
+const MOST_THREADS: usize = 64;
+
+/// A log, the outcomes of its finished places, and what stands behind these: the versions of rows and the book of grants.
+#[derive(Drop)]
+pub struct Engine {
+    log: Log,
+    chains: Chains,
+    book: Book,
+    outcomes: Vec<Outcome>,
+}
+
+impl Model for Engine {
+    ghost use Rattle.engine.specs.Engine.{IsRun, Run};
+
+    ghost Value = { Run };
+
+    ghost view = { λ engine. record { log = engine.log; store = engine.chains; book = engine.book; outcomes = engine.outcomes.items } };
+
+    ghost invariant = { λ engine. IsRun (record { log = engine.log; store = engine.chains; book = engine.book; outcomes = engine.outcomes.items }) };
+}
+
+/// What the places of a range come to, run as a batch. An error is want of memory.
+fn ran<T: Threads + Wait + Sync, G: Gate + Sync>(
+    rt: &T,
+    alloc: Global,
+    log: &Log,
+    chains: &Chains,
+    book: &Book,
+    range: Range<Place>,
+    crew: Crew,
+    gate: &G,
+) -> Result<Taken, AllocError>
+    requires partitions { 0 < crew.partitions }
+    requires order { range.start ≤ range.end }
+    requires within { range.end ≤ length log.now.statements }
+    requires stands { Stands log.now.statements range.start chains.now book.now }
+    ensures outcomes { IfOk result (λ taken. AreOutcomes log.now.statements range.start (range.end - range.start) taken.outcomes.items) }
+    ensures versions { IfOk result (λ taken. taken.versions.items ≡ versions_between log.now.statements range.start range.end) }
+{
+    let (start, end) = (range.start, range.end);
+    let references = references_of(rt, alloc, log, range, crew.partitions)?;
+    let batch = LogBatch::new(alloc, log, chains, book, start..end, crew.partitions, references)?;
+    let done = execute(rt, alloc, batch, gate, crew.workers)?;
+    let taken = take(alloc, log, &done, start..end)?;
+    Ok(taken)
+}
+
+impl Engine {
+    ghost use Rattle.std.specs.Prelude.{◌↔◌, ◌⊎◌, ◌||◌, false, Option, None, Some, Err, IfErr, IfOk, OnErr, OnOk, is_err, nat_lt, slice_get};
+    ghost use Rattle.std.specs.Option.{MatchOption};
+    ghost use Rattle.model_base.specs.Outcomes.{deeds_before, outcome, owners, rows_before};
+    ghost use Rattle.chains.specs.Store.{Sweeps, Trims};
+    ghost use Rattle.grants.specs.Book.{ShowsBook};
+    ghost use Rattle.sequencer.specs.Log.{empty_log, with_accepted};
+    ghost use Rattle.sequencer.specs.Refusal.{IsRefusal, refusal};
+    ghost use Rattle.engine.specs.Engine.{IsRun, finished, may_run};
+
+    /// An engine without places. It takes no memory.
+    pub fn new(alloc: Global) -> Self
+        ensures log { result.log ≡ empty_log }
+        ensures none { finished result ≡ 0 }
+        ensures mark { result.store.mark ≡ 0 }
+    {
+        Engine {
+            log: Log::new(alloc),
+            chains: Chains::new(alloc),
+            book: Book::new(alloc),
+            outcomes: Vec::new(alloc),
+        }
+    }
+
+    /// The log.
+    pub fn log(&self) -> &Log
+        ensures value { result.now ≡ self.now.log }
+        ensures within { finished self.now ≤ length self.now.log.statements }
+    {
+        &self.log
+    }
+
+    /// The book of grants: it shows the deeds before the first place that isn't finished.
+    pub fn book(&self) -> &Book
+        ensures value { result.now ≡ self.now.book }
+        ensures shows { ShowsBook self.now.book (owners self.now.log.statements) (deeds_before self.now.log.statements (finished self.now)) }
+    {
+        &self.book
+    }
+
+    /// How many places are finished: all below this one. Outcomes, rows and book are those of the log so far.
+    pub fn finished(&self) -> Place
+        ensures count { result ≡ finished self.now }
+        ensures run { IsRun self.now }
+    {
+        let _len = self.log.len();
+        self.outcomes.len() as u64
+    }
+
+    /// The first place before which the rows are kept.
+    pub fn mark(&self) -> Place
+        ensures value { result ≡ self.now.store.mark }
+        ensures within { self.now.store.mark ≤ finished self.now }
+    {
+        self.chains.mark()
+    }
+
+    /// Takes a statement as the next place, as the log does. After a refusal the engine is as it was.
+    pub fn push(&mut self, statement: RawStatement) -> Result<Place, Refused>
+        ensures place { IfOk result (λ place. place ≡ length self.old.log.statements) }
+        ensures accepted { OnOk result (self.new ≡ record self.old { log = with_accepted self.old.log statement }) }
+        ensures passes { OnOk result (refusal self.old.log.names statement ≡ None) }
+        ensures refused { IfErr result (λ r. IsRefusal r (refusal self.old.log.names statement)) }
+        ensures err { OnErr result (self.new ≡ self.old) }
+    {
+        let _statements = self.log.statements();
+        self.log.push(statement)
+    }
+
+    /// Runs the next places of the log, up to this one, as a batch, by so many workers and placers. The gate is told of each place,
+    /// by its index in the batch, before a worker asks for it and once it is done; one worker alone tells it nothing. Then they are finished: their
+    /// outcomes are the log's, and rows and book stand behind them. On `Err` memory was refused, and the engine is as it was, so
+    /// that the batch can be run again.
+    pub fn run_to<T: Threads + Wait + Sync, G: Gate + Sync>(
+        &mut self,
+        rt: &T,
+        alloc: Global,
+        end: Place,
+        crew: Crew,
+        gate: &G,
+    ) -> Result<(), AllocError>
+        requires partitions { 0 < crew.partitions }
+        requires order { finished self.old ≤ end }
+        requires within { end ≤ length self.old.log.statements }
+        ensures ends { OnOk result (finished self.new ≡ end) }
+        ensures stands { OnOk result (Stands self.new.log.statements end self.new.store self.new.book) }
+        ensures came { OnOk result (AreOutcomes self.new.log.statements 0 end self.new.outcomes) }
+        ensures mark { OnOk result (self.new.store.mark ≡ self.old.store.mark) }
+        ensures log { self.new.log ≡ self.old.log }
+        ensures err { OnErr result (self.new ≡ self.old) }
+    {
+        let _len = self.log.len();
+        let start = self.outcomes.len() as u64;
+        let Taken {
+            mut outcomes,
+            versions,
+        } = ran(
+            rt,
+            alloc,
+            &self.log,
+            &self.chains,
+            &self.book,
+            start..end,
+            crew,
+            gate,
+        )?;
+        let before = self.outcomes.len();
+        self.outcomes.append(&mut outcomes)?;
+        let moved = advance(
+            alloc,
+            &mut self.chains,
+            &mut self.book,
+            &self.log,
+            &self.outcomes[before..],
+            versions,
+            start..end,
+        );
+        match moved {
+            Ok(()) => Ok(()),
+            Err(error) => {
+                self.outcomes.truncate(before);
+                Err(error)
+            }
+        }
+    }
+
+    /// Whether the range may be run as the next batch, by so many workers and placers: it begins at `finished`, lies in the log and
+    /// has 1 to 65,536 places, and there are 1 to 64 workers and 1 to 64 partitions.
+    pub fn may_run(&self, range: &Range<Place>, crew: Crew) -> bool
+        ensures { result ≡ may_run self.now range.now.start range.now.end crew }
+    {
+        let (start, end) = (range.start, range.end);
+        let len = self.log.len();
+        start == self.outcomes.len() as u64
+            && (start < end && end <= len && end - start <= MOST_PLACES)
+            && (1 <= crew.workers && crew.workers <= MOST_THREADS)
+            && (1 <= crew.partitions && crew.partitions <= MOST_THREADS)
+    }
+
+    /// Runs the range as the next batch, by so many workers and placers, which tell the gate as `run_to` says. Then its places are finished: their outcomes are the log's,
+    /// and rows and book stand behind them. `BadSettings` is answered exactly where `may_run` says no; any other error is want of
+    /// memory. On `Err` the engine is as it was, so that the batch can be run again.
+    pub fn run_batch<T: Threads + Wait + Sync, G: Gate + Sync>(
+        &mut self,
+        rt: &T,
+        alloc: Global,
+        range: Range<Place>,
+        crew: Crew,
+        gate: &G,
+    ) -> Result<(), EngineFault>
+        ensures bad { (result ≡ Err EngineFault.BadSettings) ↔ (may_run self.old range.start range.end crew ≡ false) }
+        ensures fault { IfErr result (λ f. (f ≡ EngineFault.NoMemory) ⊎ (f ≡ EngineFault.BadSettings)) }
+        ensures ends { OnOk result (finished self.new ≡ range.end) }
+        ensures stands { OnOk result (Stands self.new.log.statements range.end self.new.store self.new.book) }
+        ensures came { OnOk result (AreOutcomes self.new.log.statements 0 range.end self.new.outcomes) }
+        ensures mark { OnOk result (self.new.store.mark ≡ self.old.store.mark) }
+        ensures log { self.new.log ≡ self.old.log }
+        ensures err { OnErr result (self.new ≡ self.old) }
+    {
+        if !self.may_run(&range, crew) {
+            return Err(EngineFault::BadSettings);
+        }
+        self.run_to(rt, alloc, range.end, crew, gate)?;
+        Ok(())
+    }
+
+    /// The outcome of a place that is finished, which is the log's; `None` exactly from `finished` on.
+    pub fn outcome(&self, place: Place) -> Option<&Outcome>
+        ensures { MatchOption result (finished self.now ≤ place)
+            (λ found. (place < finished self.now) × (outcome self.now.log.statements place ≡ Some found.now)) }
+    {
+        let index = place as usize;
+        if index < self.outcomes.len() {
+            Some(&self.outcomes[index])
+        } else {
+            None
+        }
+    }
+
+    /// The row of a key before a place that is finished, or is the next one: the log's. `Trimmed` is answered exactly where the
+    /// place lies below the mark. It takes no memory.
+    pub fn row_before(&self, place: Place, key: Key) -> Result<Option<Row>, Trimmed>
+        requires { place ≤ finished self.now }
+        ensures trimmed { is_err result ≡ nat_lt place self.now.store.mark }
+        ensures value { IfOk result (λ row. row ≡ rows_before self.now.log.statements place key.table key.row) }
+    {
+        self.chains.row_before(place, key)
+    }
+
+    /// Drops the versions of rows that tell only what stood before the places below the mark, and answers how many they were. From
+    /// then on the rows before these places aren't told. `BadMark` is answered exactly where the mark lies above `finished` or
+    /// below the present mark, and nothing changes then. It takes no memory, and costs what it drops.
+    pub fn trim(&mut self, mark: Place) -> Result<usize, BadMark>
+        ensures bad { is_err result ≡ (nat_lt mark self.old.store.mark || nat_lt (finished self.old) mark) }
+        ensures ok { IfOk result (λ gone. Trims self.old.store self.new.store mark gone) }
+        ensures rest { self.new ≡ record self.old { store = self.new.store } }
+        ensures err { OnErr result (self.new ≡ self.old) }
+    {
+        self.chains.trim(mark)
+    }
+
+    /// Takes out the versions that tell nothing: those below the mark that are the only ones of their keys, and in which the row is
+    /// absent. It answers how many they were. What is told of rows stays the same. It takes no memory.
+    pub fn sweep(&mut self) -> usize
+        ensures swept { Sweeps self.old.store self.new.store result }
+        ensures rest { self.new ≡ record self.old { store = self.new.store } }
+    {
+        self.chains.sweep()
+    }
+}

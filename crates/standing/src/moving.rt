@@ -1,0 +1,52 @@
+//! Rows and grants, moved on over the places of a finished batch.
+
+ghost use Rattle.std.specs.Prelude.{◌≡◌, ◌≤◌, ◌-◌, OnErr, OnOk, length};
+ghost use Rattle.chains.specs.Store.{versions_between};
+ghost use Rattle.standing.specs.Known.{AreKnown};
+ghost use Rattle.standing.specs.Stands.{Stands};
+ghost use Rattle.taking.specs.Span.{AreOutcomes};
+
+use crate::booking::book_places;
+use chains::{Chains, Version};
+use grants::Book;
+use model_base::{Outcome, Place};
+use sequencer::Log;
+use std::alloc::{AllocError, Global};
+use std::ops::Range;
+
+/// Moves the versions of rows and the book on over the places of a range, by their outcomes and the versions that they leave:
+/// both or neither. On `Err` memory was refused, and versions and book are as they were.
+pub fn advance(
+    alloc: Global,
+    chains: &mut Chains,
+    book: &mut Book,
+    log: &Log,
+    outcomes: &[Outcome],
+    versions: Vec<Version>,
+    range: Range<Place>,
+) -> Result<(), AllocError>
+    requires order { range.start ≤ range.end }
+    requires within { range.end ≤ length log.now.statements }
+    requires known { AreKnown log.now.statements }
+    requires stands { Stands log.now.statements range.start chains.old book.old }
+    requires came { AreOutcomes log.now.statements range.start (range.end - range.start) outcomes.now }
+    requires left { versions.items ≡ versions_between log.now.statements range.start range.end }
+    ensures ok { OnOk result (Stands log.now.statements range.end chains.new book.new) }
+    ensures mark { OnOk result (chains.new.mark ≡ chains.old.mark) }
+    ensures chains { OnErr result (chains.new ≡ chains.old) }
+    ensures book { OnErr result (book.new ≡ book.old) }
+{
+    let (start, end) = (range.start, range.end);
+    let booked = book_places(alloc, book, log, outcomes, range);
+    let moved = match booked {
+        Ok(()) => chains.append(versions, end),
+        Err(error) => Err(error),
+    };
+    match moved {
+        Ok(()) => Ok(()),
+        Err(error) => {
+            book.cut(start);
+            Err(error)
+        }
+    }
+}
