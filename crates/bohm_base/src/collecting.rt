@@ -48,7 +48,7 @@ pub struct Collected {
 }
 
 /// What the line of a refused statement became. Want of memory is no refusal, and ends the run.
-fn refused_line(refused: Refused) -> Result<Became, EngineFault>
+pub fn refused_line(refused: Refused) -> Result<Became, EngineFault>
     ensures ok { IfOk result (λ line. (line ≡ Became.Refused refused) × (refused ≢ Refused.NoMemory)) }
     ensures err { IfErr result (λ f. (f ≡ EngineFault.NoMemory) × (refused ≡ Refused.NoMemory)) }
 {
@@ -59,7 +59,7 @@ fn refused_line(refused: Refused) -> Result<Became, EngineFault>
 }
 
 /// What a line with a fault became. Want of memory is no line's fault, and ends the run.
-fn faulty_line(fault: LineFault) -> Result<Became, EngineFault>
+pub fn faulty_line(fault: LineFault) -> Result<Became, EngineFault>
     ensures ok { IfOk result (λ line. (line ≡ Became.Faulty fault) × (fault ≢ LineFault.NoMemory)) }
     ensures err { IfErr result (λ f. (f ≡ EngineFault.NoMemory) × (fault ≡ LineFault.NoMemory)) }
 {

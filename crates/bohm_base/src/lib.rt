@@ -8,6 +8,7 @@ mod pending;
 mod plain_run;
 mod serial_run;
 
+pub use collecting::{Became, faulty_line, refused_line};
 pub use command_line::{ArgumentFault, argument_fault, arguments};
 pub use fault::EngineFault;
 pub use plain_run::plain_text;

@@ -8,8 +8,8 @@ ghost use Rattle.taking.specs.Span.{AreOutcomes};
 use crate::crew::Crew;
 use crate::fault::EngineFault;
 use chains::{BadMark, Chains, Trimmed};
-use grants::Book;
 use executing::execute;
+use grants::Book;
 use log_batch::LogBatch;
 use log_text::RawStatement;
 use model_base::{Key, Outcome, Place, Row};
@@ -69,7 +69,15 @@ fn ran<T: Threads + Wait + Sync, G: Gate + Sync>(
 {
     let (start, end) = (range.start, range.end);
     let references = references_of(rt, alloc, log, range, crew.partitions)?;
-    let batch = LogBatch::new(alloc, log, chains, book, start..end, crew.partitions, references)?;
+    let batch = LogBatch::new(
+        alloc,
+        log,
+        chains,
+        book,
+        start..end,
+        crew.partitions,
+        references,
+    )?;
     let done = execute(rt, alloc, batch, gate, crew.workers)?;
     let taken = take(alloc, log, &done, start..end)?;
     Ok(taken)

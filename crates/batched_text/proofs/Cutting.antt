@@ -1,0 +1,249 @@
+-- The mark, batch after batch.
+use Rattle.std.proofs.Common.{◌≡◌, ◌<◌, ◌≤◌, ◌+◌, ◌-◌, ◌*◌, ◌&&◌, ◌++◌, ◌∷◌, [], ℕ, zero, suc, Bool, true, List, length, refl, ap, sym, ◌∙◌, subst, arith, inl, inr}
+use Rattle.std.specs.Prelude.{◌==◌, min, nat_lt, nat_le, if◌then◌else◌}
+use Rattle.std.proofs.Math.Nat.{mul-sub}
+use Rattle.std.proofs.lemmas.Bool.{and_parts, cases_lt, le-ltb, leb-true, lt-ltb, ne_eqb}
+use Rattle.std.proofs.lemmas.List.{append-nil, length-append}
+use Rattle.report.specs.Report.{Reading, accepted}
+use Rattle.sequencer.specs.Log.{Accepted}
+use Rattle.sequencer.specs.Taken.{IsWhole}
+use Rattle.bohm_base.specs.Collecting.{became}
+use Rattle.bohm_base.specs.declared.collecting.Became.{Became}
+use Rattle.engine.specs.Engine.{Run, finished}
+use Rattle.batched_text.specs.Batching.{Deals, IsCounted, IsFilling, IsFirst, IsOpen, Reports, Takes, lines_text}
+use Rattle.batched_text.specs.Settings.{IsCut, IsTrimmed, are_within_limits, mark_behind}
+use Rattle.batched_text.specs.declared.batching.Batching.{Batching}
+use Rattle.batched_text.specs.declared.settings.Settings.{Settings}
+use Rattle.batched_text.proofs.Ended.{counted_more, counted_start, one_more}
+
+-- the mark by the number of batches that are kept
+abbrev mark_by : ℕ → ℕ → ℕ → ℕ → ℕ
+mark_by keep batch start end = if keep == 0 then end else start - batch * (keep - 1)
+
+some-kept : (keep batch start end : ℕ) → mark_by (suc keep) batch start end ≡ start - batch * keep
+some-kept keep batch start end =
+    let one : suc keep - 1 ≡ keep = omega arith in
+    ap (λ (b : Bool). if b then end else start - batch * (suc keep - 1)) (ne_eqb (suc keep) 0 (λ same. omega (arith, same)))
+    ∙ ap (λ (n : ℕ). start - batch * n) one
+
+pub mark_within : (keep batch start end : ℕ) → start ≤ end → mark_by keep batch start end ≤ end
+mark_within zero batch start end less = omega arith
+mark_within (suc keep) batch start end less = omega (arith, some-kept keep batch start end)
+
+pub mark_later : (keep batch batches start end mark : ℕ) → start ≤ end → start ≡ batch * batches → mark ≡ batch * (batches - keep) → mark ≤ mark_by keep batch start end
+mark_later zero batch batches start end mark less is at =
+    omega (arith, mul-sub batch batches 0)
+mark_later (suc keep) batch batches start end mark less is at =
+    let here : mark ≡ batch * batches - batch * suc keep = at ∙ mul-sub batch batches (suc keep) in
+    omega (arith, some-kept keep batch start end)
+
+-- one more batch, which is full
+pub mark_full : (keep batch batches start : ℕ) → start ≡ batch * batches → mark_by keep batch start (start + batch) ≡ batch * ((batches + 1) - keep)
+mark_full zero batch batches start is = omega (arith, mul-sub batch (batches + 1) 0)
+mark_full (suc keep) batch batches start is =
+    let same : (batches + 1) - suc keep ≡ batches - keep = omega arith in
+    some-kept keep batch start (start + batch)
+    ∙ ap (λ (n : ℕ). n - batch * keep) is
+    ∙ sym (mul-sub batch batches keep)
+    ∙ ap (λ (n : ℕ). batch * n) (sym same)
+
+-- one more batch, which may be smaller
+pub mark_last : (keep batch batches start end : ℕ) → start ≡ batch * batches → start < end → end ≤ start + batch
+    → mark_by keep batch start end ≡ min end (batch * ((batches + 1) - keep))
+mark_last zero batch batches start end is more less = omega (arith, mul-sub batch (batches + 1) 0)
+mark_last (suc keep) batch batches start end is more less =
+    let same : (batches + 1) - suc keep ≡ batches - keep = omega arith in
+    let there : batch * ((batches + 1) - suc keep) ≡ batch * batches - batch * keep = ap (λ (n : ℕ). batch * n) same ∙ mul-sub batch batches keep in
+    omega (arith, some-kept keep batch start end, there)
+
+-- no batch more
+pub mark_none : (keep batch batches start mark : ℕ) → start ≡ batch * batches → mark ≡ batch * (batches - keep) → mark ≡ min start (batch * (batches - keep))
+mark_none keep batch batches start mark is at = omega (arith, mul-sub batch batches keep)
+
+-- settings within their limits
+pub record Limits (settings : Settings) : Type 0 where
+  pub partitions : 0 < settings.partitions
+  pub batch_some : 0 < settings.batch
+  pub batch_most : settings.batch ≤ 65536
+  pub keep_most : settings.keep ≤ 65535
+
+pub limits : (settings : Settings) → are_within_limits settings ≡ true → Limits settings
+limits settings within =
+    let workers : Bool = nat_le 1 settings.workers && nat_le settings.workers 64 in
+    let partitions : Bool = nat_le 1 settings.partitions && nat_le settings.partitions 64 in
+    let batch : Bool = nat_le 1 settings.batch && nat_le settings.batch 65536 in
+    let all = and_parts ((workers && partitions) && batch) (nat_le settings.keep 65535) within in
+    let three = and_parts (workers && partitions) batch all.0 in
+    let two = and_parts workers partitions three.0 in
+    let some = and_parts (nat_le 1 settings.batch) (nat_le settings.batch 65536) three.1 in
+    let parts = and_parts (nat_le 1 settings.partitions) (nat_le settings.partitions 64) two.1 in
+    let least = leb-true 1 settings.partitions parts.0 in
+    let one = leb-true 1 settings.batch some.0 in
+    record {
+      partitions = omega (arith, least);
+      batch_some = omega (arith, one);
+      batch_most = leb-true settings.batch 65536 some.1;
+      keep_most = leb-true settings.keep 65535 all.1;
+    }
+
+-- the store's mark is none that lies too late for the next batch
+pub waits_for : (settings : Settings) (batching : Batching) → IsFilling settings batching
+    → batching.engine.store.mark ≤ mark_behind settings (finished batching.engine) (length batching.engine.log.statements)
+waits_for settings batching filling =
+    let cut = filling.cut in
+    mark_later settings.keep settings.batch cut.batches (finished batching.engine) (length batching.engine.log.statements) batching.engine.store.mark
+    (omega (arith, filling.counted)) cut.full cut.mark
+
+-- what a batch is reported as: the engine has run all that waited
+pub record IsReported (settings : Settings) (old new : Batching) : Type 0 where
+  pub log : new.engine.log ≡ old.engine.log
+  pub left : new.waiting.items ≡ []
+  pub number : new.number ≡ old.number
+  pub all : finished new.engine ≡ length old.engine.log.statements
+  pub mark : new.engine.store.mark
+      ≡ (if nat_lt (finished old.engine) (length old.engine.log.statements)
+      then mark_behind settings (finished old.engine) (length old.engine.log.statements)
+      else old.engine.store.mark)
+
+module _ (settings : Settings) (old new : Batching) (filling : IsFilling settings old) (reported : IsReported settings old new) where
+  abbrev count : ℕ
+  count = length old.engine.log.statements
+
+  counts : length new.engine.log.statements ≡ count
+  counts = ap (λ (log : Accepted). length log.statements) reported.log
+
+  marked : finished old.engine < count → new.engine.store.mark ≡ mark_behind settings (finished old.engine) count
+  marked more =
+      reported.mark
+      ∙ ap (λ (b : Bool). if b then mark_behind settings (finished old.engine) count else old.engine.store.mark) (lt-ltb (finished old.engine) count more)
+
+  unmarked : count ≤ finished old.engine → new.engine.store.mark ≡ old.engine.store.mark
+  unmarked none =
+      reported.mark
+      ∙ ap (λ (b : Bool). if b then mark_behind settings (finished old.engine) count else old.engine.store.mark) (le-ltb (finished old.engine) count none)
+
+  -- the next batch, behind one that is full
+  pub open_next : 0 < settings.batch → finished old.engine + settings.batch ≤ count → IsOpen settings new
+  open_next some full =
+      let cut = filling.cut in
+      let whole : count ≡ finished old.engine + settings.batch = omega (arith, filling.most) in
+      record {
+        filling = record {
+          whole = subst IsWhole (sym reported.log) filling.whole;
+          counted = subst (λ (ls : List Became). IsCounted new.engine ls) (sym reported.left) (omega (arith, counts, reported.all));
+          few = subst (λ (ls : List Became). length ls < new.number) (sym reported.left) (omega (arith, filling.few, reported.number));
+          cut = record {
+            batches = cut.batches + 1;
+            full = omega (arith, reported.all, whole, cut.full);
+            mark = marked (omega (arith, some, full)) ∙ ap (mark_behind settings (finished old.engine)) whole
+                ∙ mark_full settings.keep settings.batch cut.batches (finished old.engine) cut.full;
+          };
+          most = omega (arith, counts, reported.all);
+        };
+        less = omega (arith, counts, reported.all, some);
+      }
+
+  -- what is left at the end
+  pub trimmed_last : finished old.engine < count → IsTrimmed settings new.engine
+  trimmed_last more =
+      let cut = filling.cut in
+      record {
+        batches = cut.batches + 1;
+        most = omega (arith, reported.all, filling.most, cut.full);
+        least = omega (arith, reported.all, cut.full, more);
+        mark = marked more ∙ mark_last settings.keep settings.batch cut.batches (finished old.engine) count cut.full more filling.most
+            ∙ ap (λ (n : ℕ). min n (settings.batch * ((cut.batches + 1) - settings.keep))) (sym reported.all);
+      }
+
+  pub trimmed_none : 0 < settings.batch → count ≡ finished old.engine → IsTrimmed settings new.engine
+  trimmed_none some none =
+      let cut = filling.cut in
+      let same : finished new.engine ≡ finished old.engine = reported.all ∙ none in
+      record {
+        batches = cut.batches;
+        most = omega (arith, same, cut.full);
+        least = omega (arith, same, cut.full, some);
+        mark = unmarked (omega (arith, none)) ∙ mark_none settings.keep settings.batch cut.batches (finished old.engine) old.engine.store.mark cut.full cut.mark
+            ∙ ap (λ (n : ℕ). min n (settings.batch * (cut.batches - settings.keep))) (sym same);
+      }
+
+  pub trimmed_all : 0 < settings.batch → IsTrimmed settings new.engine
+  trimmed_all some =
+      elim (cases_lt (finished old.engine) count) [
+        | inl more ↦ trimmed_last more
+        | inr none ↦ trimmed_none some (omega (arith, none, filling.counted))
+      ]
+
+  -- all lines that waited are reported
+  pub reports_all : (text : List ℕ) → text ≡ lines_text old.engine.log (old.number - length old.waiting.items) (finished old.engine) old.waiting.items
+      → Reports old.engine.log (finished old.engine) (finished new.engine) old.waiting.items new.waiting.items old.number text
+  reports_all text told = record {
+    out = old.waiting.items;
+    all = sym (append-nil old.waiting.items) ∙ ap (λ (ls : List Became). old.waiting.items ++ ls) (sym reported.left);
+    first = old.number - length old.waiting.items;
+    number = omega (arith, filling.few);
+    told = told;
+    places = reported.all ∙ sym filling.counted;
+  }
+
+-- none is reported
+pub reports_none : (batching : Batching) (text : List ℕ) → length batching.waiting.items < batching.number → text ≡ []
+    → Reports batching.engine.log (finished batching.engine) (finished batching.engine) batching.waiting.items batching.waiting.items batching.number text
+reports_none batching text few empty = record {
+  out = [];
+  all = refl;
+  first = batching.number - length batching.waiting.items;
+  number = omega (arith, few);
+  told = empty;
+  places = omega arith;
+}
+
+-- a line that was taken fills the batch by one statement at most
+pub filled : (settings : Settings) (old new : Batching) (reading : Reading) → IsOpen settings old → Takes reading old new → IsWhole new.engine.log → IsFilling settings new
+filled settings old new reading room takes whole =
+    let log : Accepted = old.engine.log in
+    let was = room.filling in
+    let line : Became = became log.names reading in
+    record {
+      whole = whole;
+      counted = counted_more old new reading was.counted takes;
+      few = omega (arith, was.few, takes.number, ap length takes.waiting, length-append old.waiting.items (line ∷ []));
+      cut = subst (IsCut settings) (sym takes.engine) (record { batches = was.cut.batches; full = was.cut.full; mark = was.cut.mark });
+      most = subst (λ (run : Run). length run.log.statements ≤ finished run + settings.batch) (sym takes.engine)
+          (omega (arith, room.less, one_more log.names reading, length-append log.statements (accepted log.names reading)));
+    }
+
+-- a line that was taken, and what was reported then
+pub dealt : (reading : Reading) (old taken new : Batching) → Takes reading old taken → new.engine.log ≡ taken.engine.log → new.number ≡ taken.number
+    → Reports taken.engine.log (finished taken.engine) (finished new.engine) taken.waiting.items new.waiting.items taken.number new.text.items → Deals reading old new
+dealt reading old taken new takes log number reports =
+    let done : finished taken.engine ≡ finished old.engine = ap finished takes.engine in
+    record {
+      log = log ∙ ap (λ (run : Run). run.log) takes.engine;
+      number = number ∙ takes.number;
+      reports = subst (λ (l : Accepted). Reports l (finished old.engine) (finished new.engine) (old.waiting.items ++ became old.engine.log.names reading ∷ []) new.waiting.items new.number new.text.items) (sym log)
+          (subst (λ (n : ℕ). Reports taken.engine.log (finished old.engine) (finished new.engine) (old.waiting.items ++ became old.engine.log.names reading ∷ []) new.waiting.items n new.text.items) (sym number)
+          (subst (λ (ls : List Became). Reports taken.engine.log (finished old.engine) (finished new.engine) ls new.waiting.items taken.number new.text.items) takes.waiting
+          (subst (λ (n : ℕ). Reports taken.engine.log n (finished new.engine) taken.waiting.items new.waiting.items taken.number new.text.items) done reports)));
+    }
+
+-- at first
+pub open_first : (settings : Settings) (batching : Batching) → 0 < settings.batch → IsFirst batching → IsOpen settings batching
+open_first settings batching some first =
+    let none : length batching.engine.log.statements ≡ 0 = ap (λ (log : Accepted). length log.statements) first.log in
+    record {
+      filling = record {
+        whole = first.whole;
+        counted = counted_start batching.engine batching.waiting.items first.log first.none first.nobody;
+        few = omega (arith, ap length first.nobody, first.number);
+        cut = record { batches = 0; full = omega (arith, first.none); mark = first.mark ∙ sym (nothing settings.batch settings.keep) };
+        most = omega (arith, none);
+      };
+      less = omega (arith, none, some);
+    }
+  where
+    nothing : (batch keep : ℕ) → batch * (0 - keep) ≡ 0
+    nothing batch keep =
+        let none : 0 - keep ≡ 0 = omega arith in
+        let zero-times : batch * 0 ≡ 0 = omega arith in
+        ap (λ (n : ℕ). batch * n) none ∙ zero-times

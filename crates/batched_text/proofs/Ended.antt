@@ -1,0 +1,175 @@
+-- The report at its end, and what was written when a fault comes.
+use Rattle.std.proofs.Common.{◌≡◌, ◌≤◌, ◌+◌, ◌-◌, ◌++◌, ℕ, List, [], ◌∷◌, Option, Some, None, length, refl, ap, sym, ◌∙◌, subst, arith}
+use Rattle.std.specs.Prelude.{IfSome}
+use Rattle.std.specs.Io.KnownBytes.{Appends, IsAtEnd, Keeps, prepend_known}
+use Rattle.std.proofs.lemmas.List.{append-nil, length-append}
+use Rattle.log_text_base.specs.Known.{AppendsFront, MovesOut}
+use Rattle.log_text_base.proofs.Written.{appends_none, appends_then}
+use Rattle.log_text.specs.Statement.{Sentence}
+use Rattle.sequencer.specs.Catalog.{Names}
+use Rattle.sequencer.specs.Log.{Accepted, empty_log}
+use Rattle.sequencer.specs.Refusal.{refusal}
+use Rattle.sequencer.specs.declared.refused.Refused.{Refused}
+use Rattle.report.specs.Report.{IsReport, Reading, accepted, faulty, read, statement_if}
+use Rattle.bohm_base.specs.declared.collecting.Became.{Became}
+use Rattle.bohm_base.specs.Collecting.{Collects, IsLogOf, LeadsTo, became, became_if, log_text, places_of}
+use Rattle.bohm_base.proofs.Beginnings.{rest_lost}
+use Rattle.bohm_base.proofs.Reached.{all_written, report_begun}
+use Rattle.bohm_base.specs.Pending.{HasBegunReport, HasReport}
+use Rattle.bohm_base.proofs.LinesRead.{collect_end}
+use Rattle.bohm_base.proofs.Logs.{report_is}
+use Rattle.engine.specs.Engine.{Run, finished}
+use Rattle.batched_text.specs.Batching.{Batched, Gathers, IsBatched, IsCounted, IsFirst, IsLogOfText, Takes, lines_text}
+use Rattle.batched_text.specs.declared.batching.Batching.{Batching}
+use Rattle.batched_text.specs.Places.{places_in}
+use Rattle.batched_text.proofs.Reports.{parts}
+use Rattle.batched_text.proofs.Sofar.{places-append}
+
+-- a line has as many places as it adds statements
+places_if : (names : Names) (sentence : Sentence) (o : Option Refused) → places_of (became_if o) ≡ length (statement_if names sentence o)
+places_if names sentence None = refl
+places_if names sentence (Some refused) = refl
+
+one_if : (names : Names) (sentence : Sentence) (o : Option Refused) → length (statement_if names sentence o) ≤ 1
+one_if names sentence None = omega arith
+one_if names sentence (Some refused) = omega arith
+
+places_are : (names : Names) (reading : Reading) → places_of (became names reading) ≡ length (accepted names reading)
+places_are names (read sentence) = places_if names sentence (refusal names sentence)
+places_are names (faulty fault) = refl
+
+pub counted_more : (old new : Batching) (reading : Reading) → IsCounted old.engine old.waiting.items → Takes reading old new → IsCounted new.engine new.waiting.items
+counted_more old new reading counted takes =
+    let log : Accepted = old.engine.log in
+    let waiting : List Became = old.waiting.items in
+    let line : Became = became log.names reading in
+    subst (λ (run : Run). IsCounted run new.waiting.items) (sym takes.engine)
+    (subst (λ (ls : List Became). finished old.engine + places_in ls ≡ length (log.statements ++ accepted log.names reading)) (sym takes.waiting)
+    (omega (arith, counted, places-append waiting (line ∷ []), places_are log.names reading, length-append log.statements (accepted log.names reading))))
+
+-- a line adds one statement at most
+pub one_more : (names : Names) (reading : Reading) → length (accepted names reading) ≤ 1
+one_more names (read sentence) = one_if names sentence (refusal names sentence)
+one_more names (faulty fault) = omega arith
+
+appends_nothing : (o : Option (List ℕ)) → Appends o o []
+appends_nothing None = tt
+appends_nothing (Some ys) = sym (append-nil ys)
+
+-- at first nothing is read, and nothing is written
+pub batched_start : (i o : Option (List ℕ)) (bytes : List ℕ) (batching : Batching) → bytes ≡ [] → IsFirst batching
+    → Batched i (prepend_known bytes i) o o [] batching.engine.log (finished batching.engine) batching.waiting.items batching.number
+batched_start None o bytes batching b first = tt
+batched_start (Some xs) o bytes batching b first = (
+  [],
+  (
+    appends_nothing o,
+    record {
+      earlier = [];
+      leads = subst (λ (w : List ℕ). LeadsTo xs (w ++ xs) []) (sym b) (λ later reads. reads);
+      reported = [];
+      made = subst (λ (ls : List Became). IsLogOf [] batching.engine.log ls) (sym first.nobody)
+          (subst (λ (log : Accepted). IsLogOf [] log []) (sym first.log) (record { names = refl; statements = refl; each = refl }));
+      number = omega (arith, ap length first.nobody, first.number);
+      places = sym first.none;
+      text = refl;
+      whole = first.whole;
+      within = omega (arith, first.none);
+    },
+  ),
+)
+
+pub counted_start : (run : Run) (waiting : List Became) → run.log ≡ empty_log → finished run ≡ 0 → waiting ≡ [] → IsCounted run waiting
+counted_start run waiting l none nobody =
+    subst (λ (ls : List Became). IsCounted run ls) (sym nobody) (omega (arith, none, ap (λ (log : Accepted). length log.statements) l))
+
+-- what was pending is written
+pub batched_written : (i j o n m : Option (List ℕ)) (pending : List ℕ) (log : Accepted) (done : ℕ) (waiting : List Became) (next : ℕ)
+    → Batched i j o n ([] ++ pending) log done waiting next → Appends n m pending → Batched i j o m [] log done waiting next
+batched_written None j o n m pending log done waiting next so appends = tt
+batched_written (Some xs) None o n m pending log done waiting next so appends = absurd so
+batched_written (Some xs) (Some ys) o n m pending log done waiting next so appends = (
+  so.0 ++ pending,
+  (
+    appends_then o n m so.0 pending so.1.0 appends,
+    subst (λ (w : List ℕ). IsBatched xs ys w log done waiting next) (sym (append-nil (so.0 ++ pending))) so.1.1,
+  ),
+)
+
+-- a front of what was pending is written, and the rest is lost
+pub begun_cut : (i o n m : Option (List ℕ)) (pending : List ℕ) → HasBegunReport i o n ([] ++ pending) → AppendsFront n m pending → HasBegunReport i o m []
+begun_cut i o n m pending begun front = report_begun i o n m pending [] begun (rest_lost n m pending [] front refl)
+
+-- at the end of the input, the waiting lines reported, the report is whole
+module _ (o n : Option (List ℕ)) (batching : Batching) (text : List ℕ)
+    (told : text ≡ lines_text batching.engine.log (batching.number - length batching.waiting.items) (finished batching.engine) batching.waiting.items) where
+  ended : (i j : Option (List ℕ)) → IsAtEnd j
+      → Batched i j o n [] batching.engine.log (finished batching.engine) batching.waiting.items batching.number → HasReport i o n text
+  ended None j end so = tt
+  ended (Some xs) None end so = absurd so
+  ended (Some xs) (Some ys) end so =
+      let was = so.1.1 in
+      let log : Accepted = batching.engine.log in
+      let waiting : List Became = batching.waiting.items in
+      let all : List Became = was.reported ++ waiting in
+      let collects : Collects xs log all = collect_end (Some xs) (Some ys) log all (was.earlier, (was.leads, was.made)) end in
+      let number : batching.number - length waiting ≡ 1 + length was.reported = omega (arith, was.number) in
+      let place : finished batching.engine ≡ 0 + places_in was.reported = omega (arith, was.places) in (
+        log_text log all,
+        (
+          report_is xs log all collects,
+          (
+            so.0,
+            so.1.0,
+            ap (λ (w : List ℕ). so.0 ++ w) told
+                ∙ ap (λ (w : List ℕ). w ++ lines_text log (batching.number - length waiting) (finished batching.engine) waiting) (sym (append-nil so.0) ∙ was.text)
+                ∙ ap (λ (k : ℕ). lines_text log 1 0 was.reported ++ lines_text log k (finished batching.engine) waiting) number
+                ∙ ap (λ (p : ℕ). lines_text log 1 0 was.reported ++ lines_text log (1 + length was.reported) p waiting) place
+                ∙ sym (parts log.statements log.names.tables 1 0 was.reported waiting),
+          ),
+        ),
+      )
+
+  pub ended_batched : (i : Option (List ℕ)) → Gathers i o n batching → HasReport i o n text
+  ended_batched i gathers = ended i gathers.0 gathers.1.0 gathers.1.1
+
+-- and the log is that of the text
+log_if_ended : (i j o n : Option (List ℕ)) (batching : Batching) → IsAtEnd j
+    → Batched i j o n [] batching.engine.log (finished batching.engine) batching.waiting.items batching.number → IsLogOfText i batching.engine.log
+log_if_ended None j o n batching end so = tt
+log_if_ended (Some xs) None o n batching end so = absurd so
+log_if_ended (Some xs) (Some ys) o n batching end so =
+    let was = so.1.1 in
+    let all : List Became = was.reported ++ batching.waiting.items in
+    (all, collect_end (Some xs) (Some ys) batching.engine.log all (was.earlier, (was.leads, was.made)) end)
+
+pub log_ended : (i o n : Option (List ℕ)) (batching : Batching) → Gathers i o n batching → IsLogOfText i batching.engine.log
+log_ended i o n batching gathers = log_if_ended i gathers.0 o n batching gathers.1.0 gathers.1.1
+
+-- what is whole has begun
+pub begun_whole : (i o n : Option (List ℕ)) (pending : List ℕ) → HasReport i o n pending → HasBegunReport i o n pending
+begun_whole None o n pending whole = tt
+begun_whole (Some xs) o n pending whole =
+    (whole.0, (whole.1.0, ([], subst (MovesOut o n whole.0) (sym (append-nil pending)) whole.1.1)))
+
+-- the whole report, all of it written
+pub written_whole : (i o n m : Option (List ℕ)) (pending : List ℕ) → HasReport i o n pending → Appends n m pending → HasReport i o m []
+written_whole None o n m pending whole appends = tt
+written_whole (Some xs) o n m pending whole appends = (
+  whole.0,
+  (
+    whole.1.0,
+    (
+      whole.1.1.0 ++ pending,
+      appends_then o n m whole.1.1.0 pending whole.1.1.1 appends,
+      append-nil (whole.1.1.0 ++ pending) ∙ whole.1.1.2,
+    ),
+  ),
+)
+
+-- nothing more is written
+pub front_nothing : (o : Option (List ℕ)) → AppendsFront o o []
+front_nothing o = (0, appends_none o [])
+
+pub all_nothing : (i o n k : Option (List ℕ)) → HasReport i o n [] → Keeps n k → IfSome i (λ input. (text : List ℕ) × (IsReport input text × Appends o k text))
+all_nothing i o n k whole keeps = all_written i o n n k [] whole (appends_nothing n) keeps

@@ -1,0 +1,4 @@
+pub mod Reports
+pub mod Sofar
+pub mod Ended
+pub mod Cutting

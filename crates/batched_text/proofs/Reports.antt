@@ -1,0 +1,96 @@
+-- The report of some lines stands when more comes behind their log.
+use Rattle.std.proofs.Common.{◌≡◌, ◌<◌, ◌≤◌, ◌+◌, ◌++◌, ℕ, suc, List, [], ◌∷◌, Option, Some, None, get_or, length, refl, ap, sym, ◌∙◌, subst, arith, append_assoc}
+use Rattle.std.specs.Prelude.{All, codes, if◌then◌else◌, slice_get, unwrap_or}
+use Rattle.std.specs.Fmt.{decimal}
+use Rattle.std.proofs.lemmas.Option.{slice_get-get_or}
+use Rattle.std.proofs.lemmas.List.Elements.{All-weaker}
+use Rattle.model_base.specs.declared.outcome.Outcome.{Outcome}
+use Rattle.model_base.specs.declared.statement.Form.{Form}
+use Rattle.model_base.specs.declared.statement.Statement.{Statement}
+use Rattle.model_base.specs.Outcomes.{outcome, owners}
+use Rattle.log_text.specs.Statement.{kind_word}
+use Rattle.sequencer.specs.Log.{Accepted}
+use Rattle.sequencer.specs.Taken.{IsTaken, IsWhole}
+use Rattle.report.specs.Text.{IsNamed, cause_text, outcome_text, table_name}
+use Rattle.report.specs.Report.{place_text, text_of}
+use Rattle.bohm_base.specs.Collecting.{became_text, places_of, report_text}
+use Rattle.bohm_base.specs.declared.collecting.Became.{Became}
+use Rattle.bohm_base.proofs.Named.{outcome-named}
+use Rattle.bohm_base.proofs.WholeLogs.{slice_get_longer}
+use Rattle.model_base.specs.Growing.{NeedsOwnTables, NeedsWithin}
+use Rattle.model_base.proofs.Growing.{get-front, outcome-stands}
+use Rattle.batched_text.specs.Places.{places_in}
+
+-- a table's name is the same where others come behind it
+name-longer : (tables more : List (List ℕ)) (table : ℕ) → table < length tables → table_name (tables ++ more) table ≡ table_name tables table
+name-longer tables more table low =
+    let here = slice_get-get_or tables table [] low in
+    ap (λ (o : Option (List ℕ)). unwrap_or o []) (slice_get_longer tables more table (get_or tables table []) here ∙ sym here)
+
+text-longer : (tables more : List (List ℕ)) (place : ℕ) (form : Form) (o : Outcome) → IsNamed (length tables) o → outcome_text (tables ++ more) place form o ≡ outcome_text tables place form o
+text-longer tables more place form Outcome.Created named = refl
+text-longer tables more place form (Outcome.Done outputs deed) named = refl
+text-longer tables more place form (Outcome.Denied need cause) named =
+    ap (λ (name : List ℕ). decimal place ++ (codes " denied " ++ (kind_word need.kind ++ codes " " ++ name ++ (if need.option then codes " option" else [])) ++ cause_text cause) ++ codes "\n")
+    (name-longer tables more need.table named)
+text-longer tables more place form (Outcome.Aborted step reason) named = refl
+text-longer tables more place form (Outcome.Undeclared step) named = refl
+
+needs-own : (log : Accepted) → IsWhole log → NeedsOwnTables log.statements
+needs-own log whole =
+    let count : length log.names.tables ≡ length (owners log.statements) = sym whole.owned ∙ ap length whole.owners in
+    subst (λ (n : ℕ). All (NeedsWithin n) log.statements) count
+    (All-weaker (IsTaken log.names) (NeedsWithin (length log.names.tables)) (λ statement taken. taken.needs) log.statements whole.taken)
+
+module _ (log : Accepted) (whole : IsWhole log) (more : List Statement) (extra : List (List ℕ)) where
+  text-same : (place : ℕ) (statement : Option Statement) (found : Option Outcome) → ((o : Outcome) → found ≡ Some o → IsNamed (length log.names.tables) o)
+      → text_of (log.names.tables ++ extra) place statement found ≡ text_of log.names.tables place statement found
+  text-same place (Some statement) (Some o) named = text-longer log.names.tables extra place statement.form o (named o refl)
+  text-same place (Some statement) None named = refl
+  text-same place None found named = refl
+
+  place-same : (place : ℕ) → place < length log.statements → place_text (log.statements ++ more) (log.names.tables ++ extra) place ≡ place_text log.statements log.names.tables place
+  place-same place less =
+      ap (λ (s : Option Statement). text_of (log.names.tables ++ extra) place s (outcome (log.statements ++ more) place)) (get-front log.statements more place less)
+      ∙ ap (text_of (log.names.tables ++ extra) place (slice_get log.statements place)) (outcome-stands log.statements more place (needs-own log whole) less)
+      ∙ text-same place (slice_get log.statements place) (outcome log.statements place) (λ o is. outcome-named log place o whole is)
+
+  line-same : (number place : ℕ) (line : Became) → place + places_of line ≤ length log.statements
+      → became_text (log.statements ++ more) (log.names.tables ++ extra) number place line ≡ became_text log.statements log.names.tables number place line
+  line-same number place Became.Accepted less = place-same place (omega (arith, less))
+  line-same number place (Became.Faulty fault) less = refl
+  line-same number place (Became.Refused refused) less = refl
+
+  lines-same : (number place : ℕ) (lines : List Became) → place + places_in lines ≤ length log.statements
+      → report_text (log.statements ++ more) (log.names.tables ++ extra) number place lines ≡ report_text log.statements log.names.tables number place lines
+  lines-same number place [] less = refl
+  lines-same number place (line ∷ lines) less =
+      ap (λ t. t ++ report_text (log.statements ++ more) (log.names.tables ++ extra) (number + 1) (place + places_of line) lines) (line-same number place line (omega (arith, less)))
+      ∙ ap (λ t. became_text log.statements log.names.tables number place line ++ t) (lines-same (number + 1) (place + places_of line) lines (omega (arith, less)))
+
+pub longer : (log : Accepted) (more : List Statement) (extra : List (List ℕ)) (number place : ℕ) (lines : List Became) → IsWhole log → place + places_in lines ≤ length log.statements
+    → report_text (log.statements ++ more) (log.names.tables ++ extra) number place lines ≡ report_text log.statements log.names.tables number place lines
+longer log more extra number place lines whole less = lines-same log whole more extra number place lines less
+
+pub parts : (log : List Statement) (tables : List (List ℕ)) (number place : ℕ) (lines later : List Became)
+    → report_text log tables number place (lines ++ later)
+    ≡ report_text log tables number place lines ++ report_text log tables (number + length lines) (place + places_in lines) later
+parts log tables number place [] later =
+    let a : number ≡ number + 0 = omega arith in
+    let b : place ≡ place + 0 = omega arith in
+    ap (λ (n : ℕ). report_text log tables n place later) a ∙ ap (λ (p : ℕ). report_text log tables (number + 0) p later) b
+parts log tables number place (line ∷ lines) later =
+    let a : number + 1 + length lines ≡ number + suc (length lines) = omega arith in
+    let b : place + places_of line + places_in lines ≡ place + (places_of line + places_in lines) = omega arith in
+    let first = became_text log tables number place line in
+    ap (λ t. first ++ t)
+    (parts log tables (number + 1) (place + places_of line) lines later
+    ∙ ap (λ (n : ℕ). report_text log tables (number + 1) (place + places_of line) lines ++ report_text log tables n (place + places_of line + places_in lines) later) a
+    ∙ ap (λ (p : ℕ). report_text log tables (number + 1) (place + places_of line) lines ++ report_text log tables (number + suc (length lines)) p later) b)
+    ∙ sym (append_assoc first (report_text log tables (number + 1) (place + places_of line) lines) _)
+
+-- what is looked up in the statements of a log is there
+pub looked : (statements all : List Statement) (place : ℕ) (statement : Statement) → statements ≡ all → place < length all
+    → statement ≡ get_or statements place statement → slice_get all place ≡ Some statement
+looked statements all place statement same low is =
+    slice_get-get_or all place statement low ∙ ap Some (sym (is ∙ ap (λ (xs : List Statement). get_or xs place statement) same))

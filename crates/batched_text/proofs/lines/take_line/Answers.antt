@@ -1,0 +1,21 @@
+use Rattle.std.proofs.Common.{◌++◌, ◌∷◌, [], ap, refl, ◌∙◌}
+use Rattle.bohm_base.specs.Collecting.{reading_of}
+use Rattle.bohm_base.specs.declared.collecting.Became.{Became}
+use Rattle.bohm_base.proofs.LinesRead.{reads_as}
+use Rattle.batched_text.proofs.lines.take_line.Goals as goal
+
+pub returns-clause-ok : goal.returns-clause-ok
+returns-clause-ok c =
+    let parsed = c.parse_line-found.ensures in
+    let took = c.in_ok-line.ensures in (
+      reading_of c.parse_line-found.result,
+      (
+        reads_as c.args.line.now c.parse_line-found.result parsed.read parsed.sound parsed.fault took.told,
+        record {
+          engine = took.engine;
+          waiting = c.in_ok-push.ensures.items ∙ ap (λ (line : Became). c.args.batching.now.waiting.items ++ line ∷ []) took.line;
+          number = refl;
+          text = c.clear.ensures.items;
+        },
+      ),
+    )

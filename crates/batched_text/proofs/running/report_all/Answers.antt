@@ -1,0 +1,41 @@
+use Rattle.std.proofs.Common.{◌∙◌, length, ap, sym, subst}
+use Rattle.sequencer.specs.Log.{Accepted}
+use Rattle.batched_text.specs.Batching.{IsLogOfText}
+use Rattle.batched_text.proofs.Cutting.{limits, trimmed_all}
+use Rattle.batched_text.proofs.Ended.{begun_cut, begun_whole, ended_batched, log_ended, written_whole}
+use Rattle.batched_text.proofs.running.report_all.Goals as goal
+
+pub report_batch-requires-clause-filling : goal.report_batch-requires-clause-filling
+report_batch-requires-clause-filling g c κs within = c.in_ok-report_lines.ensures.room.filling
+
+pub returns-in_err-write_out-clause-begun : goal.returns-in_err-write_out-clause-begun
+returns-in_err-write_out-clause-begun g c =
+    begun_cut _ _ _ _ c.report_batch.new.batching.text.items
+    (begun_whole _ _ _ _ (ended_batched _ _ c.report_lines.new.batching c.report_batch.new.batching.text.items c.in_ok-report_batch.ensures.text _ c.in_ok-report_lines.ensures.done))
+    (rw c.deref.ensures.value at c.write_out.ensures.front)
+
+pub returns-clause-log : goal.returns-clause-log
+returns-clause-log g c =
+    subst (λ (log : Accepted). IsLogOfText (g.R.Read.remaining c.args.reader.now.inner) log) (sym c.in_ok-report_batch.ensures.log) (log_ended _ _ _ c.report_lines.new.batching c.in_ok-report_lines.ensures.done)
+
+pub returns-clause-all : goal.returns-clause-all
+returns-clause-all g c = c.in_ok-report_batch.ensures.all ∙ ap (λ (log : Accepted). length log.statements) (sym c.in_ok-report_batch.ensures.log)
+
+pub returns-clause-trimmed : goal.returns-clause-trimmed
+returns-clause-trimmed g c =
+    let put = c.in_ok-report_batch.ensures in
+    trimmed_all c.args.settings.now c.report_lines.new.batching c.report_batch.new.batching c.in_ok-report_lines.ensures.room.filling
+    (record { log = put.log; left = put.left; number = put.number; all = put.all; mark = put.mark })
+    (limits c.args.settings.now c.requires.settings).batch_some
+
+pub returns-clause-done : goal.returns-clause-done
+returns-clause-done g c =
+    written_whole _ _ _ _ c.report_batch.new.batching.text.items
+    (ended_batched _ _ c.report_lines.new.batching c.report_batch.new.batching.text.items c.in_ok-report_batch.ensures.text _ c.in_ok-report_lines.ensures.done)
+    (rw c.deref.ensures.value at c.in_ok-write_out.ensures.ok)
+
+pub returns-clause-begun : goal.returns-clause-begun
+returns-clause-begun g c =
+    begun_whole _ _ _ _ (written_whole _ _ _ _ c.report_batch.new.batching.text.items
+    (ended_batched _ _ c.report_lines.new.batching c.report_batch.new.batching.text.items c.in_ok-report_batch.ensures.text _ c.in_ok-report_lines.ensures.done)
+    (rw c.deref.ensures.value at c.in_ok-write_out.ensures.ok))

@@ -1,0 +1,15 @@
+use Rattle.bohm_base.proofs.Reached.{front_kept_written, front_written}
+use Rattle.batched_text.proofs.Ended.{all_nothing, front_nothing}
+use Rattle.batched_text.proofs.running.run_batches.Goals as goal
+
+pub returns-in_err-report_all-clause-begun : goal.returns-in_err-report_all-clause-begun
+returns-in_err-report_all-clause-begun g c = front_written _ _ _ _ _ c.report_all.ensures.begun (front_nothing _)
+
+pub returns-in_err-flush-clause-begun : goal.returns-in_err-flush-clause-begun
+returns-in_err-flush-clause-begun g c = front_kept_written _ _ _ _ _ _ c.report_all.ensures.begun (front_nothing _) c.flush.ensures.bytes
+
+pub returns-clause-done : goal.returns-clause-done
+returns-clause-done g c = all_nothing _ _ _ _ c.in_ok-report_all.ensures.done c.flush.ensures.bytes
+
+pub returns-clause-begun : goal.returns-clause-begun
+returns-clause-begun g c = front_kept_written _ _ _ _ _ _ c.report_all.ensures.begun (front_nothing _) c.flush.ensures.bytes

@@ -1,0 +1,141 @@
+-- A text that is read, run and reported in batches.
+use Rattle.std.specs.Prelude.{◌≡◌, ◌≤◌, ◌<◌, ◌+◌, ◌^◌, ◌++◌, ◌∷◌, [], ⊤, ℕ, Bool, true, false, Result, Ok, List, Option, Some, None, length}
+use Rattle.std.specs.Io.KnownBytes.{Appends, IsAtEnd}
+use Rattle.report.specs.Report.{Reading}
+use Rattle.sequencer.specs.Log.{Accepted, empty_log}
+use Rattle.sequencer.specs.Taken.{IsWhole}
+use Rattle.bohm_base.specs.Collecting.{Collects, IsLogOf, LeadsTo, became, report_text, with_reading}
+use Rattle.bohm_base.specs.Pending.{HasBegunReport}
+use Rattle.bohm_base.specs.declared.collecting.Became.{Became}
+use Rattle.bohm_base.specs.declared.fault.EngineFault.{EngineFault}
+use Rattle.engine.specs.Engine.{Run, finished}
+use Rattle.batched_text.specs.Places.{places_in}
+use Rattle.batched_text.specs.Settings.{IsCut}
+use Rattle.batched_text.specs.declared.batching.Batching.{Batching}
+use Rattle.batched_text.specs.declared.settings.Settings.{Settings}
+
+-- the report's lines for some lines from this number on, the first of which with a place has this one
+abbrev pub lines_text : Accepted → ℕ → ℕ → List Became → List ℕ
+lines_text log number place lines = report_text log.statements log.names.tables number place lines
+
+-- the waiting lines have the places that aren't finished
+abbrev pub IsCounted : Run → List Became → Type 0
+IsCounted run lines = finished run + places_in lines ≡ length run.log.statements
+
+-- a line that was read so was taken, and no line of the report was made since
+pub record Takes (reading : Reading) (old new : Batching) : Type 0 where
+  pub engine : new.engine ≡ record old.engine { log = with_reading old.engine.log reading }
+  pub waiting : new.waiting.items ≡ old.waiting.items ++ became old.engine.log.names reading ∷ []
+  pub number : new.number ≡ old.number + 1
+  pub text : new.text.items ≡ []
+
+-- of some lines, of which the last has the number before this one, the first were reported and the others wait
+pub record Reports (log : Accepted) (done_old done_new : ℕ) (lines waiting : List Became) (next : ℕ) (text : List ℕ) : Type 0 where
+  pub out : List Became
+  pub all : lines ≡ out ++ waiting
+  pub first : ℕ
+  pub number : first + length lines ≡ next
+  pub told : text ≡ lines_text log first done_old out
+  pub places : done_new ≡ done_old + places_in out
+
+-- a line that was read so was dealt with: it waits for the end of its batch, or its batch was run and is reported
+pub record Deals (reading : Reading) (old new : Batching) : Type 0 where
+  pub log : new.engine.log ≡ with_reading old.engine.log reading
+  pub number : new.number ≡ old.number + 1
+  pub reports :
+      Reports new.engine.log (finished old.engine) (finished new.engine) (old.waiting.items ++ became old.engine.log.names reading ∷ [])
+      new.waiting.items new.number new.text.items
+
+-- the lines that wait are counted, the batches that are finished are full, and the next one isn't larger than a batch may be
+pub record IsFilling (settings : Settings) (batching : Batching) : Type 0 where
+  pub whole : IsWhole batching.engine.log
+  pub counted : IsCounted batching.engine batching.waiting.items
+  pub few : length batching.waiting.items < batching.number
+  pub cut : IsCut settings batching.engine
+  pub most : length batching.engine.log.statements ≤ finished batching.engine + settings.batch
+
+-- and it is smaller
+pub record IsOpen (settings : Settings) (batching : Batching) : Type 0 where
+  pub filling : IsFilling settings batching
+  pub less : length batching.engine.log.statements < finished batching.engine + settings.batch
+
+-- no line was taken yet
+pub record IsFirst (batching : Batching) : Type 0 where
+  pub log : batching.engine.log ≡ empty_log
+  pub whole : IsWhole batching.engine.log
+  pub none : finished batching.engine ≡ 0
+  pub mark : batching.engine.store.mark ≡ 0
+  pub nobody : batching.waiting.items ≡ []
+  pub number : batching.number ≡ 1
+
+-- a further line can be dealt with
+pub record IsReady (settings : Settings) (batching : Batching) (ahead given : ℕ) : Type 0 where
+  pub room : IsOpen settings batching
+  pub bounded : 0 < ahead → given ≤ 2 ^ 62 + 65536
+  pub numbered : batching.number + ahead ≤ given + 1
+
+-- the lines so far: those that were reported and those that are waiting
+pub record IsBatched (input rest written : List ℕ) (log : Accepted) (done : ℕ) (waiting : List Became) (next : ℕ) : Type 0 where
+  pub earlier : List Reading
+  pub leads : LeadsTo input rest earlier
+  pub reported : List Became
+  pub made : IsLogOf earlier log (reported ++ waiting)
+  pub number : 1 + length reported + length waiting ≡ next
+  pub places : places_in reported ≡ done
+  pub text : written ≡ lines_text log 1 0 reported
+  pub whole : IsWhole log
+  pub within : done ≤ length log.statements
+
+-- so it is with what the reader had and has, and with what the writer had, has, and has pending
+abbrev pub Batched : Option (List ℕ) → Option (List ℕ) → Option (List ℕ) → Option (List ℕ) → List ℕ → Accepted → ℕ → List Became → ℕ → Type 0
+Batched None in_now out_old out_now pending log done waiting next = ⊤
+Batched (Some input) None out_old out_now pending log done waiting next = ⊥
+Batched (Some input) (Some rest) out_old out_now pending log done waiting next =
+    (front : List ℕ) × (Appends out_old out_now front × IsBatched input rest (front ++ pending) log done waiting next)
+
+-- where a run stands between two lines: what is still to come, how many bytes of it are ahead and how many the reader gave; what
+-- the writer holds; and the lines that were dealt with
+pub record Standing : Type 0 where
+  pub rest : Option (List ℕ)
+  pub ahead : ℕ
+  pub given : ℕ
+  pub out : Option (List ℕ)
+  pub batching : Batching
+
+-- the lines of the input up to where the run stands are reported or wait
+abbrev pub BatchedTo : Option (List ℕ) → Option (List ℕ) → Standing → Type 0
+BatchedTo input out now =
+    Batched input now.rest out now.out [] now.batching.engine.log (finished now.batching.engine) now.batching.waiting.items now.batching.number
+
+-- one more line was taken
+pub record TakesLine (settings : Settings) (old new : Standing) : Type 0 where
+  pub ready : IsReady settings new.batching new.ahead new.given
+  pub forward : old.given + new.ahead < new.given + old.ahead
+  pub most : new.given ≤ 2 ^ 62 + 65536
+  pub batched : (input out : Option (List ℕ)) → BatchedTo input out old → BatchedTo input out new
+
+-- all lines of the input are reported or wait
+abbrev pub Gathers : Option (List ℕ) → Option (List ℕ) → Option (List ℕ) → Batching → Type 0
+Gathers input out_old out_now batching =
+    (rest : Option (List ℕ))
+    × (IsAtEnd rest
+    × Batched input rest out_old out_now [] batching.engine.log (finished batching.engine) batching.waiting.items batching.number)
+
+-- what a turn came to by its answer, whatever input is batched: one more line was taken, or there was none; and in any case a
+-- beginning of the report was written
+pub record Turn (settings : Settings) (result : Result Bool EngineFault) (old new : Standing) : Type 0 where
+  pub taken : result ≡ Ok true → TakesLine settings old new
+  pub room : result ≡ Ok false → IsOpen settings new.batching
+  pub ended : result ≡ Ok false → (input out : Option (List ℕ)) → BatchedTo input out old → Gathers input out new.out new.batching
+  pub begun : (input out : Option (List ℕ)) → BatchedTo input out old → HasBegunReport input out new.out []
+
+-- what the turns to the end of the input came to, whatever input is batched
+pub record Ends (settings : Settings) (result : Result (Unit {0}) EngineFault) (old : Standing) (out_now : Option (List ℕ)) (batching : Batching) : Type 0 where
+  pub room : result ≡ Ok tt → IsOpen settings batching
+  pub done : result ≡ Ok tt → (input out : Option (List ℕ)) → BatchedTo input out old → Gathers input out out_now batching
+  pub begun : (input out : Option (List ℕ)) → BatchedTo input out old → HasBegunReport input out out_now []
+
+-- the log is that of the input
+abbrev pub IsLogOfText : Option (List ℕ) → Accepted → Type 0
+IsLogOfText None log = ⊤
+IsLogOfText (Some input) log = (lines : List Became) × Collects input log lines

@@ -1,0 +1,4 @@
+pub mod Settings
+pub mod Places
+pub mod Batching
+pub mod Faults

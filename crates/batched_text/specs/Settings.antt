@@ -1,0 +1,33 @@
+-- How a log is cut into batches. BOHM cuts its input into batches, places each as a whole, and drops versions that no later
+-- transaction can read (J. M. Faleiro and D. J. Abadi, "Rethinking Serializable Multiversion Concurrency Control", PVLDB 8,
+-- 2015, section 3). The limits, and that the rows before the last few batches are kept, are this project's own.
+use Rattle.std.specs.Prelude.{◌≡◌, ◌==◌, ◌&&◌, ◌<◌, ◌≤◌, ◌+◌, ◌-◌, ◌*◌, ℕ, Bool, min, nat_le, if◌then◌else◌}
+use Rattle.engine.specs.Engine.{Run, finished}
+use Rattle.batched_text.specs.declared.settings.Settings.{Settings}
+
+-- whether each setting is within its limits: 1 to 64 workers and partitions, 1 to 65,536 places in a batch, and 0 to 65,535
+-- batches whose rows are kept
+abbrev pub are_within_limits : Settings → Bool
+are_within_limits settings =
+    (nat_le 1 settings.workers && nat_le settings.workers 64)
+    && (nat_le 1 settings.partitions && nat_le settings.partitions 64)
+    && (nat_le 1 settings.batch && nat_le settings.batch 65536)
+    && nat_le settings.keep 65535
+
+-- the mark once a batch is finished that has these places: the start of the batch so many from the last one, or its end where
+-- none is kept
+abbrev pub mark_behind : Settings → ℕ → ℕ → ℕ
+mark_behind settings start end = if settings.keep == 0 then end else start - settings.batch * (settings.keep - 1)
+
+-- some batches are finished, each as large as it may be, and the rows before the last few are kept
+pub record IsCut (settings : Settings) (run : Run) : Type 0 where
+  pub batches : ℕ
+  pub full : finished run ≡ settings.batch * batches
+  pub mark : run.store.mark ≡ settings.batch * (batches - settings.keep)
+
+-- so it is, but the last batch may be smaller
+pub record IsTrimmed (settings : Settings) (run : Run) : Type 0 where
+  pub batches : ℕ
+  pub most : finished run ≤ settings.batch * batches
+  pub least : settings.batch * batches < finished run + settings.batch
+  pub mark : run.store.mark ≡ min (finished run) (settings.batch * (batches - settings.keep))

@@ -1,0 +1,149 @@
+//! Lines that are taken, and run as a batch once there are enough of them.
+
+ghost use Rattle.std.specs.Prelude.{◌≡◌, ◌<◌, ◌≤◌, ◌+◌, ◌-◌, ◌++◌, ◌^◌, OnOk, [], true, length, if◌then◌else◌, nat_lt};
+ghost use Rattle.engine.specs.Engine.{finished};
+ghost use Rattle.batched_text.specs.Batching.{IsCounted, IsFilling, IsOpen, Reports, lines_text};
+ghost use Rattle.batched_text.specs.Settings.{IsTrimmed, are_within_limits, mark_behind};
+
+use crate::reporting::put_lines;
+use crate::settings::{Settings, mark_behind};
+use bohm_base::Became;
+use engine::{Crew, Engine};
+use model_base::Place;
+use std::alloc::{AllocError, Global};
+use std::sync::Wait;
+use std::thread::Threads;
+use workers::NoGate;
+
+/// An engine, and the lines that wait for the end of their batch.
+#[derive(Drop)]
+pub(crate) struct Batching {
+    pub(crate) engine: Engine,
+    /// What each of the waiting lines became, in the lines' order.
+    pub(crate) waiting: Vec<Became>,
+    /// The number of the next line.
+    pub(crate) number: u64,
+    /// The report's lines that were made last.
+    pub(crate) text: Vec<u8>,
+}
+
+impl Batching {
+    ghost use Rattle.batched_text.specs.Batching.{IsFirst};
+
+    /// Before the first line. It takes no memory.
+    pub(crate) fn new(alloc: Global) -> Self
+        ensures { IsFirst result }
+    {
+        let engine = Engine::new(alloc);
+        let _statements = engine.log().statements();
+        Batching {
+            engine,
+            waiting: Vec::new(alloc),
+            number: 1,
+            text: Vec::new(alloc),
+        }
+    }
+}
+
+/// Trims the rows to the mark.
+fn trim_to(engine: &mut Engine, mark: Place)
+    requires order { engine.old.store.mark ≤ mark }
+    requires within { mark ≤ finished engine.old }
+    ensures mark { engine.new.store.mark ≡ mark }
+    ensures rest { engine.new ≡ record engine.old { store = engine.new.store } }
+{
+    let _dropped = engine.trim(mark);
+    engine.sweep();
+}
+
+/// By whom a batch is run.
+fn crew_of(settings: &Settings) -> Crew
+    ensures { result ≡ record { workers = settings.now.workers; partitions = settings.now.partitions } }
+{
+    Crew {
+        workers: settings.workers,
+        partitions: settings.partitions,
+    }
+}
+
+/// Runs the places that wait as a batch, and trims the rows behind it. Where none wait nothing is done. On `Err` memory was
+/// refused, and the engine is as it was.
+fn run_waiting<T: Threads + Wait + Sync>(
+    rt: &T,
+    alloc: Global,
+    engine: &mut Engine,
+    settings: &Settings,
+) -> Result<(), AllocError>
+    requires settings { are_within_limits settings.now ≡ true }
+    requires mark { engine.old.store.mark ≤ mark_behind settings.now (finished engine.old) (length engine.old.log.statements) }
+    ensures log { engine.new.log ≡ engine.old.log }
+    ensures all { OnOk result (finished engine.new ≡ length engine.old.log.statements) }
+    ensures mark { OnOk result (engine.new.store.mark ≡ (if nat_lt (finished engine.old) (length engine.old.log.statements)
+        then mark_behind settings.now (finished engine.old) (length engine.old.log.statements) else engine.old.store.mark)) }
+{
+    let start = engine.finished();
+    let end = engine.log().len();
+    if start < end {
+        engine.run_to(rt, alloc, end, crew_of(settings), &NoGate)?;
+        trim_to(engine, mark_behind(settings, start, end));
+    }
+    Ok(())
+}
+
+/// Runs the places that wait as a batch, trims the rows behind it, and makes the report's lines for the waiting lines.
+pub(crate) fn report_batch<T: Threads + Wait + Sync>(
+    rt: &T,
+    alloc: Global,
+    batching: &mut Batching,
+    settings: &Settings,
+) -> Result<(), AllocError>
+    requires settings { are_within_limits settings.now ≡ true }
+    requires filling { IsFilling settings.now batching.old }
+    ensures text { OnOk result (batching.new.text.items ≡ lines_text batching.old.engine.log
+        (batching.old.number - length batching.old.waiting.items) (finished batching.old.engine) batching.old.waiting.items) }
+    ensures left { OnOk result (batching.new.waiting.items ≡ []) }
+    ensures log { OnOk result (batching.new.engine.log ≡ batching.old.engine.log) }
+    ensures number { OnOk result (batching.new.number ≡ batching.old.number) }
+    ensures all { OnOk result (finished batching.new.engine ≡ length batching.old.engine.log.statements) }
+    ensures mark { OnOk result (batching.new.engine.store.mark
+        ≡ (if nat_lt (finished batching.old.engine) (length batching.old.engine.log.statements)
+        then mark_behind settings.now (finished batching.old.engine) (length batching.old.engine.log.statements)
+        else batching.old.engine.store.mark)) }
+{
+    batching.text.clear();
+    let place = batching.engine.finished();
+    run_waiting(rt, alloc, &mut batching.engine, settings)?;
+    let first = batching.number - batching.waiting.len() as u64;
+    put_lines(
+        &mut batching.text,
+        &batching.engine,
+        first,
+        place,
+        &batching.waiting,
+    )?;
+    batching.waiting.clear();
+    Ok(())
+}
+
+/// Reports the waiting lines if their batch is full.
+pub(crate) fn report_full<T: Threads + Wait + Sync>(
+    rt: &T,
+    alloc: Global,
+    batching: &mut Batching,
+    settings: &Settings,
+) -> Result<(), AllocError>
+    requires settings { are_within_limits settings.now ≡ true }
+    requires filling { IsFilling settings.now batching.old }
+    requires empty { batching.old.text.items ≡ [] }
+    ensures reports { OnOk result (Reports batching.old.engine.log (finished batching.old.engine) (finished batching.new.engine)
+        batching.old.waiting.items batching.new.waiting.items batching.old.number batching.new.text.items) }
+    ensures log { OnOk result (batching.new.engine.log ≡ batching.old.engine.log) }
+    ensures number { OnOk result (batching.new.number ≡ batching.old.number) }
+    ensures room { OnOk result (IsOpen settings.now batching.new) }
+{
+    let waiting = batching.engine.log().len() - batching.engine.finished();
+    if waiting >= settings.batch {
+        report_batch(rt, alloc, batching, settings)?;
+    }
+    Ok(())
+}

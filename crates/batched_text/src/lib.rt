@@ -1,0 +1,16 @@
+//! A log that is read, run in batches, and reported as batches finish.
+//!
+//! After J. M. Faleiro and D. J. Abadi, "Rethinking Serializable Multiversion Concurrency Control", PVLDB 8 (2015), section 3: the
+//! input is cut into batches, each of which is placed as a whole before any of it is run.
+#![tactic(auto)]
+
+mod batching;
+mod laws;
+mod lines;
+mod reporting;
+mod running;
+mod settings;
+
+pub use laws::reports_stand;
+pub use running::run_text;
+pub use settings::Settings;

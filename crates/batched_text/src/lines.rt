@@ -1,0 +1,92 @@
+//! A line, taken into the log of an engine.
+
+ghost use Rattle.std.specs.Prelude.{◌≡◌, ◌≢◌, ◌<◌, ◌-◌, ◌^◌, Err, IfOk, IfErr, OnOk, true};
+ghost use Rattle.std.specs.Result.{ForOk};
+ghost use Rattle.log_text.specs.Statement.{IsInGrammar};
+ghost use Rattle.report.specs.Report.{Reading, read};
+ghost use Rattle.bohm_base.specs.Collecting.{ReadsAs, became, reading_of, with_reading};
+ghost use Rattle.batched_text.specs.Batching.{Deals, IsFilling, IsOpen, Takes};
+ghost use Rattle.batched_text.specs.Settings.{are_within_limits};
+
+use crate::batching::{Batching, report_full};
+use crate::settings::Settings;
+use bohm_base::{Became, EngineFault, faulty_line, refused_line};
+use engine::Engine;
+use log_text::{LineFault, RawStatement, parse_line};
+use std::alloc::Global;
+use std::sync::Wait;
+use std::thread::Threads;
+
+/// Takes a statement into the log if it is not refused, and says what its line became.
+fn take_statement(engine: &mut Engine, statement: RawStatement) -> Result<Became, EngineFault>
+    requires { IsInGrammar statement }
+    ensures line { IfOk result (λ line. line ≡ became engine.old.log.names (read statement)) }
+    ensures engine { OnOk result (engine.new ≡ record engine.old { log = with_reading engine.old.log (read statement) }) }
+    ensures err { IfErr result (λ f. f ≡ EngineFault.NoMemory) }
+{
+    match engine.push(statement) {
+        Ok(_) => Ok(Became::Accepted),
+        Err(refused) => {
+            let line = refused_line(refused)?;
+            Ok(line)
+        }
+    }
+}
+
+/// Takes the statement that a line was read as into the log if it is one that is not refused, and says what the line became.
+fn take_read(
+    engine: &mut Engine,
+    found: Result<RawStatement, LineFault>,
+) -> Result<Became, EngineFault>
+    requires { ForOk found IsInGrammar }
+    ensures line { IfOk result (λ line. line ≡ became engine.old.log.names (reading_of found)) }
+    ensures engine { OnOk result (engine.new ≡ record engine.old { log = with_reading engine.old.log (reading_of found) }) }
+    ensures told { OnOk result (found ≢ Err LineFault.NoMemory) }
+    ensures err { IfErr result (λ f. f ≡ EngineFault.NoMemory) }
+{
+    match found {
+        Ok(statement) => {
+            let line = take_statement(engine, statement)?;
+            Ok(line)
+        }
+        Err(fault) => {
+            let line = faulty_line(fault)?;
+            Ok(line)
+        }
+    }
+}
+
+/// Reads a line, and takes its statement into the log if it is one that is not refused. Then the line waits.
+fn take_line(alloc: Global, batching: &mut Batching, line: &[u8]) -> Result<(), EngineFault>
+    requires { batching.old.number < 2 ^ 64 - 1 }
+    ensures ok { OnOk result ((reading : Reading) × (ReadsAs line.now reading × Takes reading batching.old batching.new)) }
+    ensures err { IfErr result (λ f. f ≡ EngineFault.NoMemory) }
+{
+    batching.text.clear();
+    let found = parse_line(alloc, line);
+    let line = take_read(&mut batching.engine, found)?;
+    batching.waiting.push(line)?;
+    batching.number += 1;
+    Ok(())
+}
+
+/// Takes a line, and makes the report's lines for the waiting lines if their batch is full.
+pub(crate) fn deal<T: Threads + Wait + Sync>(
+    rt: &T,
+    alloc: Global,
+    batching: &mut Batching,
+    settings: &Settings,
+    line: &[u8],
+) -> Result<(), EngineFault>
+    requires settings { are_within_limits settings.now ≡ true }
+    requires room { IsOpen settings.now batching.old }
+    requires number { batching.old.number < 2 ^ 64 - 1 }
+    ensures dealt { OnOk result ((reading : Reading) × (ReadsAs line.now reading × Deals reading batching.old batching.new)) }
+    ensures room { OnOk result (IsOpen settings.now batching.new) }
+    ensures err { IfErr result (λ f. f ≡ EngineFault.NoMemory) }
+{
+    take_line(alloc, batching, line)?;
+    let _statements = batching.engine.log().statements();
+    report_full(rt, alloc, batching, settings)?;
+    Ok(())
+}

@@ -1,0 +1,75 @@
+//! The report's lines for the lines of a batch.
+
+ghost use Rattle.std.specs.Prelude.{◌≡◌, ◌<◌, ◌≤◌, ◌+◌, ◌++◌, ◌^◌, OnOk, length};
+ghost use Rattle.report.specs.Report.{place_text};
+ghost use Rattle.bohm_base.specs.Collecting.{became_text, places_of};
+ghost use Rattle.engine.specs.Engine.{finished};
+ghost use Rattle.batched_text.specs.Batching.{lines_text};
+ghost use Rattle.batched_text.specs.Places.{places_in};
+
+use bohm_base::Became;
+use engine::Engine;
+use model_base::Place;
+use report::{put_fault, put_outcome, put_refused};
+use std::alloc::AllocError;
+
+/// Puts the report's line for a place that is finished behind the text.
+fn put_place(text: &mut Vec<u8>, engine: &Engine, place: Place) -> Result<(), AllocError>
+    requires { place < finished engine.now }
+    ensures { OnOk result (text.new.items ≡ text.old.items ++ place_text engine.now.log.statements engine.now.log.names.tables place) }
+{
+    let log = engine.log();
+    let statement = &log.statements()[place as usize];
+    let Some(outcome) = engine.outcome(place) else {
+        return Ok(());
+    };
+    put_outcome(
+        text,
+        log.catalog().tables(),
+        place,
+        &statement.form,
+        outcome,
+    )
+}
+
+/// Puts the report's line for a line of this number behind the text. An accepted line has this place.
+fn put_line(
+    text: &mut Vec<u8>,
+    engine: &Engine,
+    number: u64,
+    place: Place,
+    line: Became,
+) -> Result<(), AllocError>
+    requires { place + places_of line ≤ finished engine.now }
+    ensures { OnOk result (text.new.items
+        ≡ text.old.items ++ became_text engine.now.log.statements engine.now.log.names.tables number place line) }
+{
+    match line {
+        Became::Accepted => put_place(text, engine, place),
+        Became::Faulty(fault) => put_fault(text, number, fault),
+        Became::Refused(refused) => put_refused(text, number, refused),
+    }
+}
+
+/// Puts the report's lines for some lines behind the text, from a line of this number and this place on.
+pub(crate) fn put_lines(
+    text: &mut Vec<u8>,
+    engine: &Engine,
+    number: u64,
+    place: Place,
+    lines: &[Became],
+) -> Result<(), AllocError>
+    requires places { place + places_in lines.now ≤ finished engine.now }
+    requires number { number + length lines.now < 2 ^ 64 }
+    ensures { OnOk result (text.new.items ≡ text.old.items ++ lines_text engine.now.log number place lines.now) }
+{
+    let _finished = engine.finished();
+    let mut number = number;
+    let mut place = place;
+    for line in lines {
+        put_line(text, engine, number, place, *line)?;
+        number += 1;
+        place += line.places();
+    }
+    Ok(())
+}

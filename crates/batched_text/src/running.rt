@@ -1,0 +1,220 @@
+//! A log, read, run in batches, and reported as batches finish.
+
+ghost use Rattle.std.specs.Prelude.{◌≡◌, ◌≢◌, ◌<◌, ◌-◌, ◌^◌, ◌↔◌, ℕ, [], false, true, List, IfErr, IfOk, IfSome, OnErr, OnOk, Err, length};
+ghost use Rattle.std.specs.Io.KnownBytes.{Appends, prepend_known};
+ghost use Rattle.log_text_base.specs.Ahead.{ahead};
+ghost use Rattle.log_text_base.specs.Known.{AppendsFront};
+ghost use Rattle.report.specs.Report.{IsReport};
+ghost use Rattle.bohm_base.specs.Faults.{read_errors, write_errors};
+ghost use Rattle.bohm_base.specs.Pending.{HasBegunReport, HasReport};
+ghost use Rattle.engine.specs.Engine.{finished};
+ghost use Rattle.batched_text.specs.Batching.{Ends, Gathers, IsFirst, IsLogOfText, IsOpen, IsReady, Turn};
+ghost use Rattle.batched_text.specs.Faults.{of_text};
+ghost use Rattle.batched_text.specs.Settings.{IsTrimmed, are_within_limits};
+
+use crate::batching::{Batching, report_batch};
+use crate::lines::deal;
+use crate::settings::{Settings, are_within_limits};
+use engine::{Engine, EngineFault};
+use log_text_base::{Counted, LineReader, flush, write_out};
+use std::alloc::Global;
+use std::io::{Read, Write};
+use std::sync::Wait;
+use std::thread::Threads;
+
+/// Takes the next line, and if its batch is full runs it and writes the report's lines for it. False at the end of the input.
+fn report_line<T: Threads + Wait + Sync, R: Read, W: Write>(
+    rt: &T,
+    alloc: Global,
+    reader: &mut Counted<R>,
+    writer: &mut Counted<W>,
+    lines: &mut LineReader,
+    batching: &mut Batching,
+    settings: &Settings,
+) -> Result<bool, bohm_base::EngineFault>
+    requires settings { are_within_limits settings.now ≡ true }
+    requires ready { IsReady settings.now batching.old (length (ahead lines.old)) reader.old.given }
+    ensures turn { Turn settings.now result
+        (record {
+          rest = prepend_known (ahead lines.old) (R.remaining reader.old.inner);
+          ahead = length (ahead lines.old);
+          given = reader.old.given;
+          out = W.contents writer.old.inner;
+          batching = batching.old;
+        })
+        (record {
+          rest = prepend_known (ahead lines.new) (R.remaining reader.new.inner);
+          ahead = length (ahead lines.new);
+          given = reader.new.given;
+          out = W.contents writer.new.inner;
+          batching = batching.new;
+        }) }
+    ensures reads { reader.new.errors ≡ read_errors result reader.old.errors }
+    ensures writes { writer.new.errors ≡ write_errors result writer.old.errors }
+{
+    if !lines.next_line(reader)? {
+        return Ok(false);
+    }
+    deal(rt, alloc, batching, settings, lines.line())?;
+    write_out(writer, &batching.text)?;
+    Ok(true)
+}
+
+/// Takes lines to the end of the input, as `report_line`.
+fn report_rest<T: Threads + Wait + Sync, R: Read, W: Write>(
+    rt: &T,
+    alloc: Global,
+    reader: &mut Counted<R>,
+    writer: &mut Counted<W>,
+    lines: &mut LineReader,
+    batching: &mut Batching,
+    settings: &Settings,
+) -> Result<(), bohm_base::EngineFault>
+    requires settings { are_within_limits settings.now ≡ true }
+    requires ready { IsReady settings.now batching.old (length (ahead lines.old)) reader.old.given }
+    ensures ends { Ends settings.now result
+        (record {
+          rest = prepend_known (ahead lines.old) (R.remaining reader.old.inner);
+          ahead = length (ahead lines.old);
+          given = reader.old.given;
+          out = W.contents writer.old.inner;
+          batching = batching.old;
+        })
+        (W.contents writer.new.inner) batching.new }
+    ensures reads { reader.new.errors ≡ read_errors result reader.old.errors }
+    ensures writes { writer.new.errors ≡ write_errors result writer.old.errors }
+{
+    'lines: while report_line(rt, alloc, reader, writer, lines, batching, settings)? {}
+    Ok(())
+}
+
+/// Takes the lines of the input from the first to the last, and runs and reports each batch as it is full.
+fn report_lines<T: Threads + Wait + Sync, R: Read, W: Write>(
+    rt: &T,
+    alloc: Global,
+    reader: &mut Counted<R>,
+    writer: &mut Counted<W>,
+    batching: &mut Batching,
+    settings: &Settings,
+) -> Result<(), bohm_base::EngineFault>
+    requires settings { are_within_limits settings.now ≡ true }
+    requires first { IsFirst batching.old }
+    ensures room { OnOk result (IsOpen settings.now batching.new) }
+    ensures done { OnOk result (Gathers (R.remaining reader.old.inner) (W.contents writer.old.inner) (W.contents writer.new.inner) batching.new) }
+    ensures begun { HasBegunReport (R.remaining reader.old.inner) (W.contents writer.old.inner) (W.contents writer.new.inner) [] }
+    ensures reads { reader.new.errors ≡ read_errors result reader.old.errors }
+    ensures writes { writer.new.errors ≡ write_errors result writer.old.errors }
+{
+    let mut lines = LineReader::new(alloc)?;
+    report_rest(rt, alloc, reader, writer, &mut lines, batching, settings)
+}
+
+/// Takes the lines of the input, and runs and reports all of it.
+fn report_all<T: Threads + Wait + Sync, R: Read, W: Write>(
+    rt: &T,
+    alloc: Global,
+    reader: &mut Counted<R>,
+    writer: &mut Counted<W>,
+    batching: &mut Batching,
+    settings: &Settings,
+) -> Result<(), bohm_base::EngineFault>
+    requires settings { are_within_limits settings.now ≡ true }
+    requires first { IsFirst batching.old }
+    ensures log { OnOk result (IsLogOfText (R.remaining reader.old.inner) batching.new.engine.log) }
+    ensures all { OnOk result (finished batching.new.engine ≡ length batching.new.engine.log.statements) }
+    ensures trimmed { OnOk result (IsTrimmed settings.now batching.new.engine) }
+    ensures done { OnOk result (HasReport (R.remaining reader.old.inner) (W.contents writer.old.inner) (W.contents writer.new.inner) []) }
+    ensures begun { HasBegunReport (R.remaining reader.old.inner) (W.contents writer.old.inner) (W.contents writer.new.inner) [] }
+    ensures reads { reader.new.errors ≡ read_errors result reader.old.errors }
+    ensures writes { writer.new.errors ≡ write_errors result writer.old.errors }
+{
+    report_lines(rt, alloc, reader, writer, batching, settings)?;
+    report_batch(rt, alloc, batching, settings)?;
+    write_out(writer, &batching.text)?;
+    Ok(())
+}
+
+/// Reads a log to its end, runs it in batches, and writes its report; then the writer is flushed.
+fn run_batches<T: Threads + Wait + Sync, R: Read, W: Write>(
+    rt: &T,
+    alloc: Global,
+    reader: &mut Counted<R>,
+    writer: &mut Counted<W>,
+    settings: &Settings,
+) -> Result<Engine, bohm_base::EngineFault>
+    requires { are_within_limits settings.now ≡ true }
+    ensures log { IfOk result (λ engine. IsLogOfText (R.remaining reader.old.inner) engine.log) }
+    ensures all { IfOk result (λ engine. finished engine ≡ length engine.log.statements) }
+    ensures trimmed { IfOk result (λ engine. IsTrimmed settings.now engine) }
+    ensures done { OnOk result (IfSome (R.remaining reader.old.inner) (λ input. (text : List ℕ)
+        × (IsReport input text × Appends (W.contents writer.old.inner) (W.contents writer.new.inner) text))) }
+    ensures begun { IfSome (R.remaining reader.old.inner) (λ input. (text : List ℕ)
+        × (IsReport input text × AppendsFront (W.contents writer.old.inner) (W.contents writer.new.inner) text)) }
+    ensures reads { reader.new.errors ≡ read_errors result reader.old.errors }
+    ensures writes { writer.new.errors ≡ write_errors result writer.old.errors }
+{
+    let mut batching = Batching::new(alloc);
+    report_all(rt, alloc, reader, writer, &mut batching, settings)?;
+    flush(writer)?;
+    let Batching { engine, .. } = batching;
+    Ok(engine)
+}
+
+/// The fault of a run, as one of an engine.
+fn engine_fault(fault: bohm_base::EngineFault) -> EngineFault
+    ensures { result ≡ of_text fault }
+{
+    match fault {
+        bohm_base::EngineFault::NoMemory => EngineFault::NoMemory,
+        bohm_base::EngineFault::Read => EngineFault::Read,
+        bohm_base::EngineFault::Write => EngineFault::Write,
+    }
+}
+
+/// Reads a log to its end, runs it in batches, and writes its report: one line for each line. The report of a batch is written when
+/// the batch is done, and the writer is flushed once, at the end. The answer is the engine with the log, all of it finished.
+///
+/// A batch is the next `batch` accepted statements, or what is left at the end of the input. After each batch the rows before the
+/// last `keep` batches aren't kept: the store's mark is the start of the `keep`-th batch from the last one, or the end if `keep`
+/// is 0. Refused lines wait for the end of their batch, so that the report's lines keep their order: two bytes or so for each.
+///
+/// `BadSettings` comes exactly where a setting is outside its limits, and nothing is done then. `NoMemory` comes where a growth was
+/// refused, `Read` where the reader failed, `Write` where the writer failed, or took no byte of a piece that wasn't empty. After a
+/// fault a beginning of the report stands: after `NoMemory` and `Read` the batches that were finished, after `Write` what the writer
+/// took.
+pub fn run_text<T: Threads + Wait + Sync, R: Read, W: Write>(
+    rt: &T,
+    alloc: Global,
+    reader: &mut Counted<R>,
+    writer: &mut Counted<W>,
+    settings: &Settings,
+) -> Result<Engine, EngineFault>
+    // What was written is the report of what was read.
+    ensures done { OnOk result (IfSome (R.remaining reader.old.inner) (λ input. (text : List ℕ)
+        × (IsReport input text × Appends (W.contents writer.old.inner) (W.contents writer.new.inner) text))) }
+    // After a fault it is a beginning of it.
+    ensures begun { IfSome (R.remaining reader.old.inner) (λ input. (text : List ℕ)
+        × (IsReport input text × AppendsFront (W.contents writer.old.inner) (W.contents writer.new.inner) text)) }
+    // Read and Write come only where the reader or the writer failed.
+    ensures read { result ≡ Err EngineFault.Read → reader.old.errors < 2 ^ 64 - 1 → reader.old.errors < reader.new.errors }
+    ensures write { result ≡ Err EngineFault.Write → writer.old.errors < 2 ^ 64 - 1 → writer.old.errors < writer.new.errors }
+    // Ok says that neither of them failed, in the flush at the end neither.
+    ensures whole { OnOk result ((reader.new.errors ≡ reader.old.errors) × (writer.new.errors ≡ writer.old.errors)) }
+
+    // BadSettings comes exactly where a setting is outside its limits, and then nothing is done.
+    ensures bad { (result ≡ Err EngineFault.BadSettings) ↔ (are_within_limits settings.now ≡ false) }
+    ensures nothing { result ≡ Err EngineFault.BadSettings → (reader.new ≡ reader.old) × (writer.new ≡ writer.old) }
+
+    // The engine has the log of what was read, all of it finished, and the rows before the last few batches.
+    ensures log { IfOk result (λ engine. IsLogOfText (R.remaining reader.old.inner) engine.log) }
+    ensures all { IfOk result (λ engine. finished engine ≡ length engine.log.statements) }
+    ensures trimmed { IfOk result (λ engine. IsTrimmed settings.now engine) }
+{
+    if !are_within_limits(settings) {
+        return Err(EngineFault::BadSettings);
+    }
+    match run_batches(rt, alloc, reader, writer, settings) {
+        Ok(engine) => Ok(engine),
+        Err(fault) => Err(engine_fault(fault)),
+    }
+}
