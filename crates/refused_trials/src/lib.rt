@@ -1,4 +1,4 @@
-//! Trials of a book of grants where memory is refused: each growth in turn, by `rt try --test --fail-alloc 1..` in this folder.
+//! Trials of a book of grants where memory is refused: each growth in turn, by `tools/refused`.
 //!
 //! There is nothing here but tests.
 #![tactic(auto)]
