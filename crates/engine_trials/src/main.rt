@@ -1,0 +1,76 @@
+//! Logs run in batches by several workers, and engines that are driven by hand: worked logs in many settings, drawn logs, a
+//! long one, rows and grants between batches, gates, limits, readers and writers that fail. What is printed is compared with
+//! `stdout`.
+#![tactic(auto)]
+
+mod doubles;
+mod drawn;
+mod failing;
+mod fault;
+mod gates;
+mod generator;
+mod limits;
+mod logs;
+mod long;
+mod middle;
+mod reporting;
+mod rows;
+mod stepping;
+mod worked;
+
+use bohm_base::arguments;
+use drawn::tell_drawn;
+use failing::tell_failures;
+use fault::TrialFault;
+use gates::tell_gates;
+use limits::{tell_limits, tell_ranges};
+use long::tell_long;
+use middle::tell_parts;
+use rows::{tell_books, tell_trimmed};
+use std::alloc::Global;
+use std::process::ExitCode;
+use std::rt::{Env, Files};
+use std::sync::Wait;
+use std::thread::Threads;
+use worked::{tell_kept, tell_worked};
+
+/// Tells of the worked logs that the command line names.
+fn tell_named<R: Env + Files + Threads + Wait + Print + AllocGlobal + Sync>(
+    rt: &R,
+) -> Result<(), TrialFault> {
+    let names = arguments(rt)?;
+    for name in names.iter().skip(1) {
+        tell_worked(rt, rt.alloc(), name.as_str())?;
+    }
+    Ok(())
+}
+
+/// Makes all other trials in turn.
+fn tell_others<R: Threads + Wait + Print + Sync>(rt: &R, alloc: Global) -> Result<(), TrialFault> {
+    tell_kept(rt, alloc)?;
+    tell_trimmed(rt, alloc)?;
+    tell_books(rt, alloc)?;
+    tell_parts(rt, alloc)?;
+    tell_gates(rt, alloc)?;
+    tell_limits(rt, alloc)?;
+    tell_ranges(rt, alloc)?;
+    tell_failures(rt, alloc)?;
+    tell_drawn(rt, alloc)?;
+    tell_long(rt, alloc)
+}
+
+/// Makes all trials.
+fn tell<R: Env + Files + Threads + Wait + Print + AllocGlobal + Sync>(
+    rt: &R,
+) -> Result<(), TrialFault> {
+    tell_named(rt)?;
+    tell_others(rt, rt.alloc())
+}
+
+fn main(rt: HostRuntime) -> ExitCode {
+    let Err(fault) = tell(&rt) else {
+        return ExitCode::SUCCESS;
+    };
+    let _ = eprintln!(rt; "engine_trials: {fault}");
+    ExitCode::FAILURE
+}
