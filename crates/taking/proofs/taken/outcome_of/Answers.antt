@@ -1,4 +1,4 @@
-use Rattle.std.proofs.Common.{◌≡◌, ◌<◌, ◌^◌, Some, arith, slice_get, length, ap, sym, ◌∙◌}
+use Rattle.std.proofs.Common.{◌≡◌, ◌<◌, ◌^◌, Some, arith, slice_get, ap, sym, ◌∙◌}
 use Rattle.model_base.specs.declared.statement.Statement.{Statement}
 use Rattle.own_words.specs.Words.{outcome_from}
 use Rattle.sequencer.specs.Log.{Accepted}

@@ -1,4 +1,4 @@
-use Rattle.std.proofs.Common.{◌≡◌, ◌<◌, ◌^◌, ◌+◌, ◌++◌, ℕ, List, Some, arith, drop, slice_get, length, ap, ◌∙◌, subst}
+use Rattle.std.proofs.Common.{◌≡◌, ◌<◌, ◌^◌, ◌+◌, ◌++◌, ℕ, List, Some, arith, drop, slice_get, ap, ◌∙◌, subst}
 use Rattle.std.specs.Prelude.{OnOk, slice_index_or}
 use Rattle.chains.specs.declared.version.Version.{Version}
 use Rattle.chains.specs.Store.{versions_at}
