@@ -1,4 +1,4 @@
-use Rattle.std.proofs.Common.{◌≡◌, ◌+◌, Some, ◌∙◌, subst}
+use Rattle.std.proofs.Common.{◌≡◌, ◌+◌, Some, rules, ◌∙◌, subst}
 use Rattle.std.specs.Prelude.{slice_get}
 use Rattle.log_batch.specs.Laws.{IsOfLog}
 use Rattle.log_batch.specs.Supplied.{Ranged, batch_in, range_of}
@@ -18,3 +18,6 @@ returns-clause-value c found told done revokes =
     ∙ endings-told ranged is c.args.index c.requires.within statement at key.slots c.slots-slots.ensures.order c.ends-ends.ensures.listed
     (λ slot other grant later less here there. c.slots_stand_in_order.ensures (batch_in ranged) slot other grant later (sound_batch ranged is) less here there)
     done found told
+
+pub returns-then-not-has_revocation-clause-revokes : goal.returns-then-not-has_revocation-clause-revokes
+returns-then-not-has_revocation-clause-revokes c = search rules
