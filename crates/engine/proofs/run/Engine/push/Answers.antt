@@ -1,3 +1,7 @@
+use Rattle.std.proofs.Common.{◌≡◌, None, subst}
+use Rattle.std.specs.Prelude.{OnOk}
+use Rattle.sequencer.specs.Refusal.{refusal}
+use Rattle.engine.specs.Engine.{Run}
 use Rattle.engine.proofs.Pushed.{pushed}
 use Rattle.engine.proofs.run.Engine.push.Goals as goal
 
@@ -6,3 +10,7 @@ invariant_of-self c =
     let e = c.self.inside in
     pushed e.log e.chains e.book e.outcomes.items c.self.invariant c.statements-statements.ensures.whole c.statements-statements.ensures.own_tables
     c.args.statement c.push.new.self c.push.result c.push.ensures.accepted c.push.ensures.passes c.push.ensures.err
+
+pub returns-clause-passes : goal.returns-clause-passes
+returns-clause-passes c =
+    subst (λ (run : Run). OnOk c.push.result (refusal run.log.names c.args.statement ≡ None)) c.self.view_is c.push.ensures.passes
