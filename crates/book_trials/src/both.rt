@@ -1,10 +1,11 @@
 //! A book and the plain one beside it: each call is made in both, and the answers are compared.
 
-use grants::{Book, PlainBook, Records, denial, holds, holds_option, last_loss, to_end};
+ghost use Rattle.std.specs.Prelude.{Decides, ◌<◌, length};
+
+use crate::fault::TrialFault;
+use grants::{Book, Creation, PlainBook, Records, denial, holds, holds_option, last_loss, to_end};
 use model_base::{Cause, Grant, Kind, Need, Place, Revocation, Table, User};
 use std::alloc::Global;
-use std::process::Abort;
-use std::test::Fail;
 
 /// A book, and the plain one in which the same was done.
 #[derive(Drop)]
@@ -21,39 +22,59 @@ pub enum Told {
     Never,
 }
 
-/// Whether a view holds a need.
-fn is_held<V: Records>(rt: &impl Abort, view: &mut V, user: User, need: &Need) -> bool {
-    assert!(rt; view.covers(need.table));
-    if need.option {
-        holds_option(view, user, need.kind, need.table)
-    } else {
-        holds(view, user, need.kind, need.table)
+impl Told {
+    /// What a denial for this says.
+    fn cause(self) -> Option<Cause> {
+        match self {
+            Told::Held => None,
+            Told::Lost(place) => Some(Cause::Taken(place)),
+            Told::Never => Some(Cause::Never),
+        }
     }
 }
 
-/// What a view tells of a need.
-fn find_out<V: Records>(rt: &impl Abort, view: &mut V, user: User, need: &Need) -> Told {
-    assert!(rt; view.covers(need.table));
+/// Nothing, if what was compared is the same.
+fn expect(same: bool) -> Result<(), TrialFault> {
+    if same {
+        Ok(())
+    } else {
+        Err(TrialFault::Different)
+    }
+}
+
+/// Whether a view holds the need.
+fn is_held<V: Records>(view: &mut V, user: User, need: &Need) -> Result<bool, TrialFault> {
+    if !view.covers(need.table) {
+        return Err(TrialFault::Deed);
+    }
+    if need.option {
+        Ok(holds_option(view, user, need.kind, need.table))
+    } else {
+        Ok(holds(view, user, need.kind, need.table))
+    }
+}
+
+/// What a view tells of a need, by each of the calls that do.
+fn find_out<V: Records>(view: &mut V, user: User, need: &Need) -> Result<Told, TrialFault> {
+    if !view.covers(need.table) {
+        return Err(TrialFault::Deed);
+    }
     let held = if need.option {
         holds_option(view, user, need.kind, need.table)
     } else {
         holds(view, user, need.kind, need.table)
     };
     let cause = denial(view, user, need);
-    if held {
-        assert_eq!(rt; cause, None);
-        return Told::Held;
-    }
-    match last_loss(view, user, need) {
-        Some(place) => {
-            assert_eq!(rt; cause, Some(Cause::Taken(place)));
-            Told::Lost(place)
+    let told = if held {
+        Told::Held
+    } else {
+        match last_loss(view, user, need) {
+            Some(place) => Told::Lost(place),
+            None => Told::Never,
         }
-        None => {
-            assert_eq!(rt; cause, Some(Cause::Never));
-            Told::Never
-        }
-    }
+    };
+    expect(cause == told.cause())?;
+    Ok(told)
 }
 
 impl Both {
@@ -65,160 +86,173 @@ impl Both {
         }
     }
 
-    /// Both have the same tables and records.
-    pub fn expect_same(&self, rt: &impl Abort) {
-        assert_eq!(rt; self.book.tables(), self.plain.tables());
-        assert_eq!(rt; self.book.records(), self.plain.records());
+    /// Whether both have the same tables and records.
+    fn are_same(&self) -> bool {
+        self.book.tables() == self.plain.tables() && self.book.records() == self.plain.records()
     }
 
-    /// Adds a table, after each condition was tested.
-    pub fn enter(&mut self, rt: &impl Abort, owner: User, place: Place) -> Result<Table, Fail> {
-        let table = enter(rt, &mut self.book, owner, place)?;
-        let other = enter_plain(rt, &mut self.plain, owner, place)?;
-        assert_eq!(rt; table, other);
-        Ok(table)
+    /// Adds a table.
+    pub fn enter(&mut self, owner: User, place: Place) -> Result<(), TrialFault> {
+        let table = enter(&mut self.book, owner, place)?;
+        let other = enter_plain(&mut self.plain, owner, place)?;
+        expect(table.0 == other.0 && self.are_same())
     }
 
-    /// Makes the grant if its grantor holds the option, after each other condition was tested, and answers whether it does.
-    pub fn give(&mut self, rt: &impl Abort, grant: &Grant) -> Result<bool, Fail> {
-        let held = give(rt, &mut self.book, grant)?;
-        let other = give_plain(rt, &mut self.plain, grant)?;
-        assert_eq!(rt; held, other, "{grant:?}");
+    /// Makes the grant if its grantor holds the option, and answers whether it does.
+    pub fn give(&mut self, grant: &Grant) -> Result<bool, TrialFault> {
+        let held = give(&mut self.book, grant)?;
+        let other = give_plain(&mut self.plain, grant)?;
+        expect(held == other && self.are_same())?;
         Ok(held)
     }
 
-    /// Makes the revocation, after each condition was tested, and answers the places that end, which both views told before.
+    /// Makes the revocation, and answers the places that end, which both views told before.
     pub fn take(
         &mut self,
-        rt: &impl Abort,
         alloc: Global,
         revocation: &Revocation,
-    ) -> Result<Vec<Place>, Fail> {
-        let told = self.ends(rt, alloc, revocation)?;
-        let ended = take(rt, alloc, &mut self.book, revocation)?;
-        let other = take_plain(rt, alloc, &mut self.plain, revocation)?;
-        assert_eq!(rt; ended.as_slice(), other.as_slice(), "{revocation:?}");
-        assert_eq!(rt; ended.as_slice(), told.as_slice(), "{revocation:?}");
-        Ok(ended)
+    ) -> Result<Vec<Place>, TrialFault> {
+        let told = self.ends(alloc, revocation)?;
+        self.compare_ended(alloc, revocation, &told)?;
+        expect(self.are_same())?;
+        Ok(told)
+    }
+
+    /// Makes the revocation in both. What ends is what was told.
+    fn compare_ended(
+        &mut self,
+        alloc: Global,
+        revocation: &Revocation,
+        told: &[Place],
+    ) -> Result<(), TrialFault> {
+        let ended = take(alloc, &mut self.book, revocation)?;
+        expect(ended.as_slice() == told)?;
+        let other = take_plain(alloc, &mut self.plain, revocation)?;
+        expect(other.as_slice() == told)
     }
 
     /// The places that a revocation would end.
-    pub fn ends(
-        &self,
-        rt: &impl Abort,
-        alloc: Global,
-        revocation: &Revocation,
-    ) -> Result<Vec<Place>, Fail> {
-        let mut view = self.book.at(revocation.place);
-        assert!(rt; view.covers(revocation.table));
-        let ends = to_end(alloc, &mut view, revocation)?;
-        let mut plain = self.plain.at(revocation.place);
-        assert!(rt; plain.covers(revocation.table));
-        let other = to_end(alloc, &mut plain, revocation)?;
-        assert_eq!(rt; ends.as_slice(), other.as_slice(), "{revocation:?}");
+    fn ends(&self, alloc: Global, revocation: &Revocation) -> Result<Vec<Place>, TrialFault> {
+        let ends = ends_in(alloc, &mut self.book.at(revocation.place), revocation)?;
+        let other = ends_in(alloc, &mut self.plain.at(revocation.place), revocation)?;
+        expect(ends.as_slice() == other.as_slice())?;
         Ok(ends)
     }
 
     /// What the books at a place tell of a need.
-    pub fn tell(&self, rt: &impl Abort, place: Place, user: User, need: &Need) -> Told {
-        let found = find_out(rt, &mut self.book.at(place), user, need);
-        let other = find_out(rt, &mut self.plain.at(place), user, need);
-        assert_eq!(rt; found, other, "{user:?} {need:?} at {place}");
-        found
+    pub fn tell(&self, place: Place, user: User, need: &Need) -> Result<Told, TrialFault> {
+        let found = find_out(&mut self.book.at(place), user, need)?;
+        let other = find_out(&mut self.plain.at(place), user, need)?;
+        expect(found == other)?;
+        Ok(found)
     }
 
     /// Whether the books at a place hold a kind for the user, without the option.
     pub fn reads(
         &self,
-        rt: &impl Abort,
         place: Place,
         user: User,
         kind: Kind,
         table: Table,
-    ) -> bool {
+    ) -> Result<bool, TrialFault> {
         let need = Need {
             table,
             kind,
             option: false,
         };
-        let held = is_held(rt, &mut self.book.at(place), user, &need);
-        let other = is_held(rt, &mut self.plain.at(place), user, &need);
-        assert_eq!(rt; held, other, "{user:?} {need:?} at {place}");
-        held
+        let held = is_held(&mut self.book.at(place), user, &need)?;
+        let other = is_held(&mut self.plain.at(place), user, &need)?;
+        expect(held == other)?;
+        Ok(held)
     }
 
     /// Forgets a place and all later ones.
-    pub fn cut(&mut self, place: Place) {
+    pub fn cut(&mut self, place: Place) -> Result<(), TrialFault> {
         self.book.cut(place);
         self.plain.cut(place);
+        expect(self.are_same())
     }
 }
 
-fn enter(rt: &impl Abort, book: &mut Book, owner: User, place: Place) -> Result<Table, Fail> {
-    assert!(rt; book.is_later(place), "at {place}");
-    assert!(rt; book.tables().len() < 65_536);
-    let table = book.add_table(owner, place)?;
-    Ok(table)
-}
-
-fn enter_plain(
-    rt: &impl Abort,
-    book: &mut PlainBook,
-    owner: User,
-    place: Place,
-) -> Result<Table, Fail> {
-    assert!(rt; book.is_later(place), "at {place}");
-    assert!(rt; book.tables().len() < 65_536);
-    let table = book.add_table(owner, place)?;
-    Ok(table)
-}
-
-fn give(rt: &impl Abort, book: &mut Book, grant: &Grant) -> Result<bool, Fail> {
-    let (place, table) = (grant.place, grant.table);
-    assert!(rt; book.is_later(place), "at {place}");
-    assert!(rt; (table.0 as usize) < book.tables().len(), "at {place}");
-    assert!(rt; book.at(place).covers(table), "at {place}");
-    let held = holds_option(&mut book.at(place), grant.grantor, grant.kind, table);
-    if held {
-        book.grant(*grant)?;
-    }
-    Ok(held)
-}
-
-fn give_plain(rt: &impl Abort, book: &mut PlainBook, grant: &Grant) -> Result<bool, Fail> {
-    let (place, table) = (grant.place, grant.table);
-    assert!(rt; book.is_later(place), "at {place}");
-    assert!(rt; (table.0 as usize) < book.tables().len(), "at {place}");
-    assert!(rt; book.at(place).covers(table), "at {place}");
-    let held = holds_option(&mut book.at(place), grant.grantor, grant.kind, table);
-    if held {
-        book.grant(*grant)?;
-    }
-    Ok(held)
-}
-
-fn take(
-    rt: &impl Abort,
+/// The places that a revocation would end, as a view tells.
+fn ends_in<V: Records>(
     alloc: Global,
-    book: &mut Book,
+    view: &mut V,
     revocation: &Revocation,
-) -> Result<Vec<Place>, Fail> {
+) -> Result<Vec<Place>, TrialFault> {
+    if view.at() != revocation.place || !view.covers(revocation.table) {
+        return Err(TrialFault::Deed);
+    }
+    Ok(to_end(alloc, view, revocation)?)
+}
+
+/// Whether a table is one of these.
+fn has_table(tables: &[Creation], table: Table) -> bool
+    ensures { Decides result (table < length tables.now) }
+{
+    (table.0 as usize) < tables.len()
+}
+
+fn enter(book: &mut Book, owner: User, place: Place) -> Result<Table, TrialFault> {
+    if !book.is_later(place) || book.tables().len() >= 65_536 {
+        return Err(TrialFault::Deed);
+    }
+    Ok(book.add_table(owner, place)?)
+}
+
+fn enter_plain(book: &mut PlainBook, owner: User, place: Place) -> Result<Table, TrialFault> {
+    if !book.is_later(place) || book.tables().len() >= 65_536 {
+        return Err(TrialFault::Deed);
+    }
+    Ok(book.add_table(owner, place)?)
+}
+
+fn give(book: &mut Book, grant: &Grant) -> Result<bool, TrialFault> {
+    let (place, table) = (grant.place, grant.table);
+    if !book.is_later(place) || !has_table(book.tables(), table) {
+        return Err(TrialFault::Deed);
+    }
+    if !book.at(place).covers(table) {
+        return Err(TrialFault::Deed);
+    }
+    let held = holds_option(&mut book.at(place), grant.grantor, grant.kind, table);
+    if held {
+        book.grant(*grant)?;
+    }
+    Ok(held)
+}
+
+fn give_plain(book: &mut PlainBook, grant: &Grant) -> Result<bool, TrialFault> {
+    let (place, table) = (grant.place, grant.table);
+    if !book.is_later(place) || !has_table(book.tables(), table) {
+        return Err(TrialFault::Deed);
+    }
+    if !book.at(place).covers(table) {
+        return Err(TrialFault::Deed);
+    }
+    let held = holds_option(&mut book.at(place), grant.grantor, grant.kind, table);
+    if held {
+        book.grant(*grant)?;
+    }
+    Ok(held)
+}
+
+fn take(alloc: Global, book: &mut Book, revocation: &Revocation) -> Result<Vec<Place>, TrialFault> {
     let (place, table) = (revocation.place, revocation.table);
-    assert!(rt; book.is_later(place), "at {place}");
-    assert!(rt; (table.0 as usize) < book.tables().len(), "at {place}");
-    let ended = book.revoke(alloc, revocation)?;
-    Ok(ended)
+    if !book.is_later(place) || !has_table(book.tables(), table) {
+        return Err(TrialFault::Deed);
+    }
+    Ok(book.revoke(alloc, revocation)?)
 }
 
 fn take_plain(
-    rt: &impl Abort,
     alloc: Global,
     book: &mut PlainBook,
     revocation: &Revocation,
-) -> Result<Vec<Place>, Fail> {
+) -> Result<Vec<Place>, TrialFault> {
     let (place, table) = (revocation.place, revocation.table);
-    assert!(rt; book.is_later(place), "at {place}");
-    assert!(rt; (table.0 as usize) < book.tables().len(), "at {place}");
-    let ended = book.revoke(alloc, revocation)?;
-    Ok(ended)
+    if !book.is_later(place) || !has_table(book.tables(), table) {
+        return Err(TrialFault::Deed);
+    }
+    Ok(book.revoke(alloc, revocation)?)
 }

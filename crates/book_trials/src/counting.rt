@@ -1,9 +1,11 @@
 //! How many records a question and a revocation look at.
 
 use crate::both::Both;
-use grants::{Records, denial, holds, to_end};
-use model_base::{Cause, Grant, Kind, Need, Place, Revocation, Table, User};
-use std::test::Fail;
+use crate::fault::TrialFault;
+use crate::telling::tell;
+use grants::{BookView, Records, denial, holds, to_end};
+use model_base::{Grant, Kind, Need, Place, Revocation, Table, User};
+use std::alloc::Global;
 
 const OWNER: User = User(0);
 
@@ -75,28 +77,48 @@ fn reading(user: u32) -> Grant {
     }
 }
 
-/// The last of many who may read is found at once, and so is one who never could.
-#[test]
-fn one_of_many_is_found_at_once(rt: HostRuntime) -> Result<(), Fail> {
-    let mut both = Both::new(rt.alloc());
-    both.enter(&rt, OWNER, 0)?;
-    for user in 1..=READERS {
-        let held = both.give(&rt, &reading(user))?;
-        assert!(rt; held, "to {user}");
+/// Makes a grant, which its grantor may make.
+fn give(both: &mut Both, grant: &Grant) -> Result<(), TrialFault> {
+    if both.give(grant)? {
+        Ok(())
+    } else {
+        Err(TrialFault::Deed)
     }
-    let mut counting = Counting {
-        view: both.book.at(Place::from(READERS).saturating_add(1)),
+}
+
+/// The owner grants READ to many.
+fn put_readers(both: &mut Both) -> Result<(), TrialFault> {
+    both.enter(OWNER, 0)?;
+    for user in 1..=READERS {
+        give(both, &reading(user))?;
+    }
+    Ok(())
+}
+
+/// The book at a place, with nothing counted yet.
+fn counted(both: &Both, place: Place) -> Counting<BookView<'_>> {
+    Counting {
+        view: both.book.at(place),
         grants: 0,
         ends: 0,
-    };
-    assert!(rt; counting.covers(TABLE));
-    assert!(rt; holds(&mut counting, User(READERS), Kind::Read, TABLE));
-    assert!(rt; counting.grants <= 1, "{} grants", counting.grants);
-    assert!(rt; counting.ends <= 1, "{} ends", counting.ends);
-    assert!(rt; counting.covers(TABLE));
-    let held = holds(&mut counting, User(READERS), Kind::Insert, TABLE);
-    assert!(rt; !held);
-    assert!(rt; counting.grants <= 1, "{} grants", counting.grants);
+    }
+}
+
+/// Tells whether a user holds a kind, and how many grants and ends were looked at for it.
+fn tell_held(rt: &impl Print, both: &Both, user: u32, kind: Kind) {
+    let mut view = counted(both, Place::from(READERS).saturating_add(1));
+    if view.covers(TABLE) {
+        let held = holds(&mut view, User(user), kind, TABLE);
+        tell(rt, "  held, grants, ends", &(held, view.grants, view.ends));
+    }
+}
+
+/// The last of many who may read is found at once, and so is that he holds nothing else.
+fn tell_one_of_many(rt: &impl Print, both: &mut Both) -> Result<(), TrialFault> {
+    put_readers(both)?;
+    let _ = println!(rt; "one of {READERS}");
+    tell_held(rt, both, READERS, Kind::Read);
+    tell_held(rt, both, READERS, Kind::Insert);
     Ok(())
 }
 
@@ -111,84 +133,87 @@ fn taking(place: Place, user: u32) -> Revocation {
     }
 }
 
-/// A user who lost a privilege over and over is denied by one look at each grant.
-#[test]
-fn a_denial_looks_at_each_grant_once(rt: HostRuntime) -> Result<(), Fail> {
-    let mut both = Both::new(rt.alloc());
-    both.enter(&rt, OWNER, 0)?;
-    let mut place: Place = 0;
+/// The owner grants READ to a user and takes it, over and over.
+fn put_turns(alloc: Global, both: &mut Both) -> Result<(), TrialFault> {
+    both.enter(OWNER, 0)?;
     for turn in 1..=TURNS {
-        place = Place::from(turn).saturating_mul(2);
+        let place = Place::from(turn).saturating_mul(2);
         let granted = Grant {
             place,
             ..reading(1)
         };
-        let held = both.give(&rt, &granted)?;
-        assert!(rt; held, "at {place}");
-        let next = place.saturating_add(1);
-        let ended = both.take(&rt, rt.alloc(), &taking(next, 1))?;
-        assert_eq!(rt; ended.as_slice(), [place].as_slice());
-        place = next;
+        give(both, &granted)?;
+        both.take(alloc, &taking(place.saturating_add(1), 1))?;
     }
-    let mut counting = Counting {
-        view: both.book.at(place.saturating_add(1)),
-        grants: 0,
-        ends: 0,
-    };
+    Ok(())
+}
+
+/// A user who lost a privilege over and over is denied by one look at each grant.
+fn tell_a_denial(rt: &impl Print, alloc: Global, both: &mut Both) -> Result<(), TrialFault> {
+    put_turns(alloc, both)?;
+    let _ = println!(rt; "granted and taken {TURNS} times");
+    let mut view = counted(both, 100);
     let need = Need {
         table: TABLE,
         kind: Kind::Read,
         option: false,
     };
-    assert!(rt; counting.covers(TABLE));
-    let denied = denial(&mut counting, User(1), &need);
-    assert_eq!(rt; denied, Some(Cause::Taken(place)));
-    assert_eq!(rt; counting.grants, TURNS as usize);
-    assert_eq!(rt; counting.ends, TURNS as usize);
+    if view.covers(TABLE) {
+        let denied = denial(&mut view, User(1), &need);
+        tell(
+            rt,
+            "  denied, grants, ends",
+            &(denied, view.grants, view.ends),
+        );
+    }
     Ok(())
 }
 
-/// A user got the option over and over, and granted it as often. Where all his options end, his grants and those to him are gone
-/// through once, and not once for each of the others.
-#[test]
-fn a_cascade_goes_through_each_grant_once(rt: HostRuntime) -> Result<(), Fail> {
-    let mut both = Both::new(rt.alloc());
-    both.enter(&rt, OWNER, 0)?;
-    let mut place: Place = 0;
-    for _ in 0..TURNS {
-        place = place.saturating_add(1);
-        let held = both.give(
-            &rt,
-            &Grant {
-                place,
-                option: true,
-                ..reading(1)
-            },
-        )?;
-        assert!(rt; held, "at {place}");
+/// A user gets the option over and over, and grants it as often.
+fn put_options(both: &mut Both) -> Result<(), TrialFault> {
+    both.enter(OWNER, 0)?;
+    for turn in 1..=TURNS {
+        let granted = Grant {
+            place: Place::from(turn),
+            option: true,
+            ..reading(1)
+        };
+        give(both, &granted)?;
     }
-    for turn in 0..TURNS {
-        place = place.saturating_add(1);
-        let held = both.give(
-            &rt,
-            &Grant {
-                place,
-                grantor: User(1),
-                ..reading(turn.saturating_add(2))
-            },
-        )?;
-        assert!(rt; held, "at {place}");
-    }
-    let revocation = taking(place.saturating_add(1), 1);
-    let mut counting = Counting {
-        view: both.book.at(revocation.place),
-        grants: 0,
-        ends: 0,
-    };
-    assert!(rt; counting.covers(revocation.table));
-    let ended = to_end(rt.alloc(), &mut counting, &revocation)?;
-    assert_eq!(rt; ended.len() as u64, place);
-    // Each of the 40 is judged, and each of the 20 to the user is looked at to find out whether it is named and whether it stands.
-    assert_eq!(rt; counting.grants, 80);
     Ok(())
+}
+
+/// The user grants READ to as many others.
+fn put_grantees(both: &mut Both) -> Result<(), TrialFault> {
+    for turn in 1..=TURNS {
+        let granted = Grant {
+            place: Place::from(turn).saturating_add(Place::from(TURNS)),
+            grantor: User(1),
+            ..reading(turn.saturating_add(1))
+        };
+        give(both, &granted)?;
+    }
+    Ok(())
+}
+
+/// Where all options of a user end, his grants and those to him are gone through once, and not once for each of the others:
+/// each of the 40 is judged, and each of the 20 to the user is looked at to find out whether it is named and whether it stands.
+fn tell_a_cascade(rt: &impl Print, alloc: Global, both: &mut Both) -> Result<(), TrialFault> {
+    put_options(both)?;
+    put_grantees(both)?;
+    let _ = println!(rt; "{TURNS} options, each granted on");
+    let revocation = taking(100, 1);
+    let mut view = counted(both, revocation.place);
+    if view.at() == revocation.place && view.covers(revocation.table) {
+        let ended = to_end(alloc, &mut view, &revocation)?;
+        tell(rt, "  ended, grants", &(ended.len(), view.grants));
+    }
+    Ok(())
+}
+
+/// Tells how many records each looks at.
+pub fn tell_counts(rt: &impl Print, alloc: Global) -> Result<(), TrialFault> {
+    tell_one_of_many(rt, &mut Both::new(alloc))?;
+    tell_a_denial(rt, alloc, &mut Both::new(alloc))?;
+    tell_a_cascade(rt, alloc, &mut Both::new(alloc))
 }

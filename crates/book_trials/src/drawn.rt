@@ -1,14 +1,14 @@
 //! Drawn deeds in a book and in the plain one, each answer compared.
 //!
 //! User 0 creates table 0 at place 0. Then come forty deeds of five users, who grant and revoke two kinds on that table. Then
-//! both books are asked for each need of each user at each place, and are cut at a drawn place.
+//! both books are asked for each need of each user at each place, and are cut at a drawn place. It is told how much was
+//! compared.
 
 use crate::both::{Both, Told};
+use crate::fault::TrialFault;
 use crate::generator::Generator;
 use model_base::{Deed, Grant, Kind, Need, Place, Revocation, Table, User};
 use std::alloc::Global;
-use std::process::Abort;
-use std::test::Fail;
 
 const LISTS: u32 = 1000;
 
@@ -22,15 +22,6 @@ const TABLE: Table = Table(0);
 
 /// The first place behind the deeds.
 const BEHIND: Place = DEEDS as Place + 1;
-
-/// What all lists together have to come to at least, so that enough is compared.
-const LEAST: Counts = Counts {
-    granted: 15_000,
-    ended: 5000,
-    cascades: 1500,
-    held: 300_000,
-    lost: 40_000,
-};
 
 /// How often each came up.
 #[derive(Clone, Copy, Default, Debug)]
@@ -119,81 +110,94 @@ fn drawn_deed(generator: &mut Generator, place: Place, earlier: &[Deed]) -> Deed
 
 /// Makes the deed in both books, if it is allowed.
 fn make(
-    rt: &impl Abort,
     alloc: Global,
     both: &mut Both,
     deed: &Deed,
     counts: &mut Counts,
-) -> Result<(), Fail> {
+) -> Result<(), TrialFault> {
     match deed {
-        Deed::Granting(grant) => counts.add_grant(both.give(rt, grant)?),
-        Deed::Revoking(revocation) => {
-            assert_eq!(rt; revocation.table, TABLE);
-            counts.add_revocation(both.take(rt, alloc, revocation)?.len());
-        }
+        Deed::Granting(grant) => counts.add_grant(both.give(grant)?),
+        Deed::Revoking(revocation) => counts.add_revocation(both.take(alloc, revocation)?.len()),
     }
-    both.expect_same(rt);
     Ok(())
 }
 
-/// Asks both books at a place for each need of a user.
-fn ask_user(rt: &impl Abort, both: &Both, place: Place, user: User, counts: &mut Counts) {
-    for kind in [Kind::Read, Kind::Delete] {
-        for option in [false, true] {
-            let need = Need {
-                table: TABLE,
-                kind,
-                option,
-            };
-            counts.add_need(both.tell(rt, place, user, &need));
-        }
+/// Asks both books at a place for each need of a user of this kind.
+fn ask_kind(
+    both: &Both,
+    place: Place,
+    user: User,
+    kind: Kind,
+    counts: &mut Counts,
+) -> Result<(), TrialFault> {
+    for option in [false, true] {
+        let need = Need {
+            table: TABLE,
+            kind,
+            option,
+        };
+        counts.add_need(both.tell(place, user, &need)?);
     }
+    Ok(())
+}
+
+/// Asks both books at a place for each need of each user.
+fn ask_at(both: &Both, place: Place, counts: &mut Counts) -> Result<(), TrialFault> {
+    for number in 0..USERS {
+        let user = User(number);
+        ask_kind(both, place, user, Kind::Read, counts)?;
+        ask_kind(both, place, user, Kind::Delete, counts)?;
+    }
+    Ok(())
 }
 
 /// Asks both books at each place for each need of each user.
-fn ask(rt: &impl Abort, both: &Both, counts: &mut Counts) {
+fn ask(both: &Both, counts: &mut Counts) -> Result<(), TrialFault> {
     for place in 1..=BEHIND {
-        for user in 0..USERS {
-            ask_user(rt, both, place, User(user), counts);
-        }
+        ask_at(both, place, counts)?;
     }
-}
-
-/// Makes a drawn list of deeds in both books, asks them, and cuts them.
-fn try_list(
-    rt: &impl Abort,
-    alloc: Global,
-    generator: &mut Generator,
-    counts: &mut Counts,
-) -> Result<(), Fail> {
-    let mut both = Both::new(alloc);
-    both.enter(rt, OWNER, 0)?;
-    let mut deeds = Vec::new(alloc);
-    for place in 1..BEHIND {
-        let deed = drawn_deed(generator, place, &deeds);
-        make(rt, alloc, &mut both, &deed, counts)?;
-        deeds.push(deed)?;
-    }
-    ask(rt, &both, counts);
-    both.cut(Place::from(generator.below(DEEDS)).saturating_add(1));
-    both.expect_same(rt);
-    ask(rt, &both, counts);
-    both.give(rt, &drawn_grant(generator, BEHIND))?;
-    both.expect_same(rt);
     Ok(())
 }
 
-#[test]
-fn the_book_tells_what_the_plain_book_tells(rt: HostRuntime) -> Result<(), Fail> {
+/// Makes a drawn list of deeds in both books.
+fn put_list(
+    alloc: Global,
+    both: &mut Both,
+    generator: &mut Generator,
+    counts: &mut Counts,
+) -> Result<(), TrialFault> {
+    both.enter(OWNER, 0)?;
+    let mut deeds = Vec::with_capacity(alloc, DEEDS as usize)?;
+    for place in 1..BEHIND {
+        let deed = drawn_deed(generator, place, &deeds);
+        make(alloc, both, &deed, counts)?;
+        deeds.push(deed)?;
+    }
+    Ok(())
+}
+
+/// Makes a drawn list of deeds in both books, asks them, cuts them, and makes one more grant.
+fn try_list(
+    alloc: Global,
+    both: &mut Both,
+    generator: &mut Generator,
+    counts: &mut Counts,
+) -> Result<(), TrialFault> {
+    put_list(alloc, both, generator, counts)?;
+    ask(both, counts)?;
+    both.cut(Place::from(generator.below(DEEDS)).saturating_add(1))?;
+    ask(both, counts)?;
+    both.give(&drawn_grant(generator, BEHIND))?;
+    Ok(())
+}
+
+/// Tries drawn lists, and tells how much was compared.
+pub fn tell_drawn(rt: &impl Print, alloc: Global) -> Result<(), TrialFault> {
     let mut generator = Generator::new(17);
     let mut counts = Counts::default();
     for _ in 0..LISTS {
-        try_list(&rt, rt.alloc(), &mut generator, &mut counts)?;
+        try_list(alloc, &mut Both::new(alloc), &mut generator, &mut counts)?;
     }
-    assert!(rt; counts.granted >= LEAST.granted, "{counts:?}");
-    assert!(rt; counts.ended >= LEAST.ended, "{counts:?}");
-    assert!(rt; counts.cascades >= LEAST.cascades, "{counts:?}");
-    assert!(rt; counts.held >= LEAST.held, "{counts:?}");
-    assert!(rt; counts.lost >= LEAST.lost, "{counts:?}");
+    let _ = println!(rt; "{LISTS} drawn lists: {counts:?}");
     Ok(())
 }

@@ -2,24 +2,27 @@
 
 ghost use Rattle.std.specs.Prelude.{◌≡◌, ◌<◌, []};
 
+use crate::fault::TrialFault;
+use crate::telling::tell;
 use grants::{Book, Creation, End, Records, holds};
 use model_base::{Grant, Kind, Place, Table, User};
-use std::process::Abort;
-use std::test::Fail;
+use std::alloc::Global;
 
 const OLGA: u32 = 0;
 
 const BOB: u32 = 2;
 
-/// Whether the user holds READ on the table 0 at a place.
-fn reads(rt: &impl Abort, book: &Book, place: Place, user: u32) -> bool {
+/// Tells whether Bob holds READ on the table 0 at a place.
+fn tell_bob(rt: &impl Print, book: &Book, place: Place) {
     let mut view = book.at(place);
-    assert!(rt; view.covers(Table(0)));
-    holds(&mut view, User(user), Kind::Read, Table(0))
+    if view.covers(Table(0)) {
+        let held = holds(&mut view, User(BOB), Kind::Read, Table(0));
+        tell(rt, "  Bob reads", &(place, held));
+    }
 }
 
 /// Puts a table, a grant of its owner and the grant's end into a book that is empty.
-fn put(book: &mut Book, owner: u32, grant: Grant, end: Place) -> Result<(), Fail>
+fn put(book: &mut Book, owner: u32, grant: Grant, end: Place) -> Result<(), TrialFault>
     requires tables { book.old.tables ≡ [] }
     requires records { book.old.records ≡ [] }
     requires table { grant.table ≡ 0 }
@@ -42,10 +45,10 @@ fn put(book: &mut Book, owner: u32, grant: Grant, end: Place) -> Result<(), Fail
     Ok(())
 }
 
-/// A book that is put together from its parts tells the same.
-#[test]
-fn parts_tell(rt: HostRuntime) -> Result<(), Fail> {
-    let mut book = Book::new(rt.alloc());
+/// Tells what a book that is put together from its parts answers.
+pub fn tell_parts(rt: &impl Print, alloc: Global) -> Result<(), TrialFault> {
+    let _ = println!(rt; "a book of parts");
+    let mut book = Book::new(alloc);
     let grant = Grant {
         place: 1,
         grantor: User(OLGA),
@@ -55,7 +58,7 @@ fn parts_tell(rt: HostRuntime) -> Result<(), Fail> {
         option: false,
     };
     put(&mut book, OLGA, grant, 3)?;
-    assert!(rt; reads(&rt, &book, 3, BOB));
-    assert!(rt; !reads(&rt, &book, 4, BOB));
+    tell_bob(rt, &book, 3);
+    tell_bob(rt, &book, 4);
     Ok(())
 }

@@ -1,0 +1,149 @@
+//! Worked examples: deeds in a book and in the plain one, and what both tell then.
+
+use crate::both::Both;
+use crate::fault::TrialFault;
+use model_base::{Grant, Kind, Need, Place, Revocation, Table, User};
+use std::alloc::Global;
+
+/// What is done in an example. Grants and revocations are of reading table 0, and users go by their numbers.
+#[derive(Clone, Copy)]
+pub enum Act {
+    /// The next table is created, at a place and by a user.
+    Creates(Place, u32),
+    /// A grant at a place, by the first user to the second.
+    Gives(Place, u32, u32),
+    /// A grant with the option.
+    Lets(Place, u32, u32),
+    /// A revocation at a place, by the first user from the second.
+    Takes(Place, u32, u32),
+    /// Grants with the option along a chain, from each user between these two to the next, at the user's number and so much more.
+    Grows(u32, u32, Place),
+}
+
+/// A question: at which place, of whom and of which need.
+pub type Question = (Place, u32, Need);
+
+/// To read table 0.
+pub const READ: Need = Need {
+    table: Table(0),
+    kind: Kind::Read,
+    option: false,
+};
+
+/// To read table 0, and to grant that further.
+pub const OPTION: Need = Need {
+    table: Table(0),
+    kind: Kind::Read,
+    option: true,
+};
+
+/// Makes a grant on table 0, which its grantor may make.
+fn give(both: &mut Both, place: Place, users: (u32, u32), option: bool) -> Result<(), TrialFault> {
+    let (grantor, grantee) = users;
+    let held = both.give(&Grant {
+        place,
+        grantor: User(grantor),
+        grantee: User(grantee),
+        kind: Kind::Read,
+        table: Table(0),
+        option,
+    })?;
+    if held { Ok(()) } else { Err(TrialFault::Deed) }
+}
+
+/// Makes a revocation on table 0, and tells the places that end.
+fn tell_taken(
+    rt: &impl Print,
+    alloc: Global,
+    both: &mut Both,
+    place: Place,
+    users: (u32, u32),
+) -> Result<(), TrialFault> {
+    let (grantor, grantee) = users;
+    let revocation = Revocation {
+        place,
+        grantor: User(grantor),
+        grantee: User(grantee),
+        kind: Kind::Read,
+        table: Table(0),
+    };
+    let ended = both.take(alloc, &revocation)?;
+    let _ = println!(rt; "  {place} ends {ended:?}");
+    Ok(())
+}
+
+/// Grants the option along a chain: from each of these users to the next, at its number and so much more.
+fn grow(both: &mut Both, first: u32, last: u32, more: Place) -> Result<(), TrialFault> {
+    for user in first..last {
+        let place = Place::from(user).saturating_add(more);
+        give(both, place, (user, user.saturating_add(1)), true)?;
+    }
+    Ok(())
+}
+
+/// Does one thing.
+fn do_act(rt: &impl Print, alloc: Global, both: &mut Both, act: Act) -> Result<(), TrialFault> {
+    match act {
+        Act::Creates(place, owner) => both.enter(User(owner), place),
+        Act::Gives(place, grantor, grantee) => give(both, place, (grantor, grantee), false),
+        Act::Lets(place, grantor, grantee) => give(both, place, (grantor, grantee), true),
+        Act::Takes(place, grantor, grantee) => {
+            tell_taken(rt, alloc, both, place, (grantor, grantee))
+        }
+        Act::Grows(first, last, more) => grow(both, first, last, more),
+    }
+}
+
+/// Does what an example does, and tells what ends.
+fn tell_acts(
+    rt: &impl Print,
+    alloc: Global,
+    both: &mut Both,
+    acts: &[Act],
+) -> Result<(), TrialFault> {
+    for act in acts {
+        do_act(rt, alloc, both, *act)?;
+    }
+    Ok(())
+}
+
+/// Tells what the books answer to the questions.
+fn tell_answers(rt: &impl Print, both: &Both, questions: &[Question]) -> Result<(), TrialFault> {
+    for question in questions {
+        let (place, user, need) = *question;
+        let told = both.tell(place, User(user), &need)?;
+        let Need {
+            table,
+            kind,
+            option,
+        } = need;
+        let table = table.0;
+        let _ = println!(rt; "  at {place} user {user} {kind:?} {table} {option}: {told:?}");
+    }
+    Ok(())
+}
+
+/// Tells an example.
+pub fn tell_example(
+    rt: &impl Print,
+    alloc: Global,
+    name: &str,
+    acts: &[Act],
+    questions: &[Question],
+) -> Result<(), TrialFault> {
+    let mut both = Both::new(alloc);
+    tell_in(rt, alloc, &mut both, (name, acts, questions))
+}
+
+/// Tells an example in books that have no tables yet.
+fn tell_in(
+    rt: &impl Print,
+    alloc: Global,
+    both: &mut Both,
+    example: (&str, &[Act], &[Question]),
+) -> Result<(), TrialFault> {
+    let (name, acts, questions) = example;
+    let _ = println!(rt; "{name}");
+    tell_acts(rt, alloc, both, acts)?;
+    tell_answers(rt, both, questions)
+}

@@ -1,0 +1,8 @@
+//! What is found, a line for each.
+
+use std::fmt::Debug;
+
+/// Tells what was found of something. A line that can't be written is missing in what is compared, so nobody is told of it.
+pub fn tell<T: Debug>(rt: &impl Print, what: &str, found: &T) {
+    let _ = println!(rt; "{what}: {found:?}");
+}
