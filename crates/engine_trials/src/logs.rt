@@ -1,5 +1,6 @@
-//! Drawn logs. Ann creates the table s and bob the table t. Then come lines of four users, who grant and revoke, and run bodies
-//! on the tables' rows 0 to 2, some of which abort or touch what they don't declare, and some of which have a deed behind them.
+//! Drawn logs. Ann creates the table s, inserts a row and grants to cid, and bob creates the table t. Then come lines of the three,
+//! who grant and revoke, and run bodies on the tables' rows 0 and 1, some of which abort or touch what they don't declare, and some
+//! of which have a deed behind them.
 
 use crate::generator::Generator;
 use std::alloc::{AllocError, Global};
@@ -26,17 +27,14 @@ fn user_of(number: u32) -> &'static str {
     match number {
         0 => "ann",
         1 => "bob",
-        2 => "cid",
-        _ => "dan",
+        _ => "cid",
     }
 }
 
 fn kind_of(number: u32) -> &'static str {
     match number {
-        0 => "READ",
-        1 => "INSERT",
-        2 => "UPDATE",
-        _ => "DELETE",
+        0..=2 => "READ",
+        _ => "UPDATE",
     }
 }
 
@@ -50,19 +48,16 @@ fn verb_of(number: u32) -> &'static str {
 fn row_of(number: u32) -> &'static str {
     match number {
         0 => "0",
-        1 => "1",
-        _ => "2",
+        _ => "1",
     }
 }
 
 fn kinds_of(number: u32) -> &'static str {
     match number {
-        0 => "R",
-        1 => "I",
-        2 => "RU",
-        3 => "RD",
-        4 => "RI",
-        5 => "RU",
+        0 | 1 => "R",
+        2 | 3 | 6 => "RU",
+        4 => "I",
+        5 => "RD",
         _ => "U",
     }
 }
@@ -70,11 +65,12 @@ fn kinds_of(number: u32) -> &'static str {
 fn steps_of(number: u32) -> &'static str {
     match number {
         0 => " | LOAD 0 @ 0 | OUT 0",
-        1 => " | CONST 0 7 | INSERT @ 0",
+        1 => " | HAS 0 @ | OUT 0",
         2 => " | LOAD 0 @ 0 | CONST 1 3 | ADD 0 0 1 | STORE @ 0 0 | OUT 0",
-        3 => " | HAS 0 @ | CHECK 0 | DELETE @",
-        4 => " | HAS 0 @ | SKIP 0 1 | INSERT @ 1",
-        5 => " | LOAD 0 @ 0 | CONST 2 1 | STORE @ 0 2 | CHECK 3",
+        3 => " | LOAD 0 @ 0 | CONST 2 1 | STORE @ 0 2 | CHECK 3",
+        4 => " | CONST 0 7 | INSERT @ 0",
+        5 => " | HAS 0 @ | CHECK 0 | DELETE @",
+        6 => " | HAS 0 @ | SKIP 0 1 | STORE @ 0 1",
         _ => " | CONST 0 9 | STORE @ 0 0 | DELETE @",
     }
 }
@@ -88,8 +84,8 @@ fn body_of(number: u32) -> Body {
 
 /// A user, a table and a row. Half of the users are the table's owner.
 fn drawn_subject(generator: &mut Generator) -> Subject {
-    let table = generator.below(2);
-    let other = generator.below(4);
+    let table = if generator.below(8) == 0 { 1 } else { 0 };
+    let other = generator.below(3);
     let user = if generator.below(2) == 0 {
         table
     } else {
@@ -98,7 +94,7 @@ fn drawn_subject(generator: &mut Generator) -> Subject {
     Subject {
         user: user_of(user),
         table: if table == 0 { "s" } else { "t" },
-        row: row_of(generator.below(3)),
+        row: row_of(generator.below(2)),
     }
 }
 
@@ -114,7 +110,7 @@ fn put_deed(log: &mut Vec<u8>, generator: &mut Generator, table: &str) -> Result
     put_word(log, verb_of(verb))?;
     put_word(log, kind_of(generator.below(4)))?;
     put_word(log, table)?;
-    put_word(log, user_of(generator.below(4)))?;
+    put_word(log, user_of(generator.below(3)))?;
     if verb > 2 {
         put_word(log, "OPTION")?;
     }
@@ -152,7 +148,7 @@ fn put_run(
     generator: &mut Generator,
     subject: Subject,
 ) -> Result<(), AllocError> {
-    let body = body_of(generator.below(7));
+    let body = body_of(generator.below(8));
     put_body(log, body, subject)?;
     if generator.below(3) == 0 {
         log.extend_from_slice(b" |")?;
@@ -175,17 +171,21 @@ fn put_line(log: &mut Vec<u8>, generator: &mut Generator) -> Result<(), AllocErr
     match generator.below(20) {
         0 => put_create(log, subject.table)?,
         1 => log.extend_from_slice(b" RUN u:1:R")?,
-        2..=9 => put_deed(log, generator, subject.table)?,
+        2..=10 => put_deed(log, generator, subject.table)?,
         _ => put_run(log, generator, subject)?,
     }
     log.push(b'\n')?;
     Ok(())
 }
 
-/// A log of so many lines, the first of which create its tables.
+/// The first lines of each log.
+const FIRST: &[u8] =
+    b"ann CREATE s 1\nbob CREATE t 1\nann RUN s:0:I | CONST 0 4 | INSERT s 0 0\nann GRANT READ s cid OPTION\n";
+
+/// A log of so many lines.
 pub fn drawn_log(alloc: Global, generator: &mut Generator) -> Result<Vec<u8>, AllocError> {
-    let mut log = Vec::from_slice(alloc, b"ann CREATE s 1\nbob CREATE t 1\n")?;
-    for _ in 2..LINES {
+    let mut log = Vec::from_slice(alloc, FIRST)?;
+    for _ in 4..LINES {
         put_line(&mut log, generator)?;
     }
     Ok(log)

@@ -13,6 +13,7 @@ mod limits;
 mod logs;
 mod long;
 mod middle;
+mod refused;
 mod reporting;
 mod rows;
 mod stepping;
@@ -26,6 +27,7 @@ use gates::tell_gates;
 use limits::{tell_limits, tell_ranges};
 use long::tell_long;
 use middle::tell_parts;
+use refused::tell_refused;
 use rows::{tell_books, tell_trimmed};
 use std::alloc::Global;
 use std::process::ExitCode;
@@ -33,17 +35,6 @@ use std::rt::{Env, Files};
 use std::sync::Wait;
 use std::thread::Threads;
 use worked::{tell_kept, tell_worked};
-
-/// Tells of the worked logs that the command line names.
-fn tell_named<R: Env + Files + Threads + Wait + Print + AllocGlobal + Sync>(
-    rt: &R,
-) -> Result<(), TrialFault> {
-    let names = arguments(rt)?;
-    for name in names.iter().skip(1) {
-        tell_worked(rt, rt.alloc(), name.as_str())?;
-    }
-    Ok(())
-}
 
 /// Makes all other trials in turn.
 fn tell_others<R: Threads + Wait + Print + Sync>(rt: &R, alloc: Global) -> Result<(), TrialFault> {
@@ -59,12 +50,28 @@ fn tell_others<R: Threads + Wait + Print + Sync>(rt: &R, alloc: Global) -> Resul
     tell_long(rt, alloc)
 }
 
-/// Makes all trials.
+/// Makes the trial that a word names: that of refused growths, all others, or a worked log.
+fn tell_word<R: Files + Threads + Wait + Print + Sync>(
+    rt: &R,
+    alloc: Global,
+    word: &str,
+) -> Result<(), TrialFault> {
+    match word {
+        "refused-growths" => tell_refused(rt, alloc),
+        "others" => tell_others(rt, alloc),
+        name => tell_worked(rt, alloc, name),
+    }
+}
+
+/// Makes the trials that the command line names.
 fn tell<R: Env + Files + Threads + Wait + Print + AllocGlobal + Sync>(
     rt: &R,
 ) -> Result<(), TrialFault> {
-    tell_named(rt)?;
-    tell_others(rt, rt.alloc())
+    let words = arguments(rt)?;
+    for word in words.iter().skip(1) {
+        tell_word(rt, rt.alloc(), word.as_str())?;
+    }
+    Ok(())
 }
 
 fn main(rt: HostRuntime) -> ExitCode {

@@ -34,7 +34,7 @@ const LATE: &[&str] = &[
     "carol RUN t:1:R | HAS 0 t 1 | OUT 0",
 ];
 
-/// Takes and runs the log in four batches, the last two of which are taken while the first is finished already.
+/// Takes the beginning of the log and runs a part of it, and then takes the rest, and runs it in three batches more.
 fn run_in_parts<R: Threads + Wait + Sync>(
     rt: &R,
     alloc: Global,
@@ -79,15 +79,35 @@ fn outcomes(alloc: Global, engine: &Engine) -> Result<Vec<u8>, TrialFault> {
     Ok(text)
 }
 
+/// Runs the log as one batch, tells its outcomes, and answers them.
+fn tell_at_once<R: Threads + Wait + Print + Sync>(
+    rt: &R,
+    alloc: Global,
+    engine: &mut Engine,
+) -> Result<Vec<u8>, TrialFault> {
+    run_at_once(rt, alloc, engine)?;
+    tell_outcomes(rt, engine, PLACES)?;
+    outcomes(alloc, engine)
+}
+
 /// The outcomes of the log run as one batch, which are told.
 fn told_at_once<R: Threads + Wait + Print + Sync>(
     rt: &R,
     alloc: Global,
 ) -> Result<Vec<u8>, TrialFault> {
     let mut engine = Engine::new(alloc);
-    run_at_once(rt, alloc, &mut engine)?;
-    tell_outcomes(rt, &engine, PLACES)?;
-    outcomes(alloc, &engine)
+    tell_at_once(rt, alloc, &mut engine)
+}
+
+/// Runs the log in parts, and answers its outcomes.
+fn outcomes_in_parts<R: Threads + Wait + Sync>(
+    rt: &R,
+    alloc: Global,
+    engine: &mut Engine,
+    crew: Crew,
+) -> Result<Vec<u8>, TrialFault> {
+    run_in_parts(rt, alloc, engine, crew)?;
+    outcomes(alloc, engine)
 }
 
 /// The outcomes of the log run in parts.
@@ -97,8 +117,7 @@ fn found_in_parts<R: Threads + Wait + Sync>(
     crew: Crew,
 ) -> Result<Vec<u8>, TrialFault> {
     let mut engine = Engine::new(alloc);
-    run_in_parts(rt, alloc, &mut engine, crew)?;
-    outcomes(alloc, &engine)
+    outcomes_in_parts(rt, alloc, &mut engine, crew)
 }
 
 /// Tells the outcomes of a log run as one batch, and whether they are the same where it is run in parts.

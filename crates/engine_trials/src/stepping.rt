@@ -31,7 +31,7 @@ pub fn crew_of(workers: usize, partitions: usize) -> Crew {
 }
 
 /// Takes a line into the log.
-fn push_line(alloc: Global, engine: &mut Engine, line: &str) -> Result<(), TrialFault> {
+pub fn push_line(alloc: Global, engine: &mut Engine, line: &str) -> Result<(), TrialFault> {
     let Ok(statement) = parse_line(alloc, line.as_bytes()) else {
         return Err(TrialFault::Line);
     };
