@@ -1,0 +1,4 @@
+pub mod Searching
+pub mod Standing
+pub mod Leading
+pub mod Showing

@@ -1,0 +1,138 @@
+-- What the first grants of a view give, and the path by them.
+use Rattle.std.proofs.Common.{◌≡◌, ℕ, zero, suc, ◌<◌, ◌≤◌, ◌||◌, ◌&&◌, Bool, true, false, List, [], ◌∷◌, ◌++◌, Option, Some, None, is_none, length, map, take, refl, sym, ◌∙◌, ap, append_assoc, arith, inl, inr}
+use Rattle.std.specs.Prelude.{IfSome, reverse, slice_get}
+use Rattle.std.specs.List.{flat_map, list_any}
+use Rattle.std.specs.Option.{option_to_list}
+use Rattle.std.proofs.lemmas.Bool.{and_parts, cases_lt, true≢false}
+use Rattle.std.proofs.lemmas.List.{append-nil, map-append, take_all}
+use Rattle.model_base.specs.declared.deed.Grant.{Grant}
+use Rattle.model_base.specs.declared.deed.Need.{Need}
+use Rattle.model_base.specs.declared.deed.Record.{Record}
+use Rattle.model_base.specs.Paths.{path}
+use Rattle.model_base.specs.Privileges.{gives, has, option_of, owns}
+use Rattle.model_base.specs.Records.{in_force}
+use Rattle.model_base.proofs.Paths.{path-earliest, path-none, reverse-snoc}
+use Rattle.model_base.proofs.Replay.{by_cases}
+use Rattle.grants.specs.Index.{AreAsked, IsNext, is_to}
+use Rattle.grants.specs.View.{View, entries, flatten, slot_at, slot_gives}
+use Rattle.grants.proofs.Found.{idle}
+use Rattle.grants.proofs.Passing.{given}
+use Rattle.grant_paths.specs.declared.paths.Giving.{Giving}
+use Rattle.grant_paths.specs.Lines.{places_of}
+use Rattle.grant_paths.specs.Steps.{IsFirstGiving, IsLastOfPath, giving_in, stood}
+
+-- a slot whose grant isn't found gives nothing
+pub none_giving : (slot : Option Record) (user : ℕ) (need : Need) → None ≡ giving_in slot user need → slot_gives slot user need ≡ false
+none_giving None user need is = refl
+none_giving (Some entry) user need is =
+    by_cases (is_none entry.end && gives entry.grant user need)
+    (λ gave. let some : None ≡ Some entry.grant = rw gave at is in absurd (cc))
+    (λ none. none)
+
+-- one that is found stands in its slot, and gives what is needed
+pub record IsGiven (slot : Option Record) (user : ℕ) (need : Need) (grant : Grant) : Type 0 where
+  pub entry : Record
+  pub there : slot ≡ Some entry
+  pub unended : is_none entry.end ≡ true
+  pub same : entry.grant ≡ grant
+  pub given : gives grant user need ≡ true
+
+pub is_given : (slot : Option Record) (user : ℕ) (need : Need) (grant : Grant) → giving_in slot user need ≡ Some grant → IsGiven slot user need grant
+is_given None user need grant is = absurd (cc)
+is_given (Some entry) user need grant is =
+    by_cases (is_none entry.end && gives entry.grant user need)
+    (λ gave.
+    let found : Some entry.grant ≡ Some grant = rw gave at is in
+    let same : entry.grant ≡ grant = cc in
+    let parts = and_parts (is_none entry.end) (gives entry.grant user need) gave in
+    record { entry = entry; there = refl; unended = parts.0; same = same; given = ap (λ (g : Grant). gives g user need) (sym same) ∙ parts.1 })
+    (λ none. let nothing : None ≡ Some grant = rw none at is in absurd (cc))
+
+-- the slots below one that isn't found, from where the search stands, give nothing either
+pub none_below : (view : View) (asked : List Grant) (user : ℕ) (need : Need) (from end : ℕ) (found : Option ℕ) → AreAsked view asked
+    → IsNext (is_to user need.kind need.table) asked from found
+    → ((slot : ℕ) → found ≡ Some slot → end ≤ slot)
+    → ((k : ℕ) → k < from → slot_gives (slot_at view k) user need ≡ false)
+    → (k : ℕ) → k < end → slot_gives (slot_at view k) user need ≡ false
+none_below view asked user need from end None are next above before k less =
+    elim (cases_lt k from) [
+      | inl under ↦ before k under
+      | inr over ↦ (idle view user need asked are from (suc k) (λ j low high. next j low)).gives k over (omega arith)
+    ]
+none_below view asked user need from end (Some slot) are next above before k less =
+    elim (cases_lt k from) [
+      | inl under ↦ before k under
+      | inr over ↦
+          let far = above slot refl in
+          (idle view user need asked are from slot next.2).gives k over (omega arith)
+    ]
+
+module _ (user : ℕ) (need : Need) where
+  -- slots that give nothing have no grant in force that does
+  pub none_stood : (slots : List (Option Record)) (n : ℕ) → ((k : ℕ) → k < n → slot_gives (flatten (slice_get slots k)) user need ≡ false)
+      → list_any (λ grant. gives grant user need) (in_force (flat_map option_to_list (take n slots))) ≡ false
+  none_stood slots zero none = refl
+  none_stood [] (suc n) none = refl
+  none_stood (None ∷ slots) (suc n) none = none_stood slots n (λ k less. none (suc k) (omega arith))
+  none_stood (Some entry ∷ slots) (suc n) none =
+      let rest = none_stood slots n (λ k less. none (suc k) (omega arith)) in
+      by_cases (is_none entry.end)
+      (λ stands. let here : gives entry.grant user need ≡ false = rw stands at (none 0 (omega arith)) in rw (stands, here) rest)
+      (λ ended. rw ended rest)
+
+  -- the grants in force of some slots are those before one of them, its own, and those behind it
+  pub split_stood : (slots : List (Option Record)) (end slot : ℕ) (grant : Grant) → slot < end → giving_in (flatten (slice_get slots slot)) user need ≡ Some grant
+      → (later : List Grant) × (in_force (flat_map option_to_list (take end slots)) ≡ in_force (flat_map option_to_list (take slot slots)) ++ grant ∷ later)
+  split_stood slots zero slot grant less is = absurd (omega arith)
+  split_stood [] (suc end) slot grant less is = absurd (cc)
+  split_stood (None ∷ slots) (suc end) zero grant less is = absurd (cc)
+  split_stood (Some entry ∷ slots) (suc end) zero grant less is =
+      let found = is_given (Some entry) user need grant is in
+      let same : found.entry ≡ entry = cc in
+      let stands : is_none entry.end ≡ true = ap (λ (e : Record). is_none e.end) (sym same) ∙ found.unended in
+      let first : entry.grant ≡ grant = ap (λ (e : Record). e.grant) (sym same) ∙ found.same in
+      let later = in_force (flat_map option_to_list (take end slots)) in
+      (later, rw stands (ap (λ (g : Grant). g ∷ later) first))
+  split_stood (None ∷ slots) (suc end) (suc slot) grant less is = split_stood slots end slot grant (omega arith) is
+  split_stood (Some entry ∷ slots) (suc end) (suc slot) grant less is =
+      let rest = split_stood slots end slot grant (omega arith) is in
+      by_cases (is_none entry.end)
+      (λ stands. (rest.0, rw stands (ap (λ r. entry.grant ∷ r) rest.1)))
+      (λ ended. (rest.0, rw ended rest.1))
+
+  -- what neither the owner has nor a grant gives isn't had
+  not_had : (owners : List ℕ) (grants : List Grant) → owns owners user need.table ≡ false → list_any (λ grant. gives grant user need) grants ≡ false
+      → has owners grants user need ≡ false
+  unfolding has
+  not_had owners grants other none = rw (other, none) refl
+
+  -- the first grant that gives the need is the last of its path
+  pub first_is_last : (view : View) (owners : List ℕ) (end : ℕ) (found : Option Giving) → owns owners user need.table ≡ false
+      → IsFirstGiving view user need end found → IsLastOfPath view owners user need end found
+  first_is_last view owners end None other first = path-none owners (stood view end) user need (not_had owners (stood view end) other (none_stood view.slots end first))
+  first_is_last view owners end (Some found) other first =
+      let split = split_stood view.slots end found.slot found.grant first.0 first.1 in
+      let gave = is_given (slot_at view found.slot) user need found.grant first.1 in
+      ap (λ (grants : List Grant). path owners grants user need) split.1
+      ∙ path-earliest owners (stood view found.slot) split.0 found.grant user need
+      (not_had owners (stood view found.slot) other (none_stood view.slots found.slot first.2)) gave.given
+
+  -- it is on the need's table
+  pub first_below : (view : View) (end : ℕ) (found : Option Giving) → IsFirstGiving view user need end found
+      → IfSome found (λ (giving : Giving). (giving.slot < end) × (giving.grant.table ≡ need.table))
+  first_below view end None first = tt
+  first_below view end (Some found) first =
+      (first.0, (given found.grant user need (is_given (slot_at view found.slot) user need found.grant first.1).given).table)
+
+-- all slots are all entries
+pub stood-all : (view : View) → stood view (length view.slots) ≡ in_force (entries view)
+stood-all view = ap (λ slots. in_force (flat_map option_to_list slots)) (take_all (length view.slots) view.slots (omega arith))
+
+-- one more place found, last first, is the path of what is left and then it, and those found before
+pub path_step : (whole : List ℕ) (old rest : List Grant) (grant : Grant) (found : List ℕ) → whole ≡ places_of old ++ reverse found → old ≡ rest ++ grant ∷ []
+    → whole ≡ places_of rest ++ reverse (found ++ grant.place ∷ [])
+path_step whole old rest grant found is last =
+    is ∙ ap (λ grants. places_of grants ++ reverse found) last
+    ∙ ap (λ places. places ++ reverse found) (map-append (λ (g : Grant). g.place) rest (grant ∷ []))
+    ∙ append_assoc (places_of rest) (grant.place ∷ []) (reverse found)
+    ∙ ap (λ places. places_of rest ++ places) (sym (reverse-snoc found grant.place))
