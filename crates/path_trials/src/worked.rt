@@ -1,0 +1,158 @@
+//! A worked list of deeds: a user is granted an option twice, in two ways, grants further by the one and the other, and loses
+//! the first.
+
+use crate::deeds::{create, give, take};
+use crate::fault::TrialFault;
+use crate::findings::{chain_of, tell_accepted, tell_need};
+use grant_paths::Shown;
+use grants::Book;
+use model_base::{Grant, Kind, Need, Place, Revocation, Table, User};
+use std::alloc::Global;
+
+const ALICE: User = User(0);
+
+const BOB: User = User(1);
+
+const DAVE: User = User(2);
+
+const CAROL: User = User(3);
+
+const EVE: User = User(4);
+
+const READ: Need = Need {
+    table: Table(0),
+    kind: Kind::Read,
+    option: false,
+};
+
+const OPTION: Need = Need {
+    table: Table(0),
+    kind: Kind::Read,
+    option: true,
+};
+
+/// A grant of READ on the one table.
+fn grant(place: Place, grantor: User, grantee: User, option: bool) -> Grant {
+    Grant {
+        place,
+        grantor,
+        grantee,
+        kind: Kind::Read,
+        table: Table(0),
+        option,
+    }
+}
+
+/// The deeds of the places 0 to 6.
+fn put_deeds(book: &mut Book, alloc: Global) -> Result<(), TrialFault> {
+    create(book, ALICE, 0)?;
+    give(book, &grant(1, ALICE, BOB, true))?;
+    give(book, &grant(2, ALICE, DAVE, true))?;
+    give(book, &grant(3, BOB, CAROL, false))?;
+    give(book, &grant(4, DAVE, BOB, true))?;
+    give(book, &grant(5, BOB, EVE, false))?;
+    take(
+        book,
+        alloc,
+        &Revocation {
+            place: 6,
+            grantor: ALICE,
+            grantee: BOB,
+            kind: Kind::Read,
+            table: Table(0),
+        },
+    )
+}
+
+/// Tells what there is to show of each user's need.
+fn tell_needs(rt: &impl Print, alloc: Global, book: &Book) -> Result<(), TrialFault> {
+    tell_need(rt, alloc, book, "alice at 2", 2, ALICE, &OPTION)?;
+    tell_need(rt, alloc, book, "bob at 1", 1, BOB, &READ)?;
+    tell_need(
+        rt,
+        alloc,
+        book,
+        "bob at 5, with the option",
+        5,
+        BOB,
+        &OPTION,
+    )?;
+    tell_need(rt, alloc, book, "bob at 7", 7, BOB, &READ)?;
+    tell_need(rt, alloc, book, "carol at 4", 4, CAROL, &READ)?;
+    tell_need(rt, alloc, book, "carol at 8", 8, CAROL, &READ)?;
+    tell_need(rt, alloc, book, "eve at 6", 6, EVE, &READ)?;
+    tell_need(rt, alloc, book, "eve at 9", 9, EVE, &READ)?;
+    tell_need(
+        rt,
+        alloc,
+        book,
+        "eve at 9, with the option",
+        9,
+        EVE,
+        &OPTION,
+    )
+}
+
+/// Tells whether a chain is accepted for bob's need of the option before the place 5.
+fn tell_bob(
+    rt: &impl Print,
+    alloc: Global,
+    book: &Book,
+    places: &[Place],
+) -> Result<(), TrialFault> {
+    let shown = Shown::Grants(chain_of(alloc, places)?);
+    tell_accepted(rt, book, "handed in of bob at 5", 5, BOB, &OPTION, &shown)
+}
+
+/// Tells whether a chain is accepted for carol's need before the place 8, lost at another.
+fn tell_carol(
+    rt: &impl Print,
+    alloc: Global,
+    book: &Book,
+    lost: Place,
+    places: &[Place],
+) -> Result<(), TrialFault> {
+    let shown = Shown::Taken(lost, chain_of(alloc, places)?);
+    tell_accepted(rt, book, "handed in of carol at 8", 8, CAROL, &READ, &shown)
+}
+
+/// Tells which chains are accepted.
+fn tell_chains(rt: &impl Print, alloc: Global, book: &Book) -> Result<(), TrialFault> {
+    tell_bob(rt, alloc, book, &[1])?;
+    tell_bob(rt, alloc, book, &[2, 4])?;
+    tell_bob(rt, alloc, book, &[4])?;
+    tell_bob(rt, alloc, book, &[4, 2])?;
+    tell_bob(rt, alloc, book, &[1, 4])?;
+    tell_bob(rt, alloc, book, &[])?;
+    tell_accepted(
+        rt,
+        book,
+        "handed in of bob at 5",
+        5,
+        BOB,
+        &OPTION,
+        &Shown::Owner,
+    )?;
+    tell_carol(rt, alloc, book, 6, &[1, 3])?;
+    tell_carol(rt, alloc, book, 5, &[1, 3])?;
+    tell_carol(rt, alloc, book, 6, &[2, 4, 3])?;
+    tell_accepted(
+        rt,
+        book,
+        "handed in of carol at 8",
+        8,
+        CAROL,
+        &READ,
+        &Shown::Never,
+    )?;
+    let late = Shown::Grants(chain_of(alloc, &[1, 5])?);
+    tell_accepted(rt, book, "handed in of eve at 9", 9, EVE, &READ, &late)
+}
+
+/// Tells all of the worked deeds.
+pub fn tell_worked(rt: &impl Print, alloc: Global) -> Result<(), TrialFault> {
+    let mut book = Book::new(alloc);
+    put_deeds(&mut book, alloc)?;
+    tell_needs(rt, alloc, &book)?;
+    tell_chains(rt, alloc, &book)
+}
