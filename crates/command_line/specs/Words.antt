@@ -6,15 +6,19 @@ use Rattle.clap.specs.declared.error.kind.ErrorKind.{ErrorKind}
 use denote.Ref.{Bor}
 use Rattle.bohm_base.specs.declared.command_line.ArgumentFault.{ArgumentFault}
 use Rattle.bohm_base.specs.declared.fault.EngineFault.{EngineFault}
-use Rattle.command_line.specs.declared.words.Command.{Command}
-use Rattle.command_line.specs.declared.words.ProgramFault.{ProgramFault}
-use Rattle.command_line.specs.declared.words.Source.{Source}
-use Rattle.command_line.specs.declared.words.Usage.{Usage}
+use Rattle.batched_text.specs.Settings.{are_within_limits}
+use Rattle.batched_text.specs.declared.settings.Settings.{Settings}
+use Rattle.command_line.specs.Options.{settings_among, with_options}
+use Rattle.command_line.specs.declared.command_words.Command.{Command}
+use Rattle.command_line.specs.declared.command_words.ProgramFault.{ProgramFault}
+use Rattle.command_line.specs.declared.command_words.Source.{Source}
+use Rattle.command_line.specs.declared.command_words.Usage.{Usage}
 
 -- whether an error of this kind is told so: help and the version as help, any other as a fault of the words
 abbrev pub Tells : Usage → ErrorKind → Type 0
 Tells (Usage.Help text) kind = (kind ≡ ErrorKind.DisplayHelp) ⊎ (kind ≡ ErrorKind.DisplayVersion)
 Tells (Usage.Fault text) kind = (kind ≢ ErrorKind.DisplayHelp) × (kind ≢ ErrorKind.DisplayVersion)
+Tells Usage.OutsideLimits kind = ⊥
 Tells Usage.NoMemory kind = Unit {0}
 
 -- want of memory, or one of these kinds of error, told so
@@ -27,6 +31,7 @@ status_of (ProgramFault.Arguments ArgumentFault.NotUtf8) = 2
 status_of (ProgramFault.Arguments ArgumentFault.NoMemory) = 1
 status_of (ProgramFault.Usage (Usage.Fault text)) = 2
 status_of (ProgramFault.Usage (Usage.Help text)) = 0
+status_of (ProgramFault.Usage Usage.OutsideLimits) = 2
 status_of (ProgramFault.Usage Usage.NoMemory) = 1
 status_of ProgramFault.Open = 1
 status_of (ProgramFault.Engine fault) = 1
@@ -43,13 +48,14 @@ message_of (ProgramFault.Arguments ArgumentFault.NotUtf8) = codes "bohm: an argu
 message_of (ProgramFault.Arguments ArgumentFault.NoMemory) = codes "bohm: out of memory"
 message_of (ProgramFault.Usage (Usage.Fault text)) = string_bytes text
 message_of (ProgramFault.Usage (Usage.Help text)) = string_bytes text
+message_of (ProgramFault.Usage Usage.OutsideLimits) = codes "bohm: bad settings"
 message_of (ProgramFault.Usage Usage.NoMemory) = codes "bohm: out of memory"
 message_of ProgramFault.Open = codes "bohm: cannot open file"
 message_of (ProgramFault.Engine fault) = engine_message fault
 
--- `run` may have one word, FILE
+-- `run` may have one word, FILE, and its options
 abbrev pub run_shape : Shape
-run_shape = (with_rule (new_app (codes "run")) (new_rule (codes "FILE"))).top
+run_shape = (with_options (with_rule (new_app (codes "run")) (new_rule (codes "FILE")))).top
 
 -- and `serial` has to have it
 abbrev pub serial_shape : Shape
@@ -82,9 +88,24 @@ path_of (Source.File path) = Some path.now
 abbrev pub path_named : Option Text → Option Text
 path_named word = option_and_then (λ path. if bytes_eq path (codes "-") then None else Some path) word
 
--- whether the command is the one of a subcommand that was entered with some words, over the log that they name
+-- the settings that the words of a subcommand tell, if each is within its limits
+abbrev pub settings_told : Option (Text × List Row) → Option Settings
+settings_told entered = option_and_then (λ found. settings_among found.1) entered
+
+-- whether the command is the one of a subcommand that was entered with some words, over the log that they name, by the settings
+-- that they tell
 abbrev pub Asks : Command → Option (Text × List Row) → Type 0
-Asks (Command.Run source) entered =
-    (is_entered (codes "serial") entered ≡ false) × (path_of source ≡ path_named (file_among entered))
+Asks (Command.Run source settings) entered =
+    (is_entered (codes "serial") entered ≡ false)
+    × ((path_of source ≡ path_named (file_among entered)) × (settings_told entered ≡ Some settings))
 Asks (Command.Serial source) entered =
     (is_entered (codes "serial") entered ≡ true) × (path_of source ≡ path_named (file_among entered))
+
+-- a run is asked for by settings of which one isn't within its limits
+abbrev pub AsksOutsideLimits : Option (Text × List Row) → Type 0
+AsksOutsideLimits entered = (is_entered (codes "serial") entered ≡ false) × (settings_told entered ≡ None)
+
+-- the settings of a run are within their limits
+abbrev pub IsWithinLimits : Command → Type 0
+IsWithinLimits (Command.Run source settings) = are_within_limits settings ≡ true
+IsWithinLimits (Command.Serial source) = Unit {0}

@@ -1,10 +1,12 @@
 //! The words of the command line, and how a run of the program ends.
 
-ghost use Rattle.std.specs.Prelude.{◌≡◌, [], IfOk, IfErr, OnOk};
+ghost use Rattle.std.specs.Prelude.{◌≡◌, ◌⊎◌, [], Err, IfOk, IfErr, IfNone, IfSome, OnOk};
 ghost use Rattle.std.specs.Option.{option_map};
 ghost use Rattle.clap.specs.Words.{app_of, fault_of, kind_of, subcommand_of, subcommand_rows_of, with_subcommand};
-ghost use Rattle.command_line.specs.Words.{Asks, Tells, TellsOneOf, bohm_app, message_of, path_named, path_of, run_shape, serial_shape, status_of, texts_of};
+ghost use Rattle.command_line.specs.Words.{Asks, AsksOutsideLimits, IsWithinLimits, Tells, TellsOneOf, bohm_app, message_of, path_named, path_of, run_shape, serial_shape, status_of, texts_of};
 
+use crate::options::{settings_of, with_options};
+use batched_text::Settings;
 use bohm_base::{ArgumentFault, EngineFault};
 use clap::error::ErrorKind;
 use clap::{Arg, ArgMatches, Error};
@@ -21,8 +23,8 @@ pub enum Source<'a> {
 /// What the program is asked to do.
 #[derive(Clone, Copy, Debug, PartialEq, Eq)]
 pub enum Command<'a> {
-    /// Execute a log and write its report.
-    Run(Source<'a>),
+    /// Execute a log by these settings and write its report.
+    Run(Source<'a>, Settings),
     /// Execute a log by the slow serial run, and write its report.
     Serial(Source<'a>),
 }
@@ -34,6 +36,8 @@ pub enum Usage {
     Fault(String),
     /// The words ask for help, or for the version.
     Help(String),
+    /// A setting isn't within its limits.
+    OutsideLimits,
     /// A growth was refused.
     NoMemory,
 }
@@ -59,6 +63,7 @@ fn with_run<'a>(alloc: Global, program: clap::Command<'a>) -> Result<clap::Comma
     let run = clap::Command::new(alloc, "run")
         .about("Executes a log, and writes its report to standard output")
         .arg(file)?;
+    let run = with_options(alloc, run)?;
     program.subcommand(run)
 }
 
@@ -115,29 +120,37 @@ fn source_of<'a>(file: Option<&'a str>) -> Source<'a>
     }
 }
 
-/// The command of the subcommand that was entered.
-fn command_in<'a>(matches: &ArgMatches<'a>) -> Command<'a>
-    ensures { Asks result (subcommand_rows_of matches.now) }
+/// The command of the subcommand that was entered, if its settings are within their limits.
+fn command_in<'a>(matches: &ArgMatches<'a>) -> Option<Command<'a>>
+    ensures asks { IfSome result (λ command. Asks command (subcommand_rows_of matches.now)) }
+    ensures within { IfSome result IsWithinLimits }
+    ensures outside { IfNone result (AsksOutsideLimits (subcommand_rows_of matches.now)) }
 {
     let Some((name, found)) = matches.subcommand() else {
-        return Command::Run(Source::StandardInput);
+        return None;
     };
     let file = found.get_str("FILE");
     let source = source_of(file);
     if name == "serial" {
-        return Command::Serial(source);
+        return Some(Command::Serial(source));
     }
-    Command::Run(source)
+    let settings = settings_of(found)?;
+    Some(Command::Run(source, settings))
 }
 
 /// Reads the words of the command line, the program's name first. The words are judged by `clap`: an answered command
-/// is the one of the subcommand that it finds, with the file that it finds, and words that it takes fail only where a growth was refused. Help
-/// is answered only where the words ask for it, and a fault only where they are wrong.
+/// is the one of the subcommand that it finds, with the file and the settings that it finds, and these are within their
+/// limits. Words that it takes fail only where a growth was refused, or where a setting isn't within its limits. Help is
+/// answered only where the words ask for it, and a fault only where they are wrong.
 pub fn read_words<'a>(alloc: Global, words: &'a [&'a str]) -> Result<Command<'a>, Usage>
     ensures taken { OnOk result (fault_of bohm_app (texts_of words.entry.now) ≡ []) }
     ensures asked { IfOk result (λ command. Asks command (subcommand_of bohm_app (texts_of words.entry.now))) }
-    ensures fault { IfErr result (λ usage. fault_of bohm_app (texts_of words.entry.now) ≡ [] → usage ≡ Usage.NoMemory) }
-    ensures told { IfErr result (TellsOneOf (fault_of bohm_app (texts_of words.entry.now))) }
+    ensures within { IfOk result IsWithinLimits }
+    ensures fault { IfErr result (λ usage. fault_of bohm_app (texts_of words.entry.now) ≡ []
+        → (usage ≡ Usage.NoMemory) ⊎ (usage ≡ Usage.OutsideLimits)) }
+    ensures told { IfErr result (λ usage. (usage ≡ Usage.OutsideLimits)
+        ⊎ TellsOneOf (fault_of bohm_app (texts_of words.entry.now)) usage) }
+    ensures outside { result ≡ Err Usage.OutsideLimits → AsksOutsideLimits (subcommand_of bohm_app (texts_of words.entry.now)) }
 {
     let program = match program(alloc) {
         Ok(program) => program,
@@ -147,7 +160,10 @@ pub fn read_words<'a>(alloc: Global, words: &'a [&'a str]) -> Result<Command<'a>
         Ok(matches) => matches,
         Err(error) => return Err(usage_of(alloc, &error)),
     };
-    Ok(command_in(&matches))
+    match command_in(&matches) {
+        Some(command) => Ok(command),
+        None => Err(Usage::OutsideLimits),
+    }
 }
 
 /// The exit status of a fault, and the text to print: on standard output where the status is 0, else on standard error.
@@ -162,6 +178,7 @@ pub fn ending(fault: &ProgramFault) -> (u8, &str)
         ProgramFault::Arguments(ArgumentFault::NoMemory) => (1, "bohm: out of memory"),
         ProgramFault::Usage(Usage::Fault(text)) => (2, text.as_str()),
         ProgramFault::Usage(Usage::Help(text)) => (0, text.as_str()),
+        ProgramFault::Usage(Usage::OutsideLimits) => (2, "bohm: bad settings"),
         ProgramFault::Usage(Usage::NoMemory) => (1, "bohm: out of memory"),
         ProgramFault::Open => (1, "bohm: cannot open file"),
         ProgramFault::Engine(EngineFault::NoMemory) => (1, "bohm: out of memory"),

@@ -1,0 +1,37 @@
+use Rattle.std.proofs.Common.{subst, ◌≡◌, [], true, refl, ap, inr, ◌∙◌}
+use Rattle.clap.specs.Words.{App, HasKind, fault_of, is_simple, is_simple_and_free, subcommand_of}
+use Rattle.clap.proofs.OnLiterals.{clap_on_literals}
+use Rattle.command_line.specs.Words.{Asks, AsksOutsideLimits, bohm_app, texts_of}
+use Rattle.command_line.proofs.Telling.{told}
+use Rattle.command_line.proofs.command_words.read_words.Goals as goal
+
+simple : is_simple bohm_app ≡ true
+unfolding clap_on_literals
+simple = refl
+
+simple_and_free : is_simple_and_free bohm_app ≡ true
+unfolding clap_on_literals
+simple_and_free = refl
+
+pub returns-in-Some-clause-taken : goal.returns-in-Some-clause-taken
+returns-in-Some-clause-taken c =
+    subst (λ (a : App). fault_of a (texts_of c.args.words.now) ≡ []) c.in-Ok.ensures
+    (c.in-Ok-try_get_matches_from.ensures.kinds (ap is_simple_and_free c.in-Ok.ensures ∙ simple_and_free))
+
+pub returns-in-Some-clause-asked : goal.returns-in-Some-clause-asked
+returns-in-Some-clause-asked c =
+    let found = (c.in-Ok-try_get_matches_from.ensures.matches (ap is_simple c.in-Ok.ensures ∙ simple)).1 in
+    subst (Asks c.in-Some.command) (found ∙ ap (λ (a : App). subcommand_of a (texts_of c.args.words.now)) c.in-Ok.ensures) c.in-Some.ensures.asks
+
+pub returns-clause-outside : goal.returns-clause-outside
+returns-clause-outside c _ =
+    let found = (c.in-Ok-try_get_matches_from.ensures.matches (ap is_simple c.in-Ok.ensures ∙ simple)).1 in
+    subst AsksOutsideLimits (found ∙ ap (λ (a : App). subcommand_of a (texts_of c.args.words.now)) c.in-Ok.ensures) c.in-None.ensures.outside
+
+pub returns-in-Err-try_get_matches_from-clause-told : goal.returns-in-Err-try_get_matches_from-clause-told
+returns-in-Err-try_get_matches_from-clause-told c =
+    let error = c.in-Err-try_get_matches_from.error in
+    let has = c.in-Err-try_get_matches_from.ensures.kinds (ap is_simple_and_free c.in-Ok.ensures ∙ simple_and_free) in
+    inr (told (fault_of bohm_app (texts_of c.args.words.now)) error c.usage_of.result
+    (subst (λ (a : App). HasKind (fault_of a (texts_of c.args.words.now)) error) c.in-Ok.ensures has)
+    c.usage_of.ensures.memory c.usage_of.ensures.told)

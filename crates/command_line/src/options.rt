@@ -1,0 +1,127 @@
+//! The options of `run`: how its log is cut into batches, and by how many workers and partitions these are run.
+
+ghost use Rattle.std.specs.Prelude.{◌≡◌, ◌≤◌, IfOk, IfSome, true};
+ghost use Rattle.clap.specs.Words.{app_of, found_of, rows_of, with_rule};
+ghost use Rattle.batched_text.specs.Settings.{are_within_limits};
+ghost use Rattle.command_line.specs.Options.{is_alone, number_among, number_rule, number_within, settings_among, with_options};
+
+use batched_text::Settings;
+use clap::builder::ValueParser;
+use clap::{Arg, ArgMatches, Command};
+use std::alloc::{AllocError, Global};
+
+/// An option whose value is a number.
+struct NumberOption {
+    name: &'static str,
+    least: u64,
+    most: u64,
+    /// The number that it has where it isn't told.
+    default: &'static str,
+    help: &'static str,
+}
+
+const WORKERS: NumberOption = NumberOption {
+    name: "workers",
+    least: 1,
+    most: 64,
+    default: "1",
+    help: "How many workers run a batch, 1 to 64",
+};
+
+const PARTITIONS: NumberOption = NumberOption {
+    name: "partitions",
+    least: 1,
+    most: 64,
+    default: "1",
+    help: "By how many partitions a batch is placed, 1 to 64",
+};
+
+const BATCH: NumberOption = NumberOption {
+    name: "batch",
+    least: 1,
+    most: 65_536,
+    default: "1024",
+    help: "How many accepted statements a batch has, 1 to 65536",
+};
+
+const KEEP: NumberOption = NumberOption {
+    name: "keep",
+    least: 0,
+    most: 65_535,
+    default: "1",
+    help: "Before how many of the last batches the rows are kept, 0 to 65535",
+};
+
+/// Adds an option to a command's description.
+fn with_number<'a>(
+    alloc: Global,
+    command: Command<'a>,
+    option: &NumberOption,
+) -> Result<Command<'a>, AllocError>
+    ensures { IfOk result (λ c. app_of c ≡ with_rule (app_of command.entry)
+        (number_rule option.now.name.now option.now.least option.now.most option.now.default.now)) }
+{
+    let number = Arg::new(alloc, option.name)
+        .long(option.name)
+        .value_name("N")
+        .value_parser(ValueParser::unsigned(option.least, option.most))
+        .default_value(option.default)
+        .help(option.help);
+    command.arg(number)
+}
+
+/// Adds the options of `run` to its description.
+pub(crate) fn with_options<'a>(alloc: Global, run: Command<'a>) -> Result<Command<'a>, AllocError>
+    ensures { IfOk result (λ c. app_of c ≡ with_options (app_of run.entry)) }
+{
+    let run = with_number(alloc, run, &WORKERS)?;
+    let run = with_number(alloc, run, &PARTITIONS)?;
+    let run = with_number(alloc, run, &BATCH)?;
+    with_number(alloc, run, &KEEP)
+}
+
+/// The number that a text tells, if it is one within these limits.
+fn number_within(text: &str, least: u64, most: u64) -> Option<u64>
+    ensures told { result ≡ number_within least most text.now }
+    ensures within { IfSome result (λ n. (least ≤ n) × (n ≤ most)) }
+{
+    match text.parse::<u64>() {
+        Ok(number) if least <= number && number <= most => Some(number),
+        _ => None,
+    }
+}
+
+/// The number that an option has, if it is within its limits.
+fn number_of(found: &ArgMatches<'_>, option: &NumberOption) -> Option<u64>
+    ensures told { result ≡ number_among option.now.name.now option.now.least option.now.most (rows_of (found_of found.now)) }
+    ensures within { IfSome result (λ n. (option.now.least ≤ n) × (n ≤ option.now.most)) }
+{
+    match found.get_str(option.name) {
+        Some(text) => number_within(text, option.least, option.most),
+        None => None,
+    }
+}
+
+/// The settings that the options of a run tell, if each is within its limits.
+pub(crate) fn settings_of(found: &ArgMatches<'_>) -> Option<Settings>
+    ensures told { result ≡ settings_among (rows_of (found_of found.now)) }
+    ensures within { IfSome result (λ settings. are_within_limits settings ≡ true) }
+{
+    let workers = number_of(found, &WORKERS)?;
+    let partitions = number_of(found, &PARTITIONS)?;
+    let batch = number_of(found, &BATCH)?;
+    let keep = number_of(found, &KEEP)?;
+    Some(Settings {
+        workers: workers as usize,
+        partitions: partitions as usize,
+        batch,
+        keep,
+    })
+}
+
+/// Whether one worker runs the log, and places it by one partition.
+pub(crate) fn is_alone(settings: &Settings) -> bool
+    ensures { result ≡ is_alone settings.now }
+{
+    settings.workers == 1 && settings.partitions == 1
+}
