@@ -1,0 +1,80 @@
+//! Passes that ask for places.
+
+ghost use Rattle.std.specs.Prelude.{◌≡◌, ◌<◌};
+ghost use Rattle.std.specs.Thread.{IsSync};
+ghost use Rattle.words.specs.Passes.{IsPassOf};
+
+use filling_base::{Batch, Fills, Tried};
+use std::thread;
+use std::thread::Threads;
+use words::Pass;
+
+/// By how many places each of eight threads goes on. Round thirty places it comes to each.
+const STEPS: [usize; 8] = [1, 29, 7, 23, 11, 19, 13, 17];
+
+/// Asks for a place, if the batch has it.
+pub fn ask<K: Fills>(batch: &Batch<K>, pass: Pass, index: usize) -> (Pass, Option<Tried>)
+    requires { IsPassOf batch.now pass }
+    ensures { IsPassOf batch.now result.0 }
+{
+    if index >= batch.key().places() {
+        return (pass, None);
+    }
+    let (pass, tried) = batch.try_run(pass, index);
+    (pass, Some(tried))
+}
+
+/// Which place a thread asks for next.
+fn turn(thread: usize, number: usize, size: usize) -> usize
+    requires { 0 < size }
+    ensures { result < size }
+{
+    number.wrapping_mul(STEPS[thread % 8]).wrapping_add(thread) % size
+}
+
+/// Asks for as many places as there are, in the order of a thread, and counts those that are done then. That of thread 0 comes
+/// to each place.
+pub fn ask_round<K: Fills>(batch: &Batch<K>, pass: Pass, thread: usize) -> (Pass, usize)
+    requires { IsPassOf batch.now pass }
+    ensures { IsPassOf batch.now result.0 }
+{
+    let size = batch.key().places();
+    let mut done = 0usize;
+    let mut last = pass;
+    for number in 0..size {
+        let (next, tried) = batch.try_run(last, turn(thread, number, size));
+        last = next;
+        if tried == Tried::Done {
+            done = done.saturating_add(1);
+        }
+    }
+    (last, done)
+}
+
+/// A thread of its own and those below it, each with a pass and in an order of its own.
+pub fn ask_by<K: Fills + Sync, R: Threads + Sync>(
+    rt: &R,
+    batch: &Batch<K>,
+    pass: Pass,
+    thread: usize,
+) -> Pass
+    requires { IsPassOf batch.now pass }
+    ensures { IsPassOf batch.now result }
+{
+    if thread == 0 {
+        return ask_round(batch, pass, thread).0;
+    }
+    let (pass, other) = batch.split(pass);
+    let (other, pass) = thread::join(
+        rt,
+        move || -> Pass
+            requires { IsPassOf batch.now other }
+            ensures { IsPassOf batch.entry.now result }
+        { ask_round(batch, other, thread).0 },
+        move || -> Pass
+            requires { IsSync K.row × IsSync R.row × IsPassOf batch.now pass × (0 < thread) }
+            ensures { IsPassOf batch.entry.now result }
+        { ask_by(rt, batch, pass, thread - 1) },
+    );
+    batch.join(pass, other)
+}

@@ -1,0 +1,78 @@
+//! A chain of places each of which reads what the one before wrote.
+
+ghost use Rattle.std.specs.Prelude.{◌≡◌};
+ghost use Rattle.words.specs.Passes.{IsPassOf};
+
+use crate::asking::{ask, ask_round};
+use crate::batches::{nothing, push_line, words_of};
+use crate::fault::TrialFault;
+use crate::telling::told;
+use filling::RangeKey;
+use filling_base::Batch;
+use sequencer::Log;
+use std::alloc::Global;
+use std::thread::Threads;
+use words::Pass;
+
+/// The places of the chain, and the last of them; the table is made before it.
+const PLACES: usize = 65536;
+
+const LAST: usize = 65536;
+
+/// A row, and places that each add 1 to it.
+fn chain(alloc: Global) -> Result<Log, TrialFault> {
+    let mut log = Log::new(alloc);
+    push_line(alloc, &mut log, b"ann CREATE t 1")?;
+    push_line(alloc, &mut log, b"ann RUN t:1:I | CONST 0 1 | INSERT t 1 0")?;
+    let line = b"ann RUN t:1:RU | LOAD 0 t 1 0 | CONST 1 1 | ADD 0 0 1 | STORE t 1 0 0 | OUT 0";
+    for _ in 1..PLACES {
+        push_line(alloc, &mut log, line)?;
+    }
+    Ok(log)
+}
+
+/// How many places are told with an outcome.
+fn count_told(batch: &Batch<RangeKey<'_>>, pass: Pass) -> (Pass, usize)
+    requires { IsPassOf batch.now pass }
+    ensures { IsPassOf batch.now result.0 }
+{
+    let mut count = 0usize;
+    let mut last = pass;
+    for index in 1..PLACES + 1 {
+        let (next, found) = told(batch, last, index);
+        last = next;
+        if let Ok(Some(_)) = found {
+            count = count.saturating_add(1);
+        }
+    }
+    (last, count)
+}
+
+/// Tells what comes of the last place, asked for before any other.
+fn tell_last(rt: &impl Print, batch: &Batch<RangeKey<'_>>, pass: Pass) -> Result<(), TrialFault>
+    requires { IsPassOf batch.now pass }
+{
+    let (pass, before) = count_told(batch, pass);
+    let (pass, tried) = ask(batch, pass, LAST);
+    let (pass, after) = count_told(batch, pass);
+    let (pass, found) = told(batch, pass, LAST);
+    let (_, again) = ask_round(batch, pass, 0);
+    println!(rt;
+        "of {PLACES} places in a chain {before} are done; asked for the last: {tried:?}, {found:?}; then {after} are done"
+    )?;
+    println!(rt; "asked for each in turn, and for the table's, {again} are done")?;
+    Ok(())
+}
+
+/// Tells of a log that is asked for from its end.
+fn tell_log<R: Threads + Print + Sync>(rt: &R, alloc: Global, log: &Log) -> Result<(), TrialFault> {
+    let before = nothing(alloc, log);
+    let (batch, pass) = words_of(rt, alloc, log, &before, 1)?;
+    tell_last(rt, &batch, pass)
+}
+
+/// Tells of a long chain that is asked for from its end.
+pub fn tell_chain<R: Threads + Print + Sync>(rt: &R, alloc: Global) -> Result<(), TrialFault> {
+    let log = chain(alloc)?;
+    tell_log(rt, alloc, &log)
+}

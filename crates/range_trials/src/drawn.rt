@@ -1,0 +1,145 @@
+//! Drawn logs run by eight threads with a pass each.
+
+use crate::asking::{ask_by, ask_round};
+use crate::batches::{nothing, words_of};
+use crate::drawing::drawn_log;
+use crate::fault::TrialFault;
+use crate::generator::Generator;
+use crate::telling::{count_wanted, wanted};
+use model::serial;
+use model_base::{Cause, DeedDone, Outcome};
+use sequencer::Log;
+use std::alloc::Global;
+use std::thread::Threads;
+
+/// How many logs are drawn.
+const LOGS: u32 = 300;
+
+/// The number of the last of eight threads.
+const LAST_THREAD: usize = 7;
+
+/// What places come to.
+#[derive(Clone, Copy, Default)]
+struct Kinds {
+    created: usize,
+    done: usize,
+    granted: usize,
+    revoked: usize,
+    ended: usize,
+    never: usize,
+    taken: usize,
+    aborted: usize,
+    undeclared: usize,
+}
+
+/// One more of what was counted.
+fn add(count: &mut usize, more: usize) {
+    *count = count.saturating_add(more);
+}
+
+/// Counts what the deed of a completed transaction came to.
+fn count_deed(kinds: &mut Kinds, deed: &DeedDone) {
+    match deed {
+        DeedDone::None => add(&mut kinds.done, 1),
+        DeedDone::Granted => add(&mut kinds.granted, 1),
+        DeedDone::Revoked(places) => {
+            add(&mut kinds.revoked, 1);
+            add(&mut kinds.ended, places.as_slice().len());
+        }
+    }
+}
+
+/// Counts an outcome.
+fn count_outcome(kinds: &mut Kinds, outcome: &Outcome) {
+    match outcome {
+        Outcome::Created => add(&mut kinds.created, 1),
+        Outcome::Done { deed, .. } => count_deed(kinds, deed),
+        Outcome::Denied {
+            cause: Cause::Never,
+            ..
+        } => add(&mut kinds.never, 1),
+        Outcome::Denied { .. } => add(&mut kinds.taken, 1),
+        Outcome::Aborted { .. } => add(&mut kinds.aborted, 1),
+        Outcome::Undeclared { .. } => add(&mut kinds.undeclared, 1),
+    }
+}
+
+/// Counts the outcomes of a log by the serial run.
+fn count_kinds(alloc: Global, log: &Log, kinds: &mut Kinds) -> Result<(), TrialFault> {
+    for outcome in &serial(alloc, log.statements())? {
+        count_outcome(kinds, outcome);
+    }
+    Ok(())
+}
+
+/// Runs a log by eight threads, and counts how many places are told with the outcomes that are wanted.
+fn run_wanted<R: Threads + Sync>(
+    rt: &R,
+    alloc: Global,
+    log: &Log,
+    wanted: &[String],
+) -> Result<usize, TrialFault> {
+    let before = nothing(alloc, log);
+    let (batch, pass) = words_of(rt, alloc, log, &before, 3)?;
+    let pass = ask_by(rt, &batch, pass, LAST_THREAD);
+    let (pass, _) = ask_round(&batch, pass, 0);
+    count_wanted(alloc, &batch, pass, wanted)
+}
+
+/// Runs a log by eight threads, and counts how many places are told with the outcomes of the serial run.
+fn run_log<R: Threads + Sync>(rt: &R, alloc: Global, log: &Log) -> Result<usize, TrialFault> {
+    let wanted = wanted(alloc, log)?;
+    run_wanted(rt, alloc, log, wanted.as_slice())
+}
+
+/// Tells what the places of the drawn logs came to.
+fn tell_kinds(rt: &impl Print, kinds: Kinds) -> Result<(), TrialFault> {
+    let Kinds {
+        created,
+        done,
+        granted,
+        revoked,
+        ended,
+        never,
+        taken,
+        aborted,
+        undeclared,
+    } = kinds;
+    println!(rt;
+        "  {created} create, {done} are done without a deed, {granted} grant, {revoked} revoke {ended} grants"
+    )?;
+    println!(rt;
+        "  {never} are denied what never was given, {taken} what was taken, {aborted} are aborted, {undeclared} undeclared"
+    )?;
+    Ok(())
+}
+
+/// Runs one more drawn log. Answers how many places it has, and how many of them have the outcomes of the serial run.
+fn run_drawn<R: Threads + Sync>(
+    rt: &R,
+    alloc: Global,
+    generator: &mut Generator,
+    kinds: &mut Kinds,
+) -> Result<(u64, usize), TrialFault> {
+    let log = drawn_log(alloc, generator)?;
+    count_kinds(alloc, &log, kinds)?;
+    let same = run_log(rt, alloc, &log)?;
+    Ok((log.len(), same))
+}
+
+/// Tells how the drawn logs come out.
+pub fn tell_drawn<R: Threads + Print + Sync>(rt: &R, alloc: Global) -> Result<(), TrialFault> {
+    let mut generator = Generator::new(1976);
+    let mut kinds = Kinds::default();
+    let mut places = 0u64;
+    let mut same = 0usize;
+    for _ in 0..LOGS {
+        let (more, told) = run_drawn(rt, alloc, &mut generator, &mut kinds)?;
+        places = places.saturating_add(more);
+        same = same.saturating_add(told);
+    }
+    println!(rt;
+        "{LOGS} drawn logs, each run by eight threads in orders of their own: of {places} places {same} have the outcomes of the serial run"
+    )?;
+    tell_kinds(rt, kinds)
+}

@@ -1,0 +1,120 @@
+//! A place that another pass holds.
+
+ghost use Rattle.std.specs.Prelude.{◌<◌};
+ghost use Rattle.words.specs.Passes.{IsPassOf};
+
+use crate::batches::{log_of, nothing, words_of};
+use crate::fault::TrialFault;
+use crate::telling::tell_asked;
+use filling::RangeKey;
+use filling_base::Batch;
+use sequencer::Log;
+use std::alloc::Global;
+use std::thread::Threads;
+use words::{Claimed, Holding, Pass, Placed};
+
+/// A row that each place after it doubles.
+const LINES: [&str; 5] = [
+    "ann CREATE t 1",
+    "ann RUN t:1:I | CONST 0 3 | INSERT t 1 0",
+    "ann RUN t:1:RU | LOAD 0 t 1 0 | ADD 0 0 0 | STORE t 1 0 0 | OUT 0",
+    "ann RUN t:1:RU | LOAD 0 t 1 0 | ADD 0 0 0 | STORE t 1 0 0 | OUT 0",
+    "ann RUN t:1:RU | LOAD 0 t 1 0 | ADD 0 0 0 | STORE t 1 0 0 | OUT 0",
+];
+
+/// The place that is held.
+const HELD: usize = 2;
+
+/// The last place, which waits for it.
+const LAST: usize = 4;
+
+/// Tells what a pass finds when it claims a place. What it won it gives back.
+fn tell_claim(
+    rt: &impl Print,
+    batch: &Batch<RangeKey<'_>>,
+    holding: &mut Holding,
+    index: usize,
+) -> Result<(), TrialFault>
+    requires ours { IsPassOf batch.now holding.old }
+    requires within { index < batch.now.key.batch.size }
+    ensures { IsPassOf batch.now holding.new }
+{
+    match batch.words().claim(holding, index) {
+        Claimed::Won => {
+            batch.words().give_back(holding, index);
+            println!(rt; "  another pass claims {index}: Won, and gives it back")?;
+        }
+        Claimed::Held => println!(rt; "  another pass claims {index}: Held")?,
+        Claimed::Done => println!(rt; "  another pass claims {index}: Done")?,
+    }
+    Ok(())
+}
+
+/// Tells what a pass that holds none finds when it claims each place in turn.
+fn tell_claims(rt: &impl Print, batch: &Batch<RangeKey<'_>>, pass: Pass) -> Result<(), TrialFault>
+    requires { IsPassOf batch.now pass }
+{
+    let mut holding = Holding::begin(pass);
+    for index in 0..batch.key().places() {
+        tell_claim(rt, batch, &mut holding, index)?;
+    }
+    Ok(())
+}
+
+/// A pass takes a place. Tells what comes of the last place meanwhile, and once the other was given back and run.
+fn tell_calls(
+    rt: &impl Print,
+    batch: &Batch<RangeKey<'_>>,
+    holder: Pass,
+    asker: Pass,
+    other: Pass,
+    finisher: Pass,
+) -> Result<(), TrialFault>
+    requires holder { IsPassOf batch.now holder }
+    requires asker { IsPassOf batch.now asker }
+    requires other { IsPassOf batch.now other }
+    requires finisher { IsPassOf batch.now finisher }
+    requires within { 2 < batch.now.key.batch.size }
+{
+    let mut holding = Holding::begin(holder);
+    match batch.words().claim(&mut holding, HELD) {
+        Claimed::Won => {
+            println!(rt; "a pass holds {HELD}")?;
+            let asker = tell_asked(rt, batch, asker, LAST)?;
+            tell_claims(rt, batch, other)?;
+            batch.words().give_back(&mut holding, HELD);
+            println!(rt; "it gives {HELD} back, and another runs it")?;
+            let _finisher = tell_asked(rt, batch, finisher, HELD)?;
+            let _asker = tell_asked(rt, batch, asker, LAST)?;
+        }
+        Claimed::Held => println!(rt; "another holds {HELD}")?,
+        Claimed::Done => println!(rt; "{HELD} is done")?,
+    }
+    Ok(())
+}
+
+/// Cuts a pass in four, for the trial.
+fn tell_parts(rt: &impl Print, batch: &Batch<RangeKey<'_>>, pass: Pass) -> Result<(), TrialFault>
+    requires { IsPassOf batch.now pass }
+{
+    if batch.key().places() <= HELD {
+        return Err(TrialFault::Short);
+    }
+    let (pass, asker) = batch.split(pass);
+    let (pass, other) = batch.split(pass);
+    let (holder, finisher) = batch.split(pass);
+    tell_calls(rt, batch, holder, asker, other, finisher)
+}
+
+/// Tells of a log of which another pass holds a place.
+fn tell_log<R: Threads + Print + Sync>(rt: &R, alloc: Global, log: &Log) -> Result<(), TrialFault> {
+    let before = nothing(alloc, log);
+    let (batch, pass) = words_of(rt, alloc, log, &before, 1)?;
+    tell_parts(rt, &batch, pass)
+}
+
+/// Tells of a place that another pass holds.
+pub fn tell_held<R: Threads + Print + Sync>(rt: &R, alloc: Global) -> Result<(), TrialFault> {
+    let log = log_of(alloc, &LINES)?;
+    tell_log(rt, alloc, &log)
+}
