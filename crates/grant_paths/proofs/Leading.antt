@@ -1,6 +1,6 @@
 -- What the check of a chain decides.
-use Rattle.std.proofs.Common.{◌≡◌, ℕ, zero, suc, ◌<◌, ◌≤◌, ◌+◌, ◌&&◌, Bool, true, false, List, [], ◌∷◌, Option, Some, None, length, drop, drop-cons, add-one, get_or, refl, sym, ◌∙◌, ap, arith, eq-eqb, inl, inr}
-use Rattle.std.specs.Prelude.{◌==◌, All, Contains, Decides, IsTrue, nat_lt, slice_get}
+use Rattle.std.proofs.Common.{◌≡◌, ℕ, suc, ◌<◌, ◌+◌, ◌&&◌, true, false, List, [], ◌∷◌, Option, Some, None, length, drop, drop-cons, add-one, get_or, refl, sym, ◌∙◌, ap, arith, eq-eqb}
+use Rattle.std.specs.Prelude.{◌==◌, All, Contains, Decides, nat_lt, slice_get}
 use Rattle.std.specs.Option.{option_map_or}
 use Rattle.std.proofs.lemmas.Bool.{and_parts, eqb-true, lt-ltb, ltb-true, true≢false}
 use Rattle.std.proofs.lemmas.List.Elements.{All-cons, All-head, All-nil, All-tail, All-weaker}
@@ -9,7 +9,6 @@ use Rattle.model_base.specs.declared.deed.Need.{Need}
 use Rattle.model_base.specs.Laws.{IsRising}
 use Rattle.model_base.specs.Paths.{LeadsFrom, LeadsTo}
 use Rattle.model_base.specs.Privileges.{gives, option_of, owns}
-use Rattle.model_base.proofs.Replay.{by_cases}
 use Rattle.grants.proofs.Passing.{given, owns_owner}
 use Rattle.grant_paths.specs.Lines.{IsChain, places_of}
 use Rattle.grant_paths.specs.Steps.{bears, goes_on, grant_at, leads_on}

@@ -1,15 +1,15 @@
 -- What the first grants of a view give, and the path by them.
-use Rattle.std.proofs.Common.{◌≡◌, ℕ, zero, suc, ◌<◌, ◌≤◌, ◌||◌, ◌&&◌, Bool, true, false, List, [], ◌∷◌, ◌++◌, Option, Some, None, is_none, length, map, take, refl, sym, ◌∙◌, ap, append_assoc, arith, inl, inr}
+use Rattle.std.proofs.Common.{◌≡◌, ℕ, zero, suc, ◌<◌, ◌≤◌, ◌&&◌, true, false, List, [], ◌∷◌, ◌++◌, Option, Some, None, is_none, length, take, refl, sym, ◌∙◌, ap, append_assoc, arith, inl, inr}
 use Rattle.std.specs.Prelude.{IfSome, reverse, slice_get}
 use Rattle.std.specs.List.{flat_map, list_any}
 use Rattle.std.specs.Option.{option_to_list}
-use Rattle.std.proofs.lemmas.Bool.{and_parts, cases_lt, true≢false}
-use Rattle.std.proofs.lemmas.List.{append-nil, map-append, take_all}
+use Rattle.std.proofs.lemmas.Bool.{and_parts, cases_lt}
+use Rattle.std.proofs.lemmas.List.{map-append, take_all}
 use Rattle.model_base.specs.declared.deed.Grant.{Grant}
 use Rattle.model_base.specs.declared.deed.Need.{Need}
 use Rattle.model_base.specs.declared.deed.Record.{Record}
 use Rattle.model_base.specs.Paths.{path}
-use Rattle.model_base.specs.Privileges.{gives, has, option_of, owns}
+use Rattle.model_base.specs.Privileges.{gives, has, owns}
 use Rattle.model_base.specs.Records.{in_force}
 use Rattle.model_base.proofs.Paths.{path-earliest, path-none, reverse-snoc}
 use Rattle.model_base.proofs.Replay.{by_cases}

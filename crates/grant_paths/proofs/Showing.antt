@@ -1,6 +1,6 @@
 -- What a book tells of the deeds that it shows, and that what there is to show of a need is sound.
-use Rattle.std.proofs.Common.{◌≡◌, ℕ, zero, suc, ◌<◌, ◌≤◌, ◌++◌, ◌&&◌, not, Bool, true, false, List, [], ◌∷◌, Option, Some, None, length, map, get_or, refl, sym, ◌∙◌, ap, arith}
-use Rattle.std.specs.Prelude.{◌==◌, All, Contains, Decides, if◌then◌else◌, slice_get}
+use Rattle.std.proofs.Common.{◌≡◌, ℕ, zero, suc, ◌<◌, ◌++◌, ◌&&◌, not, Bool, true, false, List, [], ◌∷◌, Option, Some, None, length, get_or, refl, sym, ◌∙◌, ap, arith}
+use Rattle.std.specs.Prelude.{◌==◌, Contains, Decides, slice_get}
 use Rattle.std.specs.Option.{option_map_or}
 use Rattle.std.proofs.lemmas.Bool.{and_parts, true≢false}
 use Rattle.std.proofs.lemmas.List.{length-map}
@@ -12,9 +12,9 @@ use Rattle.model_base.specs.declared.deed.Deed.{Deed}
 use Rattle.model_base.specs.declared.deed.Grant.{Grant}
 use Rattle.model_base.specs.declared.deed.Need.{Need}
 use Rattle.model_base.specs.declared.deed.Record.{Record}
-use Rattle.model_base.specs.Laws.{IsPart, IsRising}
+use Rattle.model_base.specs.Laws.{IsRising}
 use Rattle.model_base.specs.Paths.{LeadsTo, path}
-use Rattle.model_base.specs.Privileges.{IsProper, holds, kept, owns}
+use Rattle.model_base.specs.Privileges.{IsProper, kept, owns}
 use Rattle.model_base.specs.Records.{cut, deeds_below, holds_by, in_force, last_loss_by, records}
 use Rattle.model_base.proofs.Cuts.{deeds_below-proper, records-below}
 use Rattle.model_base.proofs.Losses.{cause-records, holds_by-cut}
@@ -29,7 +29,6 @@ use Rattle.grants.specs.declared.book.Creation.{Creation}
 use Rattle.grants.proofs.BookLaws.{get_more}
 use Rattle.grants.proofs.Passing.{owns_owner}
 use Rattle.grants.proofs.SeenLaws.{entries-view}
-use Rattle.grant_paths.specs.declared.line.Shown.{Shown}
 use Rattle.grant_paths.specs.Lines.{IsChain, IsSound, cause_before, holds_before, kept_before, path_before, places_of, shown_lost, shown_of}
 use Rattle.grant_paths.specs.Steps.{bears, grant_at, in_force_at}
 use Rattle.grant_paths.proofs.Leading.{chain_decided}

@@ -1,8 +1,8 @@
 -- The grant of a place among those in force at another.
-use Rattle.std.proofs.Common.{◌≡◌, ℕ, zero, suc, ◌<◌, ◌≤◌, ◌&&◌, Bool, true, false, List, [], ◌∷◌, Option, Some, None, is_none, length, refl, sym, ◌∙◌, ap, arith, eq-eqb, inl, inr}
+use Rattle.std.proofs.Common.{◌≡◌, ℕ, zero, suc, ◌<◌, ◌≤◌, true, false, List, [], ◌∷◌, Some, None, is_none, length, refl, sym, ◌∙◌, ap, arith, eq-eqb, inl, inr}
 use Rattle.std.specs.Prelude.{◌==◌, Contains, nat_lt, slice_get}
 use Rattle.std.proofs.lemmas.Bool.{and_parts, cases_lt, eqb-true, ne_eqb}
-use Rattle.std.proofs.lemmas.List.Elements.{All-contains, All-tail, Contains-append_right}
+use Rattle.std.proofs.lemmas.List.Elements.{All-contains, Contains-append_right}
 use Rattle.std.proofs.lemmas.Option.{slice_get_within}
 use Rattle.model_base.specs.declared.deed.Grant.{Grant}
 use Rattle.model_base.specs.declared.deed.Record.{Record}

@@ -1,5 +1,5 @@
 -- What the steps of a search for a path, and of the check of a chain, find.
-use Rattle.std.specs.Prelude.{◌≡◌, ◌==◌, ◌<◌, ◌&&◌, ◌++◌, ◌∷◌, [], ℕ, Bool, false, List, Option, Some, None, is_none, nat_lt, slice_get, take, if◌then◌else◌}
+use Rattle.std.specs.Prelude.{◌≡◌, ◌==◌, ◌<◌, ◌&&◌, ◌++◌, ◌∷◌, [], ℕ, Bool, false, List, Option, Some, None, is_none, nat_lt, take, if◌then◌else◌}
 use Rattle.std.specs.List.{find, flat_map}
 use Rattle.std.specs.Option.{option_map_or, option_to_list}
 use Rattle.model_base.specs.declared.deed.Grant.{Grant}

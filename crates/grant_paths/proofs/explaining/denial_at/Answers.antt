@@ -1,4 +1,3 @@
-use Rattle.std.proofs.Common.{◌≡◌}
 use Rattle.model_base.specs.Records.{deeds_below}
 use Rattle.grants.specs.Book.{view_of}
 use Rattle.grants.specs.View.{Shows}
