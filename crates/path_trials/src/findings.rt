@@ -1,6 +1,7 @@
 //! What is found, a line for each.
 
 use crate::fault::TrialFault;
+use explain_base::{are_sound, explain_needs};
 use grant_paths::{Shown, explain_need, is_sound};
 use grants::Book;
 use model_base::{Items, Need, Place, User};
@@ -55,6 +56,26 @@ pub fn tell_need(
     }
     let shown = explain_need(alloc, book, place, user, need)?;
     tell_accepted(rt, book, what, place, user, need, &shown)
+}
+
+/// Tells of the lines that explain some needs before a place how many they are, and whether they are accepted.
+pub fn tell_lines(
+    rt: &impl Print,
+    alloc: Global,
+    book: &Book,
+    what: &str,
+    place: Place,
+    user: User,
+    needs: &[Need],
+) -> Result<(), TrialFault> {
+    let tables = book.tables().len();
+    if !needs.iter().all(|need| (need.table.0 as usize) < tables) {
+        return Err(TrialFault::Deed);
+    }
+    let lines = explain_needs(alloc, book, place, user, needs)?;
+    let accepted = are_sound(book, place, user, needs, &lines);
+    let _ = println!(rt; "{what}: {} lines: {accepted}", lines.len());
+    Ok(())
 }
 
 /// The chain of the grants of some places.

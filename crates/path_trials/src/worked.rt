@@ -3,7 +3,7 @@
 
 use crate::deeds::{create, give, take};
 use crate::fault::TrialFault;
-use crate::findings::{chain_of, tell_accepted, tell_need};
+use crate::findings::{chain_of, tell_accepted, tell_lines, tell_need};
 use grant_paths::Shown;
 use grants::Book;
 use model_base::{Grant, Kind, Need, Place, Revocation, Table, User};
@@ -149,10 +149,27 @@ fn tell_chains(rt: &impl Print, alloc: Global, book: &Book) -> Result<(), TrialF
     tell_accepted(rt, book, "handed in of eve at 9", 9, EVE, &READ, &late)
 }
 
+/// Tells of lines for the need of READ and then of its option.
+fn tell_needs_in_order(rt: &impl Print, alloc: Global, book: &Book) -> Result<(), TrialFault> {
+    let needs = [READ, OPTION];
+    tell_lines(rt, alloc, book, "both needs of bob at 5", 5, BOB, &needs)?;
+    tell_lines(rt, alloc, book, "both needs of eve at 9", 9, EVE, &needs)?;
+    tell_lines(
+        rt,
+        alloc,
+        book,
+        "both needs of carol at 8",
+        8,
+        CAROL,
+        &needs,
+    )
+}
+
 /// Tells all of the worked deeds.
 pub fn tell_worked(rt: &impl Print, alloc: Global) -> Result<(), TrialFault> {
     let mut book = Book::new(alloc);
     put_deeds(&mut book, alloc)?;
     tell_needs(rt, alloc, &book)?;
-    tell_chains(rt, alloc, &book)
+    tell_chains(rt, alloc, &book)?;
+    tell_needs_in_order(rt, alloc, &book)
 }
