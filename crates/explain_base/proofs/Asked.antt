@@ -1,16 +1,12 @@
 -- How lines go through needs.
-use Rattle.std.proofs.Common.{◌≡◌, ℕ, zero, suc, ◌<◌, ◌≤◌, ◌+◌, Bool, true, false, List, [], ◌∷◌, ◌++◌, length, map, get_or, drop, drop-cons, add-one, refl, sym, ◌∙◌, ap, append_assoc, arith}
-use Rattle.std.specs.Prelude.{All, if◌then◌else◌}
-use Rattle.std.proofs.lemmas.Bool.{true≢false}
-use Rattle.std.proofs.lemmas.List.Elements.{All-cons, All-head, All-nil, All-tail}
+use Rattle.std.proofs.Common.{◌≡◌, ℕ, suc, ◌<◌, ◌+◌, true, false, List, [], ◌∷◌, ◌++◌, length, map, get_or, drop, drop-cons, add-one, refl, sym, ◌∙◌, ap, append_assoc}
+use Rattle.std.specs.Prelude.{All}
+use Rattle.std.proofs.lemmas.List.Elements.{All-cons, All-nil}
 use Rattle.model_base.specs.declared.deed.Cause.{Cause}
 use Rattle.model_base.specs.declared.deed.Cause.TheVariants.{Never, Taken}
 use Rattle.model_base.specs.declared.deed.Deed.{Deed}
-use Rattle.model_base.specs.declared.deed.Grant.{Grant}
 use Rattle.model_base.specs.declared.deed.Need.{Need}
-use Rattle.model_base.specs.Paths.{LeadsTo}
-use Rattle.model_base.specs.Privileges.{IsProper, has, holds, kept, owns}
-use Rattle.model_base.specs.Records.{deeds_below}
+use Rattle.model_base.specs.Privileges.{IsProper, has, owns}
 use Rattle.model_base.proofs.Replay.{by_cases}
 use Rattle.grant_paths.specs.declared.line.Line.{Line}
 use Rattle.grant_paths.specs.declared.line.Shown.{Shown}

@@ -1,9 +1,9 @@
 -- How the check goes through needs and lines.
-use Rattle.std.proofs.Common.{◌≡◌, ℕ, zero, suc, ◌<◌, ◌≤◌, ◌+◌, ◌-◌, ◌||◌, Bool, true, false, List, [], ◌∷◌, length, map, get_or, drop, drop-cons, add-one, refl, sym, ◌∙◌, ap, subst, arith, eq-eqb, length-drop}
-use Rattle.std.specs.Prelude.{◌==◌, All, Contains, Decides, if◌then◌else◌}
+use Rattle.std.proofs.Common.{◌≡◌, ℕ, zero, suc, ◌<◌, ◌≤◌, ◌+◌, ◌-◌, Bool, true, false, List, [], ◌∷◌, length, map, get_or, drop, drop-cons, add-one, refl, sym, ◌∙◌, ap, subst, arith, eq-eqb, length-drop}
+use Rattle.std.specs.Prelude.{◌==◌, All, Contains, Decides}
 use Rattle.std.specs.List.{list_any}
 use Rattle.std.proofs.Math.ListN.{drop_of_length-le}
-use Rattle.std.proofs.lemmas.Bool.{eqb-true, or_left, or_right, true≢false}
+use Rattle.std.proofs.lemmas.Bool.{eqb-true, or_left, or_right}
 use Rattle.std.proofs.lemmas.List.Elements.{All-cons, All-head, All-nil, All-tail}
 use Rattle.model_base.specs.declared.deed.Deed.{Deed}
 use Rattle.model_base.specs.declared.deed.Grant.{Grant}

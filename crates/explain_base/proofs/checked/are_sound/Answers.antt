@@ -1,4 +1,4 @@
-use Rattle.std.proofs.Common.{◌≡◌, ◌<◌, ◌≤◌, true, false, length, sym, ◌∙◌, arith}
+use Rattle.std.proofs.Common.{◌≡◌, ◌<◌, length, sym, ◌∙◌, arith}
 use Rattle.std.proofs.lemmas.Bool.{true≢false}
 use Rattle.explain_base.proofs.Passing.{all_passed, ended, passed_back, passed_fore, short_fails, wrong_fails}
 use Rattle.explain_base.proofs.checked.are_sound.Goals as goal

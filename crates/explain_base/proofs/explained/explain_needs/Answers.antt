@@ -1,6 +1,4 @@
-use Rattle.std.proofs.Common.{◌≡◌, true, false, sym, ◌∙◌, ap}
-use Rattle.grant_paths.specs.Lines.{holds_before}
-use Rattle.explain_base.specs.Explained.{tells_held}
+use Rattle.std.proofs.Common.{sym, ◌∙◌}
 use Rattle.explain_base.proofs.Asked.{held_by, lines_end, lines_go_on}
 use Rattle.explain_base.proofs.explained.explain_needs.Goals as goal
 
