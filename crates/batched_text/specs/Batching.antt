@@ -65,6 +65,7 @@ pub record IsFirst (batching : Batching) : Type 0 where
   pub whole : IsWhole batching.engine.log
   pub none : finished batching.engine ≡ 0
   pub mark : batching.engine.store.mark ≡ 0
+  pub kept : batching.engine.dropped ≡ 0
   pub nobody : batching.waiting.items ≡ []
   pub number : batching.number ≡ 1
 

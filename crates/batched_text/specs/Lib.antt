@@ -1,4 +1,5 @@
 pub mod Settings
+pub mod History
 pub mod Places
 pub mod Batching
 pub mod Faults

@@ -3,8 +3,10 @@
 ghost use Rattle.std.specs.Prelude.{◌≡◌, ◌<◌, ◌≤◌, ◌+◌, ◌-◌, ◌++◌, ◌^◌, OnOk, [], true, length, if◌then◌else◌, nat_lt};
 ghost use Rattle.engine.specs.Engine.{finished};
 ghost use Rattle.batched_text.specs.Batching.{IsCounted, IsFilling, IsOpen, Reports, lines_text};
+ghost use Rattle.batched_text.specs.History.{KeepsAll, dropped_by};
 ghost use Rattle.batched_text.specs.Settings.{IsTrimmed, are_within_limits, mark_behind};
 
+use crate::history::History;
 use crate::reporting::put_lines;
 use crate::settings::{Settings, mark_behind};
 use bohm_base::Became;
@@ -35,7 +37,7 @@ impl Batching {
         ensures { IsFirst result }
     {
         let engine = Engine::new(alloc);
-        let _statements = engine.log().statements();
+        let _dropped = engine.log().dropped();
         Batching {
             engine,
             waiting: Vec::new(alloc),
@@ -77,6 +79,7 @@ fn run_waiting<T: Threads + Wait + Sync>(
     requires settings { are_within_limits settings.now ≡ true }
     requires mark { engine.old.store.mark ≤ mark_behind settings.now (finished engine.old) (length engine.old.log.statements) }
     ensures log { engine.new.log ≡ engine.old.log }
+    ensures dropped { engine.new.dropped ≡ engine.old.dropped }
     ensures all { OnOk result (finished engine.new ≡ length engine.old.log.statements) }
     ensures mark { OnOk result (engine.new.store.mark ≡ (if nat_lt (finished engine.old) (length engine.old.log.statements)
         then mark_behind settings.now (finished engine.old) (length engine.old.log.statements) else engine.old.store.mark)) }
@@ -90,15 +93,31 @@ fn run_waiting<T: Threads + Wait + Sync>(
     Ok(())
 }
 
-/// Runs the places that wait as a batch, trims the rows behind it, and makes the report's lines for the waiting lines.
+/// Forgets what is finished, unless all of it is kept.
+fn forget_finished(engine: &mut Engine, history: History)
+    requires { KeepsAll history engine.old }
+    ensures dropped { engine.new.dropped ≡ dropped_by history engine.new }
+    ensures rest { engine.new ≡ record engine.old { dropped = engine.new.dropped } }
+{
+    match history {
+        History::Kept => {}
+        History::Dropped => engine.forget(),
+    }
+}
+
+/// Runs the places that wait as a batch, trims the rows behind it, and makes the report's lines for the waiting lines. Then what is
+/// finished is forgotten, unless all of it is kept.
 pub(crate) fn report_batch<T: Threads + Wait + Sync>(
     rt: &T,
     alloc: Global,
     batching: &mut Batching,
     settings: &Settings,
+    history: History,
 ) -> Result<(), AllocError>
     requires settings { are_within_limits settings.now ≡ true }
     requires filling { IsFilling settings.now batching.old }
+    requires kept { batching.old.engine.dropped ≡ dropped_by history batching.old.engine }
+    ensures kept { OnOk result (batching.new.engine.dropped ≡ dropped_by history batching.new.engine) }
     ensures text { OnOk result (batching.new.text.items ≡ lines_text batching.old.engine.log
         (batching.old.number - length batching.old.waiting.items) (finished batching.old.engine) batching.old.waiting.items) }
     ensures left { OnOk result (batching.new.waiting.items ≡ []) }
@@ -122,6 +141,7 @@ pub(crate) fn report_batch<T: Threads + Wait + Sync>(
         &batching.waiting,
     )?;
     batching.waiting.clear();
+    forget_finished(&mut batching.engine, history);
     Ok(())
 }
 
@@ -131,19 +151,22 @@ pub(crate) fn report_full<T: Threads + Wait + Sync>(
     alloc: Global,
     batching: &mut Batching,
     settings: &Settings,
+    history: History,
 ) -> Result<(), AllocError>
     requires settings { are_within_limits settings.now ≡ true }
     requires filling { IsFilling settings.now batching.old }
+    requires kept { batching.old.engine.dropped ≡ dropped_by history batching.old.engine }
     requires empty { batching.old.text.items ≡ [] }
     ensures reports { OnOk result (Reports batching.old.engine.log (finished batching.old.engine) (finished batching.new.engine)
         batching.old.waiting.items batching.new.waiting.items batching.old.number batching.new.text.items) }
     ensures log { OnOk result (batching.new.engine.log ≡ batching.old.engine.log) }
     ensures number { OnOk result (batching.new.number ≡ batching.old.number) }
     ensures room { OnOk result (IsOpen settings.now batching.new) }
+    ensures kept { OnOk result (batching.new.engine.dropped ≡ dropped_by history batching.new.engine) }
 {
     let waiting = batching.engine.log().len() - batching.engine.finished();
     if waiting >= settings.batch {
-        report_batch(rt, alloc, batching, settings)?;
+        report_batch(rt, alloc, batching, settings, history)?;
     }
     Ok(())
 }

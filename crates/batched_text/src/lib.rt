@@ -5,6 +5,7 @@
 #![tactic(auto)]
 
 mod batching;
+mod history;
 mod laws;
 mod lines;
 mod reporting;
@@ -12,5 +13,5 @@ mod running;
 mod settings;
 
 pub use laws::reports_stand;
-pub use running::run_text;
+pub use running::{report_text, run_text};
 pub use settings::Settings;

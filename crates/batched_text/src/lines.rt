@@ -5,10 +5,13 @@ ghost use Rattle.std.specs.Result.{ForOk};
 ghost use Rattle.log_text.specs.Statement.{IsInGrammar};
 ghost use Rattle.report.specs.Report.{Reading, read};
 ghost use Rattle.bohm_base.specs.Collecting.{ReadsAs, became, reading_of, with_reading};
+ghost use Rattle.engine.specs.Engine.{finished};
 ghost use Rattle.batched_text.specs.Batching.{Deals, IsFilling, IsOpen, Takes};
+ghost use Rattle.batched_text.specs.History.{dropped_by};
 ghost use Rattle.batched_text.specs.Settings.{are_within_limits};
 
 use crate::batching::{Batching, report_full};
+use crate::history::History;
 use crate::settings::Settings;
 use bohm_base::{Became, EngineFault, faulty_line, refused_line};
 use engine::Engine;
@@ -60,6 +63,7 @@ fn take_read(
 fn take_line(alloc: Global, batching: &mut Batching, line: &[u8]) -> Result<(), EngineFault>
     requires { batching.old.number < 2 ^ 64 - 1 }
     ensures ok { OnOk result ((reading : Reading) × (ReadsAs line.now reading × Takes reading batching.old batching.new)) }
+    ensures kept { OnOk result ((batching.new.engine.dropped ≡ batching.old.engine.dropped) × (finished batching.new.engine ≡ finished batching.old.engine)) }
     ensures err { IfErr result (λ f. f ≡ EngineFault.NoMemory) }
 {
     batching.text.clear();
@@ -76,17 +80,20 @@ pub(crate) fn deal<T: Threads + Wait + Sync>(
     alloc: Global,
     batching: &mut Batching,
     settings: &Settings,
+    history: History,
     line: &[u8],
 ) -> Result<(), EngineFault>
     requires settings { are_within_limits settings.now ≡ true }
     requires room { IsOpen settings.now batching.old }
+    requires kept { batching.old.engine.dropped ≡ dropped_by history batching.old.engine }
     requires number { batching.old.number < 2 ^ 64 - 1 }
     ensures dealt { OnOk result ((reading : Reading) × (ReadsAs line.now reading × Deals reading batching.old batching.new)) }
     ensures room { OnOk result (IsOpen settings.now batching.new) }
+    ensures kept { OnOk result (batching.new.engine.dropped ≡ dropped_by history batching.new.engine) }
     ensures err { IfErr result (λ f. f ≡ EngineFault.NoMemory) }
 {
     take_line(alloc, batching, line)?;
-    let _statements = batching.engine.log().statements();
-    report_full(rt, alloc, batching, settings)?;
+    let _dropped = batching.engine.log().dropped();
+    report_full(rt, alloc, batching, settings, history)?;
     Ok(())
 }

@@ -15,11 +15,12 @@ use std::alloc::AllocError;
 
 /// Puts the report's line for a place that is finished behind the text.
 fn put_place(text: &mut Vec<u8>, engine: &Engine, place: Place) -> Result<(), AllocError>
-    requires { place < finished engine.now }
+    requires kept { engine.now.dropped ≤ place }
+    requires within { place < finished engine.now }
     ensures { OnOk result (text.new.items ≡ text.old.items ++ place_text engine.now.log.statements engine.now.log.names.tables place) }
 {
     let log = engine.log();
-    let statement = &log.statements()[place as usize];
+    let statement = log.statement(place);
     let Some(outcome) = engine.outcome(place) else {
         return Ok(());
     };
@@ -40,7 +41,8 @@ fn put_line(
     place: Place,
     line: Became,
 ) -> Result<(), AllocError>
-    requires { place + places_of line ≤ finished engine.now }
+    requires kept { engine.now.dropped ≤ place }
+    requires within { place + places_of line ≤ finished engine.now }
     ensures { OnOk result (text.new.items
         ≡ text.old.items ++ became_text engine.now.log.statements engine.now.log.names.tables number place line) }
 {
@@ -59,6 +61,7 @@ pub(crate) fn put_lines(
     place: Place,
     lines: &[Became],
 ) -> Result<(), AllocError>
+    requires kept { engine.now.dropped ≤ place }
     requires places { place + places_in lines.now ≤ finished engine.now }
     requires number { number + length lines.now < 2 ^ 64 }
     ensures { OnOk result (text.new.items ≡ text.old.items ++ lines_text engine.now.log number place lines.now) }

@@ -10,9 +10,11 @@ ghost use Rattle.bohm_base.specs.Pending.{HasBegunReport, HasReport};
 ghost use Rattle.engine.specs.Engine.{finished};
 ghost use Rattle.batched_text.specs.Batching.{Ends, Gathers, IsFirst, IsLogOfText, IsOpen, IsReady, Turn};
 ghost use Rattle.batched_text.specs.Faults.{of_text};
+ghost use Rattle.batched_text.specs.History.{dropped_by};
 ghost use Rattle.batched_text.specs.Settings.{IsTrimmed, are_within_limits};
 
 use crate::batching::{Batching, report_batch};
+use crate::history::History;
 use crate::lines::deal;
 use crate::settings::{Settings, are_within_limits};
 use engine::{Engine, EngineFault};
@@ -31,9 +33,12 @@ fn report_line<T: Threads + Wait + Sync, R: Read, W: Write>(
     lines: &mut LineReader,
     batching: &mut Batching,
     settings: &Settings,
+    history: History,
 ) -> Result<bool, bohm_base::EngineFault>
     requires settings { are_within_limits settings.now ≡ true }
     requires ready { IsReady settings.now batching.old (length (ahead lines.old)) reader.old.given }
+    requires kept { batching.old.engine.dropped ≡ dropped_by history batching.old.engine }
+    ensures kept { OnOk result (batching.new.engine.dropped ≡ dropped_by history batching.new.engine) }
     ensures turn { Turn settings.now result
         (record {
           rest = prepend_known (ahead lines.old) (R.remaining reader.old.inner);
@@ -55,7 +60,7 @@ fn report_line<T: Threads + Wait + Sync, R: Read, W: Write>(
     if !lines.next_line(reader)? {
         return Ok(false);
     }
-    deal(rt, alloc, batching, settings, lines.line())?;
+    deal(rt, alloc, batching, settings, history, lines.line())?;
     write_out(writer, &batching.text)?;
     Ok(true)
 }
@@ -69,9 +74,12 @@ fn report_rest<T: Threads + Wait + Sync, R: Read, W: Write>(
     lines: &mut LineReader,
     batching: &mut Batching,
     settings: &Settings,
+    history: History,
 ) -> Result<(), bohm_base::EngineFault>
     requires settings { are_within_limits settings.now ≡ true }
     requires ready { IsReady settings.now batching.old (length (ahead lines.old)) reader.old.given }
+    requires kept { batching.old.engine.dropped ≡ dropped_by history batching.old.engine }
+    ensures kept { OnOk result (batching.new.engine.dropped ≡ dropped_by history batching.new.engine) }
     ensures ends { Ends settings.now result
         (record {
           rest = prepend_known (ahead lines.old) (R.remaining reader.old.inner);
@@ -84,7 +92,9 @@ fn report_rest<T: Threads + Wait + Sync, R: Read, W: Write>(
     ensures reads { reader.new.errors ≡ read_errors result reader.old.errors }
     ensures writes { writer.new.errors ≡ write_errors result writer.old.errors }
 {
-    'lines: while report_line(rt, alloc, reader, writer, lines, batching, settings)? {}
+    'lines: while report_line(
+        rt, alloc, reader, writer, lines, batching, settings, history,
+    )? {}
     Ok(())
 }
 
@@ -96,9 +106,12 @@ fn report_lines<T: Threads + Wait + Sync, R: Read, W: Write>(
     writer: &mut Counted<W>,
     batching: &mut Batching,
     settings: &Settings,
+    history: History,
 ) -> Result<(), bohm_base::EngineFault>
     requires settings { are_within_limits settings.now ≡ true }
     requires first { IsFirst batching.old }
+    requires kept { batching.old.engine.dropped ≡ dropped_by history batching.old.engine }
+    ensures kept { OnOk result (batching.new.engine.dropped ≡ dropped_by history batching.new.engine) }
     ensures room { OnOk result (IsOpen settings.now batching.new) }
     ensures done { OnOk result (Gathers (R.remaining reader.old.inner) (W.contents writer.old.inner) (W.contents writer.new.inner) batching.new) }
     ensures begun { HasBegunReport (R.remaining reader.old.inner) (W.contents writer.old.inner) (W.contents writer.new.inner) [] }
@@ -106,7 +119,9 @@ fn report_lines<T: Threads + Wait + Sync, R: Read, W: Write>(
     ensures writes { writer.new.errors ≡ write_errors result writer.old.errors }
 {
     let mut lines = LineReader::new(alloc)?;
-    report_rest(rt, alloc, reader, writer, &mut lines, batching, settings)
+    report_rest(
+        rt, alloc, reader, writer, &mut lines, batching, settings, history,
+    )
 }
 
 /// Takes the lines of the input, and runs and reports all of it.
@@ -117,9 +132,12 @@ fn report_all<T: Threads + Wait + Sync, R: Read, W: Write>(
     writer: &mut Counted<W>,
     batching: &mut Batching,
     settings: &Settings,
+    history: History,
 ) -> Result<(), bohm_base::EngineFault>
     requires settings { are_within_limits settings.now ≡ true }
     requires first { IsFirst batching.old }
+    requires kept { batching.old.engine.dropped ≡ dropped_by history batching.old.engine }
+    ensures kept { OnOk result (batching.new.engine.dropped ≡ dropped_by history batching.new.engine) }
     ensures log { OnOk result (IsLogOfText (R.remaining reader.old.inner) batching.new.engine.log) }
     ensures all { OnOk result (finished batching.new.engine ≡ length batching.new.engine.log.statements) }
     ensures trimmed { OnOk result (IsTrimmed settings.now batching.new.engine) }
@@ -128,8 +146,8 @@ fn report_all<T: Threads + Wait + Sync, R: Read, W: Write>(
     ensures reads { reader.new.errors ≡ read_errors result reader.old.errors }
     ensures writes { writer.new.errors ≡ write_errors result writer.old.errors }
 {
-    report_lines(rt, alloc, reader, writer, batching, settings)?;
-    report_batch(rt, alloc, batching, settings)?;
+    report_lines(rt, alloc, reader, writer, batching, settings, history)?;
+    report_batch(rt, alloc, batching, settings, history)?;
     write_out(writer, &batching.text)?;
     Ok(())
 }
@@ -141,11 +159,13 @@ fn run_batches<T: Threads + Wait + Sync, R: Read, W: Write>(
     reader: &mut Counted<R>,
     writer: &mut Counted<W>,
     settings: &Settings,
+    history: History,
 ) -> Result<Engine, bohm_base::EngineFault>
     requires { are_within_limits settings.now ≡ true }
     ensures log { IfOk result (λ engine. IsLogOfText (R.remaining reader.old.inner) engine.log) }
     ensures all { IfOk result (λ engine. finished engine ≡ length engine.log.statements) }
     ensures trimmed { IfOk result (λ engine. IsTrimmed settings.now engine) }
+    ensures kept { IfOk result (λ engine. engine.dropped ≡ dropped_by history engine) }
     ensures done { OnOk result (IfSome (R.remaining reader.old.inner) (λ input. (text : List ℕ)
         × (IsReport input text × Appends (W.contents writer.old.inner) (W.contents writer.new.inner) text))) }
     ensures begun { IfSome (R.remaining reader.old.inner) (λ input. (text : List ℕ)
@@ -154,7 +174,7 @@ fn run_batches<T: Threads + Wait + Sync, R: Read, W: Write>(
     ensures writes { writer.new.errors ≡ write_errors result writer.old.errors }
 {
     let mut batching = Batching::new(alloc);
-    report_all(rt, alloc, reader, writer, &mut batching, settings)?;
+    report_all(rt, alloc, reader, writer, &mut batching, settings, history)?;
     flush(writer)?;
     let Batching { engine, .. } = batching;
     Ok(engine)
@@ -205,16 +225,52 @@ pub fn run_text<T: Threads + Wait + Sync, R: Read, W: Write>(
     ensures bad { (result ≡ Err EngineFault.BadSettings) ↔ (are_within_limits settings.now ≡ false) }
     ensures nothing { result ≡ Err EngineFault.BadSettings → (reader.new ≡ reader.old) × (writer.new ≡ writer.old) }
 
-    // The engine has the log of what was read, all of it finished, and the rows before the last few batches.
+    // The engine has the log of what was read, all of it finished and nothing of it dropped, and the rows before the last few batches.
     ensures log { IfOk result (λ engine. IsLogOfText (R.remaining reader.old.inner) engine.log) }
     ensures all { IfOk result (λ engine. finished engine ≡ length engine.log.statements) }
     ensures trimmed { IfOk result (λ engine. IsTrimmed settings.now engine) }
+    ensures kept { IfOk result (λ engine. engine.dropped ≡ 0) }
 {
     if !are_within_limits(settings) {
         return Err(EngineFault::BadSettings);
     }
-    match run_batches(rt, alloc, reader, writer, settings) {
+    match run_batches(rt, alloc, reader, writer, settings, History::Kept) {
         Ok(engine) => Ok(engine),
+        Err(fault) => Err(engine_fault(fault)),
+    }
+}
+
+/// Reads a log to its end, runs it in batches, and writes its report, as `run_text`, but keeps nothing that is finished: with each
+/// batch its statements and outcomes are dropped once they are reported. So what it keeps beside rows, names and the records of
+/// grants doesn't grow with the accepted lines.
+pub fn report_text<T: Threads + Wait + Sync, R: Read, W: Write>(
+    rt: &T,
+    alloc: Global,
+    reader: &mut Counted<R>,
+    writer: &mut Counted<W>,
+    settings: &Settings,
+) -> Result<(), EngineFault>
+    // What was written is the report of what was read.
+    ensures done { OnOk result (IfSome (R.remaining reader.old.inner) (λ input. (text : List ℕ)
+        × (IsReport input text × Appends (W.contents writer.old.inner) (W.contents writer.new.inner) text))) }
+    // After a fault it is a beginning of it.
+    ensures begun { IfSome (R.remaining reader.old.inner) (λ input. (text : List ℕ)
+        × (IsReport input text × AppendsFront (W.contents writer.old.inner) (W.contents writer.new.inner) text)) }
+    // Read and Write come only where the reader or the writer failed.
+    ensures read { result ≡ Err EngineFault.Read → reader.old.errors < 2 ^ 64 - 1 → reader.old.errors < reader.new.errors }
+    ensures write { result ≡ Err EngineFault.Write → writer.old.errors < 2 ^ 64 - 1 → writer.old.errors < writer.new.errors }
+    // Ok says that neither of them failed, in the flush at the end neither.
+    ensures whole { OnOk result ((reader.new.errors ≡ reader.old.errors) × (writer.new.errors ≡ writer.old.errors)) }
+
+    // BadSettings comes exactly where a setting is outside its limits, and then nothing is done.
+    ensures bad { (result ≡ Err EngineFault.BadSettings) ↔ (are_within_limits settings.now ≡ false) }
+    ensures nothing { result ≡ Err EngineFault.BadSettings → (reader.new ≡ reader.old) × (writer.new ≡ writer.old) }
+{
+    if !are_within_limits(settings) {
+        return Err(EngineFault::BadSettings);
+    }
+    match run_batches(rt, alloc, reader, writer, settings, History::Dropped) {
+        Ok(_) => Ok(()),
         Err(fault) => Err(engine_fault(fault)),
     }
 }

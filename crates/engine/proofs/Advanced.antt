@@ -13,11 +13,12 @@ use Rattle.chains.specs.Store.{IsRight, Store}
 use Rattle.grants.specs.Book.{Entries, table_of}
 use Rattle.grants.specs.declared.book.Creation.{Creation}
 use Rattle.sequencer.specs.Log.{Accepted, empty_log}
+use Rattle.sequencer.specs.Tail.{Tail}
 use Rattle.standing.specs.Known.{AreKnown}
 use Rattle.standing.specs.Stands.{Stands}
 use Rattle.standing.proofs.Came.{came_at, came_count}
 use Rattle.taking.specs.Span.{AreOutcomes}
-use Rattle.engine.specs.Engine.{IsRun, Run, finished}
+use Rattle.engine.specs.Engine.{IsKept, IsRun, Run, finished}
 
 ranges : (first count more : ℕ) → range_with_len first (count + more) ≡ range_with_len first count ++ range_with_len (first + count) more
 ranges first zero more =
@@ -55,13 +56,14 @@ module _ (log : Accepted) (outcomes later all : List Outcome) (end : ℕ) (is : 
       (subst (λ (n : ℕ). AreOutcomes log.statements 0 n (outcomes ++ later)) sum
       (both log.statements 0 start (end - start) outcomes later came (subst (λ (n : ℕ). AreOutcomes log.statements n (end - start) later) zero-first next)))
 
-  pub advanced : (store : Store) (book : Entries) → end ≤ length log.statements → AreKnown log.statements → Stands log.statements end store book
-      → AreOutcomes log.statements 0 (length outcomes) outcomes → IsRun (record { log = log; store = store; book = book; outcomes = all })
-  advanced store book within known stands came = record {
+  pub advanced : (store : Store) (book : Entries) (dropped : ℕ) → dropped ≤ length outcomes → end ≤ length log.statements → AreKnown log.statements → Stands log.statements end store book
+      → AreOutcomes log.statements 0 (length outcomes) outcomes → IsRun (record { log = log; store = store; book = book; outcomes = all; dropped = dropped })
+  advanced store book dropped low within known stands came = record {
     within = omega (arith, ends_at, within);
     known = known;
     stands = subst (λ (n : ℕ). Stands log.statements n store book) (sym ends_at) stands;
     came = subst (λ (n : ℕ). AreOutcomes log.statements 0 n all) (sym ends_at) (came_to came);
+    dropped = omega (arith, low, less, ends_at);
   }
 
 -- the outcome of a finished place
@@ -84,15 +86,16 @@ run_left run new is end right = record {
   known = is.known;
   stands = stands_left run.log.statements (finished run) run.store new run.book is.stands end right;
   came = is.came;
+  dropped = is.dropped;
 }
 
 -- at first nothing is finished
 pub run_start : (log : Accepted) (store : Store) (book : Entries) (outcomes : List Outcome) → log ≡ empty_log → store.end ≡ 0 → ((one : List Statement) → IsRight one store)
-    → book.tables ≡ [] → book.records ≡ [] → outcomes ≡ [] → IsRun (record { log = log; store = store; book = book; outcomes = outcomes })
+    → book.tables ≡ [] → book.records ≡ [] → outcomes ≡ [] → IsRun (record { log = log; store = store; book = book; outcomes = outcomes; dropped = 0 })
 run_start log store book outcomes none ends right tables records nothing =
     let empty : Entries = record { tables = []; records = [] } in
     let book_is : book ≡ empty = ap (λ (ts : List Creation). record { tables = ts; records = book.records }) tables ∙ ap (λ (rs : List Record). record { tables = []; records = rs }) records in
-    let start : IsRun (record { log = empty_log; store = store; book = empty; outcomes = [] }) = record {
+    let start : IsRun (record { log = empty_log; store = store; book = empty; outcomes = []; dropped = 0 }) = record {
       within = omega arith;
       known = tt;
       stands = record {
@@ -109,7 +112,17 @@ run_start log store book outcomes none ends right tables records nothing =
         };
       };
       came = refl;
+      dropped = omega arith;
     } in
-    subst (λ (l : Accepted). IsRun (record { log = l; store = store; book = book; outcomes = outcomes })) (sym none)
-    (subst (λ (b : Entries). IsRun (record { log = empty_log; store = store; book = b; outcomes = outcomes })) (sym book_is)
-    (subst (λ (os : List Outcome). IsRun (record { log = empty_log; store = store; book = empty; outcomes = os })) (sym nothing) start))
+    subst (λ (l : Accepted). IsRun (record { log = l; store = store; book = book; outcomes = outcomes; dropped = 0 })) (sym none)
+    (subst (λ (b : Entries). IsRun (record { log = empty_log; store = store; book = b; outcomes = outcomes; dropped = 0 })) (sym book_is)
+    (subst (λ (os : List Outcome). IsRun (record { log = empty_log; store = store; book = empty; outcomes = os; dropped = 0 })) (sym nothing) start))
+
+-- and nothing was dropped
+pub kept_start : (tail : Tail) (store : Store) (book : Entries) (past outcomes : List Outcome) → tail ≡ record { log = empty_log; dropped = 0 } → store.end ≡ 0
+    → ((one : List Statement) → IsRight one store) → book.tables ≡ [] → book.records ≡ [] → past ≡ [] → outcomes ≡ []
+    → IsKept (record { log = tail.log; store = store; book = book; outcomes = past ++ outcomes; dropped = tail.dropped }) past
+kept_start tail store book past outcomes none ends right tables records nothing no_outcomes =
+    let P : Tail → List Outcome → Type 0 = λ t p. IsKept (record { log = t.log; store = store; book = book; outcomes = p ++ outcomes; dropped = t.dropped }) p in
+    subst (λ (t : Tail). P t past) (sym none) (subst (P (record { log = empty_log; dropped = 0 })) (sym nothing)
+    (record { is = run_start empty_log store book outcomes refl ends right tables records no_outcomes; same = refl }))

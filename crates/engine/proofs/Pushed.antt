@@ -10,20 +10,22 @@ use Rattle.log_text.specs.Statement.{Sentence}
 use Rattle.sequencer.specs.Catalog.{numbered}
 use Rattle.sequencer.specs.Log.{Accepted, with_accepted}
 use Rattle.sequencer.specs.Refusal.{refusal}
+use Rattle.sequencer.specs.Tail.{Tail}
 use Rattle.sequencer.specs.Taken.{IsWhole}
 use Rattle.sequencer.specs.declared.refused.Refused.{Refused}
 use Rattle.standing.specs.Known.{IsKnown}
-use Rattle.engine.specs.Engine.{IsRun, Run}
+use Rattle.engine.specs.Engine.{IsKept, IsRun, Run}
 use Rattle.model_base.specs.Growing.{NeedsOwnTables}
 use Rattle.engine.proofs.Grown.{known_grown, outcomes_grown, stands_grown}
 use Rattle.engine.proofs.Named.{known_new}
 
-abbrev run_of : Store → Entries → List Outcome → Accepted → Run
-run_of store book outcomes log = record { log = log; store = store; book = book; outcomes = outcomes }
+abbrev run_of : Store → Entries → List Outcome → ℕ → Accepted → Run
+run_of store book outcomes dropped log = record { log = log; store = store; book = book; outcomes = outcomes; dropped = dropped }
 
-module _ (log : Accepted) (store : Store) (book : Entries) (outcomes : List Outcome) (run : IsRun (run_of store book outcomes log)) (whole : IsWhole log) (own : NeedsOwnTables log.statements) where
-  one-more : (sentence : Sentence) → refusal log.names sentence ≡ None → IsRun (run_of store book outcomes (with_accepted log sentence))
+module _ (tail : Tail) (store : Store) (book : Entries) (outcomes : List Outcome) (run : IsRun (run_of store book outcomes tail.dropped tail.log)) (whole : IsWhole tail.log) (own : NeedsOwnTables tail.log.statements) where
+  one-more : (sentence : Sentence) → refusal tail.log.names sentence ≡ None → IsRun (run_of store book outcomes tail.dropped (with_accepted tail.log sentence))
   one-more sentence passes =
+      let log : Accepted = tail.log in
       let statement = numbered log.names sentence in
       let tables : length log.names.tables ≡ length (owners log.statements) = sym whole.owned ∙ ap length whole.owners in
       let here : IsKnown (length (owners log.statements)) statement.form = subst (λ (n : ℕ). IsKnown n statement.form) tables (known_new log.names sentence passes) in
@@ -32,9 +34,14 @@ module _ (log : Accepted) (store : Store) (book : Entries) (outcomes : List Outc
         known = known_grown log.statements statement run.known here;
         stands = stands_grown log.statements (statement ∷ []) own (length outcomes) run.within store book run.stands;
         came = outcomes_grown log.statements (statement ∷ []) own 0 (length outcomes) outcomes (omega (arith, run.within)) run.came;
+        dropped = run.dropped;
       }
 
-  pub pushed : (sentence : Sentence) (after : Accepted) (result : Result ℕ Refused) → OnOk result (after ≡ with_accepted log sentence)
-      → OnOk result (refusal log.names sentence ≡ None) → OnErr result (after ≡ log) → IsRun (run_of store book outcomes after)
-  pushed sentence after (Ok place) accepted passes err = subst (λ (l : Accepted). IsRun (run_of store book outcomes l)) (sym accepted) (one-more sentence passes)
-  pushed sentence after (Err refused) accepted passes err = subst (λ (l : Accepted). IsRun (run_of store book outcomes l)) (sym err) run
+  -- so it is with the answer that takes it, or refuses it
+  pub pushed : (past : List Outcome) → length past ≡ tail.dropped → (sentence : Sentence) (after : Tail) (result : Result ℕ Refused)
+      → OnOk result (after ≡ record tail { log = with_accepted tail.log sentence }) → OnOk result (refusal tail.log.names sentence ≡ None) → OnErr result (after ≡ tail)
+      → IsKept (run_of store book outcomes after.dropped after.log) past
+  pushed past same sentence after (Ok place) accepted passes err =
+      subst (λ (t : Tail). IsKept (run_of store book outcomes t.dropped t.log) past) (sym accepted) (record { is = one-more sentence passes; same = same })
+  pushed past same sentence after (Err refused) accepted passes err =
+      subst (λ (t : Tail). IsKept (run_of store book outcomes t.dropped t.log) past) (sym err) (record { is = run; same = same })

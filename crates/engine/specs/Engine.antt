@@ -2,7 +2,7 @@
 -- run, and what stands behind it is what the next one finds (J. M. Faleiro and D. J. Abadi, "Rethinking Serializable Multiversion
 -- Concurrency Control", PVLDB 8, 2015, section 3). That each place is counted as finished with its whole batch is this project's
 -- own.
-use Rattle.std.specs.Prelude.{◌==◌, ◌&&◌, ◌≤◌, ◌-◌, ℕ, Bool, List, length, nat_le, nat_lt}
+use Rattle.std.specs.Prelude.{◌≡◌, ◌==◌, ◌&&◌, ◌≤◌, ◌-◌, ℕ, Bool, List, length, nat_le, nat_lt}
 use Rattle.model_base.specs.declared.outcome.Outcome.{Outcome}
 use Rattle.chains.specs.Store.{Store}
 use Rattle.grants.specs.Book.{Entries}
@@ -12,23 +12,32 @@ use Rattle.standing.specs.Known.{AreKnown}
 use Rattle.standing.specs.Stands.{Stands}
 use Rattle.taking.specs.Span.{AreOutcomes}
 
--- the log, the versions of rows, the book of grants, and the outcomes of the places that are finished
+-- the log, the versions of rows, the book of grants, the outcomes of the places that are finished, and of how many of the first of
+-- these neither statement nor outcome is kept
 pub record Run : Type 0 where
   pub log : Accepted
   pub store : Store
   pub book : Entries
   pub outcomes : List Outcome
+  pub dropped : ℕ
 
 -- how many places are finished
 abbrev pub finished : Run → ℕ
 finished run = length run.outcomes
 
--- versions and book stand before the first place that isn't finished, and the outcomes are the log's
+-- versions and book stand before the first place that isn't finished, the outcomes are the log's, and only of finished places
+-- statement and outcome were dropped
 pub record IsRun (run : Run) : Type 0 where
   pub within : finished run ≤ length run.log.statements
   pub known : AreKnown run.log.statements
   pub stands : Stands run.log.statements (finished run) run.store run.book
   pub came : AreOutcomes run.log.statements 0 (finished run) run.outcomes
+  pub dropped : run.dropped ≤ finished run
+
+-- so it is, and as many outcomes were dropped as statements
+pub record IsKept (run : Run) (past : List Outcome) : Type 0 where
+  pub is : IsRun run
+  pub same : length past ≡ run.dropped
 
 -- whether the range may be run as the next batch, by so many workers and placers: it begins where the finished places end, lies
 -- in the log, and has 1 to 65,536 places; and there are 1 to 64 workers and 1 to 64 partitions

@@ -13,8 +13,9 @@ use grants::Book;
 use log_batch::LogBatch;
 use log_text::RawStatement;
 use model_base::{Key, Outcome, Place, Row};
+use past::{Past, forget_first};
 use placers::references_of;
-use sequencer::{Log, Refused};
+use sequencer::{LogTail, Refused};
 use standing::advance;
 use std::alloc::{AllocError, Global};
 use std::marker::Model;
@@ -30,30 +31,46 @@ const MOST_PLACES: u64 = 65_536;
 /// By how many workers a batch is run at most, and by how many partitions it is placed.
 const MOST_THREADS: usize = 64;
 
-/// A log, the outcomes of its finished places, and what stands behind these: the versions of rows and the book of grants.
+/// A log, the outcomes of its finished places, and what stands behind these: the versions of rows and the book of grants. What
+/// was finished may be forgotten, statements and outcomes both; rows and book stay.
 #[derive(Drop)]
 pub struct Engine {
-    log: Log,
+    log: LogTail,
     chains: Chains,
     book: Book,
+    past: Past<Outcome>,
     outcomes: Vec<Outcome>,
 }
 
 impl Model for Engine {
-    ghost use Rattle.engine.specs.Engine.{IsRun, Run};
+    ghost use Rattle.std.specs.Prelude.{◌++◌};
+    ghost use Rattle.engine.specs.Engine.{IsKept, Run};
 
     ghost Value = { Run };
 
-    ghost view = { λ engine. record { log = engine.log; store = engine.chains; book = engine.book; outcomes = engine.outcomes.items } };
+    ghost view = { λ engine. record {
+      log = engine.log.log;
+      store = engine.chains;
+      book = engine.book;
+      outcomes = engine.past.items ++ engine.outcomes.items;
+      dropped = engine.log.dropped;
+    } };
 
-    ghost invariant = { λ engine. IsRun (record { log = engine.log; store = engine.chains; book = engine.book; outcomes = engine.outcomes.items }) };
+    ghost invariant = { λ engine. IsKept (record {
+      log = engine.log.log;
+      store = engine.chains;
+      book = engine.book;
+      outcomes = engine.past.items ++ engine.outcomes.items;
+      dropped = engine.log.dropped;
+    })
+        engine.past.items };
 }
 
 /// What the places of a range come to, run as a batch. An error is want of memory.
 fn ran<T: Threads + Wait + Sync, G: Gate + Sync>(
     rt: &T,
     alloc: Global,
-    log: &Log,
+    log: &LogTail,
     chains: &Chains,
     book: &Book,
     range: Range<Place>,
@@ -61,11 +78,12 @@ fn ran<T: Threads + Wait + Sync, G: Gate + Sync>(
     gate: &G,
 ) -> Result<Taken, AllocError>
     requires partitions { 0 < crew.partitions }
+    requires kept { log.now.dropped ≤ range.start }
     requires order { range.start ≤ range.end }
-    requires within { range.end ≤ length log.now.statements }
-    requires stands { Stands log.now.statements range.start chains.now book.now }
-    ensures outcomes { IfOk result (λ taken. AreOutcomes log.now.statements range.start (range.end - range.start) taken.outcomes.items) }
-    ensures versions { IfOk result (λ taken. taken.versions.items ≡ versions_between log.now.statements range.start range.end) }
+    requires within { range.end ≤ length log.now.log.statements }
+    requires stands { Stands log.now.log.statements range.start chains.now book.now }
+    ensures outcomes { IfOk result (λ taken. AreOutcomes log.now.log.statements range.start (range.end - range.start) taken.outcomes.items) }
+    ensures versions { IfOk result (λ taken. taken.versions.items ≡ versions_between log.now.log.statements range.start range.end) }
 {
     let (start, end) = (range.start, range.end);
     let references = references_of(rt, alloc, log, range, crew.partitions)?;
@@ -98,18 +116,22 @@ impl Engine {
         ensures log { result.log ≡ empty_log }
         ensures none { finished result ≡ 0 }
         ensures mark { result.store.mark ≡ 0 }
+        ensures kept { result.dropped ≡ 0 }
     {
         Engine {
-            log: Log::new(alloc),
+            log: LogTail::new(alloc),
             chains: Chains::new(alloc),
             book: Book::new(alloc),
+            past: Past::new(),
             outcomes: Vec::new(alloc),
         }
     }
 
-    /// The log.
-    pub fn log(&self) -> &Log
-        ensures value { result.now ≡ self.now.log }
+    /// The log, without the statements that were dropped.
+    pub fn log(&self) -> &LogTail
+        ensures value { result.now.log ≡ self.now.log }
+        ensures dropped { result.now.dropped ≡ self.now.dropped }
+        ensures kept { self.now.dropped ≤ finished self.now }
         ensures within { finished self.now ≤ length self.now.log.statements }
     {
         &self.log
@@ -129,7 +151,7 @@ impl Engine {
         ensures run { IsRun self.now }
     {
         let _len = self.log.len();
-        self.outcomes.len() as u64
+        self.log.dropped() + self.outcomes.len() as u64
     }
 
     /// The first place before which the rows are kept.
@@ -148,7 +170,7 @@ impl Engine {
         ensures refused { IfErr result (λ r. IsRefusal r (refusal self.old.log.names statement)) }
         ensures err { OnErr result (self.new ≡ self.old) }
     {
-        let _statements = self.log.statements();
+        let _dropped = self.log.dropped();
         self.log.push(statement)
     }
 
@@ -172,10 +194,11 @@ impl Engine {
         ensures came { OnOk result (AreOutcomes self.new.log.statements 0 end self.new.outcomes) }
         ensures mark { OnOk result (self.new.store.mark ≡ self.old.store.mark) }
         ensures log { self.new.log ≡ self.old.log }
+        ensures dropped { self.new.dropped ≡ self.old.dropped }
         ensures err { OnErr result (self.new ≡ self.old) }
     {
+        let start = self.finished();
         let _len = self.log.len();
-        let start = self.outcomes.len() as u64;
         let Taken {
             mut outcomes,
             versions,
@@ -216,7 +239,7 @@ impl Engine {
     {
         let (start, end) = (range.start, range.end);
         let len = self.log.len();
-        start == self.outcomes.len() as u64
+        start == self.log.dropped() + self.outcomes.len() as u64
             && (start < end && end <= len && end - start <= MOST_PLACES)
             && (1 <= crew.workers && crew.workers <= MOST_THREADS)
             && (1 <= crew.partitions && crew.partitions <= MOST_THREADS)
@@ -240,6 +263,7 @@ impl Engine {
         ensures came { OnOk result (AreOutcomes self.new.log.statements 0 range.end self.new.outcomes) }
         ensures mark { OnOk result (self.new.store.mark ≡ self.old.store.mark) }
         ensures log { self.new.log ≡ self.old.log }
+        ensures dropped { self.new.dropped ≡ self.old.dropped }
         ensures err { OnErr result (self.new ≡ self.old) }
     {
         if !self.may_run(&range, crew) {
@@ -249,12 +273,28 @@ impl Engine {
         Ok(())
     }
 
-    /// The outcome of a place that is finished, which is the log's; `None` exactly from `finished` on.
-    pub fn outcome(&self, place: Place) -> Option<&Outcome>
-        ensures { MatchOption result (finished self.now ≤ place)
-            (λ found. (place < finished self.now) × (outcome self.now.log.statements place ≡ Some found.now)) }
+    /// Drops the statements and the outcomes of the places that are finished. It takes no memory, and costs what there is to drop.
+    pub fn forget(&mut self)
+        ensures { self.new ≡ record self.old { dropped = finished self.old } }
     {
-        let index = place as usize;
+        let _len = self.log.len();
+        let count = self.outcomes.len();
+        let end = self.log.dropped() + count as u64;
+        self.log.forget(end);
+        forget_first(&mut self.past, &mut self.outcomes, count);
+    }
+
+    /// The outcome of a place that is finished, which is the log's; `None` exactly from `finished` on, and below the first place that
+    /// wasn't forgotten.
+    pub fn outcome(&self, place: Place) -> Option<&Outcome>
+        ensures { MatchOption result ((finished self.now ≤ place) ⊎ (place < self.now.dropped))
+            (λ found. (self.now.dropped ≤ place) × (place < finished self.now) × (outcome self.now.log.statements place ≡ Some found.now)) }
+    {
+        let dropped = self.log.dropped();
+        if place < dropped {
+            return None;
+        }
+        let index = (place - dropped) as usize;
         if index < self.outcomes.len() {
             Some(&self.outcomes[index])
         } else {

@@ -1,14 +1,14 @@
 //! The references of six places, by partitions of several numbers, and each call once. Where memory is refused once, the
 //! same call is made again.
 
-ghost use Rattle.std.specs.Prelude.{◌<◌};
+ghost use Rattle.std.specs.Prelude.{◌<◌, ◌≤◌};
 
 use crate::fault::TrialFault;
 use crate::telling::tell;
 use log_text::{LineFault, RawStatement, parse_line};
 use model_base::{Key, Place, Table};
 use placing::{Part, Refs, merge, partition_of, partition_of_table, place, references_are_last};
-use sequencer::Log;
+use sequencer::LogTail;
 use std::alloc::{AllocError, Global};
 
 /// The statement that a line spells.
@@ -20,7 +20,7 @@ fn parsed(alloc: Global, line: &str) -> Result<RawStatement, LineFault> {
 }
 
 /// Puts a line behind a log.
-fn put_line(alloc: Global, log: &mut Log, line: &str) -> Result<(), TrialFault> {
+fn put_line(alloc: Global, log: &mut LogTail, line: &str) -> Result<(), TrialFault> {
     for _ in 0..2 {
         if let Ok(statement) = parsed(alloc, line) {
             if log.push(statement).is_ok() {
@@ -31,17 +31,28 @@ fn put_line(alloc: Global, log: &mut Log, line: &str) -> Result<(), TrialFault> 
     Err(TrialFault::Line)
 }
 
+/// The place, or the first one whose statement is kept if that lies behind it.
+fn kept_from(log: &LogTail, place: Place) -> Place
+    ensures { log.now.dropped ≤ result }
+{
+    if place < log.dropped() {
+        log.dropped()
+    } else {
+        place
+    }
+}
+
 /// What one partition's placer finds. Where memory is refused, it goes through the batch again.
 fn placed(
     alloc: Global,
-    log: &Log,
+    log: &LogTail,
     first: Place,
     partition: usize,
     partitions: usize,
 ) -> Result<Part, AllocError>
     requires { 0 < partitions }
 {
-    let end = log.len();
+    let (first, end) = (kept_from(log, first), log.len());
     match place(alloc, log, first..end, partition, partitions) {
         Err(_) => place(alloc, log, first..end, partition, partitions),
         part => part,
@@ -51,7 +62,7 @@ fn placed(
 /// The parts of all partitions for the places of the log from the first one on.
 fn parts_of(
     alloc: Global,
-    log: &Log,
+    log: &LogTail,
     first: Place,
     partitions: usize,
 ) -> Result<Vec<Part>, AllocError>
@@ -65,7 +76,12 @@ fn parts_of(
 }
 
 /// The references of the batch that has the places of the log from the first one on.
-fn references(alloc: Global, log: &Log, first: Place, partitions: usize) -> Result<Refs, AllocError>
+fn references(
+    alloc: Global,
+    log: &LogTail,
+    first: Place,
+    partitions: usize,
+) -> Result<Refs, AllocError>
     requires { 0 < partitions }
 {
     match merge(alloc, parts_of(alloc, log, first, partitions)?) {
@@ -99,7 +115,7 @@ const LINES: [&str; 7] = [
 ];
 
 /// Puts the lines behind a log.
-fn put_lines(alloc: Global, log: &mut Log) -> Result<(), TrialFault> {
+fn put_lines(alloc: Global, log: &mut LogTail) -> Result<(), TrialFault> {
     for line in LINES {
         put_line(alloc, log, line)?;
     }
@@ -110,7 +126,7 @@ fn put_lines(alloc: Global, log: &mut Log) -> Result<(), TrialFault> {
 fn tell_references(
     rt: &impl Print,
     alloc: Global,
-    log: &Log,
+    log: &LogTail,
     first: Place,
     partitions: usize,
 ) -> Result<(), TrialFault>
@@ -130,7 +146,7 @@ fn tell_no_part(rt: &impl Print, alloc: Global) -> Result<(), TrialFault> {
 }
 
 /// Tells the references of batches of the log.
-fn tell_batches(rt: &impl Print, alloc: Global, log: &mut Log) -> Result<(), TrialFault> {
+fn tell_batches(rt: &impl Print, alloc: Global, log: &mut LogTail) -> Result<(), TrialFault> {
     put_lines(alloc, log)?;
     tell_references(rt, alloc, log, 1, 1)?;
     tell_references(rt, alloc, log, 1, 7)?;
@@ -145,5 +161,5 @@ pub fn tell_batch_references(rt: &impl Print, alloc: Global) -> Result<(), Trial
     let rows = (partition_of(KEY, 7), partition_of(KEY, 1));
     tell(rt, "partitions", &(rows, partition_of_table(Table(65), 64)));
     references_are_last();
-    tell_batches(rt, alloc, &mut Log::new(alloc))
+    tell_batches(rt, alloc, &mut LogTail::new(alloc))
 }

@@ -19,7 +19,7 @@ use chains::Chains;
 use grants::{Book, IndexedGrants, Records};
 use model_base::{Deed, Grant, Key, Kind, Place, Reference, Row, Statement, Table, User};
 use placing::Refs;
-use sequencer::Log;
+use sequencer::LogTail;
 use std::alloc::{AllocError, Global};
 use std::marker::Model;
 use std::ops::Range;
@@ -29,7 +29,7 @@ use std::ops::Range;
 #[derive(Drop)]
 pub struct LogBatch<'a> {
     alloc: Global,
-    log: &'a Log,
+    log: &'a LogTail,
     chains: &'a Chains,
     book: &'a Book,
     references: Refs,
@@ -44,10 +44,10 @@ impl<'a> Model for LogBatch<'a> {
 
     ghost Value = { Ranged };
 
-    ghost view = { λ batch. record { log = batch.log.now; first = batch.first; size = batch.size; partitions = batch.partitions } };
+    ghost view = { λ batch. record { log = batch.log.now.log; first = batch.first; size = batch.size; partitions = batch.partitions } };
 
-    ghost invariant = { λ batch. IsSupplied (record { log = batch.log.now; first = batch.first; size = batch.size; partitions = batch.partitions })
-        batch.chains.now batch.book.now batch.references batch.named };
+    ghost invariant = { λ batch. IsSupplied (record { log = batch.log.now.log; first = batch.first; size = batch.size; partitions = batch.partitions })
+        batch.log.now.dropped batch.chains.now batch.book.now batch.references batch.named };
 }
 
 /// Puts the grant behind the others, if the deed is one.
@@ -61,15 +61,19 @@ fn push_grant(grants: &mut IndexedGrants, deed: Option<Deed>) -> Result<(), Allo
 }
 
 /// The grants that the statements of the places may make, in order.
-fn named_grants(alloc: Global, log: &Log, range: Range<Place>) -> Result<IndexedGrants, AllocError>
+fn named_grants(
+    alloc: Global,
+    log: &LogTail,
+    range: Range<Place>,
+) -> Result<IndexedGrants, AllocError>
+    requires kept { log.now.dropped ≤ range.start }
     requires order { range.start ≤ range.end }
-    requires within { range.end ≤ length log.now.statements }
-    ensures { IfOk result (λ grants. grants ≡ grants_named log.now.statements range.start (range.end - range.start)) }
+    requires within { range.end ≤ length log.now.log.statements }
+    ensures { IfOk result (λ grants. grants ≡ grants_named log.now.log.statements range.start (range.end - range.start)) }
 {
     let mut grants = IndexedGrants::new(alloc);
-    let statements = log.statements();
     for place in range.start..range.end {
-        push_grant(&mut grants, statements[place as usize].deed_at(place))?;
+        push_grant(&mut grants, log.statement(place).deed_at(place))?;
     }
     Ok(grants)
 }
@@ -82,7 +86,7 @@ impl<'a> LogBatch<'a> {
     /// of memory.
     pub fn new(
         alloc: Global,
-        log: &'a Log,
+        log: &'a LogTail,
         chains: &'a Chains,
         book: &'a Book,
         range: Range<Place>,
@@ -90,15 +94,16 @@ impl<'a> LogBatch<'a> {
         references: Refs,
     ) -> Result<Self, AllocError>
         requires partitions { 0 < partitions }
+        requires kept { log.now.dropped ≤ range.start }
         requires order { range.start ≤ range.end }
-        requires within { range.end ≤ length log.now.statements }
+        requires within { range.end ≤ length log.now.log.statements }
         requires ends { chains.now.end ≡ range.start }
-        requires right { IsRight log.now.statements chains.now }
-        requires book { ShowsBook book.now (owners log.now.statements) (deeds_before log.now.statements range.start) }
-        requires references { references ≡ batch_references log.now.statements range.start range.end }
-        ensures { IfOk result (λ batch. batch ≡ record { log = log.now; first = range.start; size = range.end - range.start; partitions = partitions }) }
+        requires right { IsRight log.now.log.statements chains.now }
+        requires book { ShowsBook book.now (owners log.now.log.statements) (deeds_before log.now.log.statements range.start) }
+        requires references { references ≡ batch_references log.now.log.statements range.start range.end }
+        ensures { IfOk result (λ batch. batch ≡ record { log = log.now.log; first = range.start; size = range.end - range.start; partitions = partitions }) }
     {
-        let _statements = log.statements();
+        let _dropped = log.dropped();
         let _len = log.len();
         let _mark = chains.mark();
         let named = named_grants(alloc, log, range.start..range.end)?;
@@ -116,8 +121,8 @@ impl<'a> LogBatch<'a> {
     }
 
     /// The log.
-    pub fn log(&self) -> &Log
-        ensures value { result.now ≡ self.now.log }
+    pub fn log(&self) -> &LogTail
+        ensures value { result.now.log ≡ self.now.log }
         ensures whole { IsWhole self.now.log }
         ensures of_log { IsOfLog (range_of self.now) }
         ensures within { self.now.first + self.now.size ≤ length self.now.log.statements }
@@ -160,7 +165,7 @@ impl<'a> LogBatch<'a> {
         ensures taken { IsTaken self.now.log.names result.now }
         ensures of_log { IsOfLog (range_of self.now) }
     {
-        &self.log.statements()[self.first as usize + index]
+        self.log.statement(self.first + index as u64)
     }
 
     /// The statement of an index, also past the batch, if the log has one there.
@@ -168,10 +173,9 @@ impl<'a> LogBatch<'a> {
         ensures { MatchOption result (slice_get self.now.log.statements (self.now.first + index) ≡ None)
             (λ found. (slice_get self.now.log.statements (self.now.first + index) ≡ Some found.now) × IsTaken self.now.log.names found.now) }
     {
-        let statements = self.log.statements();
-        let behind = &statements[self.first as usize..];
-        if index < behind.len() {
-            Some(&behind[index])
+        let behind = self.log.len() - self.first;
+        if (index as u64) < behind {
+            Some(self.log.statement(self.first + index as u64))
         } else {
             None
         }

@@ -1,3 +1,4 @@
+pub mod Beginning
 pub mod Placed
 pub mod Standing
 pub mod Sharing

@@ -16,7 +16,7 @@ use log_machine::OfLog;
 use log_text::parse_line;
 use model_base::Place;
 use placing::{Part, merge, place};
-use sequencer::Log;
+use sequencer::LogTail;
 use std::alloc::{AllocError, Global};
 use std::ops::Range;
 
@@ -28,8 +28,10 @@ pub struct Before {
 }
 
 /// The log of these lines.
-pub fn log_of(alloc: Global, lines: &[&str]) -> Result<Log, TrialFault> {
-    let mut log = Log::new(alloc);
+pub fn log_of(alloc: Global, lines: &[&str]) -> Result<LogTail, TrialFault>
+    ensures { IfOk result (λ log. log.dropped ≡ 0) }
+{
+    let mut log = LogTail::new(alloc);
     for line in lines {
         let statement = parse_line(alloc, line.as_bytes())?;
         log.push(statement)?;
@@ -50,14 +52,15 @@ pub fn nothing(alloc: Global) -> Before
 /// What the placers of so many partitions find in a range of the log.
 fn parts_of(
     alloc: Global,
-    log: &Log,
+    log: &LogTail,
     range: Range<Place>,
     partitions: usize,
 ) -> Result<Vec<Part>, AllocError>
     requires partitions { 0 < partitions }
-    requires within { range.end ≤ length log.now.statements }
+    requires kept { log.now.dropped ≤ range.start }
+    requires within { range.end ≤ length log.now.log.statements }
     ensures { IfOk result (λ parts. parts.items
-        ≡ map (part_of partitions log.now.statements range.start (range.end - range.start)) (range_with_len 0 partitions)) }
+        ≡ map (part_of partitions log.now.log.statements range.start (range.end - range.start)) (range_with_len 0 partitions)) }
 {
     let mut parts = Vec::new(alloc);
     for partition in 0..partitions {
@@ -69,17 +72,18 @@ fn parts_of(
 /// A range of the log as a batch that so many partitions place.
 pub fn batch_of<'a>(
     alloc: Global,
-    log: &'a Log,
+    log: &'a LogTail,
     before: &'a Before,
     range: Range<Place>,
     partitions: usize,
 ) -> Result<LogBatch<'a>, AllocError>
     requires partitions { 0 < partitions }
     requires order { range.start ≤ range.end }
-    requires within { range.end ≤ length log.now.statements }
-    requires before { IsBefore before.now log.now.statements range.start }
+    requires kept { log.now.dropped ≤ range.start }
+    requires within { range.end ≤ length log.now.log.statements }
+    requires before { IsBefore before.now log.now.log.statements range.start }
     ensures { IfOk result (λ batch. batch
-        ≡ record { log = log.now; first = range.start; size = range.end - range.start; partitions = partitions }) }
+        ≡ record { log = log.now.log; first = range.start; size = range.end - range.start; partitions = partitions }) }
 {
     let parts = parts_of(alloc, log, range.start..range.end, partitions)?;
     let references = merge(alloc, parts)?;
@@ -97,15 +101,16 @@ pub fn batch_of<'a>(
 /// The machine over a range of the log, before any event.
 pub fn machine_of<'a>(
     alloc: Global,
-    log: &'a Log,
+    log: &'a LogTail,
     before: &'a Before,
     range: Range<Place>,
     partitions: usize,
 ) -> Result<Machine<OfLog<'a>>, AllocError>
     requires partitions { 0 < partitions }
     requires order { range.start ≤ range.end }
-    requires within { range.end ≤ length log.now.statements }
-    requires before { IsBefore before.now log.now.statements range.start }
+    requires kept { log.now.dropped ≤ range.start }
+    requires within { range.end ≤ length log.now.log.statements }
+    requires before { IsBefore before.now log.now.log.statements range.start }
 {
     let batch = batch_of(alloc, log, before, range, partitions)?;
     Machine::new(alloc, OfLog::new(batch))

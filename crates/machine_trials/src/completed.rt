@@ -7,9 +7,9 @@ use crate::batches::{Before, batch_of, log_of, nothing};
 use crate::fault::TrialFault;
 use finishing::{Finished, finish, run_in_order};
 use log_words::{LogKey, ended_slots};
-use model_base::Items;
+use model_base::{Items, Place};
 use own_words::decoded;
-use sequencer::Log;
+use sequencer::LogTail;
 use std::alloc::Global;
 use taking::Closed;
 use words::BatchWords;
@@ -32,13 +32,15 @@ const LINES: [&str; 9] = [
 fn tell_outcomes(
     rt: &impl Print,
     alloc: Global,
-    log: &Log,
+    log: &LogTail,
     done: &Finished<'_>,
 ) -> Result<(), TrialFault>
-    requires { done.now.size ≡ length log.now.statements }
+    requires kept { log.now.dropped ≡ 0 }
+    requires all { done.now.size ≡ length log.now.log.statements }
 {
-    for (index, statement) in log.statements().iter().enumerate() {
+    for index in 0..log.len() as usize {
         let ended = done.ended(alloc, index)?;
+        let statement = log.statement(index as Place);
         let outcome = decoded(&statement.form, done.own(index), Items::new(ended));
         println!(rt; "{index}: {outcome:?}")?;
     }
@@ -49,10 +51,11 @@ fn tell_outcomes(
 fn tell_in_order(
     rt: &impl Print,
     alloc: Global,
-    log: &Log,
+    log: &LogTail,
     before: &Before,
 ) -> Result<(), TrialFault>
-    requires { IsBefore before.now log.now.statements 0 }
+    requires kept { log.now.dropped ≡ 0 }
+    requires before { IsBefore before.now log.now.log.statements 0 }
 {
     let batch = batch_of(alloc, log, before, 0..log.len(), 1)?;
     let done = run_in_order(alloc, batch)?;
@@ -64,11 +67,12 @@ fn tell_in_order(
 fn tell_finished(
     rt: &impl Print,
     alloc: Global,
-    log: &Log,
+    log: &LogTail,
     before: &Before,
 ) -> Result<(), TrialFault>
-    requires before { IsBefore before.now log.now.statements 0 }
-    requires some { 0 < length log.now.statements }
+    requires kept { log.now.dropped ≡ 0 }
+    requires before { IsBefore before.now log.now.log.statements 0 }
+    requires some { 0 < length log.now.log.statements }
 {
     let batch = batch_of(alloc, log, before, 0..log.len(), 1)?;
     let slots = ended_slots(alloc, &batch)?;

@@ -1,17 +1,19 @@
 //! Drawn lists of events over six places, of which the last ends two grants. However they are drawn, each place that is done
 //! has the outcome of the slow serial run, and each end that is set is one that the run names.
 
-ghost use Rattle.std.specs.Prelude.{◌<◌, length};
+ghost use Rattle.std.specs.Prelude.{◌≡◌, ◌<◌, length};
 
 use crate::batches::{log_of, machine_of, make, nothing};
 use crate::draws::{Draws, drawn_event};
+use crate::fault::TrialFault;
 use crate::telling::outcome_at;
 use bohm_core::{Machine, State};
 use bohm_core_base::Event;
 use log_machine::OfLog;
+use log_text::parse_line;
 use model::serial;
 use model_base::{DeedDone, Outcome, Place};
-use sequencer::Log;
+use sequencer::{Log, LogTail};
 use std::alloc::{AllocError, Global};
 use std::process::Abort;
 use std::test::Fail;
@@ -149,10 +151,12 @@ fn compare_ends(rt: &impl Abort, machine: &Machine<OfLog<'_>>, outcomes: &[Outco
 fn compare_list(
     rt: &impl Abort,
     alloc: Global,
-    log: &Log,
+    log: &LogTail,
     draws: &mut Draws,
     outcomes: &[Outcome],
-) -> Result<Counts, AllocError> {
+) -> Result<Counts, AllocError>
+    requires { log.now.dropped ≡ 0 }
+{
     let before = nothing(alloc);
     let mut machine = machine_of(alloc, log, &before, 0..log.len(), 2)?;
     let late = run_list(&mut machine, draws)?;
@@ -162,10 +166,21 @@ fn compare_list(
     Ok(Counts { done, ended, late })
 }
 
+/// The log with all of its statements.
+fn whole_log(alloc: Global) -> Result<Log, TrialFault> {
+    let mut log = Log::new(alloc);
+    for line in LINES {
+        let statement = parse_line(alloc, line.as_bytes())?;
+        log.push(statement)?;
+    }
+    Ok(log)
+}
+
 /// What all lists come to.
 fn compare_lists(rt: &impl Abort, alloc: Global) -> Result<Counts, Fail> {
     let log = log_of(alloc, &LINES)?;
-    let outcomes = serial(alloc, log.statements())?;
+    let whole = whole_log(alloc)?;
+    let outcomes = serial(alloc, whole.statements())?;
     let mut draws = Draws::new(1976);
     let mut all = Counts::default();
     for _ in 0..LISTS {

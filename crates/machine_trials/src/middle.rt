@@ -1,6 +1,6 @@
 //! The reader and the revocation of the worked log alone, as a batch in the middle of the log.
 
-ghost use Rattle.std.specs.Prelude.{◌≤◌, length};
+ghost use Rattle.std.specs.Prelude.{◌≡◌, ◌≤◌, length};
 ghost use Rattle.machine_trials.specs.Worked.{BeginsWorked};
 
 use crate::batches::{log_of, machine_of};
@@ -11,7 +11,7 @@ use crate::worked::{LINES, before_the_reader, begins_worked};
 use bohm_core::Machine;
 use bohm_core_base::Event;
 use log_machine::OfLog;
-use sequencer::Log;
+use sequencer::LogTail;
 use std::alloc::Global;
 
 /// Nobody can take a place that isn't placed; a partition places each place once, and one that isn't there places none.
@@ -122,9 +122,10 @@ fn tell_row(
 }
 
 /// Tells the row of events on the reader and the revocation of a log that begins with the worked three statements.
-fn tell_last_two(rt: &impl Print, alloc: Global, log: &Log) -> Result<(), TrialFault>
-    requires within { 5 ≤ length log.now.statements }
-    requires begins { BeginsWorked log.now.statements }
+fn tell_last_two(rt: &impl Print, alloc: Global, log: &LogTail) -> Result<(), TrialFault>
+    requires kept { log.now.dropped ≡ 0 }
+    requires within { 5 ≤ length log.now.log.statements }
+    requires begins { BeginsWorked log.now.log.statements }
 {
     let before = before_the_reader(alloc)?;
     let mut machine = machine_of(alloc, log, &before, 3..5, 1)?;
@@ -135,7 +136,7 @@ fn tell_last_two(rt: &impl Print, alloc: Global, log: &Log) -> Result<(), TrialF
 /// Tells the row of events on the reader and the revocation alone.
 pub fn tell_middle(rt: &impl Print, alloc: Global) -> Result<(), TrialFault> {
     let log = log_of(alloc, &LINES)?;
-    if log.len() < 5 || !begins_worked(log.statements()) {
+    if log.len() < 5 || !begins_worked(&log) {
         return Err(TrialFault::OtherLog);
     }
     println!(rt; "the middle of the log")?;

@@ -20,7 +20,7 @@ use bohm_core_base::{Event, Hold};
 use log_batch::LogBatch;
 use log_machine::OfLog;
 use log_words::{LogKey, LogWords, ended_slots};
-use sequencer::Log;
+use sequencer::LogTail;
 use std::alloc::Global;
 use taking::Closed;
 use words::{
@@ -287,9 +287,10 @@ fn tell_batch_words(
 }
 
 /// Tells the row of calls on the reader and the revocation of a log that begins with the worked three statements.
-fn tell_words(rt: &impl Print, alloc: Global, log: &Log) -> Result<(), TrialFault>
-    requires within { 5 ≤ length log.now.statements }
-    requires begins { BeginsWorked log.now.statements }
+fn tell_words(rt: &impl Print, alloc: Global, log: &LogTail) -> Result<(), TrialFault>
+    requires kept { log.now.dropped ≡ 0 }
+    requires within { 5 ≤ length log.now.log.statements }
+    requires begins { BeginsWorked log.now.log.statements }
 {
     let before = before_the_reader(alloc)?;
     let mut machine = Machine::new(alloc, OfLog::new(batch_of(alloc, log, &before, 3..5, 1)?))?;
@@ -307,7 +308,7 @@ fn tell_words(rt: &impl Print, alloc: Global, log: &Log) -> Result<(), TrialFaul
 /// Tells the row of calls on the shared words of the reader and the revocation.
 pub fn tell_shared(rt: &impl Print, alloc: Global) -> Result<(), TrialFault> {
     let log = log_of(alloc, &LINES)?;
-    if log.len() < 5 || !begins_worked(log.statements()) {
+    if log.len() < 5 || !begins_worked(&log) {
         return Err(TrialFault::OtherLog);
     }
     println!(rt; "the shared words of the middle of the log")?;

@@ -1,6 +1,6 @@
 //! The whole worked log as one batch: the revocation is done before the reader has a word, and the reader still reads.
 
-ghost use Rattle.std.specs.Prelude.{◌<◌, length};
+ghost use Rattle.std.specs.Prelude.{◌≡◌, ◌<◌, length};
 
 use crate::batches::{log_of, machine_of, nothing};
 use crate::fault::TrialFault;
@@ -9,7 +9,7 @@ use crate::worked::LINES;
 use bohm_core::Machine;
 use bohm_core_base::Event;
 use log_machine::OfLog;
-use sequencer::Log;
+use sequencer::LogTail;
 use std::alloc::Global;
 
 /// The reader is placed and can be taken, but not filled before the statements that it refers to are done.
@@ -117,8 +117,14 @@ fn tell_last(
 }
 
 /// Tells the row of events on all of a log, by so many partitions.
-fn tell_all(rt: &impl Print, alloc: Global, log: &Log, placing: &[Event]) -> Result<(), TrialFault>
-    requires { 0 < length placing.now }
+fn tell_all(
+    rt: &impl Print,
+    alloc: Global,
+    log: &LogTail,
+    placing: &[Event],
+) -> Result<(), TrialFault>
+    requires kept { log.now.dropped ≡ 0 }
+    requires some { 0 < length placing.now }
 {
     let before = nothing(alloc);
     let mut machine = machine_of(alloc, log, &before, 0..log.len(), placing.len())?;

@@ -16,6 +16,7 @@ use model_base::{
     Access, DeedForm, Form, Grant, Key, Kind, Kinds, Register, Row, RowName, Statement, Step,
     Table, User,
 };
+use sequencer::LogTail;
 use std::alloc::{AllocError, Global};
 
 /// The lines of the worked log.
@@ -145,16 +146,22 @@ fn is_granting(statement: &Statement) -> bool
     }
 }
 
-/// Whether a log begins with the three statements.
-pub fn begins_worked(statements: &[Statement]) -> bool
-    ensures { IsTrue result → BeginsWorked statements.now }
+/// Whether these are the three statements.
+fn are_worked(first: &Statement, second: &Statement, third: &Statement) -> bool
+    ensures { IsTrue result → (first.now ≡ creating) × (second.now ≡ inserting) × (third.now ≡ granting) }
 {
-    match statements {
-        [first, second, third, ..] => {
-            is_creating(first) && is_inserting(second) && is_granting(third)
-        }
-        _ => false,
+    is_creating(first) && is_inserting(second) && is_granting(third)
+}
+
+/// Whether a log begins with the three statements.
+pub fn begins_worked(log: &LogTail) -> bool
+    requires { log.now.dropped ≡ 0 }
+    ensures { IsTrue result → BeginsWorked log.now.log.statements }
+{
+    if log.len() < 3 {
+        return false;
     }
+    are_worked(log.statement(0), log.statement(1), log.statement(2))
 }
 
 /// The versions of rows that the three leave: the second inserts a row.

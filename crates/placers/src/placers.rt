@@ -8,7 +8,7 @@ ghost use Rattle.placing.specs.Parts.{part_of};
 
 use model_base::Place;
 use placing::{Part, Refs, merge, place};
-use sequencer::Log;
+use sequencer::LogTail;
 use std::alloc::{AllocError, Global};
 use std::ops::Range;
 use std::thread;
@@ -17,15 +17,16 @@ use std::thread::Threads;
 /// What the placer of a partition finds in the places from one on and before another.
 fn place_part(
     alloc: Global,
-    log: &Log,
+    log: &LogTail,
     start: Place,
     end: Place,
     partition: usize,
     partitions: usize,
 ) -> Result<Part, AllocError>
     requires partitions { 0 < partitions }
-    requires within { end ≤ length log.now.statements }
-    ensures { IfOk result (λ part. part ≡ part_of partitions log.now.statements start (end - start) partition) }
+    requires kept { log.now.dropped ≤ start }
+    requires within { end ≤ length log.now.log.statements }
+    ensures { IfOk result (λ part. part ≡ part_of partitions log.now.log.statements start (end - start) partition) }
 {
     place(alloc, log, start..end, partition, partitions)
 }
@@ -34,15 +35,16 @@ fn place_part(
 fn parts_below<R: Threads + Sync>(
     rt: &R,
     alloc: Global,
-    log: &Log,
+    log: &LogTail,
     range: Range<Place>,
     count: usize,
     partitions: usize,
 ) -> Result<Vec<Part>, AllocError>
     requires some { 0 < count }
     requires partitions { 0 < partitions }
-    requires within { range.end ≤ length log.now.statements }
-    ensures { IfOk result (λ parts. parts.items ≡ map (part_of partitions log.now.statements range.start (range.end - range.start)) (range_with_len 0 count)) }
+    requires kept { log.now.dropped ≤ range.start }
+    requires within { range.end ≤ length log.now.log.statements }
+    ensures { IfOk result (λ parts. parts.items ≡ map (part_of partitions log.now.log.statements range.start (range.end - range.start)) (range_with_len 0 count)) }
 {
     let (start, end) = (range.start, range.end);
     let last = count - 1;
@@ -54,12 +56,12 @@ fn parts_below<R: Threads + Sync>(
     let (part, parts) = thread::join(
         rt,
         move || -> Result<Part, AllocError>
-            requires { (0 < partitions) × (end ≤ length log.now.statements) }
-            ensures { IfOk result (λ part. part ≡ part_of partitions log.entry.now.statements start (end - start) last) }
+            requires { (0 < partitions) × (log.now.dropped ≤ start) × (end ≤ length log.now.log.statements) }
+            ensures { IfOk result (λ part. part ≡ part_of partitions log.entry.now.log.statements start (end - start) last) }
         { place_part(alloc, log, start, end, last, partitions) },
         move || -> Result<Vec<Part>, AllocError>
-            requires { IsSync R.row × (0 < last) × (0 < partitions) × (end ≤ length log.now.statements) }
-            ensures { IfOk result (λ parts. parts.items ≡ map (part_of partitions log.entry.now.statements start (end - start)) (range_with_len 0 last)) }
+            requires { IsSync R.row × (0 < last) × (0 < partitions) × (log.now.dropped ≤ start) × (end ≤ length log.now.log.statements) }
+            ensures { IfOk result (λ parts. parts.items ≡ map (part_of partitions log.entry.now.log.statements start (end - start)) (range_with_len 0 last)) }
         { parts_below(rt, alloc, log, start..end, last, partitions) },
     );
     let mut parts = parts?;
@@ -74,14 +76,15 @@ fn parts_below<R: Threads + Sync>(
 pub fn references_of<R: Threads + Sync>(
     rt: &R,
     alloc: Global,
-    log: &Log,
+    log: &LogTail,
     range: Range<Place>,
     partitions: usize,
 ) -> Result<Refs, AllocError>
     requires partitions { 0 < partitions }
     requires order { range.start ≤ range.end }
-    requires within { range.end ≤ length log.now.statements }
-    ensures { IfOk result (λ references. references ≡ batch_references log.now.statements range.start range.end) }
+    requires kept { log.now.dropped ≤ range.start }
+    requires within { range.end ≤ length log.now.log.statements }
+    ensures { IfOk result (λ references. references ≡ batch_references log.now.log.statements range.start range.end) }
 {
     let _len = log.len();
     let parts = parts_below(rt, alloc, log, range, partitions, partitions)?;

@@ -10,7 +10,7 @@ use crate::latest::Latest;
 use crate::part::Part;
 use crate::tables::find_tables;
 use model_base::{Access, Place, Statement, Table};
-use sequencer::Log;
+use sequencer::LogTail;
 use std::alloc::{AllocError, Global};
 use std::ops::Range;
 
@@ -69,21 +69,22 @@ fn place_statement(
 /// of it. The cost of a place is that of a look-up for each of its accesses and tables. `Err` says that memory was refused.
 pub fn place(
     alloc: Global,
-    log: &Log,
+    log: &LogTail,
     range: Range<Place>,
     partition: usize,
     partitions: usize,
 ) -> Result<Part, AllocError>
     requires partitions { 0 < partitions }
-    requires within { range.end ≤ length log.now.statements }
-    ensures { IfOk result (λ part. part ≡ part_of partitions log.now.statements range.start (range.end - range.start) partition) }
+    requires kept { log.now.dropped ≤ range.start }
+    requires within { range.end ≤ length log.now.log.statements }
+    ensures { IfOk result (λ part. part ≡ part_of partitions log.now.log.statements range.start (range.end - range.start) partition) }
 {
     let mut latest = Latest::new(alloc, partition, partitions);
     let mut part = Part::new(alloc);
     let mut tables = Vec::new(alloc);
-    let statements = log.statements();
+    let _len = log.len();
     for place in range.start..range.end {
-        let statement = &statements[place as usize];
+        let statement = log.statement(place);
         place_statement(&mut latest, &mut part, &mut tables, statement, place)?;
     }
     Ok(part)

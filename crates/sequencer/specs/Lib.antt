@@ -4,3 +4,4 @@ pub mod Refusal
 pub mod Known
 pub mod Log
 pub mod Taken
+pub mod Tail

@@ -7,9 +7,11 @@ mod log;
 mod names;
 mod numbering;
 mod refused;
+mod tail;
 mod testing;
 
 pub use catalog::{Catalog, MOST_PLACES};
 pub use log::Log;
 pub use names::{MOST_NAMES, NameTable};
 pub use refused::Refused;
+pub use tail::LogTail;

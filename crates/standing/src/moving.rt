@@ -10,7 +10,7 @@ use crate::booking::book_places;
 use chains::{Chains, Version};
 use grants::Book;
 use model_base::{Outcome, Place};
-use sequencer::Log;
+use sequencer::LogTail;
 use std::alloc::{AllocError, Global};
 use std::ops::Range;
 
@@ -20,18 +20,19 @@ pub fn advance(
     alloc: Global,
     chains: &mut Chains,
     book: &mut Book,
-    log: &Log,
+    log: &LogTail,
     outcomes: &[Outcome],
     versions: Vec<Version>,
     range: Range<Place>,
 ) -> Result<(), AllocError>
     requires order { range.start ≤ range.end }
-    requires within { range.end ≤ length log.now.statements }
-    requires known { AreKnown log.now.statements }
-    requires stands { Stands log.now.statements range.start chains.old book.old }
-    requires came { AreOutcomes log.now.statements range.start (range.end - range.start) outcomes.now }
-    requires left { versions.items ≡ versions_between log.now.statements range.start range.end }
-    ensures ok { OnOk result (Stands log.now.statements range.end chains.new book.new) }
+    requires kept { log.now.dropped ≤ range.start }
+    requires within { range.end ≤ length log.now.log.statements }
+    requires known { AreKnown log.now.log.statements }
+    requires stands { Stands log.now.log.statements range.start chains.old book.old }
+    requires came { AreOutcomes log.now.log.statements range.start (range.end - range.start) outcomes.now }
+    requires left { versions.items ≡ versions_between log.now.log.statements range.start range.end }
+    ensures ok { OnOk result (Stands log.now.log.statements range.end chains.new book.new) }
     ensures mark { OnOk result (chains.new.mark ≡ chains.old.mark) }
     ensures chains { OnErr result (chains.new ≡ chains.old) }
     ensures book { OnErr result (book.new ≡ book.old) }

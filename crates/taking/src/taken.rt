@@ -14,7 +14,7 @@ use crate::closed::Closed;
 use chains::Version;
 use model_base::{Items, Outcome, Place};
 use own_words::{decoded, outputs_of};
-use sequencer::Log;
+use sequencer::LogTail;
 use std::alloc::{AllocError, Global};
 use std::ops::Range;
 
@@ -27,30 +27,32 @@ pub struct Taken {
 
 /// The outcome that the own words of a place tell, with the places of the grants that its revocation ended.
 #[tactic(auto, using(crate::proofs::Told::outcome_told))]
-fn outcome_of(log: &Log, place: Place, own: &[u64], ended: Vec<Place>) -> Outcome
-    requires within { place < length log.now.statements }
-    requires words { own.now ≡ words_at (columns_by log.now.names) log.now.statements place }
-    requires ended { (found : Outcome) → outcome log.now.statements place ≡ Some found → ended.items ≡ ended_in found }
-    ensures { outcome log.now.statements place ≡ Some result }
+fn outcome_of(log: &LogTail, place: Place, own: &[u64], ended: Vec<Place>) -> Outcome
+    requires kept { log.now.dropped ≤ place }
+    requires within { place < length log.now.log.statements }
+    requires words { own.now ≡ words_at (columns_by log.now.log.names) log.now.log.statements place }
+    requires ended { (found : Outcome) → outcome log.now.log.statements place ≡ Some found → ended.items ≡ ended_in found }
+    ensures { outcome log.now.log.statements place ≡ Some result }
 {
     let _len = log.len();
-    let statement = &log.statements()[place as usize];
+    let statement = log.statement(place);
     decoded(&statement.form, own, Items::new(ended))
 }
 
 /// Puts the versions that a place leaves behind the others, by its own words.
 fn push_left(
     versions: &mut Vec<Version>,
-    log: &Log,
+    log: &LogTail,
     place: Place,
     own: &[u64],
 ) -> Result<(), AllocError>
-    requires within { place < length log.now.statements }
-    requires words { own.now ≡ words_at (columns_by log.now.names) log.now.statements place }
-    ensures { OnOk result (versions.new.items ≡ versions.old.items ++ versions_at log.now.statements place) }
+    requires kept { log.now.dropped ≤ place }
+    requires within { place < length log.now.log.statements }
+    requires words { own.now ≡ words_at (columns_by log.now.log.names) log.now.log.statements place }
+    ensures { OnOk result (versions.new.items ≡ versions.old.items ++ versions_at log.now.log.statements place) }
 {
     let _len = log.len();
-    let statement = &log.statements()[place as usize];
+    let statement = log.statement(place);
     let cells = behind(own, 4 + outputs_of(&statement.form));
     push_versions(
         versions,
@@ -64,15 +66,16 @@ fn push_left(
 /// What the places of a finished batch of the log come to. An error is want of memory.
 pub fn take<C: Closed>(
     alloc: Global,
-    log: &Log,
+    log: &LogTail,
     closed: &C,
     range: Range<Place>,
 ) -> Result<Taken, AllocError>
     requires order { range.start ≤ range.end }
-    requires within { range.end ≤ length log.now.statements }
-    requires span { C.span closed.now ≡ record { log = log.now; first = range.start; size = range.end - range.start } }
-    ensures outcomes { IfOk result (λ taken. AreOutcomes log.now.statements range.start (range.end - range.start) taken.outcomes.items) }
-    ensures versions { IfOk result (λ taken. taken.versions.items ≡ versions_between log.now.statements range.start range.end) }
+    requires kept { log.now.dropped ≤ range.start }
+    requires within { range.end ≤ length log.now.log.statements }
+    requires span { C.span closed.now ≡ record { log = log.now.log; first = range.start; size = range.end - range.start } }
+    ensures outcomes { IfOk result (λ taken. AreOutcomes log.now.log.statements range.start (range.end - range.start) taken.outcomes.items) }
+    ensures versions { IfOk result (λ taken. taken.versions.items ≡ versions_between log.now.log.statements range.start range.end) }
 {
     let _len = log.len();
     let size = (range.end - range.start) as usize;

@@ -2,6 +2,7 @@ use Rattle.std.proofs.Common.{◌++◌, ◌∷◌, [], ap, refl, ◌∙◌}
 use Rattle.bohm_base.specs.Collecting.{reading_of}
 use Rattle.bohm_base.specs.declared.collecting.Became.{Became}
 use Rattle.bohm_base.proofs.LinesRead.{reads_as}
+use Rattle.engine.specs.Engine.{Run, finished}
 use Rattle.batched_text.proofs.lines.take_line.Goals as goal
 
 pub returns-clause-ok : goal.returns-clause-ok
@@ -19,3 +20,6 @@ returns-clause-ok c =
         },
       ),
     )
+
+pub returns-clause-kept : goal.returns-clause-kept
+returns-clause-kept c = (ap (λ (run : Run). run.dropped) c.in_ok-line.ensures.engine, ap finished c.in_ok-line.ensures.engine)

@@ -1,4 +1,5 @@
 use Rattle.bohm_base.proofs.Reached.{front_kept_written, front_written}
+use Rattle.batched_text.proofs.Histories.{kept_first}
 use Rattle.batched_text.proofs.Ended.{all_nothing, front_nothing}
 use Rattle.batched_text.proofs.running.run_batches.Goals as goal
 
@@ -13,3 +14,6 @@ returns-clause-done g c = all_nothing _ _ _ _ c.in_ok-report_all.ensures.done c.
 
 pub returns-clause-begun : goal.returns-clause-begun
 returns-clause-begun g c = front_kept_written _ _ _ _ _ _ c.report_all.ensures.begun (front_nothing _) c.flush.ensures.bytes
+
+pub report_all-requires-clause-kept : goal.report_all-requires-clause-kept
+report_all-requires-clause-kept g c κs within = kept_first c.args.history c.new-batching.result.engine c.new-batching.ensures.kept c.new-batching.ensures.none

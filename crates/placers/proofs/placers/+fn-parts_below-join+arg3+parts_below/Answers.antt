@@ -7,7 +7,7 @@ use Rattle.placers.proofs.placers.+fn-parts_below-join+arg3+parts_below.Goals as
 
 pub returns : goal.returns
 returns g t c =
-    let found = part_of c.args.partitions c.args.log.now.statements c.args.range.start (c.args.range.end - c.args.range.start) in
+    let found = part_of c.args.partitions c.args.log.now.log.statements c.args.range.start (c.args.range.end - c.args.range.start) in
     let last = c.args.count - 1 in
     let rest : c.in_ok-parts.parts.items ≡ map found (range_with_len 0 last) =
     subst (λ came. IfOk came (λ parts. parts.items ≡ map found (range_with_len 0 last))) c.in_ok-parts.was c.join-part.ensures.second in

@@ -14,22 +14,25 @@ use Rattle.placing.proofs.placer.place.Goals as goal
 pub place_statement-requires-clause-few : goal.place_statement-requires-clause-few
 place_statement-requires-clause-few c =
     let place = c.loop-place.place in
-    let statement = c.index-statements-place.result in
-    let low : place < length c.args.log.now.statements = omega (arith, c.requires.within) in
-    let is : statement ≡ get_or c.args.log.now.statements place statement =
-    c.index-statements-place.is ∙ ap (λ (ss : List Statement). get_or ss place statement) c.statements-statements.ensures.value in
-    subst (λ (s : Statement). length (accesses_of s.form) ≤ 16) (sym is) (few_accesses c.args.log.now c.statements-statements.ensures.whole place statement low)
+    let log = c.args.log.now.log in
+    let statement = c.statement-statement.result.now in
+    let low : place < length log.statements = omega (arith, c.requires.within) in
+    let both : Some statement ≡ Some (get_or log.statements place statement) = sym c.statement-statement.ensures.at ∙ slice_get-get_or log.statements place statement low in
+    let is : statement ≡ get_or log.statements place statement = cc in
+    subst (λ (s : Statement). length (accesses_of s.form) ≤ 16) (sym is) (few_accesses log c.statement-statement.ensures.whole place statement low)
+
+pub place_statement-requires-clause-room : goal.place_statement-requires-clause-room
+place_statement-requires-clause-room c = omega (arith, c.loop-place.invariant.count, c.requires.within, c.len-len.ensures.most, c.loop-place-test.true)
 
 pub loop-place-preserved : goal.loop-place-preserved
 loop-place-preserved c =
-    let statements = c.statements-statements.result.now in
+    let statements = c.args.log.now.log.statements in
     let first = c.args.range.start in
     let place = c.loop-place.place in
-    let statement = c.index-statements-place.result in
+    let statement = c.statement-statement.result.now in
     let latest = c.loop-place.latest in
     let above : first ≤ place = omega arith in
-    let within : place < length statements = omega (arith, ap length c.statements-statements.ensures.value, c.requires.within) in
-    let at : slice_get statements place ≡ Some statement = slice_get-get_or statements place statement within ∙ ap Some (sym c.index-statements-place.is) in
+    let at : slice_get statements place ≡ Some statement = c.statement-statement.ensures.at in
     let own : map (own_writer latest) (accesses_of statement.form) ++ map (own_prior latest) (tables_of statement.form) ≡ own_references c.args.partitions statements first c.args.partition place =
     passed latest statements first place c.loop-place.invariant.latest statement at
     ∙ ap (λ p. own_references p statements first latest.partition place) c.loop-place.invariant.partitions

@@ -7,11 +7,11 @@ use Rattle.taking.proofs.taken.outcome_of.Goals as goal
 
 pub returns : goal.returns
 returns c =
-    let log : Accepted = c.args.log.now in
+    let log : Accepted = c.args.log.now.log in
     let place = c.args.place in
-    let statement : Statement = c.index-statements-place.result in
+    let statement : Statement = c.statement-statement.result.now in
     let at : slice_get log.statements place ≡ Some statement =
-    looked c.statements.result.now log.statements place statement c.statements.ensures.value c.requires.within c.index-statements-place.is in
+    c.statement-statement.ensures.at in
     let low : place < 2 ^ 64 = omega (arith, c.requires.within, c.len-len.ensures.most) in
-    outcome_told log place statement c.args.own.now c.args.ended.items c.statements.ensures.whole at low c.requires.words c.requires.ended
+    outcome_told log place statement c.args.own.now c.args.ended.items c.statement-statement.ensures.whole at low c.requires.words c.requires.ended
     ∙ ap Some (ap (outcome_from statement.form c.args.own.now) (sym c.new.ensures) ∙ sym c.decoded.ensures)

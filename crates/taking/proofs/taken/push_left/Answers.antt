@@ -15,11 +15,11 @@ use Rattle.taking.proofs.taken.push_left.Goals as goal
 
 pub returns : goal.returns
 returns c =
-    let log : Accepted = c.args.log.now in
+    let log : Accepted = c.args.log.now.log in
     let place = c.args.place in
-    let statement : Statement = c.index-statements-place.result in
+    let statement : Statement = c.statement-statement.result.now in
     let at : slice_get log.statements place ≡ Some statement =
-    looked c.statements.result.now log.statements place statement c.statements.ensures.value c.requires.within c.index-statements-place.is in
+    c.statement-statement.ensures.at in
     let low : place < 2 ^ 64 = omega (arith, c.requires.within, c.len-len.ensures.most) in
     let cells : c.behind-cells.result.now ≡ drop (4 + outputs_of statement.form) c.args.own.now =
     c.behind-cells.ensures ∙ ap (λ n. drop (4 + n) c.args.own.now) c.outputs_of.ensures in
@@ -27,5 +27,5 @@ returns c =
     ap (λ (columns : List ℕ). versions_told (λ table. slice_index_or columns table 0) place c.accesses.result.now c.behind-cells.result.now) c.all_columns.ensures.value
     ∙ ap (λ (accesses : List Access). versions_told (columns_by log.names) place accesses c.behind-cells.result.now) c.accesses.ensures
     ∙ ap (versions_told (columns_by log.names) place (accesses_of statement.form)) cells
-    ∙ versions_left log place statement c.args.own.now c.statements.ensures.whole at low c.requires.words in
+    ∙ versions_left log place statement c.args.own.now c.statement-statement.ensures.whole at low c.requires.words in
     subst (λ (versions : List Version). OnOk c.push_versions.result (c.push_versions.new.versions.items ≡ c.args.versions.now.items ++ versions)) same c.push_versions.ensures

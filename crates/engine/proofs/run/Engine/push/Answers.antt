@@ -1,4 +1,4 @@
-use Rattle.std.proofs.Common.{◌≡◌, None, subst}
+use Rattle.std.proofs.Common.{◌++◌, ◌≡◌, None, subst}
 use Rattle.std.specs.Prelude.{OnOk}
 use Rattle.sequencer.specs.Refusal.{refusal}
 use Rattle.engine.specs.Engine.{Run}
@@ -8,8 +8,8 @@ use Rattle.engine.proofs.run.Engine.push.Goals as goal
 pub invariant_of-self : goal.invariant_of-self
 invariant_of-self c =
     let e = c.self.inside in
-    pushed e.log e.chains e.book e.outcomes.items c.self.invariant c.statements-statements.ensures.whole c.statements-statements.ensures.own_tables
-    c.args.statement c.push.new.self c.push.result c.push.ensures.accepted c.push.ensures.passes c.push.ensures.err
+    pushed e.log e.chains e.book (e.past.items ++ e.outcomes.items) c.self.invariant.is c.dropped-dropped.ensures.whole c.dropped-dropped.ensures.own_tables
+    e.past.items c.self.invariant.same c.args.statement c.push.new.self c.push.result c.push.ensures.accepted c.push.ensures.passes c.push.ensures.err
 
 pub returns-clause-passes : goal.returns-clause-passes
 returns-clause-passes c =

@@ -9,12 +9,12 @@ use Rattle.log_batch.proofs.batch.LogBatch.earlier_count.Goals as goal
 pub returns : goal.returns
 returns c =
     let s = c.self.inside in
-    let range = range_of record { log = s.log.now; first = s.first; size = s.size; partitions = s.partitions } in
+    let range = range_of record { log = s.log.now.log; first = s.first; size = s.size; partitions = s.partitions } in
     let found = length c.records.result.now in
     let count = ap (λ (entries : List Record). length entries) c.records.ensures.records ∙ book-count range s.book.now c.self.invariant.book.same in
     record {
       value = subst (λ (ranged : Ranged). found ≡ earlier_count (batch_in ranged)) c.self.view_is count;
       within =
           subst (λ (ranged : Ranged). found ≤ length (slots_of (batch_in ranged))) c.self.view_is
-          (subst (λ (n : ℕ). n ≤ length (slots_of (batch_in (record { log = s.log.now; first = s.first; size = s.size; partitions = s.partitions })))) (sym count) (count-within range));
+          (subst (λ (n : ℕ). n ≤ length (slots_of (batch_in (record { log = s.log.now.log; first = s.first; size = s.size; partitions = s.partitions })))) (sym count) (count-within range));
     }

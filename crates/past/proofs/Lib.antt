@@ -1,0 +1,2 @@
+mod Rotated
+mod Sent

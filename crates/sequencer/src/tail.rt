@@ -1,0 +1,136 @@
+//! The end of a log, of which the first statements aren't kept.
+
+ghost use Rattle.std.specs.Prelude.{◌≡◌, ◌<◌, ◌≤◌, None, Some, length, slice_get, All, IfOk, IfErr, OnOk, OnErr};
+ghost use Rattle.model_base.specs.Growing.{NeedsOwnTables};
+ghost use Rattle.sequencer.specs.Refusal.{IsRefusal, refusal};
+ghost use Rattle.sequencer.specs.Log.{empty_log, with_accepted};
+ghost use Rattle.sequencer.specs.Taken.{IsWhole};
+
+use crate::catalog::Catalog;
+use crate::refused::Refused;
+use log_text::RawStatement;
+use model_base::{Place, Statement, Table, User};
+use past::{Past, forget_first};
+use std::alloc::Global;
+use std::marker::Model;
+
+/// A log whose first statements may be dropped once nobody reads them any more: the names of the whole log, and the statements
+/// that are kept. A statement has the same place as in the whole log.
+#[derive(Drop)]
+pub struct LogTail {
+    catalog: Catalog,
+    past: Past<Statement>,
+    kept: Vec<Statement>,
+}
+
+impl Model for LogTail {
+    ghost use Rattle.std.specs.Prelude.{◌++◌, length};
+    ghost use Rattle.sequencer.specs.Tail.{Tail};
+    ghost use Rattle.sequencer.specs.Taken.{IsKept};
+
+    ghost Value = { Tail };
+
+    ghost view = { λ tail. record { log = record { names = tail.catalog; statements = tail.past.items ++ tail.kept.items }; dropped = length tail.past.items } };
+
+    ghost invariant = { λ tail. IsKept record { names = tail.catalog; statements = tail.past.items ++ tail.kept.items } };
+}
+
+impl LogTail {
+    /// The log without statements. It takes no memory.
+    #[tactic(auto, using(crate::proofs::WholeLogs::kept_empty))]
+    pub fn new(alloc: Global) -> Self
+        ensures { result ≡ record { log = empty_log; dropped = 0 } }
+    {
+        LogTail {
+            catalog: Catalog::new(alloc),
+            past: Past::new(),
+            kept: Vec::new(alloc),
+        }
+    }
+
+    /// Takes a statement as the next place, which is the length until then. The first test that it doesn't pass refuses
+    /// it; one that passes is refused only for want of memory. After a refusal the log is as it was.
+    pub fn push(&mut self, statement: RawStatement) -> Result<Place, Refused>
+        ensures place { IfOk result (λ place. place ≡ length self.old.log.statements) }
+        ensures accepted { OnOk result (self.new ≡ record self.old { log = with_accepted self.old.log statement }) }
+        ensures passes { OnOk result (refusal self.old.log.names statement ≡ None) }
+        ensures refused { IfErr result (λ r. IsRefusal r (refusal self.old.log.names statement)) }
+        ensures err { OnErr result (self.new ≡ self.old) }
+    {
+        if self.kept.reserve(1).is_err() {
+            return Err(self.catalog.refused(&statement));
+        }
+        let place = self.catalog.places();
+        match self.catalog.admit(statement) {
+            Ok(statement) => {
+                self.kept.push_reserved(statement);
+                Ok(place)
+            }
+            Err(refused) => Err(refused),
+        }
+    }
+
+    /// How many statements were accepted, which is the place of the next one.
+    pub fn len(&self) -> Place
+        ensures count { result ≡ length self.now.log.statements }
+        ensures most { length self.now.log.statements ≤ 4294967295 }
+    {
+        self.catalog.places()
+    }
+
+    /// How many of the first statements were dropped: the first place whose statement is kept.
+    pub fn dropped(&self) -> Place
+        ensures count { result ≡ self.now.dropped }
+        ensures within { self.now.dropped ≤ length self.now.log.statements }
+        ensures whole { IsWhole self.now.log }
+        ensures own_tables { NeedsOwnTables self.now.log.statements }
+    {
+        self.catalog.places() - self.kept.len() as u64
+    }
+
+    /// The statement of a place that is kept.
+    pub fn statement(&self, place: Place) -> &Statement
+        requires kept { self.now.dropped ≤ place }
+        requires within { place < length self.now.log.statements }
+        ensures at { slice_get self.now.log.statements place ≡ Some result.now }
+        ensures whole { IsWhole self.now.log }
+        ensures own_tables { NeedsOwnTables self.now.log.statements }
+    {
+        let dropped = self.catalog.places() - self.kept.len() as u64;
+        &self.kept[(place - dropped) as usize]
+    }
+
+    /// Drops the statements below a place. It takes no memory, and costs what there is to drop and to move.
+    pub fn forget(&mut self, place: Place)
+        requires order { self.old.dropped ≤ place }
+        requires within { place ≤ length self.old.log.statements }
+        ensures { self.new ≡ record self.old { dropped = place } }
+    {
+        let dropped = self.catalog.places() - self.kept.len() as u64;
+        forget_first(&mut self.past, &mut self.kept, (place - dropped) as usize);
+    }
+
+    /// What the log knows of names: a user or a table is of this log where its number is below their count.
+    pub fn catalog(&self) -> &Catalog
+        ensures { result.now ≡ self.now.log.names }
+    {
+        &self.catalog
+    }
+
+    /// The user who created a table of this log.
+    pub fn owner(&self, table: Table) -> User
+        requires { table < length self.now.log.names.tables }
+        ensures { slice_get self.now.log.names.owners table ≡ Some result }
+    {
+        self.catalog.owner(table)
+    }
+
+    /// How many columns each table has, by the tables' numbers.
+    pub fn all_columns(&self) -> &[u8]
+        ensures value { result.now ≡ self.now.log.names.columns }
+        ensures narrow { All (λ count. count ≤ 8) self.now.log.names.columns }
+        ensures each { length self.now.log.names.columns ≡ length self.now.log.names.tables }
+    {
+        self.catalog.all_columns()
+    }
+}
