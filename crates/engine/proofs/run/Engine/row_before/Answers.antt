@@ -13,6 +13,6 @@ returns-clause-value c =
     subst (λ (run : Run). IfOk c.row_before.result (λ (row : Option (List ℤ)). row ≡ rows_before run.log.statements c.args.place c.args.key.table c.args.key.row)) c.self.view_is
     (IfOk-weaker c.row_before.result
     (λ (row : Option (List ℤ)). (log : List Statement) → IsRight log e.chains → row ≡ rows_before log c.args.place c.args.key.table c.args.key.row)
-    (λ (row : Option (List ℤ)). row ≡ rows_before e.log.statements c.args.place c.args.key.table c.args.key.row)
-    (λ row right. right e.log.statements c.self.invariant.stands.right)
+    (λ (row : Option (List ℤ)). row ≡ rows_before e.log.log.statements c.args.place c.args.key.table c.args.key.row)
+    (λ row right. right e.log.log.statements c.self.invariant.is.stands.right)
     c.row_before.ensures.right)
