@@ -12,7 +12,7 @@ ghost use Rattle.command_line.specs.Words.{IsWithinLimits};
 
 use crate::command_words::{Command, ProgramFault, Source};
 use crate::options::is_alone;
-use batched_text::{Settings, run_text};
+use batched_text::{Settings, report_text};
 use bohm_base::{EngineFault, plain_text, serial_text};
 use log_text_base::Counted;
 use std::alloc::Global;
@@ -67,7 +67,7 @@ pub trait BatchedExecution {
         ensures whole { OnOk result ((log.new.errors ≡ log.old.errors) × (report.new.errors ≡ report.old.errors)) };
 }
 
-/// The run that keeps the rows and the grants, and of a line nothing else.
+/// The run of one statement after another, which keeps the rows and the grants.
 #[derive(Clone, Copy)]
 pub struct Plain;
 
@@ -101,7 +101,7 @@ impl Execution for Slow {
     }
 }
 
-/// The run in batches, by placers and workers on threads.
+/// The run in batches, by placers and workers on threads. It keeps nothing that is finished but rows and grants.
 #[derive(Clone, Copy)]
 pub struct Batched;
 
@@ -129,8 +129,8 @@ impl BatchedExecution for Batched {
         log: &mut Counted<R>,
         report: &mut Counted<W>,
     ) -> Result<(), EngineFault> {
-        match run_text(rt, alloc, log, report, settings) {
-            Ok(_engine) => Ok(()),
+        match report_text(rt, alloc, log, report, settings) {
+            Ok(()) => Ok(()),
             Err(fault) => Err(fault_of(fault)),
         }
     }

@@ -1,7 +1,7 @@
 //! Reports of logs: of runs in batches, of the plain run and of the slow one.
 
 use crate::fault::TrialFault;
-use batched_text::{Settings, run_text};
+use batched_text::{Settings, report_text, run_text};
 use bohm_base::{plain_text, serial_text};
 use engine::EngineFault;
 use log_text_base::Counted;
@@ -49,7 +49,7 @@ pub fn cut(number: usize, keep: u64) -> Settings {
     )
 }
 
-/// Runs a log in batches from its reader to its writer, and lets the engine go.
+/// Runs a log in batches from its reader to its writer, and keeps nothing that is finished.
 pub fn answer<T: Threads + Wait + Sync, R: Read, W: Write>(
     rt: &T,
     alloc: Global,
@@ -57,13 +57,22 @@ pub fn answer<T: Threads + Wait + Sync, R: Read, W: Write>(
     report: &mut Counted<W>,
     settings: &Settings,
 ) -> Result<(), EngineFault> {
-    match run_text(rt, alloc, log, report, settings) {
-        Ok(_engine) => Ok(()),
-        Err(fault) => Err(fault),
-    }
+    report_text(rt, alloc, log, report, settings)
 }
 
-/// The report of a log that is run in batches.
+/// The report of a log that is run in batches and kept whole.
+pub fn kept<T: Threads + Wait + Sync>(
+    rt: &T,
+    alloc: Global,
+    log: &[u8],
+    settings: &Settings,
+) -> Result<Vec<u8>, TrialFault> {
+    let mut report = Counted::new(Vec::new(alloc));
+    let _engine = run_text(rt, alloc, &mut Counted::new(log), &mut report, settings)?;
+    Ok(report.inner)
+}
+
+/// The report of a log that is run in batches and not kept.
 pub fn batched<T: Threads + Wait + Sync>(
     rt: &T,
     alloc: Global,

@@ -1,7 +1,7 @@
 //! Worked logs, each with its report, in files.
 
 use crate::fault::TrialFault;
-use crate::reporting::{CUTS, batched, compared, cut, plain, slow};
+use crate::reporting::{CUTS, batched, compared, cut, kept, plain, slow};
 use std::alloc::Global;
 use std::fs;
 use std::io::Read;
@@ -20,7 +20,7 @@ pub fn read_file<R: Files>(rt: &R, alloc: Global, path: &str) -> Result<Vec<u8>,
     Ok(text)
 }
 
-/// In how many of the 27 settings the log has this report.
+/// In how many of the 27 settings the log has this report, both where it is kept and where it isn't.
 fn right_cuts<R: Threads + Wait + Sync>(
     rt: &R,
     alloc: Global,
@@ -30,8 +30,10 @@ fn right_cuts<R: Threads + Wait + Sync>(
 ) -> Result<usize, TrialFault> {
     let mut right: usize = 0;
     for number in 0..CUTS {
-        let found = batched(rt, alloc, log, &cut(number, keep))?;
-        if found.as_slice() == wanted {
+        let settings = cut(number, keep);
+        let lean = batched(rt, alloc, log, &settings)?;
+        let whole = kept(rt, alloc, log, &settings)?;
+        if lean.as_slice() == wanted && whole.as_slice() == wanted {
             right = right.saturating_add(1);
         }
     }

@@ -5,15 +5,14 @@ ghost use Rattle.words.specs.Passes.{IsPassOf};
 ghost use Rattle.range_trials.specs.Whole.{IsNothing, whole};
 
 use crate::fault::TrialFault;
+use crate::logs::WholeLog;
 use chains::Chains;
 use filling::RangeKey;
 use filling_base::Batch;
 use finishing::{Finished, finish};
 use grants::Book;
 use log_batch::LogBatch;
-use log_text::parse_line;
 use placers::references_of;
-use sequencer::Log;
 use std::alloc::{AllocError, Global};
 use std::thread::Threads;
 use words::Pass;
@@ -26,7 +25,7 @@ pub struct Before {
 }
 
 /// Nothing stands before a log.
-pub fn nothing(alloc: Global, log: &Log) -> Before
+pub fn nothing(alloc: Global, log: &WholeLog) -> Before
     ensures { IsNothing result log.now.statements }
 {
     let _log = log;
@@ -36,27 +35,11 @@ pub fn nothing(alloc: Global, log: &Log) -> Before
     }
 }
 
-/// Puts the statement of a line behind the log.
-pub fn push_line(alloc: Global, log: &mut Log, line: &[u8]) -> Result<(), TrialFault> {
-    let statement = parse_line(alloc, line)?;
-    log.push(statement)?;
-    Ok(())
-}
-
-/// The log of these lines.
-pub fn log_of(alloc: Global, lines: &[&str]) -> Result<Log, TrialFault> {
-    let mut log = Log::new(alloc);
-    for line in lines {
-        push_line(alloc, &mut log, line.as_bytes())?;
-    }
-    Ok(log)
-}
-
 /// All places of a log as a batch, found by so many placers.
 pub fn batch_of<'a, R: Threads + Sync>(
     rt: &R,
     alloc: Global,
-    log: &'a Log,
+    log: &'a WholeLog,
     before: &'a Before,
     placers: usize,
 ) -> Result<LogBatch<'a>, AllocError>
@@ -64,10 +47,10 @@ pub fn batch_of<'a, R: Threads + Sync>(
     requires before { IsNothing before.now log.now.statements }
     ensures { IfOk result (λ batch. batch ≡ whole log.now placers) }
 {
-    let references = references_of(rt, alloc, log, 0..log.len(), placers)?;
+    let references = references_of(rt, alloc, log.tail(), 0..log.len(), placers)?;
     LogBatch::new(
         alloc,
-        log,
+        log.tail(),
         &before.chains,
         &before.book,
         0..log.len(),
@@ -95,7 +78,7 @@ pub fn words_for<'a>(
 pub fn words_of<'a, R: Threads + Sync>(
     rt: &R,
     alloc: Global,
-    log: &'a Log,
+    log: &'a WholeLog,
     before: &'a Before,
     placers: usize,
 ) -> Result<(Batch<RangeKey<'a>>, Pass), TrialFault>

@@ -4,12 +4,12 @@ ghost use Rattle.words.specs.Passes.{IsPassOf};
 
 use crate::batches::{batch_of, finished, nothing, words_for};
 use crate::fault::TrialFault;
+use crate::logs::WholeLog;
 use crate::shapes::{Shape, shaped_log};
 use filling::RangeKey;
 use filling_base::Batch;
 use log_batch::LogBatch;
 use placers::references_of;
-use sequencer::Log;
 use std::alloc::Global;
 use std::sync::Wait;
 use std::thread::Threads;
@@ -39,9 +39,9 @@ fn stage_of(name: &str) -> Option<Stage> {
 fn place_alone<R: Threads + Print + Sync>(
     rt: &R,
     alloc: Global,
-    log: &Log,
+    log: &WholeLog,
 ) -> Result<(), TrialFault> {
-    let _references = references_of(rt, alloc, log, 0..log.len(), 1)?;
+    let _references = references_of(rt, alloc, log.tail(), 0..log.len(), 1)?;
     println!(rt; "placed")?;
     Ok(())
 }
@@ -100,7 +100,7 @@ fn run_batch<R: Clock + Threads + Print + Wait + Sync>(
 fn run_log<R: Clock + Threads + Print + Wait + Sync>(
     rt: &R,
     alloc: Global,
-    log: &Log,
+    log: &WholeLog,
     workers: usize,
 ) -> Result<(), TrialFault> {
     let before = nothing(alloc, log);

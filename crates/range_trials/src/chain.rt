@@ -4,12 +4,12 @@ ghost use Rattle.std.specs.Prelude.{◌≡◌};
 ghost use Rattle.words.specs.Passes.{IsPassOf};
 
 use crate::asking::{ask, ask_round};
-use crate::batches::{nothing, push_line, words_of};
+use crate::batches::{nothing, words_of};
 use crate::fault::TrialFault;
+use crate::logs::WholeLog;
 use crate::telling::told;
 use filling::RangeKey;
 use filling_base::Batch;
-use sequencer::Log;
 use std::alloc::Global;
 use std::thread::Threads;
 use words::Pass;
@@ -20,13 +20,13 @@ const PLACES: usize = 65536;
 const LAST: usize = 65536;
 
 /// A row, and places that each add 1 to it.
-fn chain(alloc: Global) -> Result<Log, TrialFault> {
-    let mut log = Log::new(alloc);
-    push_line(alloc, &mut log, b"ann CREATE t 1")?;
-    push_line(alloc, &mut log, b"ann RUN t:1:I | CONST 0 1 | INSERT t 1 0")?;
+fn chain(alloc: Global) -> Result<WholeLog, TrialFault> {
+    let mut log = WholeLog::new(alloc);
+    log.push_line(alloc, b"ann CREATE t 1")?;
+    log.push_line(alloc, b"ann RUN t:1:I | CONST 0 1 | INSERT t 1 0")?;
     let line = b"ann RUN t:1:RU | LOAD 0 t 1 0 | CONST 1 1 | ADD 0 0 1 | STORE t 1 0 0 | OUT 0";
     for _ in 1..PLACES {
-        push_line(alloc, &mut log, line)?;
+        log.push_line(alloc, line)?;
     }
     Ok(log)
 }
@@ -65,7 +65,11 @@ fn tell_last(rt: &impl Print, batch: &Batch<RangeKey<'_>>, pass: Pass) -> Result
 }
 
 /// Tells of a log that is asked for from its end.
-fn tell_log<R: Threads + Print + Sync>(rt: &R, alloc: Global, log: &Log) -> Result<(), TrialFault> {
+fn tell_log<R: Threads + Print + Sync>(
+    rt: &R,
+    alloc: Global,
+    log: &WholeLog,
+) -> Result<(), TrialFault> {
     let before = nothing(alloc, log);
     let (batch, pass) = words_of(rt, alloc, log, &before, 1)?;
     tell_last(rt, &batch, pass)

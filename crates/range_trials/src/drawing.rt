@@ -1,10 +1,9 @@
 //! Drawn logs: ann makes the table s and bob the table t. Then four users grant and revoke, and run bodies on the tables' rows
 //! 0 to 2, some of which abort or touch what they don't declare, and some of which have a deed behind them.
 
-use crate::batches::push_line;
 use crate::fault::TrialFault;
 use crate::generator::Generator;
-use sequencer::Log;
+use crate::logs::WholeLog;
 use std::alloc::{AllocError, Global};
 
 /// How many places a log has, and how many lines are drawn for it at most.
@@ -127,16 +126,16 @@ fn drawn_line(alloc: Global, generator: &mut Generator) -> Result<Vec<u8>, Alloc
 }
 
 /// A drawn log behind the creation of its tables.
-pub fn drawn_log(alloc: Global, generator: &mut Generator) -> Result<Log, TrialFault> {
-    let mut log = Log::new(alloc);
-    push_line(alloc, &mut log, b"ann CREATE s 1")?;
-    push_line(alloc, &mut log, b"bob CREATE t 1")?;
+pub fn drawn_log(alloc: Global, generator: &mut Generator) -> Result<WholeLog, TrialFault> {
+    let mut log = WholeLog::new(alloc);
+    log.push_line(alloc, b"ann CREATE s 1")?;
+    log.push_line(alloc, b"bob CREATE t 1")?;
     for _ in 0..LINES {
         if log.len() >= PLACES {
             break;
         }
         let line = drawn_line(alloc, generator)?;
-        push_line(alloc, &mut log, line.as_slice())?;
+        log.push_line(alloc, line.as_slice())?;
     }
     Ok(log)
 }

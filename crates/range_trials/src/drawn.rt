@@ -5,10 +5,9 @@ use crate::batches::{nothing, words_of};
 use crate::drawing::drawn_log;
 use crate::fault::TrialFault;
 use crate::generator::Generator;
+use crate::logs::WholeLog;
 use crate::telling::{count_wanted, wanted};
-use model::serial;
 use model_base::{Cause, DeedDone, Outcome};
-use sequencer::Log;
 use std::alloc::Global;
 use std::thread::Threads;
 
@@ -65,8 +64,8 @@ fn count_outcome(kinds: &mut Kinds, outcome: &Outcome) {
 }
 
 /// Counts the outcomes of a log by the serial run.
-fn count_kinds(alloc: Global, log: &Log, kinds: &mut Kinds) -> Result<(), TrialFault> {
-    for outcome in &serial(alloc, log.statements())? {
+fn count_kinds(alloc: Global, log: &WholeLog, kinds: &mut Kinds) -> Result<(), TrialFault> {
+    for outcome in &log.outcomes(alloc)? {
         count_outcome(kinds, outcome);
     }
     Ok(())
@@ -76,7 +75,7 @@ fn count_kinds(alloc: Global, log: &Log, kinds: &mut Kinds) -> Result<(), TrialF
 fn run_wanted<R: Threads + Sync>(
     rt: &R,
     alloc: Global,
-    log: &Log,
+    log: &WholeLog,
     wanted: &[String],
 ) -> Result<usize, TrialFault> {
     let before = nothing(alloc, log);
@@ -87,7 +86,7 @@ fn run_wanted<R: Threads + Sync>(
 }
 
 /// Runs a log by eight threads, and counts how many places are told with the outcomes of the serial run.
-fn run_log<R: Threads + Sync>(rt: &R, alloc: Global, log: &Log) -> Result<usize, TrialFault> {
+fn run_log<R: Threads + Sync>(rt: &R, alloc: Global, log: &WholeLog) -> Result<usize, TrialFault> {
     let wanted = wanted(alloc, log)?;
     run_wanted(rt, alloc, log, wanted.as_slice())
 }

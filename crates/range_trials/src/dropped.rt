@@ -9,9 +9,9 @@ use crate::batches::{Before, batch_of, finished, nothing, words_of};
 use crate::drawing::drawn_log;
 use crate::fault::TrialFault;
 use crate::generator::Generator;
+use crate::logs::WholeLog;
 use filling_base::{Batch, Fills};
 use finishing::{Finished, run_in_order};
-use sequencer::Log;
 use std::alloc::{AllocError, Global};
 use std::thread::Threads;
 use taking::{Closed, take};
@@ -56,7 +56,7 @@ fn hold_some<K: Fills>(batch: &Batch<K>, pass: Pass, first: usize) -> usize
 /// How many places have the same own words and end the same grants.
 fn count_same(
     alloc: Global,
-    log: &Log,
+    log: &WholeLog,
     one: &Finished<'_>,
     other: &Finished<'_>,
 ) -> Result<usize, TrialFault>
@@ -64,7 +64,7 @@ fn count_same(
     requires other { other.now.size ≡ length log.now.statements }
 {
     let mut same = 0usize;
-    for index in 0..log.statements().len() {
+    for index in 0..log.len() as usize {
         if one.own(index) == other.own(index)
             && one.ended(alloc, index)? == other.ended(alloc, index)?
         {
@@ -75,10 +75,10 @@ fn count_same(
 }
 
 /// What is taken from a finished log, as text: the outcomes, and the versions of rows.
-fn taken_text(alloc: Global, log: &Log, done: &Finished<'_>) -> Result<String, TrialFault>
+fn taken_text(alloc: Global, log: &WholeLog, done: &Finished<'_>) -> Result<String, TrialFault>
     requires { done.now ≡ record { log = log.now; first = 0; size = length log.now.statements } }
 {
-    let taken = take(alloc, log, done, 0..log.len())?;
+    let taken = take(alloc, log.tail(), done, 0..log.len())?;
     let (outcomes, versions) = (taken.outcomes.as_slice(), taken.versions.as_slice());
     Ok(format!(in alloc; "{outcomes:?} {versions:?}")?)
 }
@@ -87,7 +87,7 @@ fn taken_text(alloc: Global, log: &Log, done: &Finished<'_>) -> Result<String, T
 fn run_beside<'a, R: Threads + Sync>(
     rt: &R,
     alloc: Global,
-    log: &'a Log,
+    log: &'a WholeLog,
     before: &'a Before,
     first: usize,
     counts: &mut Counts,
@@ -108,7 +108,7 @@ fn run_beside<'a, R: Threads + Sync>(
 fn in_order<'a, R: Threads + Sync>(
     rt: &R,
     alloc: Global,
-    log: &'a Log,
+    log: &'a WholeLog,
     before: &'a Before,
 ) -> Result<Finished<'a>, AllocError>
     requires { IsNothing before.now log.now.statements }
@@ -121,7 +121,7 @@ fn in_order<'a, R: Threads + Sync>(
 /// Whether the same is taken from both.
 fn is_same_taken(
     alloc: Global,
-    log: &Log,
+    log: &WholeLog,
     one: &Finished<'_>,
     other: &Finished<'_>,
 ) -> Result<bool, TrialFault>
@@ -136,7 +136,7 @@ fn is_same_taken(
 /// Compares two finished logs.
 fn compare_both(
     alloc: Global,
-    log: &Log,
+    log: &WholeLog,
     one: &Finished<'_>,
     other: &Finished<'_>,
     counts: &mut Counts,
@@ -146,7 +146,7 @@ fn compare_both(
 {
     let same = count_same(alloc, log, one, other)?;
     let is_same = is_same_taken(alloc, log, one, other)?;
-    counts.places = counts.places.saturating_add(log.statements().len());
+    counts.places = counts.places.saturating_add(log.len() as usize);
     counts.same = counts.same.saturating_add(same);
     counts.logs = counts.logs.saturating_add(usize::from(is_same));
     Ok(())
@@ -156,7 +156,7 @@ fn compare_both(
 fn compare_with<R: Threads + Sync>(
     rt: &R,
     alloc: Global,
-    log: &Log,
+    log: &WholeLog,
     before: &Before,
     plain: &Finished<'_>,
     first: usize,
@@ -173,7 +173,7 @@ fn compare_with<R: Threads + Sync>(
 fn compare<R: Threads + Sync>(
     rt: &R,
     alloc: Global,
-    log: &Log,
+    log: &WholeLog,
     first: usize,
     counts: &mut Counts,
 ) -> Result<(), TrialFault> {

@@ -2,12 +2,12 @@
 
 ghost use Rattle.words.specs.Passes.{IsPassOf};
 
-use crate::batches::{log_of, nothing, words_of};
+use crate::batches::{nothing, words_of};
 use crate::fault::TrialFault;
+use crate::logs::{WholeLog, log_of};
 use crate::telling::{tell_asked, tell_outcome, wanted};
 use filling::RangeKey;
 use filling_base::Batch;
-use sequencer::Log;
 use std::alloc::Global;
 use std::thread::Threads;
 use words::Pass;
@@ -70,7 +70,7 @@ fn tell_order(
 fn tell_wanted<R: Threads + Print + Sync>(
     rt: &R,
     alloc: Global,
-    log: &Log,
+    log: &WholeLog,
     wanted: &[String],
 ) -> Result<(), TrialFault> {
     let before = nothing(alloc, log);

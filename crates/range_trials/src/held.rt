@@ -3,12 +3,12 @@
 ghost use Rattle.std.specs.Prelude.{◌<◌};
 ghost use Rattle.words.specs.Passes.{IsPassOf};
 
-use crate::batches::{log_of, nothing, words_of};
+use crate::batches::{nothing, words_of};
 use crate::fault::TrialFault;
+use crate::logs::{WholeLog, log_of};
 use crate::telling::tell_asked;
 use filling::RangeKey;
 use filling_base::Batch;
-use sequencer::Log;
 use std::alloc::Global;
 use std::thread::Threads;
 use words::{Claimed, Holding, Pass, Placed};
@@ -107,7 +107,11 @@ fn tell_parts(rt: &impl Print, batch: &Batch<RangeKey<'_>>, pass: Pass) -> Resul
 }
 
 /// Tells of a log of which another pass holds a place.
-fn tell_log<R: Threads + Print + Sync>(rt: &R, alloc: Global, log: &Log) -> Result<(), TrialFault> {
+fn tell_log<R: Threads + Print + Sync>(
+    rt: &R,
+    alloc: Global,
+    log: &WholeLog,
+) -> Result<(), TrialFault> {
     let before = nothing(alloc, log);
     let (batch, pass) = words_of(rt, alloc, log, &before, 1)?;
     tell_parts(rt, &batch, pass)

@@ -15,6 +15,7 @@ mod early;
 mod fault;
 mod generator;
 mod held;
+mod logs;
 mod refused;
 mod shapes;
 mod telling;

@@ -3,13 +3,13 @@
 ghost use Rattle.words.specs.Passes.{IsPassOf};
 
 use crate::asking::ask;
-use crate::batches::{log_of, nothing, words_of};
+use crate::batches::{nothing, words_of};
 use crate::fault::TrialFault;
+use crate::logs::{WholeLog, log_of};
 use crate::telling::{is_wanted, told, wanted};
 use filling::RangeKey;
 use filling_base::{Batch, Tried};
 use model_base::Outcome;
-use sequencer::Log;
 use std::alloc::Global;
 use std::thread::Threads;
 use words::{Pass, Placed};
@@ -126,7 +126,7 @@ fn tell_told(
 fn tell_wanted<R: Threads + Print + Sync>(
     rt: &R,
     alloc: Global,
-    log: &Log,
+    log: &WholeLog,
     wanted: &[String],
 ) -> Result<(), TrialFault> {
     let before = nothing(alloc, log);

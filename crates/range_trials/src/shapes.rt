@@ -1,8 +1,7 @@
 //! Logs whose running is measured.
 
-use crate::batches::push_line;
 use crate::fault::TrialFault;
-use sequencer::Log;
+use crate::logs::WholeLog;
 use std::alloc::{AllocError, Global};
 
 /// What the places of a log do.
@@ -56,12 +55,12 @@ fn line_of(alloc: Global, shape: Shape, place: u64) -> Result<Vec<u8>, AllocErro
 }
 
 /// A log of so many places, the first of which makes the table.
-pub fn shaped_log(alloc: Global, shape: Shape, places: u64) -> Result<Log, TrialFault> {
-    let mut log = Log::new(alloc);
-    push_line(alloc, &mut log, b"ann CREATE t 1")?;
+pub fn shaped_log(alloc: Global, shape: Shape, places: u64) -> Result<WholeLog, TrialFault> {
+    let mut log = WholeLog::new(alloc);
+    log.push_line(alloc, b"ann CREATE t 1")?;
     for place in 1..places {
         let line = line_of(alloc, shape, place)?;
-        push_line(alloc, &mut log, line.as_slice())?;
+        log.push_line(alloc, line.as_slice())?;
     }
     Ok(log)
 }

@@ -5,18 +5,17 @@ ghost use Rattle.words.specs.Passes.{IsPassOf};
 
 use crate::asking::ask;
 use crate::fault::TrialFault;
+use crate::logs::WholeLog;
 use filling::{RangeKey, outcome};
 use filling_base::Batch;
-use model::serial;
 use model_base::Outcome;
-use sequencer::Log;
 use std::alloc::{AllocError, Global};
 use words::{Pass, Placed};
 
 /// The outcomes of a log by the serial run, as text.
-pub fn wanted(alloc: Global, log: &Log) -> Result<Vec<String>, TrialFault> {
+pub fn wanted(alloc: Global, log: &WholeLog) -> Result<Vec<String>, TrialFault> {
     let mut texts = Vec::new(alloc);
-    for outcome in &serial(alloc, log.statements())? {
+    for outcome in &log.outcomes(alloc)? {
         texts.push(format!(in alloc; "{outcome:?}")?)?;
     }
     Ok(texts)

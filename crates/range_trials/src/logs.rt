@@ -1,0 +1,79 @@
+//! Logs, beside which all of their statements are kept for the serial run.
+
+ghost use Rattle.std.specs.Prelude.{◌≡◌, ◌≤◌, length};
+
+use crate::fault::TrialFault;
+use log_text::parse_line;
+use model::serial;
+use model_base::{Outcome, Place};
+use sequencer::{Log, LogTail};
+use std::alloc::{AllocError, Global};
+use std::marker::Model;
+
+/// A log of which nothing is dropped.
+#[derive(Drop)]
+pub struct WholeLog {
+    tail: LogTail,
+    /// The same statements, in one list.
+    listed: Log,
+}
+
+impl Model for WholeLog {
+    ghost use Rattle.std.specs.Prelude.{◌≡◌};
+    ghost use Rattle.sequencer.specs.Log.{Accepted};
+
+    ghost Value = { Accepted };
+
+    ghost view = { λ log. log.tail.log };
+
+    ghost invariant = { λ log. log.tail.dropped ≡ 0 };
+}
+
+impl WholeLog {
+    /// A log without statements.
+    pub fn new(alloc: Global) -> Self {
+        WholeLog {
+            tail: LogTail::new(alloc),
+            listed: Log::new(alloc),
+        }
+    }
+
+    /// Puts the statement of a line behind the others.
+    pub fn push_line(&mut self, alloc: Global, line: &[u8]) -> Result<(), TrialFault> {
+        let again = parse_line(alloc, line)?;
+        self.listed.push(again)?;
+        let statement = parse_line(alloc, line)?;
+        self.tail.push(statement)?;
+        Ok(())
+    }
+
+    /// The log as batches take it.
+    pub fn tail(&self) -> &LogTail
+        ensures log { result.now.log ≡ self.now }
+        ensures whole { result.now.dropped ≡ 0 }
+    {
+        &self.tail
+    }
+
+    /// How many statements it has.
+    pub fn len(&self) -> Place
+        ensures count { result ≡ length self.now.statements }
+        ensures most { length self.now.statements ≤ 4294967295 }
+    {
+        self.tail.len()
+    }
+
+    /// The outcomes of its places by the serial run.
+    pub fn outcomes(&self, alloc: Global) -> Result<Vec<Outcome>, AllocError> {
+        serial(alloc, self.listed.statements())
+    }
+}
+
+/// The log of these lines.
+pub fn log_of(alloc: Global, lines: &[&str]) -> Result<WholeLog, TrialFault> {
+    let mut log = WholeLog::new(alloc);
+    for line in lines {
+        log.push_line(alloc, line.as_bytes())?;
+    }
+    Ok(log)
+}
