@@ -1,9 +1,10 @@
 -- Where blocks begin, found place by place.
-use Rattle.std.proofs.Common.{◌≡◌, ℕ, suc, ◌+◌, ◌<◌, List, [], ◌∷◌, ◌++◌, length, get_or, ◌∙◌, arith, inl, inr}
+use Rattle.std.proofs.Common.{◌≡◌, ℕ, suc, ◌+◌, ◌<◌, List, [], ◌∷◌, ◌++◌, length, get_or, sym, ap, ◌∙◌, arith, inl, inr}
 use Rattle.std.proofs.lemmas.Bool.{cases_lt}
 use Rattle.std.proofs.lemmas.List.{get_or_append_left, get_or_push, length_push}
 use Rattle.bohm_core_base.specs.Batch.{Batch}
 use Rattle.words.specs.Layout.{block_begin, block_length}
+use Rattle.words.specs.Passes.{AreBlocks}
 
 -- the beginnings for so many places, and where the next place's block begins
 pub record IsBegun (b : Batch) (places index ends : ℕ) (begins : List ℕ) : Type 0 where
@@ -12,14 +13,20 @@ pub record IsBegun (b : Batch) (places index ends : ℕ) (begins : List ℕ) : T
   pub next : ends ≡ block_begin b index
   pub each : (i : ℕ) → i < index → get_or begins i 0 ≡ block_begin b i
 
-pub one-more : (b : Batch) (places index ends words : ℕ) (begins : List ℕ) → IsBegun b places index ends begins → words ≡ block_length b index
-    → IsBegun b places (suc index) (ends + words) (begins ++ ends ∷ [])
-one-more b places index ends words begins begun is = record {
+pub one-more : (b : Batch) (places index ends next : ℕ) (begins : List ℕ) → IsBegun b places index ends begins → next ≡ ends + block_length b index
+    → IsBegun b places (suc index) next (begins ++ ends ∷ [])
+one-more b places index ends next begins begun is = record {
   size = begun.size;
   every = length_push begins ends ∙ (let every = begun.every in omega arith);
-  next = (let next = begun.next in omega arith);
+  next = (let from = begun.next in omega arith);
   each = λ i less. elim (cases_lt i index) [
     | inl below ↦ get_or_append_left begins (ends ∷ []) 0 i (let every = begun.every in omega arith) ∙ begun.each i below
     | inr not_below ↦ (let same : i ≡ index = omega arith in rw same (get_or_push begins ends 0 index begun.every ∙ begun.next))
   ];
 }
+
+-- all places have been gone through
+pub all-begun : (b : Batch) (places index ends : ℕ) (begins : List ℕ) → IsBegun b places index ends begins → index ≡ places → AreBlocks b begins ends
+all-begun b places index ends begins begun last =
+    let size : b.size ≡ index = begun.size ∙ sym last in
+    record { every = begun.every ∙ sym size; begin = λ i below. begun.each i (omega arith); end = begun.next ∙ ap (block_begin b) (sym size) }

@@ -38,6 +38,12 @@ pub record IsIdle (me : Me ℕ View) : Type 0 where
   pub alive : me.0.spent ≡ false
   pub idle : HoldsNone me.0
 
+-- where the blocks begin, and behind them the ends
+pub record AreBlocks (batch : Batch) (begins : List ℕ) (ends : ℕ) : Type 0 where
+  pub every : length begins ≡ batch.size
+  pub begin : (index : ℕ) → index < batch.size → slice_index begins index ≡ block_begin batch index
+  pub end : ends ≡ end_begin batch
+
 -- where the words lie
 pub record IsLaid (batch : Batch) (listed : List ℕ) (table : TableId) (places : ℕ) (begins : List ℕ) (ends count : ℕ) : Type 0 where
   pub slots : table.slots ≡ 0

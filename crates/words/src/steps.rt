@@ -1,20 +1,52 @@
 //! A step on one word, and where each word lies.
 
-ghost use Rattle.std.specs.Prelude.{◌≡◌, ◌==◌, ◌<◌, length};
+ghost use Rattle.std.specs.Prelude.{◌≡◌, ◌==◌, ◌<◌, [], false, length};
 ghost use Rattle.bohm_core_base.specs.Batch.{words_length};
 ghost use Rattle.atomic_table.specs.Table.{Allows, step};
 ghost use mathlib.Core.Option.{none};
 ghost use prog.Atomic.{either};
 ghost use Rattle.words.specs.Legal.{legal};
 ghost use Rattle.words.specs.Layout.{claim_word, end_word, own_word, position};
+ghost use Rattle.words.specs.Views.{joined, split_left, split_right};
 
 use crate::placed::Placed;
-use crate::table::BatchWords;
+use crate::table::{BatchWords, Rule};
 use crate::view::View;
-use atomic_table::{Play, Seat};
+use atomic_table::{Play, Seat, Shared};
+use std::marker::Brand;
 
 // What a step tells is a type M that the caller's proof picks, by the place and the number that are passed for it alone.
 impl<K: Placed> BatchWords<K> {
+    // What threads share of the table, which has a word.
+    pub(crate) fn shared(&self) -> &Shared<u8, View, K, Rule>
+        ensures same { self.now ≡ record { table = result.now.table_id; key = result.now.key } }
+        ensures some { 0 < result.now.table_id.words }
+    {
+        &self.table.shared
+    }
+
+    // Cuts a seat in two, by one load.
+    pub(crate) fn cut_off(&self, seat: &mut Seat<u8, View>) -> Seat<u8, View>
+        requires ours { seat.old.table_id ≡ self.now.table }
+        requires alive { seat.old.me.0.spent ≡ false }
+        ensures same { (seat.new.table_id ≡ seat.old.table_id) × (seat.new.id ≡ seat.old.id) × (result.table_id ≡ seat.old.table_id) }
+        ensures first { seat.new.me ≡ (split_left seat.old.me.0, seat.old.me.1) }
+        ensures second { result.me ≡ (split_right seat.old.me.0, []) }
+    {
+        self.shared().split_seat::<Brand>(seat)
+    }
+
+    // Takes another seat in, by one load.
+    pub(crate) fn take_in(&self, seat: &mut Seat<u8, View>, other: Seat<u8, View>)
+        requires ours { (seat.old.table_id ≡ self.now.table) × (other.table_id ≡ self.now.table) }
+        requires bare { other.me.1 ≡ [] }
+        requires alive { (seat.old.me.0.spent ≡ false) × (other.me.0.spent ≡ false) }
+        ensures same { (seat.new.table_id ≡ seat.old.table_id) × (seat.new.id ≡ seat.old.id) }
+        ensures view { seat.new.me ≡ (joined seat.old.me.0 other.id other.me.0, seat.old.me.1) }
+    {
+        self.shared().join_seat::<Brand>(seat, other);
+    }
+
     // A compare-exchange from free to held.
     pub(crate) fn exchange<M: Play<u8, View>>(
         &self,
@@ -28,7 +60,7 @@ impl<K: Placed> BatchWords<K> {
         ensures same { (seat.new.table_id ≡ seat.old.table_id) × (seat.new.id ≡ seat.old.id) }
         ensures then { M.then (step self.now.table.slots at 0 1 none) seat.old.me result seat.new.me }
     {
-        self.table.shared.compare_exchange::<M>(seat, at, 0, 1)
+        self.shared().compare_exchange::<M>(seat, at, 0, 1)
     }
 
     // A store.
@@ -46,7 +78,7 @@ impl<K: Placed> BatchWords<K> {
         ensures same { (seat.new.table_id ≡ seat.old.table_id) × (seat.new.id ≡ seat.old.id) }
         ensures then { M.then (step self.now.table.slots at word 0 none) seat.old.me word seat.new.me }
     {
-        self.table.shared.store::<M>(seat, at, word);
+        self.shared().store::<M>(seat, at, word);
     }
 
     // A load.
@@ -63,7 +95,7 @@ impl<K: Placed> BatchWords<K> {
         ensures same { (seat.new.table_id ≡ seat.old.table_id) × (seat.new.id ≡ seat.old.id) }
         ensures then { M.then (step self.now.table.slots at 0 0 none) seat.old.me result seat.new.me }
     {
-        self.table.shared.load::<M>(seat, at)
+        self.shared().load::<M>(seat, at)
     }
 
     // Where the claim of a place lies: first in its block.

@@ -1,13 +1,16 @@
 //! How the words of a batch and its passes are made, cut and joined.
 
-ghost use Rattle.std.specs.Prelude.{◌≡◌, ◌+◌, ◌*◌, ◌/◌, IfOk};
-ghost use Rattle.words.specs.Passes.{IsPassOf, cut_first, cut_second, first_pass, joined_pass};
+ghost use Rattle.std.specs.Prelude.{◌≡◌, ◌+◌, ◌*◌, ◌/◌, [], replicate, IfOk};
+ghost use Rattle.bohm_core_base.specs.Batch.{IsSound};
+ghost use Rattle.words.specs.Layout.{end_begin, total};
+ghost use Rattle.words.specs.Passes.{AreBlocks, IsPassOf, cut_first, cut_second, first_pass, joined_pass};
+ghost use Rattle.words.specs.Views.{first_view};
 
 use crate::placed::Placed;
-use crate::table::{BatchWords, Pass};
-use atomic_table::Table;
+use crate::table::{BatchWords, Pass, Rule};
+use crate::view::View;
+use atomic_table::{Seat, Table};
 use std::alloc::{AllocError, Global};
-use std::marker::Brand;
 
 /// The sum; more words than can be counted are want of memory.
 fn sum(first: usize, second: usize) -> Result<usize, AllocError>
@@ -24,6 +27,53 @@ fn block_length(words: usize) -> Result<usize, AllocError>
     (words / 8 + 1).checked_mul(8).ok_or(AllocError)
 }
 
+/// Where the next block begins: behind this one, of a place with so many own words.
+fn block_end(begin: usize, words: usize) -> Result<usize, AllocError>
+    ensures { IfOk result (λ end. end ≡ begin + (words / 8 + 1) * 8) }
+{
+    sum(begin, block_length(words)?)
+}
+
+/// Where the block of each place begins, and where the ends begin.
+fn blocks<K: Placed>(alloc: Global, key: &K) -> Result<(Vec<usize>, usize), AllocError>
+    ensures { IfOk result (λ found. AreBlocks (K.batch key.now) found.0.items found.1) }
+{
+    let places = key.places();
+    let mut begins = Vec::with_capacity(alloc, places)?;
+    let mut ends = 0;
+    for index in 0..places {
+        begins.push(ends)?;
+        ends = block_end(ends, key.words_length(index))?;
+    }
+    Ok((begins, ends))
+}
+
+/// A row of so many words, all 0.
+fn all_zero(alloc: Global, count: usize) -> Result<Vec<u64>, AllocError>
+    ensures { IfOk result (λ row. row.items ≡ replicate count 0) }
+{
+    Vec::from_elem(alloc, 0u64, count)
+}
+
+/// The table of the words, all 0, and its first seat. The ends begin behind all blocks.
+fn table_of<K: Placed>(
+    alloc: Global,
+    key: &K,
+    ends: usize,
+) -> Result<(Table<u8, View, K, Rule, Global>, Seat<u8, View>), AllocError>
+    requires sound { IsSound (K.batch key.now) }
+    requires end { ends ≡ end_begin (K.batch key.now) }
+    ensures table { IfOk result (λ made.
+        (made.0.shared.table_id.words ≡ total (K.batch key.now) (K.listed key.now)) × (made.0.shared.table_id.slots ≡ 0)
+        × (made.0.shared.key ≡ key.now)) }
+    ensures seat { IfOk result (λ made.
+        (made.1.table_id ≡ made.0.shared.table_id) × (made.1.id ≡ 0) × (made.1.me ≡ (first_view, []))) }
+{
+    let count = sum(ends, key.ends())?;
+    let row = all_zero(alloc, count)?;
+    Table::of_words(alloc, row.as_slice(), key)
+}
+
 impl<K: Placed> BatchWords<K> {
     /// The words of a batch, all 0, and its first pass. An error is want of memory, and so is a batch with more words than can
     /// be counted.
@@ -31,15 +81,9 @@ impl<K: Placed> BatchWords<K> {
         ensures { IfOk result (λ made. (made.0.key ≡ key.now) × (made.1 ≡ first_pass made.0)) }
     {
         let places = key.places();
-        let mut begins = Vec::with_capacity(alloc, places)?;
-        let mut ends = 0;
-        for index in 0..places {
-            begins.push(ends)?;
-            ends = sum(ends, block_length(key.words_length(index))?)?;
-        }
-        let count = sum(ends, key.ends())?;
-        let row = Vec::from_elem(alloc, 0u64, count)?;
-        let (table, seat) = Table::of_words(alloc, row.as_slice(), key)?;
+        let (begins, ends) = blocks(alloc, key)?;
+        let (table, seat) = table_of(alloc, key, ends)?;
+        let count = table.word_count();
         let words = BatchWords {
             table,
             places,
@@ -57,7 +101,7 @@ impl<K: Placed> BatchWords<K> {
         ensures second { result.1 ≡ cut_second pass result.1.number }
     {
         let Pass { mut seat, bodies } = pass;
-        let other = self.table.shared.split_seat::<Brand>(&mut seat);
+        let other = self.cut_off(&mut seat);
         (
             Pass { seat, bodies },
             Pass {
@@ -78,7 +122,7 @@ impl<K: Placed> BatchWords<K> {
             seat: second,
             bodies: more,
         } = other;
-        self.table.shared.join_seat::<Brand>(&mut seat, second);
+        self.take_in(&mut seat, second);
         Pass {
             seat,
             bodies: bodies.saturating_add(more),

@@ -1,0 +1,19 @@
+use Rattle.std.proofs.Common.{◌<◌, sym, ap, ◌∙◌, subst}
+use mathlib.Core.Option.{none}
+use Rattle.atomic_table.specs.Table.{Allows, step}
+use Rattle.words.specs.Legal.{legal}
+use Rattle.words.proofs.table.BatchWords.get.Goals as goal
+
+pub load-requires : goal.load-requires
+load-requires g c =
+    let seat = c.args.seat.now in
+    let same = c.shared.ensures.same in (
+      c.requires.ours ∙ ap (λ w. w.table) same,
+      subst (λ w. c.args.at < w.table.words) same c.requires.within,
+      subst (λ w. Allows (λ s. legal (g.K.Placed.batch w.key) (g.K.Placed.listed w.key) s.words s.views) w.table.slots seat.id seat.me c.args.at (λ n. n) (g.M.Play.then (step w.table.slots c.args.at 0 0 none) seat.me)) same c.requires.allows,
+    )
+
+pub returns-clause-then : goal.returns-clause-then
+returns-clause-then g c =
+    subst (λ w. g.M.Play.then (step w.table.slots c.args.at 0 0 none) c.args.seat.now.me c.load.result c.load.new.seat.me) (sym c.shared.ensures.same)
+    c.load.ensures.2

@@ -1,0 +1,18 @@
+use Rattle.std.proofs.Common.{◌≡◌, ℕ, ◌+◌, ◌∷◌, [], List, length, replicate, ◌∙◌, sym, ap, subst, arith}
+use Rattle.words.specs.Layout.{end_begin, total}
+use Rattle.words.specs.Legal.{legal}
+use Rattle.words.specs.Views.{first_view}
+use Rattle.words.proofs.Cutting.{begins as begins-right}
+use Rattle.words.proofs.words.table_of.Goals as goal
+
+pub of_words-requires : goal.of_words-requires
+of_words-requires g c =
+    let b = g.K.Placed.batch c.args.key.now in
+    let listed = g.K.Placed.listed c.args.key.now in
+    let next = c.requires.end in
+    let more = c.ends.ensures.value in
+    let summed = c.in_ok-count.ensures in
+    let count : c.in_ok-count.count ≡ total b listed = omega arith in
+    let zeros : c.as_slice.result.now ≡ replicate c.in_ok-count.count 0 = c.as_slice.ensures.value ∙ c.in_ok-row.ensures in
+    subst (λ (l : List ℕ). legal b listed l (first_view ∷ [])) (sym (zeros ∙ ap (λ (n : ℕ). replicate n 0) count))
+    (begins-right b listed c.requires.sound c.ends.ensures.listed)
