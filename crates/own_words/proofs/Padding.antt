@@ -1,8 +1,8 @@
--- Words put behind the others keep the padding.
-use Rattle.std.proofs.Common.{◌≡◌, ℕ, suc, ◌+◌, ◌-◌, ◌<◌, ◌≤◌, List, [], ◌∷◌, ◌++◌, length, take, set, refl, sym, ◌∙◌, ap, arith, append_assoc, length-append, length-set}
+-- Words put behind the others, and all words taken away, keep the padding.
+use Rattle.std.proofs.Common.{◌≡◌, ℕ, suc, ◌+◌, ◌-◌, ◌<◌, ◌≤◌, List, [], ◌∷◌, ◌++◌, length, take, drop, set, get_or, refl, sym, ◌∙◌, ap, arith, append_assoc, length-append, length-drop, length-set, ext_get_or}
 use Rattle.std.specs.Prelude.{replicate}
-use Rattle.std.proofs.Math.Seq.{set-append_seam, take-append_seam}
-use Rattle.std.proofs.lemmas.List.{length-take-le}
+use Rattle.std.proofs.Math.Seq.{drop-append_seam, set-append_seam, take-append_seam}
+use Rattle.std.proofs.lemmas.List.{get_or-replicate, length-replicate, length-take-le, replicate-append-replicate}
 use Rattle.own_words.specs.Room.{IsPadded}
 
 -- what stands behind some numbers that stand in front of the array
@@ -35,4 +35,28 @@ module _ (n : ℕ) (xs : List ℕ) (within : n ≤ 156) (whole : length xs ≡ 1
       within = omega arith;
       whole = length-set xs n x ∙ whole;
       zeros = set_split ∙ sym (append_assoc (take n xs) (x ∷ []) rest) ∙ ap (λ ys. ys ++ rest) (sym take_more);
+    }
+
+  -- no word, where so many zeros stand in the place of the words
+  module _ (front : List ℕ) (long : length front ≡ n) (each : (k : ℕ) → k < n → get_or front k 0 ≡ 0) where
+    front_zeros : front ≡ replicate n 0
+    front_zeros = ext_get_or 0 front (replicate n 0) (long ∙ sym (length-replicate {A = ℕ} n 0))
+        λ k low. let below : k < n = omega arith in each k below ∙ sym (get_or-replicate n k 0 0 below)
+
+    rest_zeros : drop n xs ≡ replicate (156 - n) 0
+    rest_zeros =
+        ap (drop n) zeros
+        ∙ ap (λ k. drop k (take n xs ++ replicate (156 - n) 0)) (sym front-length)
+        ∙ drop-append_seam (take n xs) (replicate (156 - n) 0)
+
+    all_zeros : front ++ drop n xs ≡ replicate 156 0
+    all_zeros =
+        let all : n + (156 - n) ≡ 156 = omega arith in
+        rw (front_zeros, rest_zeros) (replicate-append-replicate n (156 - n) 0 ∙ ap (λ k. replicate k 0) all)
+
+    pub padded_none : IsPadded (record { len = 0; words = front ++ drop n xs })
+    padded_none = record {
+      within = omega arith;
+      whole = length-append front (drop n xs) ∙ omega (arith, length-drop n xs);
+      zeros = all_zeros;
     }

@@ -35,14 +35,22 @@ impl OwnWords {
     ghost use Rattle.model_base.specs.Outcomes.{needs};
     ghost use Rattle.own_words.specs.Words.{bits, header, outputs_of, row_words, second_detail};
 
-    /// No word.
-    pub(crate) fn new() -> Self
+    /// No word. It takes no memory.
+    pub fn new() -> Self
         ensures { result ≡ [] }
     {
         OwnWords {
             len: 0,
             words: [0; 156],
         }
+    }
+
+    /// Takes all words away. It costs what so many words cost, and not what there is room for.
+    pub fn clear(&mut self)
+        ensures { self.new ≡ [] }
+    {
+        self.words[..self.len as usize].fill(0);
+        self.len = 0;
     }
 
     /// How many there are.
@@ -59,8 +67,8 @@ impl OwnWords {
         &self.words[..self.len as usize]
     }
 
-    /// Puts a word behind the others.
-    pub(crate) fn push(&mut self, word: u64)
+    /// Puts a word behind the others, of which there are at most 155. It takes no memory.
+    pub fn push(&mut self, word: u64)
         requires { length self.old < 156 }
         ensures { self.new ≡ self.old ++ word ∷ [] }
     {
@@ -86,26 +94,25 @@ impl OwnWords {
         }
     }
 
-    /// The words 0 to 3 of an outcome of a statement, and behind them its outputs, with 0 in the room for those that it didn't
-    /// give. The statement has at most eight OUT steps, and the place of a revocation that took a need lies below 2^64 - 1. A
-    /// need is told only if it is one of the statement's. It takes no memory.
-    pub fn header(form: &Form, outcome: &Outcome) -> OwnWords
+    /// Puts the words 0 to 3 of an outcome of a statement, where no word is yet, and behind them its outputs, with 0 in the room
+    /// for those that it didn't give. The statement has at most eight OUT steps, and the place of a revocation that took a need
+    /// lies below 2^64 - 1. A need is told only if it is one of the statement's. It takes no memory.
+    pub fn put_header(&mut self, form: &Form, outcome: &Outcome)
+        requires empty { self.old ≡ [] }
         requires outputs { outputs_of form.now ≤ 8 }
         requires needs { length (needs form.now) < 2 ^ 64 }
         requires detail { second_detail outcome.now < 2 ^ 64 }
-        ensures { result ≡ header form.now outcome.now }
+        ensures { self.new ≡ header form.now outcome.now }
     {
         let outputs = outputs_told(outcome);
         let count = outputs.len() as u8;
         let room = outputs_of(form) as u8;
-        let mut words = OwnWords::new();
-        words.push(outcome_word(outcome));
-        words.push(first_detail(form, outcome));
-        words.push(second_detail(outcome));
-        words.push(u64::from(count));
-        words.push_numbers(outputs.as_slice());
-        words.push_zeros(room.saturating_sub(count));
-        words
+        self.push(outcome_word(outcome));
+        self.push(first_detail(form, outcome));
+        self.push(second_detail(outcome));
+        self.push(u64::from(count));
+        self.push_numbers(outputs.as_slice());
+        self.push_zeros(room.saturating_sub(count));
     }
 
     /// Puts a version cell behind the others: the row of a table with so many columns, or that there is none. There has to be
