@@ -26,57 +26,64 @@ fn has_sixteen_rows(window: &Window)
     let _ = window.row(0);
 }
 
-/// What the body of an admitted statement comes to, and the window behind it. Only a completed body changes rows: behind any
-/// other the window is the one that was found. What the deed comes to isn't told, since no header depends on it.
-fn executed(statement: &Statement, window: Window) -> (Outcome, Window)
+/// What the body of an admitted statement comes to. Only a completed body changes the rows of the window: behind any other it has
+/// those that it had. What the deed comes to isn't told, since no header depends on it.
+fn executed(statement: &Statement, window: &mut Window) -> Outcome
     requires runnable { IsRunnable statement.now }
     requires apart { AreApart (accesses_of statement.now.form) }
-    requires fresh { window.outputs ≡ [] }
-    ensures tells { (owners : List ℕ) (place : ℕ) (world : World) → Shows (accesses_of statement.now.form) window world.rows
-        → Tells statement.now window (judged owners place world statement.now None) result.0 result.1 }
-    ensures shaped { KeepsShaped statement.now window result.1 }
-    ensures detail { second_detail result.0 < 2 ^ 64 }
-    ensures outputs { length (outputs_told result.0) ≤ 8 }
+    requires fresh { window.old.outputs ≡ [] }
+    ensures tells { (owners : List ℕ) (place : ℕ) (world : World) → Shows (accesses_of statement.now.form) window.old world.rows
+        → Tells statement.now window.old (judged owners place world statement.now None) result window.new }
+    ensures shaped { KeepsShaped statement.now window.old window.new }
+    ensures detail { second_detail result < 2 ^ 64 }
+    ensures outputs { length (outputs_told result) ≤ 8 }
 {
-    let mut after = window;
-    match run(statement, &mut after) {
+    let found = *window;
+    match run(statement, window) {
         BodyEnd::Completed => {
-            has_sixteen_rows(&after);
-            let outputs = after.outputs();
+            has_sixteen_rows(window);
+            let outputs = window.outputs();
             let deed = DeedDone::None;
-            (Outcome::Done { outputs, deed }, after)
+            Outcome::Done { outputs, deed }
         }
-        BodyEnd::Aborted { step, reason } => (Outcome::Aborted { step, reason }, window),
-        BodyEnd::Undeclared { step } => (Outcome::Undeclared { step }, window),
+        BodyEnd::Aborted { step, reason } => {
+            *window = found;
+            Outcome::Aborted { step, reason }
+        }
+        BodyEnd::Undeclared { step } => {
+            *window = found;
+            Outcome::Undeclared { step }
+        }
     }
 }
 
-/// What a statement comes to at the view's place, and the window behind it. A table is created; any other statement is denied
-/// by its first need that isn't held, and leaves the rows that were found, or its body runs.
+/// What a statement comes to at the view's place; the window is left with the rows behind it. A table is created; any other
+/// statement is denied by its first need that isn't held, and leaves the rows that were found, or its body runs.
 pub(crate) fn judged<V: Records>(
     statement: &Statement,
-    window: Window,
+    window: &mut Window,
     view: &mut V,
-) -> (Outcome, Window)
+) -> Outcome
     requires runnable { IsRunnable statement.now }
     requires apart { AreApart (accesses_of statement.now.form) }
-    requires fresh { window.outputs ≡ [] }
+    requires fresh { window.old.outputs ≡ [] }
     requires covered { Covers (V.shown view.old) (needs statement.now.form) }
     ensures tells { (owners : List ℕ) (deeds : List Deed) (rows : Rows)
-        → ShowsDeeds (V.shown view.old) owners deeds → Shows (accesses_of statement.now.form) window rows
-        → Tells statement.now window (at_place owners (V.shown view.old).place (record { rows = rows; deeds = deeds }) statement.now) result.0 result.1 }
-    ensures shaped { KeepsShaped statement.now window result.1 }
-    ensures detail { second_detail result.0 < 2 ^ 64 }
-    ensures outputs { length (outputs_told result.0) ≤ 8 }
+        → ShowsDeeds (V.shown view.old) owners deeds → Shows (accesses_of statement.now.form) window.old rows
+        → Tells statement.now window.old (at_place owners (V.shown view.old).place (record { rows = rows; deeds = deeds }) statement.now)
+        result window.new }
+    ensures shaped { KeepsShaped statement.now window.old window.new }
+    ensures detail { second_detail result < 2 ^ 64 }
+    ensures outputs { length (outputs_told result) ≤ 8 }
     ensures same { V.shown view.new ≡ V.shown view.old }
 {
     if let Form::Create { .. } = &statement.form {
-        return (Outcome::Created, window);
+        return Outcome::Created;
     }
     // The cause of a denial lies below this place, so it is told by a word.
     let _ = view.at();
     match admit(statement, view) {
-        Admission::Denied { need, cause } => (Outcome::Denied { need, cause }, window),
+        Admission::Denied { need, cause } => Outcome::Denied { need, cause },
         Admission::Admitted => executed(statement, window),
     }
 }

@@ -55,33 +55,35 @@ fn push_cells(words: &mut OwnWords, columns: &[u8], accesses: &[Access], window:
     }
 }
 
-/// All own words of the statement of the view's place: those of its outcome, and behind them its version cells. The window
-/// shows the rows that the place finds, and the view the grants by which it is judged, for whatever log shows these: its
-/// words are those that the serial run gives the place. The statement is judged by its user's privileges; if each is held its
-/// body runs over the window, and the cells have the rows behind a completed body. A place that isn't done leaves the rows
-/// that it found, so its cells have these. It takes no memory. No two accesses may name one key.
+/// Puts all own words of the statement of the view's place in the place of those that were there: those of its outcome, and
+/// behind them its version cells. The window shows the rows that the place finds, and the view the grants by which it is judged,
+/// for whatever log shows these: its words are those that the serial run gives the place. The statement is judged by its user's
+/// privileges; if each is held its body runs over the window, and the cells have the rows behind a completed body. A place that
+/// isn't done leaves the rows that it found, so its cells have these. Afterwards the window is of no further use. It takes no
+/// memory. No two accesses may name one key.
 pub fn own_words<V: Records>(
     statement: &Statement,
     columns: &[u8],
-    window: Window,
+    window: &mut Window,
     view: &mut V,
-) -> OwnWords
+    words: &mut OwnWords,
+)
     requires runnable { IsRunnable statement.now }
     requires apart { AreApart (accesses_of statement.now.form) }
     requires fits { FormFits (columns_in columns.now) statement.now.form }
     requires narrow { All (λ count. count ≤ 8) columns.now }
     requires tables { All (λ (access : Access). access.key.table < length columns.now) (accesses_of statement.now.form) }
-    requires shaped { IsShaped (columns_in columns.now) (accesses_of statement.now.form) window }
-    requires fresh { window.outputs ≡ [] }
+    requires shaped { IsShaped (columns_in columns.now) (accesses_of statement.now.form) window.old }
+    requires fresh { window.old.outputs ≡ [] }
     requires covered { Covers (V.shown view.old) (needs statement.now.form) }
     ensures value { (owners : List ℕ) (deeds : List Deed) (rows : Rows)
-        → ShowsDeeds (V.shown view.old) owners deeds → Shows (accesses_of statement.now.form) window rows
-        → result ≡ own_words (columns_in columns.now) statement.now.form
+        → ShowsDeeds (V.shown view.old) owners deeds → Shows (accesses_of statement.now.form) window.old rows
+        → words.new ≡ own_words (columns_in columns.now) statement.now.form
         (at_place owners (V.shown view.old).place (record { rows = rows; deeds = deeds }) statement.now) }
     ensures same { V.shown view.new ≡ V.shown view.old }
 {
-    let (outcome, after) = judged(statement, window, view);
-    let mut words = OwnWords::header(&statement.form, &outcome);
-    push_cells(&mut words, columns, statement.accesses(), &after);
-    words
+    let outcome = judged(statement, window, view);
+    words.clear();
+    words.put_header(&statement.form, &outcome);
+    push_cells(words, columns, statement.accesses(), window);
 }

@@ -5,7 +5,7 @@ use Rattle.answering.proofs.judging.judged.Goals as goal
 pub returns-in-Denied : goal.returns-in-Denied
 returns-in-Denied g c = record {
   tells = λ owners deeds rows shown shows.
-      denied_tells owners (g.V.Records.shown c.args.view.now).place (record { rows = rows; deeds = deeds }) c.args.statement.now c.args.window c.in_default.not-Create
+      denied_tells owners (g.V.Records.shown c.args.view.now).place (record { rows = rows; deeds = deeds }) c.args.statement.now c.args.window.now c.in_default.not-Create
       c.in-Denied.need c.in-Denied.cause shows (sym c.in-Denied.is ∙ c.admit.ensures.value owners deeds shown);
   shaped = λ columns fits shaped. shaped;
   detail = omega (arith, c.at.ensures.value, denied_below (g.V.Records.shown c.args.view.now) c.args.statement.now.user _ c.in-Denied.need c.in-Denied.cause c.at.ensures.lawful (sym c.in-Denied.is ∙ c.admit.ensures.told));
@@ -16,8 +16,8 @@ returns-in-Denied g c = record {
 pub returns-in-Admitted : goal.returns-in-Admitted
 returns-in-Admitted g c = record {
   tells = λ owners deeds rows shown shows.
-      admitted_tells owners (g.V.Records.shown c.args.view.now).place (record { rows = rows; deeds = deeds }) c.args.statement.now c.args.window c.in_default.not-Create
-      c.executed.result.0 c.executed.result.1 (sym c.in-Admitted.is ∙ c.admit.ensures.value owners deeds shown)
+      admitted_tells owners (g.V.Records.shown c.args.view.now).place (record { rows = rows; deeds = deeds }) c.args.statement.now c.args.window.now c.in_default.not-Create
+      c.executed.result c.executed.new.window (sym c.in-Admitted.is ∙ c.admit.ensures.value owners deeds shown)
       (c.executed.ensures.tells owners (g.V.Records.shown c.args.view.now).place (record { rows = rows; deeds = deeds }) shows);
   shaped = c.executed.ensures.shaped;
   detail = c.executed.ensures.detail;
