@@ -23,44 +23,45 @@ use own_words::OwnWords;
 use std::alloc::{AllocError, Global};
 use std::marker::{Brand, PhantomData};
 
-/// All own words of the reader, and the reader again.
-fn judge<T: Told, P: Pinned>(batch: &LogBatch<'_>, told: T) -> (OwnWords, T)
+/// Puts all own words of the reader in the place of those that were there, and gives the reader again.
+fn judge<T: Told, P: Pinned>(batch: &LogBatch<'_>, told: T, words: &mut OwnWords) -> T
     requires batch { (T.told told).batch ≡ batch_in batch.now }
     requires place { Some (T.told told) ≡ P.told }
     requires kept { Some (T.kept told) ≡ P.kept }
-    ensures value { result.0 ≡ words_at (columns_by batch.now.log.names) batch.now.log.statements (batch.now.first + (T.told told).index) }
-    ensures place { Some (T.told result.1) ≡ P.told }
-    ensures kept { Some (T.kept result.1) ≡ P.kept }
+    ensures value { words.new ≡ words_at (columns_by batch.now.log.names) batch.now.log.statements (batch.now.first + (T.told told).index) }
+    ensures place { Some (T.told result) ≡ P.told }
+    ensures kept { Some (T.kept result) ≡ P.kept }
 {
     let mut told = told;
     let _log = batch.log();
     let statement = batch.statement(told.reader());
     let columns = batch.log().all_columns();
-    let rows = window(batch, &mut told);
+    let mut rows = window(batch, &mut told);
     let mut records = ShownRecords::<'_, T, P> {
         batch,
         told,
         pinned: PhantomData,
     };
-    let words = own_words(statement, columns, rows, &mut records);
+    own_words(statement, columns, &mut rows, &mut records, words);
     let ShownRecords {
         batch: _,
         told,
         pinned: _,
     } = records;
-    (words, told)
+    told
 }
 
-/// All own words of the reader, which are those of its place in the log, and the reader again. It takes no memory.
-pub fn words_told<T: Told>(batch: &LogBatch<'_>, told: T) -> (OwnWords, T)
+/// Puts all own words of the reader, which are those of its place in the log, in the place of those that were there, and gives
+/// the reader again. It takes no memory.
+pub fn words_told<T: Told>(batch: &LogBatch<'_>, told: T, words: &mut OwnWords) -> T
     requires batch { (T.told told).batch ≡ batch_in batch.now }
-    ensures value { result.0 ≡ words_at (columns_by batch.now.log.names) batch.now.log.statements (batch.now.first + (T.told told).index) }
-    ensures serial { result.0 ≡ serial_words (batch_in batch.now) (T.told told).index }
-    ensures same { (T.told result.1 ≡ T.told told) × (T.kept result.1 ≡ T.kept told) }
+    ensures value { words.new ≡ words_at (columns_by batch.now.log.names) batch.now.log.statements (batch.now.first + (T.told told).index) }
+    ensures serial { words.new ≡ serial_words (batch_in batch.now) (T.told told).index }
+    ensures same { (T.told result ≡ T.told told) × (T.kept result ≡ T.kept told) }
 {
     let _log = batch.log();
     let _statement = batch.statement(told.reader());
-    judge::<T, Brand>(batch, told)
+    judge::<T, Brand>(batch, told, words)
 }
 
 /// The places of the grants that the reader's deed takes out of force, and the reader again.
