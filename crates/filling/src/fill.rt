@@ -93,7 +93,8 @@ impl Fills for RangeKey<'_> {
         index: usize,
     ) -> (Holding, Result<(), AllocError>) {
         learning_comes_before_storing();
-        let (own, holding) = own_told(self, words, holding, index);
+        let mut own = OwnWords::new();
+        let holding = own_told(self, words, holding, index, &mut own);
         let (ends, holding) = ends_of(self, words, holding, index, says_done(&own));
         match ends {
             Ok(ends) => {

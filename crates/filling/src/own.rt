@@ -15,23 +15,25 @@ use reading::words_told;
 use std::marker::{Brand, PhantomData};
 use words::{BatchWords, Holding};
 
-// All own words of a place, for the words that are named and a pass that keeps what is named.
+// Puts all own words of a place in the place of those that were there, for the words that are named and a pass that keeps what is
+// named.
 fn judge_words<'b, 'a, N: Named>(
     key: &'b RangeKey<'a>,
     words: &'b BatchWords<RangeKey<'a>>,
     holding: Holding,
     index: usize,
-) -> (OwnWords, Holding)
+    own: &mut OwnWords,
+) -> Holding
     requires ours { IsPassOf words.now holding }
     requires key { words.now.key ≡ key.now }
     requires within { index < key.now.batch.size }
     requires ready { KnowsReferences (batch_in key.now.batch) holding.view index }
     requires named { Some words.now ≡ N.words }
     requires knows { KeepsKnown N.known holding.view.known }
-    ensures value { result.0 ≡ serial_words (batch_in key.now.batch) index }
-    ensures ours { IsPassOf words.now result.1 }
-    ensures knows { KeepsKnown N.known result.1.view.known }
-    ensures work { work_of result.1 ≡ work_of holding }
+    ensures value { own.new ≡ serial_words (batch_in key.now.batch) index }
+    ensures ours { IsPassOf words.now result }
+    ensures knows { KeepsKnown N.known result.view.known }
+    ensures work { work_of result ≡ work_of holding }
 {
     let reader = PassReader::<'_, '_, N> {
         key,
@@ -40,7 +42,7 @@ fn judge_words<'b, 'a, N: Named>(
         index,
         named: PhantomData,
     };
-    let (own, reader) = words_told(key.batch(), reader);
+    let reader = words_told(key.batch(), reader, own);
     let PassReader {
         key: _,
         words: _,
@@ -48,23 +50,25 @@ fn judge_words<'b, 'a, N: Named>(
         index: _,
         named: _,
     } = reader;
-    (own, holding)
+    holding
 }
 
-// All own words of a place, by a pass that knows done all that it is referred to; it only learns. It takes no memory.
+// Puts all own words of a place in the place of those that were there, by a pass that knows done all that it is referred to; it
+// only learns. It takes no memory.
 pub(crate) fn own_told<'b, 'a>(
     key: &'b RangeKey<'a>,
     words: &'b BatchWords<RangeKey<'a>>,
     holding: Holding,
     index: usize,
-) -> (OwnWords, Holding)
+    own: &mut OwnWords,
+) -> Holding
     requires ours { IsPassOf words.now holding }
     requires key { words.now.key ≡ key.now }
     requires within { index < key.now.batch.size }
     requires ready { KnowsReferences (batch_in key.now.batch) holding.view index }
-    ensures value { result.0 ≡ serial_words (batch_in key.now.batch) index }
-    ensures same { IsSamePass holding result.1 }
-    ensures learns { OnlyLearns holding.view result.1.view }
+    ensures value { own.new ≡ serial_words (batch_in key.now.batch) index }
+    ensures same { IsSamePass holding result }
+    ensures learns { OnlyLearns holding.view result.view }
 {
-    judge_words::<Brand>(key, words, holding, index)
+    judge_words::<Brand>(key, words, holding, index, own)
 }

@@ -15,12 +15,12 @@ invariant_of-reader g c = record {
   knows = c.requires.knows;
 }
 
-pub words_told-own-requires : goal.words_told-own-requires
-words_told-own-requires g c = record { batch = sym (ap batch_in c.batch.ensures) }
+pub words_told-reader-requires : goal.words_told-reader-requires
+words_told-reader-requires g c = record { batch = sym (ap batch_in c.batch.ensures) }
 
 pub returns-clause-value : goal.returns-clause-value
 returns-clause-value g c =
-    c.words_told-own.ensures.serial ∙ ap (λ (r : Ranged). serial_words (batch_in r) c.args.index) c.batch.ensures
+    c.words_told-reader.ensures.serial ∙ ap (λ (r : Ranged). serial_words (batch_in r) c.args.index) c.batch.ensures
 
 pub returns-clause-ours : goal.returns-clause-ours
 returns-clause-ours g c =
@@ -30,4 +30,4 @@ pub returns-clause-knows : goal.returns-clause-knows
 returns-clause-knows g c = c.reader.invariant.knows
 
 pub returns-clause-work : goal.returns-clause-work
-returns-clause-work g c = ap (λ (r : Reading). r.work) c.reader.view_is ∙ c.words_told-own.ensures.same.1
+returns-clause-work g c = ap (λ (r : Reading). r.work) c.reader.view_is ∙ c.words_told-reader.ensures.same.1

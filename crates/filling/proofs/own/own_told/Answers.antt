@@ -6,8 +6,8 @@ judge_words-requires-clause-knows c index has = has
 
 pub returns-clause-same : goal.returns-clause-same
 returns-clause-same c =
-    same-pass c.args.words.now c.args.holding c.judge_words.result.1 c.requires.ours c.judge_words.ensures.ours c.judge_words.ensures.work
+    same-pass c.args.words.now c.args.holding c.judge_words.result c.requires.ours c.judge_words.ensures.ours c.judge_words.ensures.work
 
 pub returns-clause-learns : goal.returns-clause-learns
 returns-clause-learns c =
-    only-learns c.args.holding c.judge_words.result.1 c.judge_words.ensures.knows c.judge_words.ensures.work
+    only-learns c.args.holding c.judge_words.result c.judge_words.ensures.knows c.judge_words.ensures.work

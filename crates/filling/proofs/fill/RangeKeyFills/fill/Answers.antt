@@ -1,24 +1,24 @@
 use Rattle.filling.proofs.fill.RangeKeyFills.fill.Goals as goal
 
 pub ends_of-ends-requires-clause-ready : goal.ends_of-ends-requires-clause-ready
-ends_of-ends-requires-clause-ready c other has = c.own_told-own.ensures.learns.goes.knows other (c.requires.ready other has)
+ends_of-ends-requires-clause-ready c other has = c.own_told-holding.ensures.learns.goes.knows other (c.requires.ready other has)
 
 pub store_place-holding-requires-clause-ready : goal.store_place-holding-requires-clause-ready
 store_place-holding-requires-clause-ready c other has =
-    c.ends_of-ends.ensures.learns.goes.knows other (c.own_told-own.ensures.learns.goes.knows other (c.requires.ready other has))
+    c.ends_of-ends.ensures.learns.goes.knows other (c.own_told-holding.ensures.learns.goes.knows other (c.requires.ready other has))
 
 pub returns-in-Ok-clause-tells : goal.returns-in-Ok-clause-tells
 returns-in-Ok-clause-tells c =
     let law = c.learning_comes_before_storing.ensures in
     let first = c.args.holding.view in
-    let told = c.own_told-own.result.1.view in
+    let told = c.own_told-holding.result.view in
     let ended = c.ends_of-ends.result.1.view in
     law.finishes first ended c.store_place-holding.result.view c.args.index
-    (law.again first told ended c.own_told-own.ensures.learns c.ends_of-ends.ensures.learns) c.store_place-holding.ensures.finishes
+    (law.again first told ended c.own_told-holding.ensures.learns c.ends_of-ends.ensures.learns) c.store_place-holding.ensures.finishes
 
 pub returns-in-Err-clause-tells : goal.returns-in-Err-clause-tells
 returns-in-Err-clause-tells c =
     let revokes = rw c.in-Err.is at c.ends_of-ends.ensures.revokes in (
-      c.learning_comes_before_storing.ensures.again c.args.holding.view c.own_told-own.result.1.view c.ends_of-ends.result.1.view c.own_told-own.ensures.learns c.ends_of-ends.ensures.learns,
+      c.learning_comes_before_storing.ensures.again c.args.holding.view c.own_told-holding.result.view c.ends_of-ends.result.1.view c.own_told-holding.ensures.learns c.ends_of-ends.ensures.learns,
       revokes,
     )
