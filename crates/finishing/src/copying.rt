@@ -13,6 +13,7 @@ use crate::judging::judge;
 use crate::standing::Standing;
 use log_batch::LogBatch;
 use log_words::LogKey;
+use own_words::OwnWords;
 use reading::words_length;
 use std::alloc::{AllocError, Global};
 use words::{Closed, Placed};
@@ -48,35 +49,30 @@ pub(crate) fn take_ends(
     Ok(())
 }
 
-/// The own words of a place that is done in a closed batch.
-fn copied(
-    alloc: Global,
-    batch: &LogBatch<'_>,
-    closed: &Closed,
-    index: usize,
-) -> Result<Vec<u64>, AllocError>
+/// Puts the own words of a place that is done in a closed batch in the place of those that were there. It takes no memory.
+fn copy_words(batch: &LogBatch<'_>, closed: &Closed, index: usize, words: &mut OwnWords)
     requires within { index < batch.now.size }
     requires closed { HasDone (batch_in batch.now) closed.now }
     requires done { claim_in closed.now index ≡ 2 }
-    ensures { IfOk result (λ words. words.items ≡ serial_words (batch_in batch.now) index) }
+    ensures { words.new ≡ serial_words (batch_in batch.now) index }
 {
     let _log = batch.log();
     let count = words_length(batch, index);
-    let mut words = Vec::with_capacity(alloc, count)?;
+    words.clear();
     for number in 0..count {
-        words.push(closed.own(index, number))?;
+        words.push(closed.own(index, number));
     }
-    Ok(words)
 }
 
-/// Completes a place behind those below it: what a closed batch has of it if it is done there, or else it is run. An error is
-/// want of memory.
+/// Completes a place behind those below it: what a closed batch has of it if it is done there, or else it is run. Its own words
+/// are put together in the room that is lent. An error is want of memory.
 pub(crate) fn complete(
     alloc: Global,
     batch: &LogBatch<'_>,
     closed: &Closed,
     index: usize,
     standing: &mut Standing,
+    words: &mut OwnWords,
 ) -> Result<(), AllocError>
     requires within { index < batch.now.size }
     requires closed { HasDone (batch_in batch.now) closed.now }
@@ -86,9 +82,9 @@ pub(crate) fn complete(
     ensures stands { OnOk result (StandTo (batch_in batch.now) (suc index) standing.new) }
 {
     if closed.claim(index) != DONE {
-        return judge(alloc, batch, index, standing);
+        return judge(alloc, batch, index, standing, words);
     }
-    let words = copied(alloc, batch, closed, index)?;
+    copy_words(batch, closed, index, words);
     standing.words.push(words.as_slice())?;
     Ok(())
 }

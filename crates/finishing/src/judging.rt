@@ -30,15 +30,14 @@ fn was_done(own: &[u64]) -> bool
     }
 }
 
-/// The own words of a place.
-fn judged_words(batch: &LogBatch<'_>, standing: &Standing, index: usize) -> OwnWords
+/// Puts the own words of a place in the place of those that were there.
+fn judge_words(batch: &LogBatch<'_>, standing: &Standing, index: usize, words: &mut OwnWords)
     requires within { index < batch.now.size }
     requires stands { StandTo (batch_in batch.now) index standing.now }
-    ensures { result ≡ serial_words (batch_in batch.now) index }
+    ensures { words.new ≡ serial_words (batch_in batch.now) index }
 {
     let place = Below::new(batch, standing, index);
-    let (words, _) = words_told(batch, place);
-    words
+    let _ = words_told(batch, place, words);
 }
 
 /// The places of the grants whose records a place ends that was done.
@@ -128,19 +127,20 @@ fn judge_ends(
     Ok(())
 }
 
-/// Runs a place behind those below it. An error is want of memory.
+/// Runs a place behind those below it. Its own words are put together in the room that is lent. An error is want of memory.
 pub(crate) fn judge(
     alloc: Global,
     batch: &LogBatch<'_>,
     index: usize,
     standing: &mut Standing,
+    words: &mut OwnWords,
 ) -> Result<(), AllocError>
     requires within { index < batch.now.size }
     requires stands { StandTo (batch_in batch.now) index standing.old }
     ensures stands { OnOk result (StandTo (batch_in batch.now) (suc index) standing.new) }
     ensures kept { OnOk result (Keeps standing.old.ends standing.new.ends) }
 {
-    let words = judged_words(batch, standing, index);
+    judge_words(batch, standing, index, words);
     judge_ends(alloc, batch, words.as_slice(), index, standing)?;
     standing.words.push(words.as_slice())?;
     Ok(())

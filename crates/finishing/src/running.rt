@@ -11,6 +11,7 @@ use crate::judging::judge;
 use crate::standing::Standing;
 use log_batch::LogBatch;
 use log_words::LogKey;
+use own_words::OwnWords;
 use std::alloc::{AllocError, Global};
 use words::Closed;
 
@@ -19,8 +20,9 @@ fn judge_all(alloc: Global, batch: &LogBatch<'_>, standing: &mut Standing) -> Re
     requires { StandTo (batch_in batch.now) 0 standing.old }
     ensures { OnOk result (StandTo (batch_in batch.now) batch.now.size standing.new) }
 {
+    let mut words = OwnWords::new();
     for index in 0..batch.size() {
-        judge(alloc, batch, index, standing)?;
+        judge(alloc, batch, index, standing, &mut words)?;
     }
     Ok(())
 }
@@ -37,8 +39,9 @@ fn complete_all(
     requires stands { StandTo (batch_in batch.now) 0 standing.old }
     ensures { OnOk result (StandTo (batch_in batch.now) batch.now.size standing.new) }
 {
+    let mut words = OwnWords::new();
     for index in 0..batch.size() {
-        complete(alloc, batch, closed, index, standing)?;
+        complete(alloc, batch, closed, index, standing, &mut words)?;
     }
     Ok(())
 }

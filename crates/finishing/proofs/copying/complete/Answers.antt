@@ -14,5 +14,5 @@ returns-then-claim-ne-DONE-clause-done c =
     on_ok_weaker {P = Keeps old new} {Q = TellsDone b c.args.closed.now new} c.judge.result
     (λ keeps index within done. tells-kept b index old new keeps (c.requires.done index within done)) c.judge.ensures.kept
 
-pub copied-requires-clause-done : goal.copied-requires-clause-done
-copied-requires-clause-done c = omega arith
+pub copy_words-requires-clause-done : goal.copy_words-requires-clause-done
+copy_words-requires-clause-done c = omega arith
