@@ -14,9 +14,10 @@ ghost use Rattle.bohm_core_base.specs.Serial.{serial_ends, serial_words};
 ghost use Rattle.log_batch.specs.Supplied.{batch_in};
 
 use crate::records::{Pinned, ShownRecords};
-use crate::rows::window;
+use crate::rows::show_rows;
 use crate::told::Told;
 use answering::{ended, own_words};
+use body::Window;
 use log_batch::LogBatch;
 use model_base::Place;
 use own_words::OwnWords;
@@ -36,7 +37,8 @@ fn judge<T: Told, P: Pinned>(batch: &LogBatch<'_>, told: T, words: &mut OwnWords
     let _log = batch.log();
     let statement = batch.statement(told.reader());
     let columns = batch.log().all_columns();
-    let mut rows = window(batch, &mut told);
+    let mut rows = Window::new(statement);
+    show_rows(batch, &mut told, &mut rows);
     let mut records = ShownRecords::<'_, T, P> {
         batch,
         told,

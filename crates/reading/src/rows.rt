@@ -174,13 +174,15 @@ fn reference_at(references: &[Reference], number: usize) -> Reference
     }
 }
 
-/// The window of the rows that the reader is shown by its references, which are those before its place of the log. It has no
-/// output.
-pub(crate) fn window<T: Told>(batch: &LogBatch, told: &mut T) -> Window
+/// Puts the rows that the reader is shown by its references, which are those before its place of the log, into a window without
+/// an output.
+pub(crate) fn show_rows<T: Told>(batch: &LogBatch, told: &mut T, window: &mut Window)
     requires batch { (T.told told.old).batch ≡ batch_in batch.now }
+    requires sixteen { length window.old.rows ≡ 16 }
+    requires fresh { window.old.outputs ≡ [] }
     ensures shows { (statement : Statement) → slice_get batch.now.log.statements (batch.now.first + (T.told told.old).index) ≡ Some statement
-        → Shows (accesses_of statement.form) result (rows_before batch.now.log.statements (batch.now.first + (T.told told.old).index)) }
-    ensures fresh { result.outputs ≡ [] }
+        → Shows (accesses_of statement.form) window.new (rows_before batch.now.log.statements (batch.now.first + (T.told told.old).index)) }
+    ensures fresh { window.new.outputs ≡ [] }
     ensures same { (T.told told.new ≡ T.told told.old) × (T.kept told.new ≡ T.kept told.old) }
 {
     let _log = batch.log();
@@ -188,10 +190,8 @@ pub(crate) fn window<T: Told>(batch: &LogBatch, told: &mut T) -> Window
     let statement = batch.statement(index);
     let references = batch.references_at(index);
     let accesses = statement.accesses();
-    let mut window = Window::new(statement);
     for (place, access) in accesses.iter().enumerate() {
         let reference = reference_at(references, place);
         window.set(place, row_shown(batch, told, reference, access.key));
     }
-    window
 }
