@@ -1,5 +1,6 @@
 pub mod Members
 pub mod Going
+pub mod Counting
 pub mod Holding
 pub mod Learning
 pub mod Falling

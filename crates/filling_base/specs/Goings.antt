@@ -1,10 +1,11 @@
 -- How a pass goes on through several steps.
-use Rattle.std.specs.Prelude.{◌≡◌, ◌≢◌, ◌↔◌, ℕ, ◌≤◌, List, [], ◌++◌}
+use Rattle.std.specs.Prelude.{◌≡◌, ◌≢◌, ◌↔◌, ℕ, ◌≤◌, List, [], ◌∷◌, ◌++◌}
 use Rattle.bohm_core_base.specs.declared.event.Event.{Event}
 use Rattle.bohm_core_base.specs.declared.event.Event.TheVariants.{GiveBack}
 use Rattle.words.specs.declared.view.View.{View}
 use Rattle.words.specs.Passes.{Passing}
 use Rattle.words.specs.Views.{Holds, In}
+use Rattle.filling_base.specs.Counting.{finished}
 
 -- the same pass, through which no fewer bodies were run
 pub record IsSamePass (pass after : Passing) : Type 0 where
@@ -41,9 +42,10 @@ pub record OnlyLearns (view after : View) : Type 0 where
   pub events : after.events ≡ view.events
   pub sightings : after.sightings ≡ view.sightings
 
--- it knows the place done, and doesn't hold it any more; of the others it holds the same
+-- it finished the place and no other, knows it done, and doesn't hold it any more; of the others it holds the same
 pub record Finishes (index : ℕ) (view after : View) : Type 0 where
   pub goes : Goes NoPlace view after
+  pub finishes : finished after.events ≡ finished view.events ++ index ∷ []
   pub sightings : after.sightings ≡ view.sightings
   pub known : In index after.known
   pub others : HoldsOthers index view after

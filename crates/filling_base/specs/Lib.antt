@@ -1,3 +1,4 @@
+pub mod Counting
 pub mod Goings
 pub mod References
 pub mod Storing

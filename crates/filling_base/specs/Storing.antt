@@ -5,11 +5,14 @@ use Rattle.bohm_core_base.specs.Serial.{serial_ends}
 use Rattle.words.specs.declared.view.View.{View}
 use Rattle.words.specs.Layout.{slot_at}
 use Rattle.words.specs.Views.{Holds}
+use Rattle.filling_base.specs.Counting.{finished}
 use Rattle.filling_base.specs.Goings.{Goes, HoldsOthers, NoPlace}
 
--- the pass holds the place, with so many words stored and the ends of these slots; of the others it holds the same
+-- the pass holds the place, with so many words stored and the ends of these slots, and finished none; of the others it holds
+-- the same
 pub record Stores (index : ℕ) (view after : View) (count : ℕ) (ended : List ℕ) : Type 0 where
   pub goes : Goes NoPlace view after
+  pub finishes : finished after.events ≡ finished view.events
   pub sightings : after.sightings ≡ view.sightings
   pub others : HoldsOthers index view after
   pub holds : Holds after index count ended

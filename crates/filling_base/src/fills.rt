@@ -1,9 +1,10 @@
 //! What one place is referred to, and how it is filled.
 
-ghost use Rattle.std.specs.Prelude.{◌≡◌, ◌<◌, [], length};
+ghost use Rattle.std.specs.Prelude.{◌≡◌, ◌<◌, ℕ, [], length};
 ghost use Rattle.bohm_core_base.specs.Batch.{references};
 ghost use Rattle.words.specs.Passes.{IsPassOf};
 ghost use Rattle.words.specs.Views.{Holds, KnowsReferences};
+ghost use Rattle.filling_base.specs.Counting.{FillCounts};
 ghost use Rattle.filling_base.specs.Goings.{IsSamePass};
 ghost use Rattle.filling_base.specs.References.{reference, reference_word};
 ghost use Rattle.filling_base.specs.Tries.{FillTells};
@@ -11,8 +12,10 @@ ghost use Rattle.filling_base.specs.Tries.{FillTells};
 use std::alloc::AllocError;
 use words::{BatchWords, Holding, Placed};
 
-/// A batch whose places can be filled one at a time.
+/// A batch whose places can be filled one at a time. `runs` tells how many bodies are run to fill a place.
 pub trait Fills: Placed {
+    ghost runs: { Self → ℕ → ℕ };
+
     /// How many references a place has.
     fn references_length(&self, index: usize) -> usize
         requires { index < (Self.batch self.now).size }
@@ -25,8 +28,8 @@ pub trait Fills: Placed {
         ensures { reference_word result ≡ reference (Self.batch self.now) index number };
 
     /// Stores all that a place has to store, and finishes it: the pass holds it, with nothing stored, and knows done all that it
-    /// is referred to. The pass may learn of further places that they are done. An error is want of memory, which only a
-    /// revocation may have, and then nothing was stored.
+    /// is referred to. It counts the bodies that are run for the place. The pass may learn of further places that they are
+    /// done. An error is want of memory, which only a revocation may have, and then nothing was stored or counted.
     fn fill(
         &self,
         words: &BatchWords<Self>,
@@ -39,5 +42,6 @@ pub trait Fills: Placed {
         requires held { Holds holding.view index 0 [] }
         requires ready { KnowsReferences (Self.batch self.now) holding.view index }
         ensures same { IsSamePass holding result.0 }
-        ensures tells { FillTells (Self.batch self.now) index holding.view result.1 result.0.view };
+        ensures tells { FillTells (Self.batch self.now) index holding.view result.1 result.0.view }
+        ensures bodies { FillCounts (runs self.now index) holding.bodies result.1 result.0.bodies };
 }

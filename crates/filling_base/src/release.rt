@@ -2,6 +2,7 @@
 
 ghost use Rattle.std.specs.Prelude.{◌<◌};
 ghost use Rattle.words.specs.Passes.{IsPassOf};
+ghost use Rattle.filling_base.specs.Counting.{CountsBodies};
 ghost use Rattle.filling_base.specs.Goings.{IsSamePass};
 ghost use Rattle.filling_base.specs.Walks.{IsWalk, Released, asked, held, spot};
 
@@ -18,6 +19,7 @@ impl<K: Fills> Batch<K> {
         requires walks { IsWalk (K.batch self.now.key) (spot walk) }
         ensures same { IsSamePass walk.holding result }
         ensures released { Released (held (spot walk)) walk.holding.view result.view }
+        ensures bodies { CountsBodies (K.runs self.now.key) walk.holding result }
     {
         let Walk {
             mut holding,

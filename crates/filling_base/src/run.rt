@@ -2,6 +2,7 @@
 
 ghost use Rattle.std.specs.Prelude.{◌≡◌, ◌<◌, [], ◌∷◌};
 ghost use Rattle.words.specs.Passes.{IsPassOf};
+ghost use Rattle.filling_base.specs.Counting.{CountsBodies};
 ghost use Rattle.filling_base.specs.Goings.{HoldsJust, IsSamePass};
 ghost use Rattle.filling_base.specs.Tries.{IsToldDone, Tells};
 
@@ -29,6 +30,7 @@ impl<K: Fills> Batch<K> {
         requires held { HoldsJust holding.view (index ∷ []) }
         ensures same { IsSamePass holding result.0 }
         ensures tells { Tells (K.batch self.now.key) index holding.view result.1 result.0.view }
+        ensures bodies { CountsBodies (K.runs self.now.key) holding result.0 }
     {
         let mut walk = Walk {
             holding,
@@ -59,12 +61,13 @@ impl<K: Fills> Batch<K> {
     /// was finished on the way stays finished. `Busy` tells a place, at most the one asked for, that another pass held at a step
     /// of this call; all claims of the call were given back. `NoMemory` is not answered for a place without a revocation whose
     /// references the pass knew done. A place is given back only if one of its references wasn't known done as the call began,
-    /// or for want of memory for a revocation.
+    /// or for want of memory for a revocation. The pass counts the bodies of the places that it finishes, whatever is answered.
     pub fn try_run(&self, pass: Pass, index: usize) -> (Pass, Tried)
         requires ours { IsPassOf self.now pass }
         requires within { index < (K.batch self.now.key).size }
         ensures same { IsSamePass pass result.0 }
         ensures tells { Tells (K.batch self.now.key) index pass.view result.1 result.0.view }
+        ensures bodies { CountsBodies (K.runs self.now.key) pass result.0 }
         // What the pass knows done is answered so, and what is settled by that.
         ensures told { IsToldDone (K.batch self.now.key) pass.view index → result.1 ≡ Tried.Done }
     {

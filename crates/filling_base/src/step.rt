@@ -3,6 +3,7 @@
 ghost use Rattle.std.specs.Prelude.{◌≡◌, ◌<◌, ◌≤◌, suc, length};
 ghost use Rattle.bohm_core_base.specs.Batch.{references};
 ghost use Rattle.words.specs.Passes.{IsPassOf};
+ghost use Rattle.filling_base.specs.Counting.{CountsBodies};
 ghost use Rattle.filling_base.specs.Goings.{IsSamePass};
 ghost use Rattle.filling_base.specs.References.{reference};
 ghost use Rattle.filling_base.specs.Tries.{IsToldDone};
@@ -25,6 +26,7 @@ impl<K: Fills> Batch<K> {
         requires untold { ¬ (IsToldDone (K.batch self.now.key) walk.holding.view index) }
         ensures same { IsSamePass walk.holding result.0.holding }
         ensures stepped { Stepped (K.batch self.now.key) (spot walk) result.1 (spot result.0) }
+        ensures bodies { CountsBodies (K.runs self.now.key) walk.holding result.0.holding }
     {
         let frame = Frame {
             index: walk.at,
@@ -59,6 +61,7 @@ impl<K: Fills> Batch<K> {
         requires all { length (references (K.batch self.now.key) walk.at) ≤ walk.next }
         ensures same { IsSamePass walk.holding result.0.holding }
         ensures stepped { Stepped (K.batch self.now.key) (spot walk) result.1 (spot result.0) }
+        ensures bodies { CountsBodies (K.runs self.now.key) walk.holding result.0.holding }
     {
         let (holding, filled) = self.key.fill(&self.words, walk.holding, walk.at);
         walk.holding = holding;
@@ -82,6 +85,7 @@ impl<K: Fills> Batch<K> {
         requires walks { IsWalk (K.batch self.now.key) (spot walk) }
         ensures same { IsSamePass walk.holding result.0.holding }
         ensures stepped { Stepped (K.batch self.now.key) (spot walk) result.1 (spot result.0) }
+        ensures bodies { CountsBodies (K.runs self.now.key) walk.holding result.0.holding }
     {
         if walk.next >= self.key.references_length(walk.at) {
             return self.leave(walk);

@@ -20,6 +20,7 @@ fn store_words<K: Placed>(words: &BatchWords<K>, holding: &mut Holding, index: u
     requires own { own.now ≡ serial_words (K.batch words.now.key) index }
     requires long { length own.now ≡ words_length (K.batch words.now.key) index }
     ensures same { IsSamePass holding.old holding.new }
+    ensures bodies { holding.new.bodies ≡ holding.old.bodies }
     ensures stores { Stores index holding.old.view holding.new.view (length own.now) [] }
 {
     for number in 0..own.len() {
@@ -43,6 +44,7 @@ fn store_ends<K: Placed>(
     requires small { place < 2 ^ 63 }
     requires ends { IsEnding (K.batch words.now.key) (K.listed words.now.key) index ends.now }
     ensures same { IsSamePass holding.old holding.new }
+    ensures bodies { holding.new.bodies ≡ holding.old.bodies }
     ensures stores { Stores index holding.old.view holding.new.view (words_length (K.batch words.now.key) index) (ended_below (K.listed words.now.key) ends.now (length ends.now)) }
 {
     for number in 0..ends.len() {
@@ -51,7 +53,7 @@ fn store_ends<K: Placed>(
 }
 
 /// Stores the own words of a place that is held with nothing stored, sets the ends of the records that it ends, each by its
-/// number in the list, and finishes the place. `place` is where it stands in the log.
+/// number in the list, and finishes the place. It counts no body. `place` is where it stands in the log.
 pub fn store<K: Placed>(
     words: &BatchWords<K>,
     holding: &mut Holding,
@@ -70,6 +72,7 @@ pub fn store<K: Placed>(
     requires long { length own.now ≡ words_length (K.batch words.now.key) index }
     requires ends { IsEnding (K.batch words.now.key) (K.listed words.now.key) index ends.now }
     ensures same { IsSamePass holding.old holding.new }
+    ensures bodies { holding.new.bodies ≡ holding.old.bodies }
     ensures finishes { Finishes index holding.old.view holding.new.view }
 {
     store_words(words, holding, index, own);

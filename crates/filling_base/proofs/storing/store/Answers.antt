@@ -2,7 +2,7 @@ use Rattle.std.proofs.Common.{[], length, ap}
 use Rattle.bohm_core_base.specs.Batch.{words_length}
 use Rattle.words.specs.Passes.{Passing}
 use Rattle.filling_base.specs.Storing.{ended_below}
-use Rattle.filling_base.proofs.Loops.{among-ended, finished, stores-then}
+use Rattle.filling_base.proofs.Loops.{among-ended, now-finished, stores-then}
 use Rattle.filling_base.proofs.storing.store.Goals as goal
 
 pub store_ends-requires-clause-ready : goal.store_ends-requires-clause-ready
@@ -25,6 +25,6 @@ returns-clause-finishes g c =
     let v = c.args.holding.now.view in
     let u = c.store_words.new.holding.view in
     let w = c.store_ends.new.holding in
-    finished c.args.index w.number (words_length b c.args.index) v w.view c.finish_place.new.pass.view (ended_below listed ends (length ends))
+    now-finished c.args.index w.number (words_length b c.args.index) v w.view c.finish_place.new.pass.view (ended_below listed ends (length ends))
     (stores-then c.args.index v u w.view (length c.args.own.now) (words_length b c.args.index) [] (ended_below listed ends (length ends)) c.store_words.ensures.stores c.store_ends.ensures.stores)
     (ap (λ (p : Passing). p.view) c.finish_place.ensures)

@@ -1,4 +1,4 @@
-use Rattle.std.proofs.Common.{◌+◌, [], sym, ap, ◌∙◌, arith}
+use Rattle.std.proofs.Common.{◌+◌, [], refl, sym, ap, ◌∙◌, arith}
 use Rattle.bohm_core_base.specs.Batch.{words_length}
 use Rattle.words.specs.Passes.{Passing}
 use Rattle.filling_base.specs.Storing.{ended_below}
@@ -10,6 +10,7 @@ pub loop-number-init : goal.loop-number-init
 loop-number-init g c = record {
   ours = c.requires.ours;
   same = same-self c.args.holding.now;
+  bodies = refl;
   stores = begun-storing c.args.index c.args.holding.now.view (words_length (g.K.Placed.batch c.args.words.now.key) c.args.index) [] c.requires.held;
 }
 
@@ -21,6 +22,7 @@ loop-number-preserved g c =
     let same = same-on old c.set_end.new.pass _ c.set_end.ensures in record {
       ours = same.table ∙ i.ours;
       same = same-then c.args.holding.now old c.set_end.new.pass i.same same;
+      bodies = ap (λ (p : Passing). p.bodies) c.set_end.ensures ∙ i.bodies;
       stores = ended-more c.args.index old.number (words_length (g.K.Placed.batch c.args.words.now.key) c.args.index) c.loop-number.number (c.loop-number.number + 1)
           c.args.holding.now.view old.view c.set_end.new.pass.view listed c.args.ends.now i.stores (ap (λ (p : Passing). p.view) c.set_end.ensures) (omega arith);
     }

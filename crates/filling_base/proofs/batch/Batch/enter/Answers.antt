@@ -3,6 +3,7 @@ use Rattle.std.proofs.lemmas.Grind.{common_steps}
 use Rattle.bohm_core_base.specs.Batch.{Batch}
 use Rattle.filling_base.specs.declared.walk.Frame.{Frame}
 use Rattle.filling_base.specs.Walks.{Onward, spot}
+use Rattle.filling_base.proofs.Counting.{counts-claim}
 use Rattle.filling_base.proofs.Falling.{falls-at}
 use Rattle.filling_base.proofs.Paths.{path-top}
 use Rattle.filling_base.proofs.Steps.{met-other, no-room, went-in, went-next}
@@ -45,3 +46,7 @@ returns-in-Done-clause-stepped g c =
     let back : c.pop-in-Done.new.self.items ≡ c.args.walk.stack.items = grind (arith, common_steps) in
     subst (λ (fs : List Frame). Onward b s (record { view = c.claim.new.pass.view; at = s.at; next = c.args.next; frames = fs })) (sym back)
     (went-next b s.view c.claim.new.pass.view s.at s.next c.args.next c.args.index s.frames c.requires.walks c.requires.short c.requires.names c.in-Done.ensures.tells c.requires.next)
+
+pub returns-in-Won-clause-bodies : goal.returns-in-Won-clause-bodies
+returns-in-Won-clause-bodies g c =
+    counts-claim (g.K.Fills.runs c.args.self.now.key) c.args.walk.holding c.claim.new.pass c.args.index c.claim.result c.claim.ensures.same c.claim.ensures.tells

@@ -1,9 +1,11 @@
-use Rattle.std.proofs.Common.{◌≡◌, ◌<◌, [], sym, subst, arith}
+use Rattle.std.proofs.Common.{◌≡◌, ◌<◌, ℕ, [], sym, ap, ◌∙◌, subst, arith}
 use Rattle.std.proofs.lemmas.Grind.{common_steps}
 use Rattle.bohm_core_base.specs.Batch.{Batch}
 use Rattle.words.specs.Views.{KnowsReferences}
 use Rattle.filling_base.specs.References.{IsRevocation}
 use Rattle.filling_base.specs.Walks.{spot}
+use Rattle.filling_base.specs.Counting.{counted_more}
+use Rattle.filling_base.proofs.Counting.{counts-filled, counts-starved}
 use Rattle.filling_base.proofs.Paths.{knows-all, path-top}
 use Rattle.filling_base.proofs.Steps.{ended, starved, went-out}
 use Rattle.filling_base.proofs.batch.Batch.leave.Goals as goal
@@ -49,3 +51,29 @@ returns-in-Some-clause-stepped g c =
     let s = spot c.args.walk in
     let told = rw c.in-Ok.is at c.fill-holding.ensures.tells in
     went-out (g.K.Placed.batch c.args.self.now.key) s.view c.fill-holding.result.0.view s.at s.next s.frames c.pop.new.self.items c.in-Some.frame c.requires.walks told c.in-Some.ensures.items
+
+pub returns-in-Err-clause-bodies : goal.returns-in-Err-clause-bodies
+returns-in-Err-clause-bodies g c =
+    let told = rw c.in-Err.is at c.fill-holding.ensures.tells in
+    let count = rw c.in-Err.is at c.fill-holding.ensures.bodies in
+    counts-starved (g.K.Fills.runs c.args.self.now.key) c.args.walk.holding c.fill-holding.result.0 told.0 count
+
+pub returns-in-None-clause-bodies : goal.returns-in-None-clause-bodies
+returns-in-None-clause-bodies g c =
+    let invariant = c.self.invariant in
+    let view = c.self.view_is in
+    let p = c.args.walk.holding in
+    let same : g.K.Fills.runs c.self.inside.key c.args.walk.at ≡ g.K.Fills.runs c.args.self.now.key c.args.walk.at = cc in
+    let told = rw c.in-Ok.is at c.fill-holding.ensures.tells in
+    let count = rw c.in-Ok.is at c.fill-holding.ensures.bodies in
+    counts-filled (g.K.Fills.runs c.args.self.now.key) p c.fill-holding.result.0 c.args.walk.at told (count ∙ ap (counted_more p.bodies) same)
+
+pub returns-in-Some-clause-bodies : goal.returns-in-Some-clause-bodies
+returns-in-Some-clause-bodies g c =
+    let invariant = c.self.invariant in
+    let view = c.self.view_is in
+    let p = c.args.walk.holding in
+    let same : g.K.Fills.runs c.self.inside.key c.args.walk.at ≡ g.K.Fills.runs c.args.self.now.key c.args.walk.at = cc in
+    let told = rw c.in-Ok.is at c.fill-holding.ensures.tells in
+    let count = rw c.in-Ok.is at c.fill-holding.ensures.bodies in
+    counts-filled (g.K.Fills.runs c.args.self.now.key) p c.fill-holding.result.0 c.args.walk.at told (count ∙ ap (counted_more p.bodies) same)

@@ -5,6 +5,7 @@ use Rattle.words.specs.Passes.{Passing}
 use Rattle.words.specs.Views.{In, with_event}
 use Rattle.filling_base.specs.declared.walk.Frame.{Frame}
 use Rattle.filling_base.specs.Walks.{IsPath, bottom, held, spot, waiting}
+use Rattle.filling_base.proofs.Counting.{counts-back, counts-then, counts-to}
 use Rattle.filling_base.proofs.Going.{same-on, same-then}
 use Rattle.filling_base.proofs.Holding.{gives, reorder}
 use Rattle.filling_base.proofs.Paths.{bottom-snoc, path-over, path-pop, path-top, to-back, to-front}
@@ -35,6 +36,7 @@ loop-frame-init g c =
     let same = same-on old new _ c.give_back.ensures in record {
       ours = same.table ∙ c.requires.ours;
       same = same;
+      bodies = counts-back (g.K.Fills.runs c.args.self.now.key) old new c.args.walk.at c.give_back.ensures;
       released = released-first (held (spot c.args.walk)) old.view new.view old.number c.args.walk.at (inl refl) view-is;
       holds = gives old.view new.view old.number c.args.walk.at (waiting fs) h.holds
           (λ i has e. (let over = path-over b old.view.known fs c.args.walk.at h.path i has in absurd (omega arith))) view-is;
@@ -79,6 +81,8 @@ loop-frame-preserved g c =
     λ j has. subst (λ (fs : List Frame). In j (waiting fs)) (sym c.in-Some.ensures.items) (to-back gs f j has) in record {
       ours = same.table ∙ i.ours;
       same = same-then first old new i.same same;
+      bodies = counts-then (g.K.Fills.runs c.args.self.now.key) first old new i.bodies
+          (counts-back (g.K.Fills.runs c.args.self.now.key) old new f.index c.give_back-in-Some.ensures);
       released = released-more (held (spot c.args.walk)) first.view old.view new.view old.number f.index i.released (i.among f.index (had f.index (inl refl))) view-is;
       holds = gives old.view new.view old.number f.index (waiting gs)
           (reorder old.view (waiting c.loop-frame.stack.items) (f.index ∷ waiting gs)
@@ -87,3 +91,7 @@ loop-frame-preserved g c =
       among = λ j has. i.among j (had j (inr has));
       path = (f.index, subst (λ (x : ℕ). x < b.size) (bottom-snoc gs f p.0) (subst (λ (fs : List Frame). bottom fs p.0 < b.size) c.in-Some.ensures.items p.1), popped.0);
     }
+
+pub returns-clause-bodies : goal.returns-clause-bodies
+returns-clause-bodies g c =
+    counts-to (g.K.Fills.runs c.args.self.now.key) c.args.walk.holding c.loop-frame.holding c.end.result c.end.ensures c.loop-frame.invariant.bodies

@@ -1,6 +1,7 @@
 use Rattle.std.proofs.Common.{◌<◌, ℕ, length}
 use Rattle.words.specs.Passes.{IsPassOf}
 use Rattle.words.specs.Views.{In}
+use Rattle.filling_base.specs.Counting.{CountsBodies}
 use Rattle.filling_base.specs.Goings.{HoldsJust, IsSamePass}
 use Rattle.filling_base.specs.Walks.{IsPath, Released, bottom, held, spot, waiting}
 use Rattle.filling_base.proofs.batch.Batch.release.Given as goal
@@ -12,6 +13,7 @@ abbrev pub invariant-loop-frame : goal.invariant-loop-frame
 invariant-loop-frame g l = record {
   ours : IsPassOf l.self l.holding;
   same : IsSamePass l.fn.walk.holding l.holding;
+  bodies : CountsBodies (g.K.Fills.runs l.self.key) l.fn.walk.holding l.holding;
   released : Released (held (spot l.fn.walk)) l.fn.walk.holding.view l.holding.view;
   holds : HoldsJust l.holding.view (waiting l.stack.items);
   among : (index : ℕ) → In index (waiting l.stack.items) → In index (held (spot l.fn.walk));

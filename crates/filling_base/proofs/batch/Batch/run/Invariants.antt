@@ -1,4 +1,5 @@
 use Rattle.words.specs.Passes.{IsPassOf}
+use Rattle.filling_base.specs.Counting.{CountsBodies}
 use Rattle.filling_base.specs.Goings.{IsSamePass}
 use Rattle.filling_base.specs.Walks.{left, spot}
 use Rattle.filling_base.proofs.Walking.{Running}
@@ -11,5 +12,6 @@ abbrev pub invariant-steps : goal.invariant-steps
 invariant-steps g l = record {
   ours : IsPassOf l.self l.walk.holding;
   same : IsSamePass l.fn.holding l.walk.holding;
+  bodies : CountsBodies (g.K.Fills.runs l.self.key) l.fn.holding l.walk.holding;
   runs : Running (g.K.Placed.batch l.self.key) l.index l.fn.holding.view (spot l.walk);
 }

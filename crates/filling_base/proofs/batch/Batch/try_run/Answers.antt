@@ -7,6 +7,7 @@ use Rattle.words.specs.Views.{IsSettled, with_event, with_known}
 use Rattle.filling_base.specs.declared.run.Tried.TheVariants.{Busy}
 use Rattle.filling_base.specs.Goings.{HoldsJust}
 use Rattle.filling_base.specs.Tries.{IsToldDone, Tells}
+use Rattle.filling_base.proofs.Counting.{counts-claim, counts-from, counts-look, counts-then}
 use Rattle.filling_base.proofs.Holding.{holds-nothing}
 use Rattle.filling_base.proofs.Seeing.{untold-claimed, untold-free, untold-held}
 use Rattle.filling_base.proofs.Walking.{claimed, found-done, found-held, ran-from}
@@ -99,3 +100,16 @@ returns-in-Won-clause-told g c told =
     let begun-is : v ≡ c.args.pass.view = ap (λ (p : Passing). p.view) c.begin-holding.ensures.same in
     let untold = untold-free b v i c.look.result c.in-Free.is c.look.ensures.known (λ settled. c.look.ensures.settled (subst (λ (x : Batch). IsSettled x v i) words settled)) in
     absurd (untold (subst (λ (u : View). IsToldDone b u i) (sym begun-is) told))
+
+pub returns-in-Won-clause-bodies : goal.returns-in-Won-clause-bodies
+returns-in-Won-clause-bodies g c =
+    let runs = g.K.Fills.runs c.args.self.now.key in
+    let i = c.args.index in
+    let begun = c.begin-holding.result in
+    let seen = c.look.new.pass in
+    let won = c.claim.new.pass in
+    counts-from runs c.args.pass begun c.run.result.0 c.begin-holding.ensures.same
+    (counts-then runs begun won c.run.result.0
+    (counts-then runs begun seen won
+    (counts-look runs begun seen i c.look.result c.look.ensures.same c.look.ensures.tells)
+    (counts-claim runs seen won i c.claim.result c.claim.ensures.same c.claim.ensures.tells)) c.run.ensures.bodies)
