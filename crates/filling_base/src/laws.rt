@@ -1,8 +1,10 @@
 //! What follows for who fills a place.
 
-ghost use Rattle.std.specs.Prelude.{◌≡◌, ℕ, List};
+ghost use Rattle.std.specs.Prelude.{◌≡◌, ◌+◌, ◌-◌, ◌^◌, ◌<◌, ℕ, List, min};
 ghost use Rattle.words.specs.declared.view.View.{View};
 ghost use Rattle.words.specs.Views.{Holds, In, with_known};
+ghost use Rattle.words.specs.Passes.{Passing};
+ghost use Rattle.filling_base.specs.Counting.{CountsBodies, counted_more};
 ghost use Rattle.filling_base.specs.Goings.{Finishes, OnlyLearns};
 
 /// A pass that finds a place done only learns, and so does one whose events, kept lists and sightings stand and that still knows
@@ -18,4 +20,13 @@ pub fn learning_comes_before_storing()
         → OnlyLearns view after → Holds view index count ended → Holds after index count ended }
     ensures finishes { (view middle after : View) (index : ℕ)
         → OnlyLearns view middle → Finishes index middle after → Finishes index view after }
+{}
+
+/// Who did nothing has counted no body. Who counts the bodies of what it finishes over one part of its way, and then over another,
+/// has counted them over both. Up to the greatest number the count is a sum.
+pub fn counts_go_on()
+    ensures nothing { (runs : ℕ → ℕ) (pass : Passing) → CountsBodies runs pass pass }
+    ensures again { (runs : ℕ → ℕ) (pass middle after : Passing)
+        → CountsBodies runs pass middle → CountsBodies runs middle after → CountsBodies runs pass after }
+    ensures sum { (bodies more : ℕ) → bodies < 2 ^ 64 → counted_more bodies more ≡ min (bodies + more) (2 ^ 64 - 1) }
 {}

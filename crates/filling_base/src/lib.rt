@@ -15,6 +15,6 @@ mod walk;
 
 pub use batch::Batch;
 pub use fills::Fills;
-pub use laws::learning_comes_before_storing;
+pub use laws::{counts_go_on, learning_comes_before_storing};
 pub use run::Tried;
 pub use storing::store;

@@ -1,4 +1,4 @@
-use Rattle.std.proofs.Common.{[], length, ap}
+use Rattle.std.proofs.Common.{[], length, ap, ◌∙◌}
 use Rattle.bohm_core_base.specs.Batch.{words_length}
 use Rattle.words.specs.Passes.{Passing}
 use Rattle.filling_base.specs.Storing.{ended_below}
@@ -28,3 +28,6 @@ returns-clause-finishes g c =
     now-finished c.args.index w.number (words_length b c.args.index) v w.view c.finish_place.new.pass.view (ended_below listed ends (length ends))
     (stores-then c.args.index v u w.view (length c.args.own.now) (words_length b c.args.index) [] (ended_below listed ends (length ends)) c.store_words.ensures.stores c.store_ends.ensures.stores)
     (ap (λ (p : Passing). p.view) c.finish_place.ensures)
+
+pub returns-clause-bodies : goal.returns-clause-bodies
+returns-clause-bodies g c = ap (λ (p : Passing). p.bodies) c.finish_place.ensures ∙ c.store_ends.ensures.bodies ∙ c.store_words.ensures.bodies
