@@ -10,4 +10,4 @@ mod laws;
 
 pub use checked::are_sound;
 pub use explained::explain_needs;
-pub use laws::explained_needs_are_sound;
+pub use laws::{explained_needs_are_sound, later_deeds_explain_nothing};
