@@ -18,7 +18,7 @@ use Rattle.standing.specs.Known.{AreKnown}
 use Rattle.standing.specs.Stands.{Stands}
 use Rattle.standing.proofs.Came.{came_at, came_count}
 use Rattle.taking.specs.Span.{AreOutcomes}
-use Rattle.engine.specs.Engine.{IsKept, IsRun, Run, finished}
+use Rattle.engine.specs.Engine.{AreNamed, IsKept, IsRun, Run, finished}
 
 ranges : (first count more : ℕ) → range_with_len first (count + more) ≡ range_with_len first count ++ range_with_len (first + count) more
 ranges first zero more =
@@ -56,11 +56,12 @@ module _ (log : Accepted) (outcomes later all : List Outcome) (end : ℕ) (is : 
       (subst (λ (n : ℕ). AreOutcomes log.statements 0 n (outcomes ++ later)) sum
       (both log.statements 0 start (end - start) outcomes later came (subst (λ (n : ℕ). AreOutcomes log.statements n (end - start) later) zero-first next)))
 
-  pub advanced : (store : Store) (book : Entries) (dropped : ℕ) → dropped ≤ length outcomes → end ≤ length log.statements → AreKnown log.statements → Stands log.statements end store book
+  pub advanced : (store : Store) (book : Entries) (dropped : ℕ) → dropped ≤ length outcomes → end ≤ length log.statements → AreKnown log.statements → AreNamed log.statements → Stands log.statements end store book
       → AreOutcomes log.statements 0 (length outcomes) outcomes → IsRun (record { log = log; store = store; book = book; outcomes = all; dropped = dropped })
-  advanced store book dropped low within known stands came = record {
+  advanced store book dropped low within known named stands came = record {
     within = omega (arith, ends_at, within);
     known = known;
+    named = named;
     stands = subst (λ (n : ℕ). Stands log.statements n store book) (sym ends_at) stands;
     came = subst (λ (n : ℕ). AreOutcomes log.statements 0 n all) (sym ends_at) (came_to came);
     dropped = omega (arith, low, less, ends_at);
@@ -84,6 +85,7 @@ pub run_left : (run : Run) (new : Store) → IsRun run → new.end ≡ run.store
 run_left run new is end right = record {
   within = is.within;
   known = is.known;
+  named = is.named;
   stands = stands_left run.log.statements (finished run) run.store new run.book is.stands end right;
   came = is.came;
   dropped = is.dropped;
@@ -98,6 +100,7 @@ run_start log store book outcomes none ends right tables records nothing =
     let start : IsRun (record { log = empty_log; store = store; book = empty; outcomes = []; dropped = 0 }) = record {
       within = omega arith;
       known = tt;
+      named = tt;
       stands = record {
         ends = ends;
         right = right [];

@@ -1,9 +1,14 @@
 -- A statement that the log takes names tables that are there.
-use Rattle.std.proofs.Common.{◌≡◌, ◌<◌, ℕ, Bool, true, false, not, List, [], Option, Some, None, length, refl, sym, ◌∙◌, inl, inr}
-use Rattle.std.specs.Prelude.{All, ◌||◌, nat_lt}
+use Rattle.std.proofs.Common.{◌≡◌, ◌<◌, ◌≤◌, ◌+◌, ℕ, zero, suc, Bool, true, false, not, List, [], ◌∷◌, ◌++◌, Option, Some, None, length, map, take, refl, sym, ◌∙◌, ap, subst, arith, inl, inr}
+use Rattle.std.specs.Prelude.{All, ◌||◌, nat_lt, slice_get}
 use Rattle.std.proofs.lemmas.Bool.{ltb-true, or_cases, true≢false}
-use Rattle.std.proofs.lemmas.List.Elements.{All-cons, All-nil}
+use Rattle.std.proofs.lemmas.List.{length-append, length-map}
+use Rattle.std.proofs.lemmas.List.Elements.{All-cons, All-nil, All-weaker}
+use Rattle.model_base.specs.declared.deed.Need.{Need}
 use Rattle.model_base.specs.declared.statement.Form.{Form}
+use Rattle.model_base.specs.declared.statement.Statement.{Statement}
+use Rattle.model_base.specs.Growing.{NeedsWithin}
+use Rattle.model_base.specs.Outcomes.{creator, needs, owners}
 use Rattle.model_base.specs.References.{deed_tables}
 use Rattle.log_text.specs.Statement.{Sentence}
 use Rattle.log_text.specs.declared.statement.RawDeed.{RawDeed}
@@ -13,7 +18,10 @@ use Rattle.sequencer.specs.Catalog.{Names, numbered, numbered_deed, numbered_for
 use Rattle.sequencer.specs.Refusal.{accesses_refusal, create_refusal, deed_refusal, form_refusal, name_refusal, refusal, steps_refusal, table_refusal, unless}
 use Rattle.sequencer.specs.declared.refused.Refused.{Refused}
 use Rattle.sequencer.proofs.Passed.{both_none, known-table, passes}
+use Rattle.grants.specs.Book.{Entries, owners_of}
+use Rattle.grants.specs.declared.book.Creation.{Creation}
 use Rattle.standing.specs.Known.{IsKnown}
+use Rattle.engine.specs.Engine.{AreNamed, AreNamedFrom, IsRun, Run, finished}
 
 not_true : (b : Bool) → not b ≡ true → b ≡ false
 not_true true is = absurd (true≢false (sym is))
@@ -55,3 +63,45 @@ known_new names sentence e =
     let form = both_none _ _ rest.1 in
     let few = both_none _ _ form.1 in
     known-form names (with_name names.users sentence.user) sentence.form form.0 few.1
+
+-- one named statement more
+named-more : (tables : ℕ) (log : List Statement) (statement : Statement) → AreNamedFrom tables log → NeedsWithin (tables + length (owners log)) statement
+    → AreNamedFrom tables (log ++ statement ∷ [])
+named-more tables [] statement named here =
+    let none : tables + 0 ≡ tables = omega arith in
+    (subst (λ (n : ℕ). NeedsWithin n statement) none here, tt)
+named-more tables (first ∷ log) statement named here =
+    let made = creator first.user first.form in
+    let count : tables + length (made ++ owners log) ≡ (tables + length made) + length (owners log) = omega (arith, length-append made (owners log)) in
+    (named.0, named-more (tables + length made) log statement named.1 (subst (λ (n : ℕ). NeedsWithin n statement) count here))
+
+pub named_grown : (log : List Statement) (statement : Statement) → AreNamed log → NeedsWithin (length (owners log)) statement → AreNamed (log ++ statement ∷ [])
+named_grown log statement named here =
+    let same : length (owners log) ≡ 0 + length (owners log) = omega arith in
+    named-more 0 log statement named (subst (λ (n : ℕ). NeedsWithin n statement) same here)
+
+-- what a statement needs is on the tables of any beginning of the log that goes past it
+wider : (few many : ℕ) (statement : Statement) → few ≤ many → NeedsWithin few statement → NeedsWithin many statement
+wider few many statement less =
+    All-weaker (λ (need : Need). need.table < few) (λ (need : Need). need.table < many) (λ need low. omega (arith, low, less)) (needs statement.form)
+
+named-at : (tables : ℕ) (log : List Statement) (place end : ℕ) (statement : Statement) → AreNamedFrom tables log → slice_get log place ≡ Some statement → place < end
+    → NeedsWithin (tables + length (owners (take end log))) statement
+named-at tables [] place end statement named here less = absurd (cc)
+named-at tables (first ∷ log) place zero statement named here less = absurd (omega arith)
+named-at tables (first ∷ log) zero (suc end) statement named here less =
+    let same : first ≡ statement = cc in
+    wider tables _ statement (omega arith) (subst (NeedsWithin tables) same named.0)
+named-at tables (first ∷ log) (suc place) (suc end) statement named here less =
+    let made = creator first.user first.form in
+    let rest = owners (take end log) in
+    let count : (tables + length made) + length rest ≡ tables + length (made ++ rest) = omega (arith, length-append made rest) in
+    subst (λ (n : ℕ). NeedsWithin n statement) count (named-at (tables + length made) log place end statement named.1 here (omega arith))
+
+-- so what a statement of a finished place needs is on the tables of the book
+pub named_in : (run : Run) → IsRun run → (place : ℕ) (statement : Statement) → slice_get run.log.statements place ≡ Some statement → place < finished run
+    → NeedsWithin (length run.book.tables) statement
+named_in run is place statement here less =
+    let count : 0 + length (owners (take (finished run) run.log.statements)) ≡ length run.book.tables =
+    omega (arith, ap length is.stands.booked.owned, length-map run.book.tables (λ (creation : Creation). creation.owner)) in
+    subst (λ (n : ℕ). NeedsWithin n statement) count (named-at 0 run.log.statements place (finished run) statement is.named here less)

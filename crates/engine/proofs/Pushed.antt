@@ -15,9 +15,10 @@ use Rattle.sequencer.specs.Taken.{IsWhole}
 use Rattle.sequencer.specs.declared.refused.Refused.{Refused}
 use Rattle.standing.specs.Known.{IsKnown}
 use Rattle.engine.specs.Engine.{IsKept, IsRun, Run}
-use Rattle.model_base.specs.Growing.{NeedsOwnTables}
+use Rattle.model_base.specs.Growing.{NeedsOwnTables, NeedsWithin}
 use Rattle.engine.proofs.Grown.{known_grown, outcomes_grown, stands_grown}
-use Rattle.engine.proofs.Named.{known_new}
+use Rattle.engine.proofs.Named.{known_new, named_grown}
+use Rattle.sequencer.proofs.KnownTables.{known_names}
 
 abbrev run_of : Store → Entries → List Outcome → ℕ → Accepted → Run
 run_of store book outcomes dropped log = record { log = log; store = store; book = book; outcomes = outcomes; dropped = dropped }
@@ -29,9 +30,11 @@ module _ (tail : Tail) (store : Store) (book : Entries) (outcomes : List Outcome
       let statement = numbered log.names sentence in
       let tables : length log.names.tables ≡ length (owners log.statements) = sym whole.owned ∙ ap length whole.owners in
       let here : IsKnown (length (owners log.statements)) statement.form = subst (λ (n : ℕ). IsKnown n statement.form) tables (known_new log.names sentence passes) in
+      let needed : NeedsWithin (length (owners log.statements)) statement = subst (λ (n : ℕ). NeedsWithin n statement) tables (known_names log.names sentence passes).needs in
       record {
         within = omega (arith, run.within, length-append log.statements (statement ∷ []));
         known = known_grown log.statements statement run.known here;
+        named = named_grown log.statements statement run.named needed;
         stands = stands_grown log.statements (statement ∷ []) own (length outcomes) run.within store book run.stands;
         came = outcomes_grown log.statements (statement ∷ []) own 0 (length outcomes) outcomes (omega (arith, run.within)) run.came;
         dropped = run.dropped;

@@ -2,8 +2,11 @@
 -- run, and what stands behind it is what the next one finds (J. M. Faleiro and D. J. Abadi, "Rethinking Serializable Multiversion
 -- Concurrency Control", PVLDB 8, 2015, section 3). That each place is counted as finished with its whole batch is this project's
 -- own.
-use Rattle.std.specs.Prelude.{◌≡◌, ◌==◌, ◌&&◌, ◌≤◌, ◌-◌, ℕ, Bool, List, length, nat_le, nat_lt}
+use Rattle.std.specs.Prelude.{◌≡◌, ◌==◌, ◌&&◌, ◌≤◌, ◌+◌, ◌-◌, ℕ, Bool, List, [], ◌∷◌, length, nat_le, nat_lt}
 use Rattle.model_base.specs.declared.outcome.Outcome.{Outcome}
+use Rattle.model_base.specs.declared.statement.Statement.{Statement}
+use Rattle.model_base.specs.Growing.{NeedsWithin}
+use Rattle.model_base.specs.Outcomes.{creator}
 use Rattle.chains.specs.Store.{Store}
 use Rattle.grants.specs.Book.{Entries}
 use Rattle.sequencer.specs.Log.{Accepted}
@@ -25,11 +28,21 @@ pub record Run : Type 0 where
 abbrev pub finished : Run → ℕ
 finished run = length run.outcomes
 
--- versions and book stand before the first place that isn't finished, the outcomes are the log's, and only of finished places
--- statement and outcome were dropped
+-- where there are so many tables before the first statement, what each needs is on a table that was created before it
+abbrev pub AreNamedFrom : ℕ → List Statement → Type 0
+AreNamedFrom tables [] = Unit {0}
+AreNamedFrom tables (statement ∷ statements) =
+    NeedsWithin tables statement × AreNamedFrom (tables + length (creator statement.user statement.form)) statements
+
+abbrev pub AreNamed : List Statement → Type 0
+AreNamed log = AreNamedFrom 0 log
+
+-- versions and book stand before the first place that isn't finished, the outcomes are the log's, only of finished places
+-- statement and outcome were dropped, and what a statement needs is on earlier tables
 pub record IsRun (run : Run) : Type 0 where
   pub within : finished run ≤ length run.log.statements
   pub known : AreKnown run.log.statements
+  pub named : AreNamed run.log.statements
   pub stands : Stands run.log.statements (finished run) run.store run.book
   pub came : AreOutcomes run.log.statements 0 (finished run) run.outcomes
   pub dropped : run.dropped ≤ finished run

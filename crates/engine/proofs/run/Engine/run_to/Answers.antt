@@ -19,7 +19,7 @@ invariant_of-self-in-Ok g c =
     subst (λ (n : ℕ). AreOutcomes e.log.log.statements n (c.args.end - n) later) start c.in_ok-outcomes.ensures.outcomes in
     record {
       is = advanced e.log.log out later all c.args.end is less next c.advance-moved.new.chains c.advance-moved.new.book e.log.dropped c.self.invariant.is.dropped
-          within c.self.invariant.is.known c.in-Ok.ensures.ok c.self.invariant.is.came;
+          within c.self.invariant.is.known c.self.invariant.is.named c.in-Ok.ensures.ok c.self.invariant.is.came;
       same = c.self.invariant.same;
     }
 
