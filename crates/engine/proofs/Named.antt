@@ -1,5 +1,5 @@
 -- A statement that the log takes names tables that are there.
-use Rattle.std.proofs.Common.{◌≡◌, ◌<◌, ◌≤◌, ◌+◌, ℕ, zero, suc, Bool, true, false, not, List, [], ◌∷◌, ◌++◌, Option, Some, None, length, map, take, refl, sym, ◌∙◌, ap, subst, arith, inl, inr}
+use Rattle.std.proofs.Common.{◌≡◌, ◌<◌, ◌≤◌, ◌+◌, ℕ, zero, suc, Bool, true, false, not, List, [], ◌∷◌, ◌++◌, Option, Some, None, length, take, refl, sym, ◌∙◌, ap, subst, arith, inl, inr}
 use Rattle.std.specs.Prelude.{All, ◌||◌, nat_lt, slice_get}
 use Rattle.std.proofs.lemmas.Bool.{ltb-true, or_cases, true≢false}
 use Rattle.std.proofs.lemmas.List.{length-append, length-map}
@@ -18,7 +18,6 @@ use Rattle.sequencer.specs.Catalog.{Names, numbered, numbered_deed, numbered_for
 use Rattle.sequencer.specs.Refusal.{accesses_refusal, create_refusal, deed_refusal, form_refusal, name_refusal, refusal, steps_refusal, table_refusal, unless}
 use Rattle.sequencer.specs.declared.refused.Refused.{Refused}
 use Rattle.sequencer.proofs.Passed.{both_none, known-table, passes}
-use Rattle.grants.specs.Book.{Entries, owners_of}
 use Rattle.grants.specs.declared.book.Creation.{Creation}
 use Rattle.standing.specs.Known.{IsKnown}
 use Rattle.engine.specs.Engine.{AreNamed, AreNamedFrom, IsRun, Run, finished}

@@ -1,6 +1,3 @@
-use Rattle.std.proofs.Common.{[], ap, ◌++◌, ◌∙◌}
-use Rattle.model_base.specs.declared.outcome.Outcome.{Outcome}
-use Rattle.sequencer.specs.Tail.{Tail}
 use Rattle.engine.proofs.Advanced.{kept_start}
 use Rattle.engine.proofs.run.Engine.new.Goals as goal
 

@@ -1,4 +1,4 @@
-use Rattle.std.proofs.Common.{◌≡◌, ◌≤◌, ◌-◌, ◌++◌, ℕ, List, length, ap, arith, append_assoc, subst, sym, ◌∙◌}
+use Rattle.std.proofs.Common.{◌≡◌, ◌≤◌, ◌-◌, ◌++◌, ℕ, List, length, ap, append_assoc, subst, sym, ◌∙◌}
 use Rattle.model_base.specs.declared.outcome.Outcome.{Outcome}
 use Rattle.taking.specs.Span.{AreOutcomes}
 use Rattle.engine.specs.Engine.{Run, finished}
