@@ -11,8 +11,8 @@ use grant_paths::{Line, is_sound};
 use grants::Book;
 use model_base::{Need, Place, User};
 
-/// Whether the line is of the need, and what it shows is so.
-fn explains(book: &Book, place: Place, user: User, need: &Need, line: &Line) -> bool
+/// Whether the line is of the need, and what it shows is so. It takes no memory.
+pub fn explains(book: &Book, place: Place, user: User, need: &Need, line: &Line) -> bool
     requires covered { need.now.table < length book.now.tables }
     ensures { (owners : List ℕ) (deeds : List Deed) → ShowsBook book.now owners deeds
         → Decides result (Explains owners deeds place user need.now line.now) }

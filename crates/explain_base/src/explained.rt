@@ -12,7 +12,7 @@ use model_base::{Need, Place, User};
 use std::alloc::{AllocError, Global};
 
 /// Whether it is shown that the need is held.
-pub(crate) fn tells_held(shown: &Shown) -> bool
+pub fn tells_held(shown: &Shown) -> bool
     ensures { result ≡ tells_held shown.now }
 {
     match shown {

@@ -8,6 +8,6 @@ mod checked;
 mod explained;
 mod laws;
 
-pub use checked::are_sound;
-pub use explained::explain_needs;
+pub use checked::{are_sound, explains};
+pub use explained::{explain_needs, tells_held};
 pub use laws::{explained_needs_are_sound, later_deeds_explain_nothing};
