@@ -1,12 +1,12 @@
 -- Lines that are cut out of pieces of the input.
-use Rattle.std.proofs.Common.{◌≡◌, ◌≢◌, ℕ, zero, suc, ◌+◌, ◌-◌, ◌<◌, ◌≤◌, eqb, List, [], ◌∷◌, ◌++◌, length, take, drop, min, Option, Some, None, refl, inl, inr, ap, sym, ◌∙◌, subst, arith, append_assoc, add-one, slice_index, slice_range, take-take, drop-drop, length-drop, length-append}
+use Rattle.std.proofs.Common.{◌≡◌, ◌≢◌, ℕ, zero, suc, ◌+◌, ◌-◌, ◌<◌, ◌≤◌, eqb, List, [], ◌∷◌, ◌++◌, length, take, drop, min, Option, Some, None, refl, inl, inr, ap, sym, ◌∙◌, subst, arith, append_assoc, add-one, slice_index, slice_range, IsTrue, is_some, ◌↔◌, take-take, drop-drop, length-drop, length-append}
 use Rattle.std.specs.Io.KnownBytes.{Keeps, IsAtEnd, prepend_known}
 use borrow.Author.Tests.{eqb-true, eq-eqb}
 use Rattle.std.proofs.lemmas.Bool.{ne_eqb, cond-false, cases_lt}
 use Rattle.std.proofs.lemmas.List.{take_all, append-nil, length-take, drop-take}
 use Rattle.std.proofs.Math.Seq.{take-append-add}
 use Rattle.memchr.specs.Find.{IsFirstByte, is_byte, Nowhere, Passes}
-use Rattle.log_text_base.specs.Lines.{first_line, other_lines}
+use Rattle.log_text_base.specs.Lines.{first_line, other_lines, HasLine}
 use Rattle.log_text_base.specs.Known.{TookLine, HadSome}
 
 -- Front, and then the reader's first line, are kept in line up to 4,097 bytes, but for what is still to come.
@@ -184,3 +184,19 @@ whole_range xs i j = take-take (j - i) (j - i) (drop i xs) (omega arith)
 pub piece_kept : (now then kept items : List ℕ) (start end : ℕ) → now ≡ then → then ≡ take 4097 (kept ++ take (end - start) (slice_range items start end)) → now ≡ take 4097 (kept ++ slice_range items start end)
 piece_kept now then kept items start end same is =
     same ∙ is ∙ ap (λ (w : List ℕ). take 4097 (kept ++ w)) (whole_range items start end)
+
+-- a line feed was found, just where a whole line is ahead
+pub feed_ahead : (bytes : List ℕ) (r : Option ℕ) → IsFirstByte (is_byte 10) bytes r → IsTrue (is_some r) ↔ HasLine bytes
+unfolding NoFeed
+feed_ahead bytes None free = (λ so. absurd (cc so), λ some. absurd (no_feed bytes (length bytes) free some.0 some.1 some.2))
+feed_ahead bytes (Some n) f = (λ _. (n, f.0.high, eqb-true (slice_index bytes n) 10 f.1), λ _. refl)
+
+-- where no line feed was found no whole line is ahead
+pub none_ahead : (bytes now : List ℕ) → HasLine bytes → now ≡ bytes → IsFirstByte (is_byte 10) now None → ⊥
+unfolding NoFeed
+none_ahead bytes now some same free =
+    no_feed now (length now) free some.0 (omega (arith, some.1, ap length same)) (ap (λ (w : List ℕ). slice_index w some.0) same ∙ some.2)
+
+-- with a whole line ahead some byte is
+pub some_ahead : (bytes : List ℕ) → HasLine bytes → 0 < length bytes
+some_ahead bytes some = omega (arith, some.1)

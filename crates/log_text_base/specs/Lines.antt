@@ -1,5 +1,5 @@
 -- The lines of a text.
-use Rattle.std.specs.Prelude.{ℕ, List, [], ◌∷◌, ◌==◌, if◌then◌else◌}
+use Rattle.std.specs.Prelude.{◌≡◌, ◌<◌, ℕ, List, [], ◌∷◌, ◌==◌, if◌then◌else◌, length, slice_index}
 use Rattle.std.specs.List.{onto_first}
 
 -- The lines of a text: cut at LF; a last piece without LF is a line if it isn't empty.
@@ -16,3 +16,7 @@ first_line (b ∷ bs) = if b == 10 then [] else b ∷ first_line bs
 abbrev pub other_lines : List ℕ → List ℕ
 other_lines [] = []
 other_lines (b ∷ bs) = if b == 10 then bs else other_lines bs
+
+-- A whole line stands among the bytes, one that an LF ends.
+abbrev pub HasLine : List ℕ → Type 0
+HasLine bytes = (k : ℕ) × (k < length bytes) × (slice_index bytes k ≡ 10)

@@ -1,8 +1,9 @@
 //! A reader of lines that keeps at most 4,097 bytes of a line.
-ghost use Rattle.std.specs.Prelude.{◌≡◌, ◌<◌, ◌≤◌, ◌+◌, ◌^◌, [], ◌++◌, IfOk, OnOk, IfErr, MatchBool, length, take, vec_len};
+ghost use Rattle.std.specs.Prelude.{◌≡◌, ◌<◌, ◌≤◌, ◌+◌, ◌^◌, ◌↔◌, [], ◌++◌, IfOk, OnOk, IfErr, IsTrue, MatchBool, length, take, vec_len};
 ghost use Rattle.std.specs.Io.KnownBytes.{Keeps, IsAtEnd, prepend_known};
 ghost use Rattle.memchr.specs.Find.{IsFirstByte, is_byte};
 ghost use Rattle.log_text_base.specs.Known.{raised, TookLine, HadSome};
+ghost use Rattle.log_text_base.specs.Lines.{HasLine};
 
 use super::counted::Counted;
 use super::fault::ReadFault;
@@ -86,6 +87,14 @@ impl LineReader {
         memchr(b'\n', &self.buffer[self.start..self.end])
     }
 
+    /// Whether a whole line, with its LF, was read ahead. Then the next call of `next_line` finds it, and
+    /// doesn't read.
+    pub fn has_line(&self) -> bool
+        ensures { IsTrue result ↔ HasLine (ahead self.now) }
+    {
+        self.first_feed().is_some()
+    }
+
     #[tactic(auto, using(crate::proofs::Pieces::empty_range))]
     /// Reads ahead where nothing is ahead. False at the end of what the reader gives.
     fn refill<R: Read>(&mut self, reader: &mut Counted<R>) -> Result<bool, ReadFault>
@@ -131,6 +140,8 @@ impl LineReader {
             × (reader.new.errors ≡ raised reader.old.errors)) }
         ensures kept { self.new.kept.items ≡ self.old.kept.items }
         ensures is_kept { self.new.is_kept ≡ self.old.is_kept }
+        ensures unread { 0 < length (ahead self.old)
+            → (reader.new ≡ reader.old) × (ahead self.new ≡ ahead self.old) }
     {
         if self.start < self.end {
             return Ok(true);
@@ -212,6 +223,8 @@ impl LineReader {
             (reader.new.given ≡ reader.old.given)) }
         // What a further call requires holds after an error too.
         ensures bound { 0 < length (ahead self.new) → reader.new.given ≤ 2 ^ 62 + 65536 }
+        // Where a whole line was read ahead, the reader isn't asked.
+        ensures unread { HasLine (ahead self.old) → reader.new ≡ reader.old }
     {
         if !self.look_ahead(reader)? {
             return Ok(false);
