@@ -32,49 +32,68 @@ fn turn(thread: usize, number: usize, size: usize) -> usize
     number.wrapping_mul(STEPS[thread % 8]).wrapping_add(thread) % size
 }
 
-/// Asks for as many places as there are, in the order of a thread, and counts those that are done then. That of thread 0 comes
-/// to each place.
-pub fn ask_round<K: Fills>(batch: &Batch<K>, pass: Pass, thread: usize) -> (Pass, usize)
+/// How many places that were asked for were done then, and how many another pass held.
+#[derive(Clone, Copy, Debug, Default)]
+pub struct Counts {
+    pub done: usize,
+    pub busy: usize,
+}
+
+/// Counts what came of a place that was asked for.
+fn count(counts: &mut Counts, tried: Tried) {
+    match tried {
+        Tried::Done => counts.done = counts.done.saturating_add(1),
+        Tried::Busy(_) => counts.busy = counts.busy.saturating_add(1),
+        Tried::NoMemory => {}
+    }
+}
+
+/// Asks for as many places as there are, in the order of a thread, and counts what came of it. That of thread 0 comes to each
+/// place.
+pub fn ask_round<K: Fills>(batch: &Batch<K>, pass: Pass, thread: usize) -> (Pass, Counts)
     requires { IsPassOf batch.now pass }
     ensures { IsPassOf batch.now result.0 }
 {
     let size = batch.key().places();
-    let mut done = 0usize;
+    let mut counts = Counts::default();
     let mut last = pass;
     for number in 0..size {
         let (next, tried) = batch.try_run(last, turn(thread, number, size));
         last = next;
-        if tried == Tried::Done {
-            done = done.saturating_add(1);
-        }
+        count(&mut counts, tried);
     }
-    (last, done)
+    (last, counts)
 }
 
-/// A thread of its own and those below it, each with a pass and in an order of its own.
+/// A thread of its own and those below it, each with a pass and in an order of its own. Answers how many times a place was held by
+/// another pass.
 pub fn ask_by<K: Fills + Sync, R: Threads + Sync>(
     rt: &R,
     batch: &Batch<K>,
     pass: Pass,
     thread: usize,
-) -> Pass
+) -> (Pass, usize)
     requires { IsPassOf batch.now pass }
-    ensures { IsPassOf batch.now result }
+    ensures { IsPassOf batch.now result.0 }
 {
     if thread == 0 {
-        return ask_round(batch, pass, thread).0;
+        let (pass, counts) = ask_round(batch, pass, thread);
+        return (pass, counts.busy);
     }
     let (pass, other) = batch.split(pass);
-    let (other, pass) = thread::join(
+    let ((other, first), (pass, second)) = thread::join(
         rt,
-        move || -> Pass
+        move || -> (Pass, usize)
             requires { IsPassOf batch.now other }
-            ensures { IsPassOf batch.entry.now result }
-        { ask_round(batch, other, thread).0 },
-        move || -> Pass
+            ensures { IsPassOf batch.entry.now result.0 }
+        {
+            let (pass, counts) = ask_round(batch, other, thread);
+            (pass, counts.busy)
+        },
+        move || -> (Pass, usize)
             requires { IsSync K.row × IsSync R.row × IsPassOf batch.now pass × (0 < thread) }
-            ensures { IsPassOf batch.entry.now result }
+            ensures { IsPassOf batch.entry.now result.0 }
         { ask_by(rt, batch, pass, thread - 1) },
     );
-    batch.join(pass, other)
+    (batch.join(pass, other), first.saturating_add(second))
 }

@@ -54,13 +54,17 @@ fn tell_last(rt: &impl Print, batch: &Batch<RangeKey<'_>>, pass: Pass) -> Result
 {
     let (pass, before) = count_told(batch, pass);
     let (pass, tried) = ask(batch, pass, LAST);
+    let bodies = pass.bodies();
     let (pass, after) = count_told(batch, pass);
     let (pass, found) = told(batch, pass, LAST);
-    let (_, again) = ask_round(batch, pass, 0);
+    let (pass, counts) = ask_round(batch, pass, 0);
+    let (again, all) = (counts.done, pass.bodies());
     println!(rt;
-        "of {PLACES} places in a chain {before} are done; asked for the last: {tried:?}, {found:?}; then {after} are done"
+        "of {PLACES} places in a chain {before} are done; asked for the last: {tried:?}, {found:?}, and {bodies} bodies were run; then {after} are done"
     )?;
-    println!(rt; "asked for each in turn, and for the table's, {again} are done")?;
+    println!(rt;
+        "asked for each in turn, and for the table's, {again} are done, and {all} bodies were run"
+    )?;
     Ok(())
 }
 

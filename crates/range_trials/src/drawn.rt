@@ -71,22 +71,35 @@ fn count_kinds(alloc: Global, log: &WholeLog, kinds: &mut Kinds) -> Result<(), T
     Ok(())
 }
 
+/// How many places there were, how many of them had the outcomes of the serial run, and how often one was found held.
+#[derive(Clone, Copy, Default)]
+struct Found {
+    places: usize,
+    same: usize,
+    busy: usize,
+}
+
 /// Runs a log by eight threads, and counts how many places are told with the outcomes that are wanted.
 fn run_wanted<R: Threads + Sync>(
     rt: &R,
     alloc: Global,
     log: &WholeLog,
     wanted: &[String],
-) -> Result<usize, TrialFault> {
+) -> Result<Found, TrialFault> {
     let before = nothing(alloc, log);
     let (batch, pass) = words_of(rt, alloc, log, &before, 3)?;
-    let pass = ask_by(rt, &batch, pass, LAST_THREAD);
+    let (pass, busy) = ask_by(rt, &batch, pass, LAST_THREAD);
     let (pass, _) = ask_round(&batch, pass, 0);
-    count_wanted(alloc, &batch, pass, wanted)
+    let same = count_wanted(alloc, &batch, pass, wanted)?;
+    Ok(Found {
+        places: wanted.len(),
+        same,
+        busy,
+    })
 }
 
 /// Runs a log by eight threads, and counts how many places are told with the outcomes of the serial run.
-fn run_log<R: Threads + Sync>(rt: &R, alloc: Global, log: &WholeLog) -> Result<usize, TrialFault> {
+fn run_log<R: Threads + Sync>(rt: &R, alloc: Global, log: &WholeLog) -> Result<Found, TrialFault> {
     let wanted = wanted(alloc, log)?;
     run_wanted(rt, alloc, log, wanted.as_slice())
 }
@@ -113,32 +126,33 @@ fn tell_kinds(rt: &impl Print, kinds: Kinds) -> Result<(), TrialFault> {
     Ok(())
 }
 
-/// Runs one more drawn log. Answers how many places it has, and how many of them have the outcomes of the serial run.
+/// Runs one more drawn log.
 fn run_drawn<R: Threads + Sync>(
     rt: &R,
     alloc: Global,
     generator: &mut Generator,
     kinds: &mut Kinds,
-) -> Result<(u64, usize), TrialFault> {
+) -> Result<Found, TrialFault> {
     let log = drawn_log(alloc, generator)?;
     count_kinds(alloc, &log, kinds)?;
-    let same = run_log(rt, alloc, &log)?;
-    Ok((log.len(), same))
+    run_log(rt, alloc, &log)
 }
 
-/// Tells how the drawn logs come out.
+/// Tells how the drawn logs come out; how often a place was found held, on standard error, since that differs from run to run.
 pub fn tell_drawn<R: Threads + Print + Sync>(rt: &R, alloc: Global) -> Result<(), TrialFault> {
     let mut generator = Generator::new(1976);
     let mut kinds = Kinds::default();
-    let mut places = 0u64;
-    let mut same = 0usize;
+    let mut all = Found::default();
     for _ in 0..LOGS {
-        let (more, told) = run_drawn(rt, alloc, &mut generator, &mut kinds)?;
-        places = places.saturating_add(more);
-        same = same.saturating_add(told);
+        let found = run_drawn(rt, alloc, &mut generator, &mut kinds)?;
+        add(&mut all.places, found.places);
+        add(&mut all.same, found.same);
+        add(&mut all.busy, found.busy);
     }
+    let Found { places, same, busy } = all;
     println!(rt;
         "{LOGS} drawn logs, each run by eight threads in orders of their own: of {places} places {same} have the outcomes of the serial run"
     )?;
+    eprintln!(rt; "a place was found held {busy} times")?;
     tell_kinds(rt, kinds)
 }

@@ -98,9 +98,9 @@ fn run_beside<'a, R: Threads + Sync>(
     let (batch, pass) = words_of(rt, alloc, log, before, 1)?;
     let (pass, other) = batch.split(pass);
     let held = hold_some(&batch, other, first);
-    let (pass, done) = ask_round(&batch, pass, 0);
+    let (pass, found) = ask_round(&batch, pass, 0);
     counts.held = counts.held.saturating_add(held);
-    counts.done = counts.done.saturating_add(done);
+    counts.done = counts.done.saturating_add(found.done);
     Ok(finished(alloc, batch, pass)?)
 }
 
