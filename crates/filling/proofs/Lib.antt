@@ -5,3 +5,4 @@ pub mod Telling
 pub mod Referring
 pub mod Endings
 pub mod Decoding
+pub mod Admitting

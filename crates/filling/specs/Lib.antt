@@ -1,3 +1,4 @@
+pub mod Bodies
 pub mod Numbers
 pub mod Readings
 pub mod Outcomes

@@ -152,6 +152,7 @@ pub(crate) fn places_told<'b, 'a>(
         → list_any (λ place. place == grant.place) places.items ≡ serial_ends (batch_in key.now.batch) index slot) }
     ensures order { IfOk result.0 (λ places. IsStrictlyIncreasing places.items) }
     ensures same { IsSamePass holding result.1 }
+    ensures bodies { result.1.bodies ≡ holding.bodies }
     ensures learns { OnlyLearns holding.view result.1.view }
 {
     judge_places::<Brand>(key, words, holding, index)
@@ -192,6 +193,7 @@ pub(crate) fn ends_of<'b, 'a>(
     ensures ends { IfOk result.0 (λ ends. IsEnding (batch_in key.now.batch) key.now.slots index ends.items) }
     ensures revokes { OnErr result.0 (IsRevocation (batch_in key.now.batch) index) }
     ensures same { IsSamePass holding result.1 }
+    ensures bodies { result.1.bodies ≡ holding.bodies }
     ensures learns { OnlyLearns holding.view result.1.view }
 {
     if !was_revoking(key.batch(), index, done) {

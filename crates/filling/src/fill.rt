@@ -12,6 +12,7 @@ ghost use Rattle.filling_base.specs.Goings.{Finishes, IsSamePass};
 ghost use Rattle.filling_base.specs.References.{reference_word};
 ghost use Rattle.filling_base.specs.Storing.{IsEnding};
 
+use crate::bodies::count_run;
 use crate::ends::ends_of;
 use crate::key::RangeKey;
 use crate::own::own_told;
@@ -67,6 +68,7 @@ fn store_place<'a>(
     requires own { own.now ≡ serial_words (batch_in key.now.batch) index }
     requires ends { IsEnding (batch_in key.now.batch) key.now.slots index ends.now }
     ensures same { IsSamePass holding result }
+    ensures bodies { result.bodies ≡ holding.bodies }
     ensures finishes { Finishes index holding.view result.view }
 {
     let _places = key.places();
@@ -76,6 +78,10 @@ fn store_place<'a>(
 }
 
 impl Fills for RangeKey<'_> {
+    ghost use Rattle.filling.specs.Bodies.{runs_at};
+
+    ghost runs = { λ key. runs_at key.batch };
+
     fn references_length(&self, index: usize) -> usize {
         self.batch().references_at(index).len()
     }
@@ -98,7 +104,9 @@ impl Fills for RangeKey<'_> {
         let (ends, holding) = ends_of(self, words, holding, index, says_done(&own));
         match ends {
             Ok(ends) => {
-                let holding = store_place(self, words, holding, index, &own, ends.as_slice());
+                let mut holding =
+                    store_place(self, words, holding, index, &own, ends.as_slice());
+                count_run(self, &mut holding, index, own.as_slice());
                 (holding, Ok(()))
             }
             Err(fault) => (holding, Err(fault)),

@@ -4,6 +4,7 @@
 //! section 3: a thread evaluates a transaction once the versions that it reads are there, and then fills its placeholders.
 #![tactic(auto)]
 
+mod bodies;
 mod ends;
 mod fill;
 mod key;

@@ -207,6 +207,7 @@ pub fn outcome(
     requires ours { IsPassOf batch.now pass }
     requires within { index < batch.now.key.batch.size }
     ensures same { IsSamePass pass result.0 }
+    ensures bodies { result.0.bodies ≡ pass.bodies }
     ensures tells { OutcomeTells batch.now.key.batch index pass.view result.1 result.0.view }
 {
     let mut holding = Holding::begin(pass);

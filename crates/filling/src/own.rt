@@ -68,6 +68,7 @@ pub(crate) fn own_told<'b, 'a>(
     requires ready { KnowsReferences (batch_in key.now.batch) holding.view index }
     ensures value { own.new ≡ serial_words (batch_in key.now.batch) index }
     ensures same { IsSamePass holding result }
+    ensures bodies { result.bodies ≡ holding.bodies }
     ensures learns { OnlyLearns holding.view result.view }
 {
     judge_words::<Brand>(key, words, holding, index, own)

@@ -1,3 +1,5 @@
+use Rattle.std.proofs.Common.{ap}
+use Rattle.reading.specs.Told.{Work}
 use Rattle.filling.proofs.Telling.{only-learns, same-pass}
 use Rattle.filling.proofs.own.own_told.Goals as goal
 
@@ -11,3 +13,6 @@ returns-clause-same c =
 pub returns-clause-learns : goal.returns-clause-learns
 returns-clause-learns c =
     only-learns c.args.holding c.judge_words.result c.judge_words.ensures.knows c.judge_words.ensures.work
+
+pub returns-clause-bodies : goal.returns-clause-bodies
+returns-clause-bodies c = ap (λ (w : Work). w.bodies) c.judge_words.ensures.work

@@ -1,3 +1,8 @@
+use Rattle.std.proofs.Common.{ℕ, sym, ap, ◌∙◌, subst}
+use Rattle.words.specs.declared.view.View.{View}
+use Rattle.filling_base.specs.Counting.{counted_more}
+use Rattle.filling_base.specs.Goings.{Finishes}
+use Rattle.filling.specs.Bodies.{runs_at}
 use Rattle.filling.proofs.fill.RangeKeyFills.fill.Goals as goal
 
 pub ends_of-ends-requires-clause-ready : goal.ends_of-ends-requires-clause-ready
@@ -13,8 +18,9 @@ returns-in-Ok-clause-tells c =
     let first = c.args.holding.view in
     let told = c.own_told-holding.result.view in
     let ended = c.ends_of-ends.result.1.view in
-    law.finishes first ended c.store_place-holding.result.view c.args.index
-    (law.again first told ended c.own_told-holding.ensures.learns c.ends_of-ends.ensures.learns) c.store_place-holding.ensures.finishes
+    let finishes = law.finishes first ended c.store_place-holding.result.view c.args.index
+    (law.again first told ended c.own_told-holding.ensures.learns c.ends_of-ends.ensures.learns) c.store_place-holding.ensures.finishes in
+    subst (λ (v : View). Finishes c.args.index first v) (sym c.count_run.ensures.view) finishes
 
 pub returns-in-Err-clause-tells : goal.returns-in-Err-clause-tells
 returns-in-Err-clause-tells c =
@@ -22,3 +28,11 @@ returns-in-Err-clause-tells c =
       c.learning_comes_before_storing.ensures.again c.args.holding.view c.own_told-holding.result.view c.ends_of-ends.result.1.view c.own_told-holding.ensures.learns c.ends_of-ends.ensures.learns,
       revokes,
     )
+
+pub returns-in-Ok-clause-bodies : goal.returns-in-Ok-clause-bodies
+returns-in-Ok-clause-bodies c =
+    let before = c.store_place-holding.ensures.bodies ∙ c.ends_of-ends.ensures.bodies ∙ c.own_told-holding.ensures.bodies in
+    c.count_run.ensures.bodies ∙ ap (λ (n : ℕ). counted_more n (runs_at c.args.self.now.batch c.args.index)) before
+
+pub returns-in-Err-clause-bodies : goal.returns-in-Err-clause-bodies
+returns-in-Err-clause-bodies c = c.ends_of-ends.ensures.bodies ∙ c.own_told-holding.ensures.bodies
