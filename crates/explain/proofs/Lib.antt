@@ -1,0 +1,3 @@
+pub mod Indexing
+pub mod Lines
+pub mod Checks

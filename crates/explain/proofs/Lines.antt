@@ -1,0 +1,123 @@
+-- What explains a place, by the book of an engine that has gone on.
+use Rattle.std.proofs.Common.{◌≡◌, ◌↔◌, ◌<◌, ◌≤◌, ◌+◌, ◌∷◌, ◌++◌, ℕ, Bool, true, false, List, [], Option, None, Some, drop, length, map, refl, sym, ◌∙◌, ap, subst, arith, append_assoc}
+use Rattle.std.specs.Prelude.{All, slice_get}
+use Rattle.std.specs.Option.{option_map}
+use Rattle.std.proofs.Math.ListN.{drop_of_length-le}
+use Rattle.std.proofs.lemmas.List.{append-nil, length-append}
+use Rattle.std.proofs.lemmas.List.Elements.{All-cons, All-head, All-map, All-nil, All-tail}
+use Rattle.std.proofs.lemmas.Option.{get_or_from_slice_get, slice_get_within}
+use Rattle.model_base.specs.declared.deed.Deed.{Deed}
+use Rattle.model_base.specs.declared.deed.Need.{Need}
+use Rattle.model_base.specs.declared.statement.Statement.{Statement}
+use Rattle.model_base.specs.Outcomes.{deeds_before, needs, owners}
+use Rattle.model_base.proofs.Growth.{deeds_before-stands}
+use Rattle.model_base.proofs.Logs.{deeds_before-below}
+use Rattle.model_base.proofs.Replay.{by_cases}
+use Rattle.grant_paths.specs.declared.line.Line.{Line}
+use Rattle.grant_paths.specs.Lines.{holds_before}
+use Rattle.sequencer.specs.Log.{Accepted}
+use Rattle.sequencer.specs.Taken.{IsTaken, IsWhole}
+use Rattle.explain_base.specs.Explained.{AreSound, asked, line_of, lines_of}
+use Rattle.explain_base.proofs.Asked.{lines-sound}
+use Rattle.explain_base.proofs.Below.{are_sound-below, lines-below}
+use Rattle.explain.specs.Explained.{AreNamed, IsExplainedBy, explained, lines_for}
+use Rattle.explain.proofs.Indexing.{ends_before, from_item}
+
+-- one more need
+pub needs_go_on : (all found more : List Need) (need : Need) → found ++ drop (length found) all ≡ all → slice_get all (length found) ≡ Some need → more ≡ found ++ need ∷ []
+    → more ++ drop (length more) all ≡ all
+needs_go_on all found more need so_far there pushed =
+    let count : length more ≡ length found + 1 = ap length pushed ∙ length-append found (need ∷ []) in
+    rw (count, pushed)
+    (append_assoc found (need ∷ []) (drop (length found + 1) all)
+    ∙ ap (λ (rest : List Need). found ++ rest) (sym (from_item all (length found) need there))
+    ∙ so_far)
+
+-- and once there is none
+pub needs_end : (all found : List Need) → found ++ drop (length found) all ≡ all → length all ≤ length found → found ≡ all
+needs_end all found so_far past =
+    sym (append-nil found) ∙ ap (λ (rest : List Need). found ++ rest) (sym (drop_of_length-le all past)) ∙ so_far
+
+module _ (log : List Statement) (place end user : ℕ) (less : place ≤ end) where
+  -- the deeds before a later place explain what those before this one do
+  pub lines_later : (asked : List Need) → lines_of (owners log) (deeds_before log end) place user asked ≡ lines_of (owners log) (deeds_before log place) place user asked
+  lines_later asked =
+      sym (lines-below (owners log) (deeds_before log end) place user asked)
+      ∙ ap (λ (deeds : List Deed). lines_of (owners log) deeds place user asked) (deeds_before-below log place end less)
+
+  pub sound_later : (asked : List Need) (lines : List Line)
+      → AreSound (owners log) (deeds_before log place) place user asked lines ↔ AreSound (owners log) (deeds_before log end) place user asked lines
+  sound_later asked lines =
+      subst (λ (deeds : List Deed). AreSound (owners log) deeds place user asked lines ↔ AreSound (owners log) (deeds_before log end) place user asked lines)
+      (deeds_before-below log place end less) (are_sound-below (owners log) (deeds_before log end) place user asked lines)
+
+-- the lines of a place
+pub explained-at : (log : List Statement) (place : ℕ) (statement : Statement) → slice_get log place ≡ Some statement → explained log place ≡ Some (lines_for log place statement)
+explained-at log place statement there = ap (option_map (lines_for log place)) there
+
+-- lines are of tables of which the needs are
+module _ (tables : ℕ) (owners : List ℕ) (deeds : List Deed) (place user : ℕ) where
+  abbrev IsBelow : Need → Type 0
+  IsBelow need = need.table < tables
+
+  asked-held : (need : Need) (all : List Need) → holds_before owners deeds place user need ≡ true
+      → asked owners deeds place user (need ∷ all) ≡ need ∷ asked owners deeds place user all
+  asked-held need all held = rw held refl
+
+  asked-missing : (need : Need) (all : List Need) → holds_before owners deeds place user need ≡ false → asked owners deeds place user (need ∷ all) ≡ need ∷ []
+  asked-missing need all missing = rw missing refl
+
+  asked-named : (all : List Need) → All IsBelow all → All IsBelow (asked owners deeds place user all)
+  asked-named [] named = All-nil IsBelow
+  asked-named (need ∷ all) named =
+      let here = All-head IsBelow need all named in
+      by_cases (holds_before owners deeds place user need)
+      (λ held.
+      subst (All IsBelow) (sym (asked-held need all held))
+      (All-cons IsBelow need (asked owners deeds place user all) here (asked-named all (All-tail IsBelow need all named))))
+      (λ missing. subst (All IsBelow) (sym (asked-missing need all missing)) (All-cons IsBelow need [] here (All-nil IsBelow)))
+
+  pub lines-named : (all : List Need) → All IsBelow all → AreNamed tables (lines_of owners deeds place user all)
+  lines-named all named =
+      All-map (λ (line : Line). line.need.table < tables) (line_of owners deeds place user) (asked owners deeds place user all) (asked-named all named)
+
+-- a statement of the log needs what is on tables of the log
+pub needs_named : (log : Accepted) → IsWhole log → (place : ℕ) (statement : Statement) → slice_get log.statements place ≡ Some statement
+    → All (λ (need : Need). need.table < length log.names.tables) (needs statement.form)
+needs_named log whole place statement there =
+    let within = slice_get_within log.statements place statement there in
+    let taken = subst (IsTaken log.names) (get_or_from_slice_get log.statements place statement statement there) (whole.taken place statement within) in
+    taken.needs
+
+-- what explains a place is sound
+pub explained-sound : (log : List Statement) (place : ℕ) (lines : List Line) → explained log place ≡ Some lines → IsExplainedBy log place lines
+explained-sound log place lines is = by_statement (slice_get log place) refl is
+  where
+    by_statement : (found : Option Statement) → slice_get log place ≡ found → option_map (lines_for log place) found ≡ Some lines → IsExplainedBy log place lines
+    by_statement None there is = absurd (cc)
+    by_statement (Some statement) there is =
+        let same : lines_for log place statement ≡ lines = cc in
+        record {
+          statement = statement;
+          there = there;
+          sound =
+              subst (AreSound (owners log) (deeds_before log place) place statement.user (needs statement.form)) same
+              (lines-sound (owners log) (deeds_before log place) place statement.user (deeds_before-stands log place).proper (needs statement.form));
+        }
+
+-- what the lines by a later book are
+module _ (place user : ℕ) (all : List Need) (lines : List Line) where
+  pub lines_told : (log : List Statement) (end : ℕ) (statement : Statement) → place ≤ end → slice_get log place ≡ Some statement → user ≡ statement.user → all ≡ needs statement.form
+      → lines ≡ lines_of (owners log) (deeds_before log end) place user all → explained log place ≡ Some lines
+  lines_told log end statement less there who same told =
+      let at : lines_of (owners log) (deeds_before log place) place user all ≡ lines_for log place statement =
+      ap (λ (u : ℕ). lines_of (owners log) (deeds_before log place) place u all) who
+      ∙ ap (λ (ns : List Need). lines_of (owners log) (deeds_before log place) place statement.user ns) same in
+      explained-at log place statement there ∙ ap (λ (ls : List Line). Some ls) (sym (told ∙ lines_later log place end user less all ∙ at))
+
+  pub named_told : (log : Accepted) (statement : Statement) (owned : List ℕ) (deeds : List Deed) → IsWhole log → slice_get log.statements place ≡ Some statement → all ≡ needs statement.form
+      → lines ≡ lines_of owned deeds place user all → AreNamed (length log.names.tables) lines
+  named_told log statement owned deeds whole there same told =
+      subst (AreNamed (length log.names.tables)) (sym told)
+      (lines-named (length log.names.tables) owned deeds place user all
+      (subst (λ (ns : List Need). All (λ (need : Need). need.table < length log.names.tables) ns) (sym same) (needs_named log whole place statement there)))

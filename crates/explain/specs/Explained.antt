@@ -1,0 +1,27 @@
+-- Why a place of a log was admitted or denied: how its user held what the statement needs, or lost it, by the deeds before the
+-- place. A user holds a privilege as the table's owner or by a chain of grants from there, after P. P. Griffiths and B. W. Wade,
+-- "An Authorization Mechanism for a Relational Database System", ACM Transactions on Database Systems 1 (1976).
+use Rattle.std.specs.Prelude.{◌≡◌, ◌<◌, ℕ, List, Option, Some, All, slice_get}
+use Rattle.std.specs.Option.{option_map}
+use Rattle.model_base.specs.declared.statement.Statement.{Statement}
+use Rattle.model_base.specs.Outcomes.{deeds_before, needs, owners}
+use Rattle.grant_paths.specs.declared.line.Line.{Line}
+use Rattle.explain_base.specs.Explained.{AreSound, lines_of}
+
+-- the lines that explain a statement at a place of the log
+abbrev pub lines_for : List Statement → ℕ → Statement → List Line
+lines_for log place statement = lines_of (owners log) (deeds_before log place) place statement.user (needs statement.form)
+
+-- the lines that explain a place of the log, if it has the place
+abbrev pub explained : List Statement → ℕ → Option (List Line)
+explained log place = option_map (lines_for log place) (slice_get log place)
+
+-- the log has the place, and the lines are sound for what its statement needs
+pub record IsExplainedBy (log : List Statement) (place : ℕ) (lines : List Line) : Type 0 where
+  pub statement : Statement
+  pub there : slice_get log place ≡ Some statement
+  pub sound : AreSound (owners log) (deeds_before log place) place statement.user (needs statement.form) lines
+
+-- the lines name no table but the first so many
+abbrev pub AreNamed : ℕ → List Line → Type 0
+AreNamed tables lines = All (λ (line : Line). line.need.table < tables) lines

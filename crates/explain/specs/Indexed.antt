@@ -1,0 +1,7 @@
+-- Items of a list by their indices.
+use Rattle.std.specs.Prelude.{◌≡◌, ◌+◌, ℕ, List, Result, Ok, Err, Some, length, slice_get}
+
+-- the item of an index, or by how much the index lies past the end of the list
+abbrev pub IsAt : {X : Type 0} → List X → ℕ → Result X ℕ → Type 0
+IsAt xs index (Ok x) = slice_get xs index ≡ Some x
+IsAt xs index (Err left) = index ≡ length xs + left
