@@ -1,5 +1,5 @@
 -- How the check goes through lines, and what it finds.
-use Rattle.std.proofs.Common.{◌≡◌, ◌<◌, ◌≤◌, ◌+◌, ◌∷◌, ℕ, Bool, true, false, List, [], Option, Some, None, drop, get_or, length, map, not, refl, sym, ◌∙◌, ap, subst, arith}
+use Rattle.std.proofs.Common.{◌≡◌, ◌≤◌, ◌+◌, ◌∷◌, ℕ, Bool, true, false, List, [], Option, Some, None, drop, length, map, not, refl, sym, ◌∙◌, ap, subst, arith}
 use Rattle.std.specs.Prelude.{Decides, is_none, is_some, slice_get}
 use Rattle.std.proofs.Math.ListN.{drop_of_length-le}
 use Rattle.std.proofs.lemmas.Bool.{true≢false}

@@ -1,5 +1,5 @@
 -- What explains a place, by the book of an engine that has gone on.
-use Rattle.std.proofs.Common.{◌≡◌, ◌↔◌, ◌<◌, ◌≤◌, ◌+◌, ◌∷◌, ◌++◌, ℕ, Bool, true, false, List, [], Option, None, Some, drop, length, map, refl, sym, ◌∙◌, ap, subst, arith, append_assoc}
+use Rattle.std.proofs.Common.{◌≡◌, ◌↔◌, ◌<◌, ◌≤◌, ◌+◌, ◌∷◌, ◌++◌, ℕ, true, false, List, [], Option, None, Some, drop, length, refl, sym, ◌∙◌, ap, subst, append_assoc}
 use Rattle.std.specs.Prelude.{All, slice_get}
 use Rattle.std.specs.Option.{option_map}
 use Rattle.std.proofs.Math.ListN.{drop_of_length-le}
@@ -21,7 +21,7 @@ use Rattle.explain_base.specs.Explained.{AreSound, asked, line_of, lines_of}
 use Rattle.explain_base.proofs.Asked.{lines-sound}
 use Rattle.explain_base.proofs.Below.{are_sound-below, lines-below}
 use Rattle.explain.specs.Explained.{AreNamed, IsExplainedBy, explained, lines_for}
-use Rattle.explain.proofs.Indexing.{ends_before, from_item}
+use Rattle.explain.proofs.Indexing.{from_item}
 
 -- one more need
 pub needs_go_on : (all found more : List Need) (need : Need) → found ++ drop (length found) all ≡ all → slice_get all (length found) ≡ Some need → more ≡ found ++ need ∷ []

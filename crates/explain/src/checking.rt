@@ -61,11 +61,6 @@ pub fn check(explanation: &Explanation, log: &LogTail, book: &Book) -> bool
         return false;
     }
     let statement = log.statement(place);
-    explain_all(
-        book,
-        place,
-        statement.user,
-        &statement.form,
-        &explanation.lines,
-    )
+    let lines = &explanation.lines;
+    explain_all(book, place, statement.user, &statement.form, lines)
 }

@@ -1,4 +1,4 @@
-use Rattle.std.proofs.Common.{◌<◌, ◌≤◌, ℕ, List, drop, length}
+use Rattle.std.proofs.Common.{◌<◌, ℕ, List, drop, length}
 use Rattle.std.specs.Prelude.{All}
 use Rattle.model_base.specs.declared.deed.Deed.{Deed}
 use Rattle.model_base.specs.declared.deed.Need.{Need}

@@ -1,5 +1,5 @@
 use Rattle.std.proofs.Common.{◌≡◌, ◌<◌, ◌≤◌, ℕ, List, Some, Vec, ap, arith, length, refl, subst, sym, ◌∙◌}
-use Rattle.std.specs.Prelude.{All, IfOk, slice_get}
+use Rattle.std.specs.Prelude.{All, slice_get}
 use Rattle.std.specs.declared.alloc.Global.{Global}
 use Rattle.std.proofs.lemmas.Result.{IfOk-weaker}
 use Rattle.model_base.specs.declared.deed.Deed.{Deed}
@@ -45,7 +45,7 @@ returns-clause-lines c =
     let less : place ≤ end = omega (arith, c.requires.finished) in
     IfOk-weaker c.explain_needs.result
     (λ (lines : Vec Line Global). (owned : List ℕ) (deeds : List Deed) → ShowsBook c.book.result.now owned deeds
-      → lines.items ≡ lines_of owned deeds place statement.user c.deref.result.now)
+    → lines.items ≡ lines_of owned deeds place statement.user c.deref.result.now)
     (λ (lines : Vec Line Global). explained log place ≡ Some lines.items)
     (λ lines told. lines_told place statement.user c.deref.result.now lines.items log end statement less there refl same (told (owners log) (deeds_before log end) shows))
     c.explain_needs.ensures
@@ -65,8 +65,8 @@ returns-clause-named c =
     subst (λ (book : Entries). ShowsBook book (owners log) (deeds_before log end)) (sym c.book.ensures.value) c.book.ensures.shows in
     IfOk-weaker c.explain_needs.result
     (λ (lines : Vec Line Global). (owned : List ℕ) (deeds : List Deed) → ShowsBook c.book.result.now owned deeds
-      → lines.items ≡ lines_of owned deeds place statement.user c.deref.result.now)
+    → lines.items ≡ lines_of owned deeds place statement.user c.deref.result.now)
     (λ (lines : Vec Line Global). AreNamed (length run.log.names.tables) lines.items)
     (λ lines told. named_told place statement.user c.deref.result.now lines.items run.log statement (owners log) (deeds_before log end) whole there same
-      (told (owners log) (deeds_before log end) shows))
+    (told (owners log) (deeds_before log end) shows))
     c.explain_needs.ensures

@@ -1,4 +1,4 @@
-use Rattle.std.proofs.Common.{◌≡◌, None, Some, ap, arith, length, sym, ◌∙◌}
+use Rattle.std.proofs.Common.{◌≡◌, ap, arith, length, sym, ◌∙◌}
 use Rattle.std.specs.Prelude.{slice_get}
 use Rattle.model_base.specs.Outcomes.{needs}
 use Rattle.explain.proofs.Indexing.{ends_before}

@@ -1,7 +1,6 @@
-use Rattle.std.proofs.Common.{◌≡◌, ◌+◌, ℕ, List, [], Err, Ok, Result, ap, arith, drop, length, subst, sym}
+use Rattle.std.proofs.Common.{◌≡◌, ◌+◌, List, [], Err, Ok, arith, drop, length, subst, sym}
 use Rattle.std.specs.List.{flat_map}
 use Rattle.std.proofs.Math.ListN.{drop_of_length-le}
-use Rattle.model_base.specs.declared.deed.Need.{Need}
 use Rattle.model_base.specs.declared.statement.Access.{Access}
 use Rattle.model_base.specs.Outcomes.{needs_of_access}
 use Rattle.explain.specs.Indexed.{IsAt}
