@@ -1,10 +1,11 @@
 -- The lines that were read, and what they became.
 use Rattle.std.proofs.Common.{◌≡◌, ◌≢◌, ℕ, ◌<◌, List, [], ◌∷◌, ◌++◌, length, take, Option, Some, None, refl, ap, sym, ◌∙◌, subst, inl, inr, arith, append_assoc}
-use Rattle.std.specs.Prelude.{Result, Ok, Err, IfErr, IfOk, IfSome, OnOk}
+use Rattle.std.specs.Prelude.{Result, Ok, Err, IfErr, IsErrAnd, IfOk, IfSome, OnOk}
 use Rattle.std.specs.Io.KnownBytes.{IsAtEnd, prepend_known}
 use Rattle.std.proofs.lemmas.List.{append-nil, take_all, length-take-le}
 use Rattle.std.proofs.lemmas.Bool.{cases_lt, cond-true, lt-ltb}
-use Rattle.log_text_base.specs.Known.{HadSome, TookLine}
+use Rattle.log_text_base.specs.Known.{HadSome, TookLine, raised}
+use Rattle.log_text_base.specs.declared.fault.ReadFault.{ReadFault}
 use Rattle.log_text_base.specs.Lines.{lines_of, first_line, other_lines}
 use Rattle.log_text_base.proofs.LinesLaws.{lines_first}
 use Rattle.log_text.specs.Statement.{Sentence, Reads}
@@ -13,6 +14,8 @@ use Rattle.log_text.specs.declared.fault.LineFault.{LineFault}
 use Rattle.sequencer.specs.Log.{Accepted, empty_log}
 use Rattle.report.specs.Report.{AreReadings, IsReading, Reading}
 use Rattle.bohm_base.specs.declared.collecting.Became.{Became}
+use Rattle.bohm_base.specs.declared.fault.EngineFault.{EngineFault}
+use Rattle.bohm_base.specs.Faults.{of_reading, read_errors}
 use Rattle.bohm_base.specs.Collecting.{Collects, CollectsSoFar, LeadsTo, ReadsAs, became, reading_of, with_reading}
 use Rattle.bohm_base.proofs.Logs.{log_step}
 
@@ -85,3 +88,14 @@ collect_end (Some xs) None log lines so end = absurd so
 collect_end (Some xs) (Some ys) log lines so end =
     let none : AreReadings (lines_of ys) [] = subst (λ (l : List ℕ). AreReadings (lines_of l) []) (sym end) tt in
     (so.0, (subst (AreReadings (lines_of xs)) (append-nil so.0) (so.1.0 [] none), so.1.1))
+
+-- what a fault of reading tells of the reader's failures
+pub fault_told : {A B : Type 0} (fault : ReadFault) (found : Result A ReadFault) (result : Result B EngineFault) (old now : ℕ) → found ≡ Err fault
+    → IsErrAnd result (λ e. e ≡ of_reading fault) → (found ≡ Err ReadFault.Read → now ≡ raised old) → ((found ≡ Err ReadFault.Read → ⊥) → now ≡ old)
+    → now ≡ read_errors result old
+fault_told {A} {B} ReadFault.NoMemory found (Ok x) old now is from read other = absurd from
+fault_told {A} {B} ReadFault.NoMemory found (Err e) old now is from read other =
+    other (λ same. cc) ∙ sym (ap (λ (f : EngineFault). read_errors {A = B} (Err f) old) from)
+fault_told {A} {B} ReadFault.Read found (Ok x) old now is from read other = absurd from
+fault_told {A} {B} ReadFault.Read found (Err e) old now is from read other =
+    read is ∙ sym (ap (λ (f : EngineFault). read_errors {A = B} (Err f) old) from)

@@ -1,10 +1,10 @@
 //! The plain path: each line is read, taken into the log, executed and reported, one after another.
 
-ghost use Rattle.std.specs.Prelude.{◌≡◌, ◌≢◌, ◌<◌, ◌-◌, ◌^◌, ℕ, [], List, IfOk, IfErr, IfSome, OnErr, OnOk, Err, length};
-ghost use Rattle.std.specs.Io.KnownBytes.{Appends, prepend_known};
+ghost use Rattle.std.specs.Prelude.{◌≡◌, ◌≢◌, ◌<◌, ◌≤◌, ◌+◌, ◌-◌, ◌^◌, ℕ, [], List, IfOk, IfErr, IfSome, MatchBool, OnErr, OnOk, Err, length};
+ghost use Rattle.std.specs.Io.KnownBytes.{Appends, IsAtEnd, prepend_known};
 ghost use Rattle.std.specs.Result.{ForOk};
-ghost use Rattle.log_text_base.specs.Ahead.{ahead};
-ghost use Rattle.log_text_base.specs.Known.{AppendsFront};
+ghost use Rattle.log_text_base.specs.Ahead.{ahead, found_line};
+ghost use Rattle.log_text_base.specs.Known.{AppendsFront, HadSome, TookLine, raised};
 ghost use Rattle.body.specs.Premises.{IsRunnable};
 ghost use Rattle.grants.specs.Book.{IsLater};
 ghost use Rattle.log_text.specs.Statement.{IsInGrammar};
@@ -14,13 +14,13 @@ ghost use Rattle.sequencer.specs.Catalog.{no_names};
 ghost use Rattle.report.specs.Report.{IsReport, Reading, names_with, read};
 ghost use Rattle.bohm_base.specs.Collecting.{MayLackRoom, ReadsAs, became, reading_of};
 ghost use Rattle.bohm_base.specs.Faults.{read_errors, write_errors};
-ghost use Rattle.bohm_base.specs.Pending.{HasBegunReport, HasReport};
+ghost use Rattle.bohm_base.specs.Pending.{HasBegunReport, HasReport, Waits};
 ghost use Rattle.bohm_base.specs.Progress.{Advances, DealsWith, IsAt, IsAfter, IsReady, Ends, Reports, Turn};
 
 use crate::fault::EngineFault;
-use crate::pending::{PENDING, put_out};
+use crate::pending::{PENDING, put_out, put_waiting};
 use log_text::{LineFault, RawStatement, parse_line};
-use log_text_base::{Counted, LineReader, flush, write_out};
+use log_text_base::{Counted, LineReader, ReadFault, flush, write_out};
 use model_base::{Place, Statement};
 use plain::State;
 use report::{put_fault, put_outcome, put_refused};
@@ -186,8 +186,35 @@ fn put_line(alloc: Global, dealt: &mut Dealt, line: &[u8]) -> Result<(), EngineF
     Ok(())
 }
 
-/// Takes the next line, puts its report behind what is pending, and writes what is pending if that is much. False at the
-/// end of the input. After a fault whole lines are pending.
+/// Finds the next line, as `LineReader::next_line`. It is called only while nothing is pending, or with a whole line at
+/// hand: while something is pending, the reader isn't asked.
+fn next_line<R: Read>(
+    reader: &mut Counted<R>,
+    lines: &mut LineReader,
+    pending: &[u8],
+) -> Result<bool, ReadFault>
+    requires waits { Waits pending.now (ahead lines.old) }
+    requires bounded { 0 < length (ahead lines.old) → reader.old.given ≤ 2 ^ 62 + 65536 }
+    ensures waits { 0 < length pending.now → reader.new ≡ reader.old }
+    ensures line { IfOk result (λ found. MatchBool found
+        (TookLine (prepend_known (ahead lines.old) (R.remaining reader.old.inner))
+        (prepend_known (ahead lines.new) (R.remaining reader.new.inner))
+        [] (found_line lines.new)
+        × HadSome (prepend_known (ahead lines.old) (R.remaining reader.old.inner)))
+        (IsAtEnd (prepend_known (ahead lines.old) (R.remaining reader.old.inner)))) }
+    ensures read { result ≡ Err ReadFault.Read → reader.new.errors ≡ raised reader.old.errors }
+    ensures other { (result ≡ Err ReadFault.Read → ⊥) → reader.new.errors ≡ reader.old.errors }
+    ensures given { IfOk result (λ found. MatchBool found
+        ((reader.old.given + length (ahead lines.new) < reader.new.given + length (ahead lines.old))
+        × (reader.new.given ≤ 2 ^ 62 + 65536))
+        (reader.new.given ≡ reader.old.given)) }
+    ensures bound { 0 < length (ahead lines.new) → reader.new.given ≤ 2 ^ 62 + 65536 }
+{
+    lines.next_line(reader)
+}
+
+/// Takes the next line, puts its report behind what is pending, and writes what is pending if that is much, or if there is
+/// no whole line at hand. False at the end of the input. After a fault whole lines are pending.
 fn report_line<R: Read, W: Write>(
     alloc: Global,
     reader: &mut Counted<R>,
@@ -217,7 +244,8 @@ fn report_line<R: Read, W: Write>(
     ensures reads { reader.new.errors ≡ read_errors result reader.old.errors }
     ensures writes { writer.new.errors ≡ write_errors result writer.old.errors }
 {
-    if !lines.next_line(reader)? {
+    put_waiting(writer, pending, lines)?;
+    if !next_line(reader, lines, pending.as_slice())? {
         return Ok(false);
     }
     put_line(alloc, dealt, lines.line())?;
@@ -271,6 +299,9 @@ fn report_lines<R: Read, W: Write>(
 }
 
 /// Reads a log to its end, executes it statement by statement, and writes its report: one line for each line.
+///
+/// Where no whole line is at hand, what waits of the report is written before more is read: a line that comes alone is
+/// answered at once. While whole lines are at hand the report is gathered, and written in pieces of 65,000 bytes or more.
 ///
 /// The rows and the grants are kept in memory, and of a line nothing but the names that it is the first to name. `NoMemory` comes where
 /// a growth was refused, `Read` where the reader failed, `Write` where the writer failed, or took no byte of a piece that
