@@ -42,7 +42,7 @@ fn blocks<K: Placed>(alloc: Global, key: &K) -> Result<(Vec<usize>, usize), Allo
     let mut begins = Vec::with_capacity(alloc, places)?;
     let mut ends = 0;
     for index in 0..places {
-        begins.push(ends)?;
+        begins.push_reserved(ends);
         ends = block_end(ends, key.words_length(index))?;
     }
     Ok((begins, ends))

@@ -2,13 +2,6 @@ use Rattle.std.proofs.Common.{◌≡◌, ap, ◌∙◌, subst}
 use Rattle.words.specs.Passes.{Passing, joined_pass}
 use Rattle.words.proofs.table.BatchWords.join.Goals as goal
 
-pub take_in-requires : goal.take_in-requires
-take_in-requires g c = record {
-  ours = (ap (λ (p : Passing). p.table) c.pass.view_is ∙ c.requires.first, ap (λ (p : Passing). p.table) c.other.view_is ∙ c.requires.second);
-  bare = c.other.invariant.bare;
-  alive = (c.pass.invariant.alive, c.other.invariant.alive);
-}
-
 pub returns : goal.returns
 returns g c =
     let same = c.take_in.ensures.same in
@@ -19,3 +12,10 @@ returns g c =
     subst (λ (p : Passing). passed ≡ joined_pass p c.args.other) c.pass.view_is
     (subst (λ (p : Passing). passed ≡ joined_pass first p) c.other.view_is
     (λ t. record { table = same.0 t; number = same.1 t; view = (view t).0; bodies = c.saturating_add.ensures t }))
+
+pub take_in-requires : goal.take_in-requires
+take_in-requires g c = record {
+  ours = (ap (λ (p : Passing). p.table) c.pass.view_is ∙ c.requires.first, ap (λ (p : Passing). p.table) c.other.view_is ∙ c.requires.second);
+  bare = c.other.invariant.bare;
+  alive = (c.pass.invariant.alive, c.other.invariant.alive);
+}
