@@ -36,15 +36,16 @@ impl<K: Placed> BatchWords<K> {
         self.shared().split_seat::<Brand>(seat)
     }
 
-    // Takes another seat in, by one load.
-    pub(crate) fn take_in(&self, seat: &mut Seat<u8, View>, other: Seat<u8, View>)
-        requires ours { (seat.old.table_id ≡ self.now.table) × (other.table_id ≡ self.now.table) }
+    // The first seat, which takes the other in, by one load.
+    pub(crate) fn take_in(&self, mut seat: Seat<u8, View>, other: Seat<u8, View>) -> Seat<u8, View>
+        requires ours { (seat.table_id ≡ self.now.table) × (other.table_id ≡ self.now.table) }
         requires bare { other.me.1 ≡ [] }
-        requires alive { (seat.old.me.0.spent ≡ false) × (other.me.0.spent ≡ false) }
-        ensures same { (seat.new.table_id ≡ seat.old.table_id) × (seat.new.id ≡ seat.old.id) }
-        ensures view { seat.new.me ≡ (joined seat.old.me.0 other.id other.me.0, seat.old.me.1) }
+        requires alive { (seat.me.0.spent ≡ false) × (other.me.0.spent ≡ false) }
+        ensures same { (result.table_id ≡ seat.table_id) × (result.id ≡ seat.id) }
+        ensures view { result.me ≡ (joined seat.me.0 other.id other.me.0, seat.me.1) }
     {
-        self.shared().join_seat::<Brand>(seat, other);
+        self.shared().join_seat::<Brand>(&mut seat, other);
+        seat
     }
 
     // A compare-exchange from free to held.

@@ -117,12 +117,15 @@ impl<K: Placed> BatchWords<K> {
         requires second { IsPassOf self.now other }
         ensures { result ≡ joined_pass pass other }
     {
-        let Pass { mut seat, bodies } = pass;
+        let Pass {
+            seat: first,
+            bodies,
+        } = pass;
         let Pass {
             seat: second,
             bodies: more,
         } = other;
-        self.take_in(&mut seat, second);
+        let seat = self.take_in(first, second);
         Pass {
             seat,
             bodies: bodies.saturating_add(more),

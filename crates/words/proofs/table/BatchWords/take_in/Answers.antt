@@ -4,7 +4,7 @@ use Rattle.words.proofs.table.BatchWords.take_in.Goals as goal
 
 pub join_seat-requires : goal.join_seat-requires
 join_seat-requires g c =
-    let seat = c.args.seat.now in
+    let seat = c.args.seat in
     let other = c.args.other in
     let key = c.shared.result.now.key in (
       c.requires.ours.0 ∙ ap (λ w. w.table) c.shared.ensures.same,
