@@ -2,3 +2,4 @@ pub mod Bodies
 pub mod Numbers
 pub mod Readings
 pub mod Outcomes
+pub mod Runs

@@ -12,6 +12,8 @@ mod loads;
 mod outcomes;
 mod own;
 mod reader;
+mod running;
 
 pub use key::RangeKey;
 pub use outcomes::outcome;
+pub use running::{Ran, run_place};
