@@ -5,4 +5,4 @@ mod laws;
 mod text;
 
 pub use laws::each_text_has_one_report;
-pub use text::{put_fault, put_outcome, put_refused};
+pub use text::{put_cause, put_fault, put_need, put_outcome, put_places, put_refused};

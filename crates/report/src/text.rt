@@ -86,8 +86,8 @@ fn put_numbers(text: &mut Vec<u8>, numbers: &[i64]) -> Result<(), AllocError>
     Ok(())
 }
 
-/// Puts each place behind a space.
-fn put_places(text: &mut Vec<u8>, places: &[Place]) -> Result<(), AllocError>
+/// Puts each place behind a space. After an error some of them may stand behind the text.
+pub fn put_places(text: &mut Vec<u8>, places: &[Place]) -> Result<(), AllocError>
     ensures { OnOk result (text.new.items ≡ text.old.items ++ places_text places.now) }
 {
     for place in places {
@@ -128,8 +128,8 @@ fn put_done(
     put_deed(text, deed)
 }
 
-/// Puts a need: its kind and table, and whether it is with the option.
-fn put_need(text: &mut Vec<u8>, tables: &NameTable, need: &Need) -> Result<(), AllocError>
+/// Puts a need: its kind and table, and whether it is with the option. After an error a part of it may stand behind the text.
+pub fn put_need(text: &mut Vec<u8>, tables: &NameTable, need: &Need) -> Result<(), AllocError>
     requires { need.now.table < length tables.now }
     ensures { OnOk result (text.new.items ≡ text.old.items ++ need_text tables.now need.now) }
 {
@@ -142,8 +142,8 @@ fn put_need(text: &mut Vec<u8>, tables: &NameTable, need: &Need) -> Result<(), A
     Ok(())
 }
 
-/// Puts why a need isn't held.
-fn put_cause(text: &mut Vec<u8>, cause: Cause) -> Result<(), AllocError>
+/// Puts why a need isn't held. After an error a part of it may stand behind the text.
+pub fn put_cause(text: &mut Vec<u8>, cause: Cause) -> Result<(), AllocError>
     ensures { OnOk result (text.new.items ≡ text.old.items ++ cause_text cause) }
 {
     match cause {
