@@ -84,7 +84,8 @@ fn tell_words(rt: &impl Print, alloc: Global, form: &Form, outcome: &Outcome)
     requires outputs { outputs_of form.now ≤ 1 }
     requires detail { second_detail outcome.now < 2 ^ 64 }
 {
-    let words = OwnWords::header(form, outcome);
+    let mut words = OwnWords::new();
+    words.put_header(form, outcome);
     let told = decoded(form, words.as_slice(), Items::empty(alloc));
     tell(rt, "the words of an outcome", &(words.as_slice(), &told));
 }
@@ -185,7 +186,8 @@ fn row() -> Row
 
 /// Tells the words of a version cell without a row and of one with a row, and the rows that they tell.
 fn tell_rows(rt: &impl Print) {
-    let mut words = OwnWords::header(&creating(), &Outcome::Created);
+    let mut words = OwnWords::new();
+    words.put_header(&creating(), &Outcome::Created);
     if words.len() > 4 {
         return;
     }

@@ -30,6 +30,7 @@ use model_base::{
     Access, DeedForm, Form, Grant, Items, Key, Kind, Kinds, Place, Register, Revocation, Row,
     RowName, Statement, Step, Table, User,
 };
+use own_words::OwnWords;
 use std::alloc::{AllocError, Global};
 
 const ALICE: User = User(0);
@@ -212,8 +213,9 @@ fn tell_words(rt: &impl Print, book: &Book, place: Place, statement: &Statement,
 {
     let mut view = book.at(place);
     if view.covers(TABLE) {
-        let window = window_of(statement, row);
-        let words = own_words(statement, &[2], window, &mut view);
+        let mut window = window_of(statement, row);
+        let mut words = OwnWords::new();
+        own_words(statement, &[2], &mut window, &mut view, &mut words);
         tell(rt, "  words", &words.as_slice());
     }
 }
