@@ -139,7 +139,10 @@ fn run_drawn<R: Threads + Sync>(
 }
 
 /// Tells how the drawn logs come out; how often a place was found held, on standard error, since that differs from run to run.
-pub fn tell_drawn<R: Threads + Print + Sync>(rt: &R, alloc: Global) -> Result<(), TrialFault> {
+pub fn tell_drawn<R: Threads + Print + Eprint + Sync>(
+    rt: &R,
+    alloc: Global,
+) -> Result<(), TrialFault> {
     let mut generator = Generator::new(1976);
     let mut kinds = Kinds::default();
     let mut all = Found::default();

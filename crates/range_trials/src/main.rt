@@ -37,7 +37,7 @@ use std::thread::Threads;
 use std::time::Clock;
 
 /// Tells the trials one after another.
-fn tell_all<R: Threads + Print + Sync>(rt: &R, alloc: Global) -> Result<(), TrialFault> {
+fn tell_all<R: Threads + Print + Eprint + Sync>(rt: &R, alloc: Global) -> Result<(), TrialFault> {
     tell_held(rt, alloc)?;
     tell_early(rt, alloc)?;
     tell_chain(rt, alloc)?;
@@ -46,7 +46,7 @@ fn tell_all<R: Threads + Print + Sync>(rt: &R, alloc: Global) -> Result<(), Tria
 }
 
 /// Does what the words of the command line tell.
-fn run<R: Env + Clock + Print + AllocGlobal + Threads + Wait + Sync>(
+fn run<R: Env + Clock + Print + Eprint + AllocGlobal + Threads + Wait + Sync>(
     rt: &R,
 ) -> Result<(), TrialFault> {
     let alloc = rt.alloc();
