@@ -1,18 +1,20 @@
 -- The mark, batch after batch.
-use Rattle.std.proofs.Common.{◌≡◌, ◌<◌, ◌≤◌, ◌+◌, ◌-◌, ◌*◌, ◌&&◌, ◌++◌, ◌∷◌, [], ℕ, zero, suc, Bool, true, List, length, refl, ap, sym, ◌∙◌, subst, arith, inl, inr}
+use Rattle.std.proofs.Common.{◌≡◌, ◌<◌, ◌≤◌, ◌+◌, ◌-◌, ◌*◌, ◌&&◌, ◌||◌, ◌++◌, ◌∷◌, [], ℕ, zero, suc, Bool, true, false, IsTrue, List, length, refl, ap, sym, ◌∙◌, subst, arith, inl, inr}
 use Rattle.std.specs.Prelude.{◌==◌, min, nat_lt, nat_le, if◌then◌else◌}
 use Rattle.std.proofs.Math.Nat.{mul-sub}
-use Rattle.std.proofs.lemmas.Bool.{and_parts, cases_lt, le-ltb, leb-true, lt-ltb, ne_eqb}
+use Rattle.std.proofs.lemmas.Bool.{and_parts, cases_lt, le-ltb, leb-false, leb-true, lt-ltb, ne_eqb}
 use Rattle.std.proofs.lemmas.List.{append-nil, length-append}
 use Rattle.report.specs.Report.{Reading, accepted}
 use Rattle.sequencer.specs.Log.{Accepted}
 use Rattle.sequencer.specs.Taken.{IsWhole}
-use Rattle.bohm_base.specs.Collecting.{became}
+use Rattle.bohm_base.specs.Collecting.{became, with_reading}
 use Rattle.bohm_base.specs.declared.collecting.Became.{Became}
 use Rattle.engine.specs.Engine.{Run, finished}
 use Rattle.batched_text.specs.Batching.{Deals, IsCounted, IsFilling, IsFirst, IsOpen, Reports, Takes, lines_text}
+use Rattle.batched_text.specs.History.{EndsEarly, IsCutBy, IsTrimmedBy}
 use Rattle.batched_text.specs.Settings.{IsCut, IsTrimmed, are_within_limits, mark_behind}
 use Rattle.batched_text.specs.declared.batching.Batching.{Batching}
+use Rattle.batched_text.specs.declared.history.History.{History}
 use Rattle.batched_text.specs.declared.settings.Settings.{Settings}
 use Rattle.batched_text.proofs.Ended.{counted_more, counted_start, one_more}
 
@@ -36,6 +38,16 @@ mark_later zero batch batches start end mark less is at =
 mark_later (suc keep) batch batches start end mark less is at =
     let here : mark ≡ batch * batches - batch * suc keep = at ∙ mul-sub batch batches (suc keep) in
     omega (arith, some-kept keep batch start end)
+
+-- the mark of a longer batch isn't earlier
+mark_longer : (keep batch start end : ℕ) → start ≤ end → mark_by keep batch start start ≤ mark_by keep batch start end
+mark_longer zero batch start end less = omega arith
+mark_longer (suc keep) batch start end less = omega (arith, some-kept keep batch start start, some-kept keep batch start end)
+
+-- the mark behind a batch isn't later than that of none after it
+mark_after : (keep batch start end : ℕ) → start ≤ end → mark_by keep batch start end ≤ mark_by keep batch end end
+mark_after zero batch start end less = omega arith
+mark_after (suc keep) batch start end less = omega (arith, some-kept keep batch start end, some-kept keep batch end end)
 
 -- one more batch, which is full
 pub mark_full : (keep batch batches start : ℕ) → start ≡ batch * batches → mark_by keep batch start (start + batch) ≡ batch * ((batches + 1) - keep)
@@ -87,12 +99,16 @@ limits settings within =
     }
 
 -- the store's mark is none that lies too late for the next batch
-pub waits_for : (settings : Settings) (batching : Batching) → IsFilling settings batching
+mark_so_far : (history : History) (settings : Settings) (run : Run) → IsCutBy history settings run → finished run ≤ length run.log.statements
+    → run.store.mark ≤ mark_behind settings (finished run) (length run.log.statements)
+mark_so_far History.Kept settings run cut less =
+    mark_later settings.keep settings.batch cut.batches (finished run) (length run.log.statements) run.store.mark less cut.full cut.mark
+mark_so_far History.Dropped settings run cut less =
+    omega (arith, cut, mark_longer settings.keep settings.batch (finished run) (length run.log.statements) less)
+
+pub waits_for : (history : History) (settings : Settings) (batching : Batching) → IsFilling history settings batching
     → batching.engine.store.mark ≤ mark_behind settings (finished batching.engine) (length batching.engine.log.statements)
-waits_for settings batching filling =
-    let cut = filling.cut in
-    mark_later settings.keep settings.batch cut.batches (finished batching.engine) (length batching.engine.log.statements) batching.engine.store.mark
-    (omega (arith, filling.counted)) cut.full cut.mark
+waits_for history settings batching filling = mark_so_far history settings batching.engine filling.cut (omega (arith, filling.counted))
 
 -- what a batch is reported as: the engine has run all that waited
 pub record IsReported (settings : Settings) (old new : Batching) : Type 0 where
@@ -105,7 +121,28 @@ pub record IsReported (settings : Settings) (old new : Batching) : Type 0 where
       then mark_behind settings (finished old.engine) (length old.engine.log.statements)
       else old.engine.store.mark)
 
-module _ (settings : Settings) (old new : Batching) (filling : IsFilling settings old) (reported : IsReported settings old new) where
+-- a batch may end: it is full, or may end early
+abbrev pub IsDue : History → Settings → Run → Type 0
+IsDue History.Kept settings run = finished run + settings.batch ≤ length run.log.statements
+IsDue History.Dropped settings run = Unit {0}
+
+pub due : (history : History) (settings : Settings) (run : Run) (urgent : Bool) (waiting : ℕ) → (urgent || nat_le settings.batch waiting) ≡ true
+    → (IsTrue urgent → EndsEarly history) → waiting + finished run ≡ length run.log.statements → IsDue history settings run
+due History.Dropped settings run urgent waiting is early all = tt
+due History.Kept settings run true waiting is early all = absurd (early refl)
+due History.Kept settings run false waiting is early all = omega (arith, leb-true settings.batch waiting is)
+
+-- what isn't due isn't full
+pub not_full : (urgent : Bool) (batch waiting : ℕ) → (urgent || nat_le batch waiting) ≡ false → waiting < batch
+not_full true batch waiting is = absurd (cc is)
+not_full false batch waiting is = leb-false batch waiting is
+
+-- and isn't urgent
+pub not_urgent : (urgent full : Bool) → (urgent || full) ≡ false → IsTrue urgent → ⊥
+not_urgent true full is so = absurd (cc is)
+not_urgent false full is so = absurd (cc so)
+
+module _ (settings : Settings) (old new : Batching) (reported : IsReported settings old new) where
   abbrev count : ℕ
   count = length old.engine.log.statements
 
@@ -122,30 +159,46 @@ module _ (settings : Settings) (old new : Batching) (filling : IsFilling setting
       reported.mark
       ∙ ap (λ (b : Bool). if b then mark_behind settings (finished old.engine) count else old.engine.store.mark) (le-ltb (finished old.engine) count none)
 
-  -- the next batch, behind one that is full
-  pub open_next : 0 < settings.batch → finished old.engine + settings.batch ≤ count → IsOpen settings new
-  open_next some full =
-      let cut = filling.cut in
-      let whole : count ≡ finished old.engine + settings.batch = omega (arith, filling.most) in
+  -- the cut behind one more batch
+  cut_next : (history : History) → IsCutBy history settings old.engine → finished old.engine ≤ count → count ≤ finished old.engine + settings.batch
+      → 0 < settings.batch → IsDue history settings old.engine → IsCutBy history settings new.engine
+  cut_next History.Kept cut within most some full =
+      let whole : count ≡ finished old.engine + settings.batch = omega (arith, most, full) in
+      record {
+        batches = cut.batches + 1;
+        full = omega (arith, reported.all, whole, cut.full);
+        mark = marked (omega (arith, some, full)) ∙ ap (mark_behind settings (finished old.engine)) whole
+            ∙ mark_full settings.keep settings.batch cut.batches (finished old.engine) cut.full;
+      }
+  cut_next History.Dropped cut within most some may =
+      let there : mark_behind settings (finished new.engine) (finished new.engine) ≡ mark_behind settings count count =
+      ap (λ (n : ℕ). mark_behind settings n n) reported.all in
+      elim (cases_lt (finished old.engine) count) [
+        | inl more ↦ omega (arith, marked more, there, mark_after settings.keep settings.batch (finished old.engine) count within)
+        | inr none ↦
+          let here : mark_behind settings count count ≡ mark_behind settings (finished old.engine) (finished old.engine) =
+          (let same : count ≡ finished old.engine = omega (arith, none, within) in ap (λ (n : ℕ). mark_behind settings n n) same) in
+          omega (arith, unmarked none, cut, there, here)
+      ]
+
+  -- the next batch, behind one that is due
+  pub open_next : (history : History) → IsFilling history settings old → 0 < settings.batch → IsDue history settings old.engine
+      → IsOpen history settings new
+  open_next history filling some due =
       record {
         filling = record {
           whole = subst IsWhole (sym reported.log) filling.whole;
           counted = subst (λ (ls : List Became). IsCounted new.engine ls) (sym reported.left) (omega (arith, counts, reported.all));
           few = subst (λ (ls : List Became). length ls < new.number) (sym reported.left) (omega (arith, filling.few, reported.number));
-          cut = record {
-            batches = cut.batches + 1;
-            full = omega (arith, reported.all, whole, cut.full);
-            mark = marked (omega (arith, some, full)) ∙ ap (mark_behind settings (finished old.engine)) whole
-                ∙ mark_full settings.keep settings.batch cut.batches (finished old.engine) cut.full;
-          };
+          cut = cut_next history filling.cut (omega (arith, filling.counted)) filling.most some due;
           most = omega (arith, counts, reported.all);
         };
         less = omega (arith, counts, reported.all, some);
       }
 
   -- what is left at the end
-  pub trimmed_last : finished old.engine < count → IsTrimmed settings new.engine
-  trimmed_last more =
+  trimmed_last : IsFilling History.Kept settings old → finished old.engine < count → IsTrimmed settings new.engine
+  trimmed_last filling more =
       let cut = filling.cut in
       record {
         batches = cut.batches + 1;
@@ -155,8 +208,8 @@ module _ (settings : Settings) (old new : Batching) (filling : IsFilling setting
             ∙ ap (λ (n : ℕ). min n (settings.batch * ((cut.batches + 1) - settings.keep))) (sym reported.all);
       }
 
-  pub trimmed_none : 0 < settings.batch → count ≡ finished old.engine → IsTrimmed settings new.engine
-  trimmed_none some none =
+  trimmed_none : IsFilling History.Kept settings old → 0 < settings.batch → count ≡ finished old.engine → IsTrimmed settings new.engine
+  trimmed_none filling some none =
       let cut = filling.cut in
       let same : finished new.engine ≡ finished old.engine = reported.all ∙ none in
       record {
@@ -167,17 +220,18 @@ module _ (settings : Settings) (old new : Batching) (filling : IsFilling setting
             ∙ ap (λ (n : ℕ). min n (settings.batch * (cut.batches - settings.keep))) (sym same);
       }
 
-  pub trimmed_all : 0 < settings.batch → IsTrimmed settings new.engine
-  trimmed_all some =
+  pub trimmed_all : (history : History) → IsFilling history settings old → 0 < settings.batch → IsTrimmedBy history settings new.engine
+  trimmed_all History.Kept filling some =
       elim (cases_lt (finished old.engine) count) [
-        | inl more ↦ trimmed_last more
-        | inr none ↦ trimmed_none some (omega (arith, none, filling.counted))
+        | inl more ↦ trimmed_last filling more
+        | inr none ↦ trimmed_none filling some (omega (arith, none, filling.counted))
       ]
+  trimmed_all History.Dropped filling some = tt
 
   -- all lines that waited are reported
-  pub reports_all : (text : List ℕ) → text ≡ lines_text old.engine.log (old.number - length old.waiting.items) (finished old.engine) old.waiting.items
+  pub reports_all : (history : History) → IsFilling history settings old → (text : List ℕ) → text ≡ lines_text old.engine.log (old.number - length old.waiting.items) (finished old.engine) old.waiting.items
       → Reports old.engine.log (finished old.engine) (finished new.engine) old.waiting.items new.waiting.items old.number text
-  reports_all text told = record {
+  reports_all history filling text told = record {
     out = old.waiting.items;
     all = sym (append-nil old.waiting.items) ∙ ap (λ (ls : List Became). old.waiting.items ++ ls) (sym reported.left);
     first = old.number - length old.waiting.items;
@@ -198,9 +252,15 @@ reports_none batching text few empty = record {
   places = omega arith;
 }
 
+-- more statements change nothing of what is finished
+cut_longer : (history : History) (settings : Settings) (run : Run) (log : Accepted) → IsCutBy history settings run → IsCutBy history settings (record run { log = log })
+cut_longer History.Kept settings run log cut = record { batches = cut.batches; full = cut.full; mark = cut.mark }
+cut_longer History.Dropped settings run log cut = cut
+
 -- a line that was taken fills the batch by one statement at most
-pub filled : (settings : Settings) (old new : Batching) (reading : Reading) → IsOpen settings old → Takes reading old new → IsWhole new.engine.log → IsFilling settings new
-filled settings old new reading room takes whole =
+pub filled : (history : History) (settings : Settings) (old new : Batching) (reading : Reading) → IsOpen history settings old → Takes reading old new
+    → IsWhole new.engine.log → IsFilling history settings new
+filled history settings old new reading room takes whole =
     let log : Accepted = old.engine.log in
     let was = room.filling in
     let line : Became = became log.names reading in
@@ -208,7 +268,7 @@ filled settings old new reading room takes whole =
       whole = whole;
       counted = counted_more old new reading was.counted takes;
       few = omega (arith, was.few, takes.number, ap length takes.waiting, length-append old.waiting.items (line ∷ []));
-      cut = subst (IsCut settings) (sym takes.engine) (record { batches = was.cut.batches; full = was.cut.full; mark = was.cut.mark });
+      cut = subst (IsCutBy history settings) (sym takes.engine) (cut_longer history settings old.engine (with_reading log reading) was.cut);
       most = subst (λ (run : Run). length run.log.statements ≤ finished run + settings.batch) (sym takes.engine)
           (omega (arith, room.less, one_more log.names reading, length-append log.statements (accepted log.names reading)));
     }
@@ -227,23 +287,29 @@ dealt reading old taken new takes log number reports =
           (subst (λ (n : ℕ). Reports taken.engine.log n (finished new.engine) taken.waiting.items new.waiting.items taken.number new.text.items) done reports)));
     }
 
--- at first
-pub open_first : (settings : Settings) (batching : Batching) → 0 < settings.batch → IsFirst batching → IsOpen settings batching
-open_first settings batching some first =
-    let none : length batching.engine.log.statements ≡ 0 = ap (λ (log : Accepted). length log.statements) first.log in
-    record {
-      filling = record {
-        whole = first.whole;
-        counted = counted_start batching.engine batching.waiting.items first.log first.none first.nobody;
-        few = omega (arith, ap length first.nobody, first.number);
-        cut = record { batches = 0; full = omega (arith, first.none); mark = first.mark ∙ sym (nothing settings.batch settings.keep) };
-        most = omega (arith, none);
-      };
-      less = omega (arith, none, some);
-    }
+-- before the first batch
+cut_first : (history : History) (settings : Settings) (batching : Batching) → IsFirst batching → IsCutBy history settings batching.engine
+cut_first History.Kept settings batching first =
+    record { batches = 0; full = omega (arith, first.none); mark = first.mark ∙ sym (nothing settings.batch settings.keep) }
   where
     nothing : (batch keep : ℕ) → batch * (0 - keep) ≡ 0
     nothing batch keep =
         let none : 0 - keep ≡ 0 = omega arith in
         let zero-times : batch * 0 ≡ 0 = omega arith in
         ap (λ (n : ℕ). batch * n) none ∙ zero-times
+cut_first History.Dropped settings batching first = omega (arith, first.mark)
+
+-- at first
+pub open_first : (history : History) (settings : Settings) (batching : Batching) → 0 < settings.batch → IsFirst batching → IsOpen history settings batching
+open_first history settings batching some first =
+    let none : length batching.engine.log.statements ≡ 0 = ap (λ (log : Accepted). length log.statements) first.log in
+    record {
+      filling = record {
+        whole = first.whole;
+        counted = counted_start batching.engine batching.waiting.items first.log first.none first.nobody;
+        few = omega (arith, ap length first.nobody, first.number);
+        cut = cut_first history settings batching first;
+        most = omega (arith, none);
+      };
+      less = omega (arith, none, some);
+    }

@@ -1,4 +1,5 @@
 pub mod Histories
+pub mod Waiting
 pub mod Reports
 pub mod Sofar
 pub mod Ended

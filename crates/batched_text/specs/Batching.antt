@@ -10,8 +10,9 @@ use Rattle.bohm_base.specs.declared.collecting.Became.{Became}
 use Rattle.bohm_base.specs.declared.fault.EngineFault.{EngineFault}
 use Rattle.engine.specs.Engine.{Run, finished}
 use Rattle.batched_text.specs.Places.{places_in}
-use Rattle.batched_text.specs.Settings.{IsCut}
+use Rattle.batched_text.specs.History.{IsCutBy}
 use Rattle.batched_text.specs.declared.batching.Batching.{Batching}
+use Rattle.batched_text.specs.declared.history.History.{History}
 use Rattle.batched_text.specs.declared.settings.Settings.{Settings}
 
 -- the report's lines for some lines from this number on, the first of which with a place has this one
@@ -46,17 +47,18 @@ pub record Deals (reading : Reading) (old new : Batching) : Type 0 where
       Reports new.engine.log (finished old.engine) (finished new.engine) (old.waiting.items ++ became old.engine.log.names reading ∷ [])
       new.waiting.items new.number new.text.items
 
--- the lines that wait are counted, the batches that are finished are full, and the next one isn't larger than a batch may be
-pub record IsFilling (settings : Settings) (batching : Batching) : Type 0 where
+-- the lines that wait are counted, the batches that are finished are full, but where nothing is kept, and the next one isn't
+-- larger than a batch may be
+pub record IsFilling (history : History) (settings : Settings) (batching : Batching) : Type 0 where
   pub whole : IsWhole batching.engine.log
   pub counted : IsCounted batching.engine batching.waiting.items
   pub few : length batching.waiting.items < batching.number
-  pub cut : IsCut settings batching.engine
+  pub cut : IsCutBy history settings batching.engine
   pub most : length batching.engine.log.statements ≤ finished batching.engine + settings.batch
 
 -- and it is smaller
-pub record IsOpen (settings : Settings) (batching : Batching) : Type 0 where
-  pub filling : IsFilling settings batching
+pub record IsOpen (history : History) (settings : Settings) (batching : Batching) : Type 0 where
+  pub filling : IsFilling history settings batching
   pub less : length batching.engine.log.statements < finished batching.engine + settings.batch
 
 -- no line was taken yet
@@ -70,8 +72,8 @@ pub record IsFirst (batching : Batching) : Type 0 where
   pub number : batching.number ≡ 1
 
 -- a further line can be dealt with
-pub record IsReady (settings : Settings) (batching : Batching) (ahead given : ℕ) : Type 0 where
-  pub room : IsOpen settings batching
+pub record IsReady (history : History) (settings : Settings) (batching : Batching) (ahead given : ℕ) : Type 0 where
+  pub room : IsOpen history settings batching
   pub bounded : 0 < ahead → given ≤ 2 ^ 62 + 65536
   pub numbered : batching.number + ahead ≤ given + 1
 
@@ -109,8 +111,8 @@ BatchedTo input out now =
     Batched input now.rest out now.out [] now.batching.engine.log (finished now.batching.engine) now.batching.waiting.items now.batching.number
 
 -- one more line was taken
-pub record TakesLine (settings : Settings) (old new : Standing) : Type 0 where
-  pub ready : IsReady settings new.batching new.ahead new.given
+pub record TakesLine (history : History) (settings : Settings) (old new : Standing) : Type 0 where
+  pub ready : IsReady history settings new.batching new.ahead new.given
   pub forward : old.given + new.ahead < new.given + old.ahead
   pub most : new.given ≤ 2 ^ 62 + 65536
   pub batched : (input out : Option (List ℕ)) → BatchedTo input out old → BatchedTo input out new
@@ -124,15 +126,15 @@ Gathers input out_old out_now batching =
 
 -- what a turn came to by its answer, whatever input is batched: one more line was taken, or there was none; and in any case a
 -- beginning of the report was written
-pub record Turn (settings : Settings) (result : Result Bool EngineFault) (old new : Standing) : Type 0 where
-  pub taken : result ≡ Ok true → TakesLine settings old new
-  pub room : result ≡ Ok false → IsOpen settings new.batching
+pub record Turn (history : History) (settings : Settings) (result : Result Bool EngineFault) (old new : Standing) : Type 0 where
+  pub taken : result ≡ Ok true → TakesLine history settings old new
+  pub room : result ≡ Ok false → IsOpen history settings new.batching
   pub ended : result ≡ Ok false → (input out : Option (List ℕ)) → BatchedTo input out old → Gathers input out new.out new.batching
   pub begun : (input out : Option (List ℕ)) → BatchedTo input out old → HasBegunReport input out new.out []
 
 -- what the turns to the end of the input came to, whatever input is batched
-pub record Ends (settings : Settings) (result : Result (Unit {0}) EngineFault) (old : Standing) (out_now : Option (List ℕ)) (batching : Batching) : Type 0 where
-  pub room : result ≡ Ok tt → IsOpen settings batching
+pub record Ends (history : History) (settings : Settings) (result : Result (Unit {0}) EngineFault) (old : Standing) (out_now : Option (List ℕ)) (batching : Batching) : Type 0 where
+  pub room : result ≡ Ok tt → IsOpen history settings batching
   pub done : result ≡ Ok tt → (input out : Option (List ℕ)) → BatchedTo input out old → Gathers input out out_now batching
   pub begun : (input out : Option (List ℕ)) → BatchedTo input out old → HasBegunReport input out out_now []
 

@@ -1,7 +1,11 @@
--- Of how many places neither statement nor outcome is kept.
-use Rattle.std.specs.Prelude.{◌≡◌, ⊤, ℕ}
+-- Of how many places neither statement nor outcome is kept, and which batches may end before they are full.
+use Rattle.std.specs.Prelude.{◌≡◌, ◌<◌, ◌≤◌, ⊤, ℕ, List, length}
+use Rattle.log_text_base.specs.Lines.{HasLine}
+use Rattle.bohm_base.specs.declared.collecting.Became.{Became}
 use Rattle.engine.specs.Engine.{Run, finished}
+use Rattle.batched_text.specs.Settings.{IsCut, IsTrimmed, mark_behind}
 use Rattle.batched_text.specs.declared.history.History.{History}
+use Rattle.batched_text.specs.declared.settings.Settings.{Settings}
 
 -- none are dropped, or those of all finished places
 abbrev pub dropped_by : History → Run → ℕ
@@ -12,3 +16,29 @@ dropped_by History.Dropped run = finished run
 abbrev pub KeepsAll : History → Run → Type 0
 KeepsAll History.Kept run = run.dropped ≡ 0
 KeepsAll History.Dropped run = ⊤
+
+-- where all is kept, each batch is as large as it may be; else some may have ended early, and of the rows at least those are
+-- kept that stood before the last places of so many batches
+abbrev pub IsCutBy : History → Settings → Run → Type 0
+IsCutBy History.Kept settings run = IsCut settings run
+IsCutBy History.Dropped settings run = run.store.mark ≤ mark_behind settings (finished run) (finished run)
+
+-- so it is at the end, where the last batch may be smaller
+abbrev pub IsTrimmedBy : History → Settings → Run → Type 0
+IsTrimmedBy History.Kept settings run = IsTrimmed settings run
+IsTrimmedBy History.Dropped settings run = ⊤
+
+-- a batch may end before it is full
+abbrev pub EndsEarly : History → Type 0
+EndsEarly History.Kept = ⊥
+EndsEarly History.Dropped = ⊤
+
+-- what waits is reported before the next line is read, since the reader is asked for that line: no whole line is at hand
+abbrev pub IsUrgent : History → List ℕ → Type 0
+IsUrgent History.Kept ahead = ⊥
+IsUrgent History.Dropped ahead = ¬ HasLine ahead
+
+-- where some lines wait a whole line is at hand, so that the reader isn't asked for the next one
+abbrev pub Waits : History → List Became → List ℕ → Type 0
+Waits History.Kept waiting ahead = ⊤
+Waits History.Dropped waiting ahead = 0 < length waiting → HasLine ahead

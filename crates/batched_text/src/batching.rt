@@ -1,10 +1,10 @@
 //! Lines that are taken, and run as a batch once there are enough of them.
 
-ghost use Rattle.std.specs.Prelude.{◌≡◌, ◌<◌, ◌≤◌, ◌+◌, ◌-◌, ◌++◌, ◌^◌, OnOk, [], true, length, if◌then◌else◌, nat_lt};
+ghost use Rattle.std.specs.Prelude.{◌≡◌, ◌<◌, ◌≤◌, ◌+◌, ◌-◌, ◌++◌, ◌^◌, ◌||◌, IsTrue, OnOk, [], true, length, if◌then◌else◌, nat_le, nat_lt};
 ghost use Rattle.engine.specs.Engine.{finished};
 ghost use Rattle.batched_text.specs.Batching.{IsCounted, IsFilling, IsOpen, Reports, lines_text};
-ghost use Rattle.batched_text.specs.History.{KeepsAll, dropped_by};
-ghost use Rattle.batched_text.specs.Settings.{IsTrimmed, are_within_limits, mark_behind};
+ghost use Rattle.batched_text.specs.History.{EndsEarly, KeepsAll, dropped_by};
+ghost use Rattle.batched_text.specs.Settings.{are_within_limits, mark_behind};
 
 use crate::history::History;
 use crate::reporting::put_lines;
@@ -115,7 +115,7 @@ pub(crate) fn report_batch<T: Threads + Wait + Sync>(
     history: History,
 ) -> Result<(), AllocError>
     requires settings { are_within_limits settings.now ≡ true }
-    requires filling { IsFilling settings.now batching.old }
+    requires filling { IsFilling history settings.now batching.old }
     requires kept { batching.old.engine.dropped ≡ dropped_by history batching.old.engine }
     ensures kept { OnOk result (batching.new.engine.dropped ≡ dropped_by history batching.new.engine) }
     ensures text { OnOk result (batching.new.text.items ≡ lines_text batching.old.engine.log
@@ -145,27 +145,37 @@ pub(crate) fn report_batch<T: Threads + Wait + Sync>(
     Ok(())
 }
 
-/// Reports the waiting lines if their batch is full.
-pub(crate) fn report_full<T: Threads + Wait + Sync>(
+/// Whether a batch ends of which so many places wait: it is full, or what waits is urgent.
+fn is_due(waiting: u64, settings: &Settings, urgent: bool) -> bool
+    ensures { result ≡ (urgent || nat_le settings.now.batch waiting) }
+{
+    urgent || waiting >= settings.batch
+}
+
+/// Reports the waiting lines if their batch is full, or if they are urgent, which they are only where nothing is kept.
+pub(crate) fn report_due<T: Threads + Wait + Sync>(
     rt: &T,
     alloc: Global,
     batching: &mut Batching,
     settings: &Settings,
     history: History,
+    urgent: bool,
 ) -> Result<(), AllocError>
     requires settings { are_within_limits settings.now ≡ true }
-    requires filling { IsFilling settings.now batching.old }
+    requires filling { IsFilling history settings.now batching.old }
     requires kept { batching.old.engine.dropped ≡ dropped_by history batching.old.engine }
     requires empty { batching.old.text.items ≡ [] }
+    requires early { IsTrue urgent → EndsEarly history }
     ensures reports { OnOk result (Reports batching.old.engine.log (finished batching.old.engine) (finished batching.new.engine)
         batching.old.waiting.items batching.new.waiting.items batching.old.number batching.new.text.items) }
     ensures log { OnOk result (batching.new.engine.log ≡ batching.old.engine.log) }
     ensures number { OnOk result (batching.new.number ≡ batching.old.number) }
-    ensures room { OnOk result (IsOpen settings.now batching.new) }
+    ensures room { OnOk result (IsOpen history settings.now batching.new) }
+    ensures none { IsTrue urgent → OnOk result (batching.new.waiting.items ≡ []) }
     ensures kept { OnOk result (batching.new.engine.dropped ≡ dropped_by history batching.new.engine) }
 {
     let waiting = batching.engine.log().len() - batching.engine.finished();
-    if waiting >= settings.batch {
+    if is_due(waiting, settings, urgent) {
         report_batch(rt, alloc, batching, settings, history)?;
     }
     Ok(())

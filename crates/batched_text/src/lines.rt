@@ -1,21 +1,24 @@
 //! A line, taken into the log of an engine.
 
-ghost use Rattle.std.specs.Prelude.{◌≡◌, ◌≢◌, ◌<◌, ◌-◌, ◌^◌, Err, IfOk, IfErr, OnOk, true};
+ghost use Rattle.std.specs.Prelude.{◌≡◌, ◌≢◌, ◌<◌, ◌-◌, ◌^◌, Err, IfOk, IfErr, IsTrue, List, OnOk, false, true};
 ghost use Rattle.std.specs.Result.{ForOk};
+ghost use Rattle.log_text_base.specs.Ahead.{ahead, found_line};
 ghost use Rattle.log_text.specs.Statement.{IsInGrammar};
 ghost use Rattle.report.specs.Report.{Reading, read};
+ghost use Rattle.bohm_base.specs.declared.collecting.Became.{Became};
 ghost use Rattle.bohm_base.specs.Collecting.{ReadsAs, became, reading_of, with_reading};
 ghost use Rattle.engine.specs.Engine.{finished};
-ghost use Rattle.batched_text.specs.Batching.{Deals, IsFilling, IsOpen, Takes};
-ghost use Rattle.batched_text.specs.History.{dropped_by};
+ghost use Rattle.batched_text.specs.Batching.{Deals, IsOpen, Takes};
+ghost use Rattle.batched_text.specs.History.{IsUrgent, Waits, dropped_by};
 ghost use Rattle.batched_text.specs.Settings.{are_within_limits};
 
-use crate::batching::{Batching, report_full};
+use crate::batching::{Batching, report_due};
 use crate::history::History;
 use crate::settings::Settings;
 use bohm_base::{Became, EngineFault, faulty_line, refused_line};
 use engine::Engine;
 use log_text::{LineFault, RawStatement, parse_line};
+use log_text_base::LineReader;
 use std::alloc::Global;
 use std::sync::Wait;
 use std::thread::Threads;
@@ -74,26 +77,41 @@ fn take_line(alloc: Global, batching: &mut Batching, line: &[u8]) -> Result<(), 
     Ok(())
 }
 
-/// Takes a line, and makes the report's lines for the waiting lines if their batch is full.
+/// Whether what waits is to be reported before the next line is read. So it is where nothing is kept and no whole line is
+/// at hand, since the reader is asked for the next line then.
+fn is_urgent(history: History, lines: &LineReader) -> bool
+    ensures urgent { IsTrue result → IsUrgent history (ahead lines.now) }
+    ensures calm { result ≡ false → (waiting : List Became) → Waits history waiting (ahead lines.now) }
+{
+    match history {
+        History::Kept => false,
+        History::Dropped => !lines.has_line(),
+    }
+}
+
+/// Takes the line that was found, and makes the report's lines for the waiting lines if their batch is full, or if no whole
+/// line is at hand and nothing is kept.
 pub(crate) fn deal<T: Threads + Wait + Sync>(
     rt: &T,
     alloc: Global,
     batching: &mut Batching,
     settings: &Settings,
     history: History,
-    line: &[u8],
+    lines: &LineReader,
 ) -> Result<(), EngineFault>
     requires settings { are_within_limits settings.now ≡ true }
-    requires room { IsOpen settings.now batching.old }
+    requires room { IsOpen history settings.now batching.old }
     requires kept { batching.old.engine.dropped ≡ dropped_by history batching.old.engine }
     requires number { batching.old.number < 2 ^ 64 - 1 }
-    ensures dealt { OnOk result ((reading : Reading) × (ReadsAs line.now reading × Deals reading batching.old batching.new)) }
-    ensures room { OnOk result (IsOpen settings.now batching.new) }
+    ensures dealt { OnOk result ((reading : Reading) × (ReadsAs (found_line lines.now) reading × Deals reading batching.old batching.new)) }
+    ensures room { OnOk result (IsOpen history settings.now batching.new) }
+    ensures waits { OnOk result (Waits history batching.new.waiting.items (ahead lines.now)) }
     ensures kept { OnOk result (batching.new.engine.dropped ≡ dropped_by history batching.new.engine) }
     ensures err { IfErr result (λ f. f ≡ EngineFault.NoMemory) }
 {
-    take_line(alloc, batching, line)?;
+    take_line(alloc, batching, lines.line())?;
     let _dropped = batching.engine.log().dropped();
-    report_full(rt, alloc, batching, settings, history)?;
+    let urgent = is_urgent(history, lines);
+    report_due(rt, alloc, batching, settings, history, urgent)?;
     Ok(())
 }

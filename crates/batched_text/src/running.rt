@@ -1,16 +1,16 @@
 //! A log, read, run in batches, and reported as batches finish.
 
-ghost use Rattle.std.specs.Prelude.{◌≡◌, ◌≢◌, ◌<◌, ◌-◌, ◌^◌, ◌↔◌, ℕ, [], false, true, List, IfErr, IfOk, IfSome, OnErr, OnOk, Err, length};
-ghost use Rattle.std.specs.Io.KnownBytes.{Appends, prepend_known};
-ghost use Rattle.log_text_base.specs.Ahead.{ahead};
-ghost use Rattle.log_text_base.specs.Known.{AppendsFront};
+ghost use Rattle.std.specs.Prelude.{◌≡◌, ◌≢◌, ◌<◌, ◌≤◌, ◌+◌, ◌-◌, ◌^◌, ◌↔◌, ℕ, [], false, true, List, IfErr, IfOk, IfSome, MatchBool, OnErr, OnOk, Err, length};
+ghost use Rattle.std.specs.Io.KnownBytes.{Appends, IsAtEnd, prepend_known};
+ghost use Rattle.log_text_base.specs.Ahead.{ahead, found_line};
+ghost use Rattle.log_text_base.specs.Known.{AppendsFront, HadSome, TookLine, raised};
 ghost use Rattle.report.specs.Report.{IsReport};
 ghost use Rattle.bohm_base.specs.Faults.{read_errors, write_errors};
 ghost use Rattle.bohm_base.specs.Pending.{HasBegunReport, HasReport};
 ghost use Rattle.engine.specs.Engine.{finished};
 ghost use Rattle.batched_text.specs.Batching.{Ends, Gathers, IsFirst, IsLogOfText, IsOpen, IsReady, Turn};
 ghost use Rattle.batched_text.specs.Faults.{of_text};
-ghost use Rattle.batched_text.specs.History.{dropped_by};
+ghost use Rattle.batched_text.specs.History.{IsTrimmedBy, Waits, dropped_by};
 ghost use Rattle.batched_text.specs.Settings.{IsTrimmed, are_within_limits};
 
 use crate::batching::{Batching, report_batch};
@@ -18,13 +18,43 @@ use crate::history::History;
 use crate::lines::deal;
 use crate::settings::{Settings, are_within_limits};
 use engine::{Engine, EngineFault};
-use log_text_base::{Counted, LineReader, flush, write_out};
+use bohm_base::Became;
+use log_text_base::{Counted, LineReader, ReadFault, flush, write_out};
 use std::alloc::Global;
 use std::io::{Read, Write};
 use std::sync::Wait;
 use std::thread::Threads;
 
-/// Takes the next line, and if its batch is full runs it and writes the report's lines for it. False at the end of the input.
+/// Finds the next line, as `LineReader::next_line`. Where nothing is kept it is called only while no line waits, or with a
+/// whole line at hand: while lines wait, the reader isn't asked.
+fn next_line<R: Read>(
+    reader: &mut Counted<R>,
+    lines: &mut LineReader,
+    history: History,
+    waiting: &[Became],
+) -> Result<bool, ReadFault>
+    requires waits { Waits history waiting.now (ahead lines.old) }
+    requires bounded { 0 < length (ahead lines.old) → reader.old.given ≤ 2 ^ 62 + 65536 }
+    ensures waits { history ≡ History.Dropped → 0 < length waiting.now → reader.new ≡ reader.old }
+    ensures line { IfOk result (λ found. MatchBool found
+        (TookLine (prepend_known (ahead lines.old) (R.remaining reader.old.inner))
+        (prepend_known (ahead lines.new) (R.remaining reader.new.inner))
+        [] (found_line lines.new)
+        × HadSome (prepend_known (ahead lines.old) (R.remaining reader.old.inner)))
+        (IsAtEnd (prepend_known (ahead lines.old) (R.remaining reader.old.inner)))) }
+    ensures read { result ≡ Err ReadFault.Read → reader.new.errors ≡ raised reader.old.errors }
+    ensures other { (result ≡ Err ReadFault.Read → ⊥) → reader.new.errors ≡ reader.old.errors }
+    ensures given { IfOk result (λ found. MatchBool found
+        ((reader.old.given + length (ahead lines.new) < reader.new.given + length (ahead lines.old))
+        × (reader.new.given ≤ 2 ^ 62 + 65536))
+        (reader.new.given ≡ reader.old.given)) }
+    ensures bound { 0 < length (ahead lines.new) → reader.new.given ≤ 2 ^ 62 + 65536 }
+{
+    lines.next_line(reader)
+}
+
+/// Takes the next line, and if its batch ends with it runs it and writes the report's lines for it. False at the end of the
+/// input. A batch ends where it is full, and where nothing is kept also where no whole line is at hand.
 fn report_line<T: Threads + Wait + Sync, R: Read, W: Write>(
     rt: &T,
     alloc: Global,
@@ -36,10 +66,12 @@ fn report_line<T: Threads + Wait + Sync, R: Read, W: Write>(
     history: History,
 ) -> Result<bool, bohm_base::EngineFault>
     requires settings { are_within_limits settings.now ≡ true }
-    requires ready { IsReady settings.now batching.old (length (ahead lines.old)) reader.old.given }
+    requires ready { IsReady history settings.now batching.old (length (ahead lines.old)) reader.old.given }
+    requires waits { Waits history batching.old.waiting.items (ahead lines.old) }
     requires kept { batching.old.engine.dropped ≡ dropped_by history batching.old.engine }
     ensures kept { OnOk result (batching.new.engine.dropped ≡ dropped_by history batching.new.engine) }
-    ensures turn { Turn settings.now result
+    ensures waits { result ≡ Ok true → Waits history batching.new.waiting.items (ahead lines.new) }
+    ensures turn { Turn history settings.now result
         (record {
           rest = prepend_known (ahead lines.old) (R.remaining reader.old.inner);
           ahead = length (ahead lines.old);
@@ -57,10 +89,10 @@ fn report_line<T: Threads + Wait + Sync, R: Read, W: Write>(
     ensures reads { reader.new.errors ≡ read_errors result reader.old.errors }
     ensures writes { writer.new.errors ≡ write_errors result writer.old.errors }
 {
-    if !lines.next_line(reader)? {
+    if !next_line(reader, lines, history, batching.waiting.as_slice())? {
         return Ok(false);
     }
-    deal(rt, alloc, batching, settings, history, lines.line())?;
+    deal(rt, alloc, batching, settings, history, lines)?;
     write_out(writer, &batching.text)?;
     Ok(true)
 }
@@ -77,10 +109,11 @@ fn report_rest<T: Threads + Wait + Sync, R: Read, W: Write>(
     history: History,
 ) -> Result<(), bohm_base::EngineFault>
     requires settings { are_within_limits settings.now ≡ true }
-    requires ready { IsReady settings.now batching.old (length (ahead lines.old)) reader.old.given }
+    requires ready { IsReady history settings.now batching.old (length (ahead lines.old)) reader.old.given }
+    requires waits { Waits history batching.old.waiting.items (ahead lines.old) }
     requires kept { batching.old.engine.dropped ≡ dropped_by history batching.old.engine }
     ensures kept { OnOk result (batching.new.engine.dropped ≡ dropped_by history batching.new.engine) }
-    ensures ends { Ends settings.now result
+    ensures ends { Ends history settings.now result
         (record {
           rest = prepend_known (ahead lines.old) (R.remaining reader.old.inner);
           ahead = length (ahead lines.old);
@@ -112,7 +145,7 @@ fn report_lines<T: Threads + Wait + Sync, R: Read, W: Write>(
     requires first { IsFirst batching.old }
     requires kept { batching.old.engine.dropped ≡ dropped_by history batching.old.engine }
     ensures kept { OnOk result (batching.new.engine.dropped ≡ dropped_by history batching.new.engine) }
-    ensures room { OnOk result (IsOpen settings.now batching.new) }
+    ensures room { OnOk result (IsOpen history settings.now batching.new) }
     ensures done { OnOk result (Gathers (R.remaining reader.old.inner) (W.contents writer.old.inner) (W.contents writer.new.inner) batching.new) }
     ensures begun { HasBegunReport (R.remaining reader.old.inner) (W.contents writer.old.inner) (W.contents writer.new.inner) [] }
     ensures reads { reader.new.errors ≡ read_errors result reader.old.errors }
@@ -140,7 +173,7 @@ fn report_all<T: Threads + Wait + Sync, R: Read, W: Write>(
     ensures kept { OnOk result (batching.new.engine.dropped ≡ dropped_by history batching.new.engine) }
     ensures log { OnOk result (IsLogOfText (R.remaining reader.old.inner) batching.new.engine.log) }
     ensures all { OnOk result (finished batching.new.engine ≡ length batching.new.engine.log.statements) }
-    ensures trimmed { OnOk result (IsTrimmed settings.now batching.new.engine) }
+    ensures trimmed { OnOk result (IsTrimmedBy history settings.now batching.new.engine) }
     ensures done { OnOk result (HasReport (R.remaining reader.old.inner) (W.contents writer.old.inner) (W.contents writer.new.inner) []) }
     ensures begun { HasBegunReport (R.remaining reader.old.inner) (W.contents writer.old.inner) (W.contents writer.new.inner) [] }
     ensures reads { reader.new.errors ≡ read_errors result reader.old.errors }
@@ -164,7 +197,7 @@ fn run_batches<T: Threads + Wait + Sync, R: Read, W: Write>(
     requires { are_within_limits settings.now ≡ true }
     ensures log { IfOk result (λ engine. IsLogOfText (R.remaining reader.old.inner) engine.log) }
     ensures all { IfOk result (λ engine. finished engine ≡ length engine.log.statements) }
-    ensures trimmed { IfOk result (λ engine. IsTrimmed settings.now engine) }
+    ensures trimmed { IfOk result (λ engine. IsTrimmedBy history settings.now engine) }
     ensures kept { IfOk result (λ engine. engine.dropped ≡ dropped_by history engine) }
     ensures done { OnOk result (IfSome (R.remaining reader.old.inner) (λ input. (text : List ℕ)
         × (IsReport input text × Appends (W.contents writer.old.inner) (W.contents writer.new.inner) text))) }
@@ -243,6 +276,10 @@ pub fn run_text<T: Threads + Wait + Sync, R: Read, W: Write>(
 /// Reads a log to its end, runs it in batches, and writes its report, as `run_text`, but keeps nothing that is finished: with each
 /// batch its statements and outcomes are dropped once they are reported. So what it keeps beside rows, names and the records of
 /// grants doesn't grow with the accepted lines.
+///
+/// A batch ends also where no whole line is at hand, so that the reader is asked only when all lines before are reported: a line
+/// that comes alone is answered at once. It has at most the whole lines of one read of 65,536 bytes then, and the one that was begun
+/// before. After each batch the store's mark is `batch * (keep - 1)` places before the start of the batch, or its end if `keep` is 0.
 pub fn report_text<T: Threads + Wait + Sync, R: Read, W: Write>(
     rt: &T,
     alloc: Global,

@@ -24,8 +24,9 @@ returns-clause-all g c = c.in_ok-report_batch.ensures.all ∙ ap (λ (log : Acce
 pub returns-clause-trimmed : goal.returns-clause-trimmed
 returns-clause-trimmed g c =
     let put = c.in_ok-report_batch.ensures in
-    trimmed_all c.args.settings.now c.report_lines.new.batching c.report_batch.new.batching c.in_ok-report_lines.ensures.room.filling
+    trimmed_all c.args.settings.now c.report_lines.new.batching c.report_batch.new.batching
     (record { log = put.log; left = put.left; number = put.number; all = put.all; mark = put.mark })
+    c.args.history c.in_ok-report_lines.ensures.room.filling
     (limits c.args.settings.now c.requires.settings).batch_some
 
 pub returns-clause-done : goal.returns-clause-done

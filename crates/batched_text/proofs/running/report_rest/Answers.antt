@@ -2,7 +2,7 @@ use Rattle.std.proofs.Common.{◌≡◌, refl, ◌∙◌, arith, rules}
 use Rattle.batched_text.proofs.running.report_rest.Goals as goal
 
 pub lines-init : goal.lines-init
-lines-init g c = record { ready = c.requires.ready; kept = c.requires.kept; batched = λ input out so. so; read_errors = refl; write_errors = refl }
+lines-init g c = record { waits = c.requires.waits; ready = c.requires.ready; kept = c.requires.kept; batched = λ input out so. so; read_errors = refl; write_errors = refl }
 
 pub returns-in_err-report_line-clause-ends : goal.returns-in_err-report_line-clause-ends
 returns-in_err-report_line-clause-ends g c = record {
@@ -17,6 +17,7 @@ lines-preserved g c =
     let reads : c.report_line.new.reader.errors ≡ c.lines.reader.errors = c.in_ok-report_line.ensures.reads in
     let writes : c.report_line.new.writer.errors ≡ c.lines.writer.errors = c.in_ok-report_line.ensures.writes in
     record {
+      waits = (rw c.if-branch.true at c.in_ok-report_line.ensures.waits) refl;
       ready = took.ready;
       kept = c.in_ok-report_line.ensures.kept;
       batched = λ input out so. took.batched input out (c.lines.invariant.batched input out so);
