@@ -104,8 +104,7 @@ impl Fills for RangeKey<'_> {
         let (ends, holding) = ends_of(self, words, holding, index, says_done(&own));
         match ends {
             Ok(ends) => {
-                let mut holding =
-                    store_place(self, words, holding, index, &own, ends.as_slice());
+                let mut holding = store_place(self, words, holding, index, &own, ends.as_slice());
                 count_run(self, &mut holding, index, own.as_slice());
                 (holding, Ok(()))
             }
