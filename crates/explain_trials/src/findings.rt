@@ -12,11 +12,7 @@ use std::alloc::{AllocError, Global};
 fn text_of(alloc: Global, engine: &Engine, place: Place) -> Result<Vec<u8>, ExplainFault> {
     let explanation = explain(alloc, engine, place)?;
     let mut text = Vec::new(alloc);
-    put_explanation(
-        &mut text,
-        engine.log().catalog().tables(),
-        &explanation,
-    )?;
+    put_explanation(&mut text, engine.log().catalog().tables(), &explanation)?;
     Ok(text)
 }
 
