@@ -176,9 +176,9 @@ module _ (settings : Settings) (old new : Batching) (reported : IsReported setti
       elim (cases_lt (finished old.engine) count) [
         | inl more ↦ omega (arith, marked more, there, mark_after settings.keep settings.batch (finished old.engine) count within)
         | inr none ↦
-          let here : mark_behind settings count count ≡ mark_behind settings (finished old.engine) (finished old.engine) =
-          (let same : count ≡ finished old.engine = omega (arith, none, within) in ap (λ (n : ℕ). mark_behind settings n n) same) in
-          omega (arith, unmarked none, cut, there, here)
+            let here : mark_behind settings count count ≡ mark_behind settings (finished old.engine) (finished old.engine) =
+            (let same : count ≡ finished old.engine = omega (arith, none, within) in ap (λ (n : ℕ). mark_behind settings n n) same) in
+            omega (arith, unmarked none, cut, there, here)
       ]
 
   -- the next batch, behind one that is due
