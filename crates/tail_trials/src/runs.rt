@@ -1,9 +1,9 @@
-//! The runs: the plain one, and those in batches.
+//! The runs: the plain one, the slow one, which reads all of a log first, and those in batches.
 
 use crate::doubles::{Bits, Report, Tail};
 use crate::fault::TrialFault;
 use batched_text::{Settings, report_text};
-use bohm_base::plain_text;
+use bohm_base::{plain_text, serial_text};
 use log_text_base::Counted;
 use std::alloc::Global;
 use std::cell::Cell;
@@ -15,6 +15,7 @@ use std::thread::Threads;
 #[derive(Clone, Copy)]
 pub enum By {
     Plain,
+    Slow,
     Batches(Settings),
 }
 
@@ -47,6 +48,7 @@ fn run<T: Threads + Wait + Sync, R: Read, W: Write>(
 ) -> Result<(), TrialFault> {
     match by {
         By::Plain => plain_text(alloc, log, report)?,
+        By::Slow => serial_text(alloc, log, report)?,
         By::Batches(settings) => report_text(rt, alloc, log, report, &settings)?,
     }
     Ok(())

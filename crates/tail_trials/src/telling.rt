@@ -48,6 +48,17 @@ fn tell_bits<R: Threads + Wait + Print + Sync>(
     Ok(())
 }
 
+/// Runs a log that comes line by line so that all of it is read first: then all reads but the first are late.
+fn tell_slow<R: Threads + Wait + Print + Sync>(
+    rt: &R,
+    alloc: Global,
+    log: &[u8],
+) -> Result<(), TrialFault> {
+    let wanted = run_log(rt, alloc, By::Plain, log, Bits::Pieces)?;
+    let found = run_log(rt, alloc, By::Slow, log, Bits::Lines)?;
+    tell_ended(rt, "slow", Bits::Lines, &found, wanted.text.as_slice())
+}
+
 /// Tells of a log that comes in each way.
 fn tell_log<R: Threads + Wait + Print + Sync>(
     rt: &R,
@@ -59,7 +70,7 @@ fn tell_log<R: Threads + Wait + Print + Sync>(
     for bits in [Bits::Lines, Bits::Halves, Bits::Pieces] {
         tell_bits(rt, alloc, log, bits)?;
     }
-    Ok(())
+    tell_slow(rt, alloc, log)
 }
 
 /// Tells of short logs.
