@@ -1,7 +1,7 @@
-//! Places of a parsed log run on shared words: a place that another pass holds, a revocation that is run before an earlier
-//! reader, a long chain asked for from its end, drawn logs by eight threads, and passes that are dropped. What is printed is
-//! compared with `stdout`. With words on the command line it does other things: `refused` runs one log with every growth tried
-//! twice, and `bench` with a shape, a stage, a number of places and of workers is what `tools/filling` measures.
+//! Places of a parsed log run on shared words: a place that another pass holds, one that is given back, a revocation that is run
+//! before an earlier reader, a long chain asked for from its end, drawn logs by eight threads, and passes that are dropped. What is
+//! printed is compared with `stdout`. With words on the command line it does other things: `refused` runs one log with every growth
+//! tried twice, and `bench` with a shape, a stage, a number of places and of workers is what `tools/filling` measures.
 #![tactic(auto)]
 
 mod asking;
@@ -14,6 +14,7 @@ mod dropped;
 mod early;
 mod fault;
 mod generator;
+mod given_back;
 mod held;
 mod logs;
 mod refused;
@@ -26,6 +27,7 @@ use drawn::tell_drawn;
 use dropped::tell_dropped;
 use early::tell_early;
 use fault::TrialFault;
+use given_back::tell_given_back;
 use held::tell_held;
 use refused::tell_refused;
 use std::alloc::Global;
@@ -39,6 +41,7 @@ use std::time::Clock;
 /// Tells the trials one after another.
 fn tell_all<R: Threads + Print + Eprint + Sync>(rt: &R, alloc: Global) -> Result<(), TrialFault> {
     tell_held(rt, alloc)?;
+    tell_given_back(rt, alloc)?;
     tell_early(rt, alloc)?;
     tell_chain(rt, alloc)?;
     tell_drawn(rt, alloc)?;

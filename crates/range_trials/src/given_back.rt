@@ -1,0 +1,117 @@
+//! A place that is given back, and then run by the pass that found it held.
+
+ghost use Rattle.std.specs.Prelude.{◌≡◌, ◌<◌, [], IfOk};
+ghost use Rattle.words.specs.Passes.{IsPassOf};
+ghost use Rattle.words.specs.Views.{Holds};
+
+use crate::batches::{nothing, words_of};
+use crate::fault::TrialFault;
+use crate::logs::{WholeLog, log_of};
+use crate::telling::{tell_asked, tell_outcome, wanted};
+use filling::RangeKey;
+use filling_base::Batch;
+use std::alloc::Global;
+use std::thread::Threads;
+use words::{Claimed, Holding, Pass, Placed, Seen};
+
+/// A row, a place that changes it, and one that reads it.
+const LINES: [&str; 4] = [
+    "alice CREATE t 1",
+    "alice RUN t:1:I | CONST 0 5 | INSERT t 1 0",
+    "alice RUN t:1:U | CONST 0 6 | STORE t 1 0 0",
+    "alice RUN t:1:R | LOAD 0 t 1 0 | OUT 0",
+];
+
+/// The place that is held.
+const HELD: usize = 2;
+
+/// The last place, which waits for it.
+const LAST: usize = 3;
+
+/// Tells what comes of both places while one is held, and of the last once the other was given back.
+fn tell_holding(
+    rt: &impl Print,
+    batch: &Batch<RangeKey<'_>>,
+    mut holding: Holding,
+    asker: Pass,
+) -> Result<Pass, TrialFault>
+    requires ours { IsPassOf batch.now holding }
+    requires asker { IsPassOf batch.now asker }
+    requires held { Holds holding.view 2 0 [] }
+    requires within { 3 < batch.now.key.batch.size }
+    ensures { IfOk result (λ asker. IsPassOf batch.now asker) }
+{
+    let asker = tell_asked(rt, batch, asker, LAST)?;
+    let asker = tell_asked(rt, batch, asker, HELD)?;
+    match batch.words().look(&mut holding, LAST) {
+        Seen::Free => {
+            batch.words().give_back(&mut holding, HELD);
+            println!(rt; "  who holds {HELD} finds {LAST} free, and gives {HELD} back")?;
+        }
+        Seen::Held | Seen::Done => println!(rt; "  who holds {HELD} finds {LAST} taken")?,
+    }
+    tell_asked(rt, batch, asker, LAST)
+}
+
+/// Takes a place by one pass, and tells what another finds.
+fn tell_calls(
+    rt: &impl Print,
+    batch: &Batch<RangeKey<'_>>,
+    holder: Pass,
+    asker: Pass,
+) -> Result<Pass, TrialFault>
+    requires holder { IsPassOf batch.now holder }
+    requires asker { IsPassOf batch.now asker }
+    requires within { 3 < batch.now.key.batch.size }
+    ensures { IfOk result (λ asker. IsPassOf batch.now asker) }
+{
+    let mut holding = Holding::begin(holder);
+    match batch.words().claim(&mut holding, HELD) {
+        Claimed::Won => tell_holding(rt, batch, holding, asker),
+        Claimed::Held | Claimed::Done => Ok(asker),
+    }
+}
+
+/// Runs the places before both, and goes on by two passes; a third tells their outcomes.
+fn tell_parts(
+    rt: &impl Print,
+    alloc: Global,
+    batch: &Batch<RangeKey<'_>>,
+    pass: Pass,
+    wanted: &[String],
+) -> Result<(), TrialFault>
+    requires { IsPassOf batch.now pass }
+{
+    if batch.key().places() <= LAST {
+        return Err(TrialFault::Short);
+    }
+    let pass = tell_asked(rt, batch, pass, 0)?;
+    let pass = tell_asked(rt, batch, pass, 1)?;
+    let (pass, holder) = batch.split(pass);
+    let (mut last, asker) = batch.split(pass);
+    let _asker = tell_calls(rt, batch, holder, asker)?;
+    for (index, wanted) in wanted.iter().enumerate() {
+        last = tell_outcome(rt, alloc, batch, last, index, wanted.as_str())?;
+    }
+    Ok(())
+}
+
+/// Tells of a log whose outcomes by the serial run are these.
+fn tell_wanted<R: Threads + Print + Sync>(
+    rt: &R,
+    alloc: Global,
+    log: &WholeLog,
+    wanted: &[String],
+) -> Result<(), TrialFault> {
+    let before = nothing(alloc, log);
+    let (batch, pass) = words_of(rt, alloc, log, &before, 1)?;
+    tell_parts(rt, alloc, &batch, pass, wanted)
+}
+
+/// Tells of a place that is given back, and then run by the pass that found it held.
+pub fn tell_given_back<R: Threads + Print + Sync>(rt: &R, alloc: Global) -> Result<(), TrialFault> {
+    println!(rt; "a place is found held, given back, and run by who found it held")?;
+    let log = log_of(alloc, &LINES)?;
+    let wanted = wanted(alloc, &log)?;
+    tell_wanted(rt, alloc, &log, wanted.as_slice())
+}
