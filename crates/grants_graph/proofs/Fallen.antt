@@ -74,9 +74,9 @@ module _ (owners : List ℕ) (deeds : List Deed) where
     tells entry is before =
         by_cases (is_among entry.grant.place after)
         (λ among.
-            let stays = false_from_ne_true (fell_at revocation.place entry)
-            (λ fell. both_ways (is_among entry.grant.place after) ((falls entry.grant.place).0 (sym is ∙ fell-end revocation.place entry fell)).1 among) in
-            stays ∙ sym (ap not among))
+        let stays = false_from_ne_true (fell_at revocation.place entry)
+        (λ fell. both_ways (is_among entry.grant.place after) ((falls entry.grant.place).0 (sym is ∙ fell-end revocation.place entry fell)).1 among) in
+        stays ∙ sym (ap not among))
         (λ out. end-fell revocation.place entry (is ∙ (falls entry.grant.place).1 (before, out)) ∙ sym (ap not out))
 
     pub fallen-lost : fallen revocation.place (records owners deeds) ≡ ended_by owners past revocation
