@@ -1,5 +1,5 @@
 -- Which of the drawn grants fell at the place.
-use Rattle.std.proofs.Common.{◌≡◌, ◌≢◌, ◌↔◌, ℕ, Bool, true, false, not, Option, Some, None, List, [], ◌∷◌, ◌++◌, filter, map, refl, sym, ◌∙◌, ap, subst, arith}
+use Rattle.std.proofs.Common.{◌≡◌, ◌≢◌, ◌↔◌, ℕ, true, false, not, Option, Some, None, List, [], ◌∷◌, ◌++◌, filter, map, refl, sym, ◌∙◌, ap, subst}
 use Rattle.std.specs.Prelude.{◌==◌, All, Contains, get_or}
 use Rattle.std.specs.Option.{option_map_or}
 use Rattle.std.proofs.lemmas.Bool.{both_ways, eq-eqb, eqb-true, false≢true, false_from_ne_true, or_right}
@@ -9,7 +9,7 @@ use Rattle.model_base.specs.declared.deed.Record.{Record}
 use Rattle.model_base.specs.declared.deed.Revocation.{Revocation}
 use Rattle.model_base.specs.declared.deed.Deed.{Deed}
 use Rattle.model_base.specs.declared.deed.Deed.TheVariants.{Revoking}
-use Rattle.model_base.specs.Privileges.{IsProper, ended_by, is_among, kept, lost}
+use Rattle.model_base.specs.Privileges.{ended_by, is_among, kept, lost}
 use Rattle.model_base.specs.Records.{end_after, grants_of, record_of, recorded, records}
 use Rattle.grants_graph.specs.Drawn.{drawn, fallen, fell_at, is_in_force_at}
 use Rattle.grants_graph.proofs.Below.{by_cases}

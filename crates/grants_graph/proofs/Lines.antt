@@ -1,5 +1,5 @@
 -- The lines of a digraph, one after another.
-use Rattle.std.proofs.Common.{◌≡◌, ◌∷◌, ◌++◌, ℕ, ◌+◌, ◌<◌, Bool, true, false, List, [], filter, length, take, get_or, refl, sym, ◌∙◌, ap, if◌then◌else◌, arith, append_assoc}
+use Rattle.std.proofs.Common.{◌≡◌, ◌∷◌, ◌++◌, ℕ, ◌+◌, ◌<◌, Bool, List, [], filter, length, take, get_or, refl, sym, ◌∙◌, ap, if◌then◌else◌, arith, append_assoc}
 use Rattle.std.specs.List.{enumerate_from, flat_map}
 use Rattle.std.proofs.lemmas.Grind.{flat_map-append}
 use Rattle.std.proofs.lemmas.List.{append-nil, length-take-le, take_more}

@@ -37,10 +37,13 @@ need_of grant = record { table = grant.table; kind = grant.kind; option = grant.
 abbrev pub label_text : List (List ℕ) → Grant → List ℕ
 label_text tables grant = decimal grant.place ++ codes " " ++ need_text tables (need_of grant)
 
--- how the edge of a grant ends: one that fell at the place is dashed
+-- how the edge of a grant ends that fell at the place: it is dashed
+abbrev pub fallen_text : ℕ → List ℕ
+fallen_text place = cause_text (Taken place) ++ codes "\", style=dashed];\n"
+
+-- how the edge of a grant ends
 abbrev pub ending_text : ℕ → Record → List ℕ
-ending_text place entry =
-    if fell_at place entry then cause_text (Taken place) ++ codes "\", style=dashed];\n" else codes "\"];\n"
+ending_text place entry = if fell_at place entry then fallen_text place else codes "\"];\n"
 
 -- the line of a grant: an edge from its grantor to its grantee
 abbrev pub edge_text : List (List ℕ) → List (List ℕ) → ℕ → Record → List ℕ

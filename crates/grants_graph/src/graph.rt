@@ -5,7 +5,7 @@ ghost use Rattle.std.specs.Fmt.{decimal};
 ghost use Rattle.std.specs.List.{flat_map};
 ghost use Rattle.report.specs.Text.{table_name};
 ghost use Rattle.grants_graph.specs.Drawn.{drawn, fell_at, is_in_force_at, tables_drawn};
-ghost use Rattle.grants_graph.specs.Graph.{box_text, edge_text, ending_text, graph_text, label_text, owner_text, user_text};
+ghost use Rattle.grants_graph.specs.Graph.{box_text, edge_text, ending_text, fallen_text, graph_text, label_text, owner_text, user_text};
 
 use grants::{Book, Creation};
 use itoa::Buffer;
@@ -100,6 +100,17 @@ fn put_place(text: &mut Vec<u8>, place: Place) -> Result<(), AllocError>
     text.extend_from_slice(buffer.format(place).as_bytes())
 }
 
+/// Puts that a grant is with the option.
+fn put_option(text: &mut Vec<u8>, option: bool) -> Result<(), AllocError>
+    ensures { OnOk result (text.new.items ≡ text.old.items ++ (if option then codes " option" else [])) }
+{
+    if option {
+        text.extend_from_slice(b" option")
+    } else {
+        Ok(())
+    }
+}
+
 /// Puts the label of a grant: its place, its kind, its table, and whether it is with the option.
 fn put_label(text: &mut Vec<u8>, tables: &NameTable, grant: &Grant) -> Result<(), AllocError>
     ensures { OnOk result (text.new.items ≡ text.old.items ++ label_text tables.now grant.now) }
@@ -109,10 +120,7 @@ fn put_label(text: &mut Vec<u8>, tables: &NameTable, grant: &Grant) -> Result<()
     text.extend_from_slice(kind_word(grant.kind).as_bytes())?;
     text.extend_from_slice(b" ")?;
     put_name(text, tables, grant.table.0 as usize)?;
-    if grant.option {
-        text.extend_from_slice(b" option")?;
-    }
-    Ok(())
+    put_option(text, grant.option)
 }
 
 /// Whether the grant fell at the place.
@@ -125,15 +133,23 @@ fn fell_at(place: Place, entry: &Record) -> bool
     }
 }
 
-/// Puts how the edge of a grant ends: dashed, and with the place, if it fell there.
+/// Puts how the edge of a grant ends that fell at the place: it is dashed, and says the place.
+fn put_fallen(text: &mut Vec<u8>, place: Place) -> Result<(), AllocError>
+    ensures { OnOk result (text.new.items ≡ text.old.items ++ fallen_text place) }
+{
+    put_cause(text, Cause::Taken(place))?;
+    text.extend_from_slice(b"\", style=dashed];\n")
+}
+
+/// Puts how the edge of a grant ends.
 fn put_ending(text: &mut Vec<u8>, place: Place, entry: &Record) -> Result<(), AllocError>
     ensures { OnOk result (text.new.items ≡ text.old.items ++ ending_text place entry.now) }
 {
-    if !fell_at(place, entry) {
-        return text.extend_from_slice(b"\"];\n");
+    if fell_at(place, entry) {
+        put_fallen(text, place)
+    } else {
+        text.extend_from_slice(b"\"];\n")
     }
-    put_cause(text, Cause::Taken(place))?;
-    text.extend_from_slice(b"\", style=dashed];\n")
 }
 
 /// Puts a grant as an edge from its grantor to its grantee.

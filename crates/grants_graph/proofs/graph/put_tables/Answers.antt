@@ -1,4 +1,3 @@
-use Rattle.std.proofs.Common.{◌≡◌}
 use Rattle.grants_graph.specs.Graph.{owner_text}
 use Rattle.grants_graph.proofs.Lines.{tables-more}
 use Rattle.grants_graph.proofs.graph.put_tables.Goals as goal

@@ -1,12 +1,9 @@
-use Rattle.std.proofs.Common.{◌≡◌, ◌↔◌, ◌∷◌, ◌++◌, ℕ, true, false, List, [], Option, Some, sym, ◌∙◌, ap, subst}
-use Rattle.std.specs.Prelude.{All, Contains}
+use Rattle.std.proofs.Common.{◌≡◌, ◌↔◌, ◌∷◌, ◌++◌, ℕ, true, false, List, [], Some, sym, ◌∙◌, ap, subst}
 use Rattle.model_base.specs.declared.deed.Deed.{Deed}
 use Rattle.model_base.specs.declared.deed.Deed.TheVariants.{Revoking}
 use Rattle.model_base.specs.declared.deed.Record.{Record}
-use Rattle.model_base.specs.declared.deed.Revocation.{Revocation}
-use Rattle.model_base.specs.Privileges.{IsProper, ended_by, is_among, kept}
-use Rattle.model_base.specs.Records.{cut, deeds_below, end_after, in_force, recorded, records}
-use Rattle.std.proofs.lemmas.List.Elements.{All-weaker}
+use Rattle.model_base.specs.Privileges.{IsProper, is_among, kept}
+use Rattle.model_base.specs.Records.{deeds_below, end_after, in_force, recorded, records}
 use Rattle.grants_graph.specs.Drawn.{drawn, fallen}
 use Rattle.grants_graph.proofs.Below.{below-proper, drawn-cut, split-at}
 use Rattle.grants_graph.proofs.Fallen.{fallen-lost, fallen-none}
