@@ -1,47 +1,25 @@
--- An ordered map of which one entry changed: the rows that it holds, and the keys that have an entry.
-use Rattle.std.proofs.Common.{◌≡◌, ℕ, ℤ, true, false, ◌&&◌, Option, Some, None, List, refl, sym, ◌∙◌, ap, arith, cond, eqb, ltb, subst}
+-- A map of which one entry changed: the rows that it holds, and the keys that have an entry.
+use Rattle.std.proofs.Common.{◌≡◌, ℕ, ℤ, true, false, Option, Some, None, List, refl, sym, ◌∙◌, ap, cond, subst}
 use Rattle.std.specs.Prelude.{unwrap_or, is_some, IsSome}
 use mathlib.Core.Path.{fun_ext}
-use Rattle.std.specs.BTreeMap.{get, is_at}
-use Rattle.std.specs.Ordering.{is_eq, nat_cmp, ordering_then}
-use Rattle.std.specs.declared.cmp.Ordering.{Ordering}
-use Rattle.std.specs.declared.cmp.Ordering.TheVariants.{Less, Equal, Greater}
-use Rattle.std.proofs.lemmas.Bool.Decides.{nat_tests}
+use Rattle.std.specs.HashMap.{get}
 use Rattle.model_base.specs.Rows.{with_row}
 use Rattle.model_base.specs.declared.row.Key.{Key}
 use Rattle.body.specs.declared.row_map.RowMap.{RowMap}
-use Rattle.body.specs.RowMap.{key_cmp, entry_of, rows_of, HasEntry}
+use Rattle.body.specs.RowMap.{key_eq, entry_of, rows_of, HasEntry}
 use Rattle.body.specs.Room.{same_key}
 use Rattle.body.proofs.Rows.{by_cases, same_key-true, same_key-own, with_row-own}
-
-is_eq-nat_cmp : (x y : ℕ) → is_eq (nat_cmp x y) ≡ eqb x y
-is_eq-nat_cmp x y =
-    by_cases (ltb x y)
-    (λ less. let other : eqb x y ≡ false = grind (arith, nat_tests) in rw (less, other) refl)
-    (λ same. rw same (by_cases (eqb x y) (λ e. rw e refl) (λ e. rw e refl)))
-
-is_eq-ordering_then : (o p : Ordering) → is_eq (ordering_then o p) ≡ (is_eq o && is_eq p)
-is_eq-ordering_then Less p = refl
-is_eq-ordering_then Equal p = refl
-is_eq-ordering_then Greater p = refl
 
 abbrev key : ℕ → ℕ → Key
 key t r = record { table = t; row = r }
 
--- only a key itself is equal to it
-at_key : (t r u s : ℕ) → is_at (key_cmp (key t r)) (key u s) ≡ same_key t r u s
-at_key t r u s =
-    is_eq-ordering_then (nat_cmp t u) (nat_cmp r s)
-    ∙ ap (λ b. b && is_eq (nat_cmp r s)) (is_eq-nat_cmp t u)
-    ∙ ap (λ b. eqb t u && b) (is_eq-nat_cmp r s)
-
 -- the second map has this entry at the key, and the first map's at each other key
 abbrev pub Puts : RowMap → RowMap → Key → Option (Option (List ℤ)) → Type 0
-Puts m n k w = (q : Key) → get key_cmp n.entries q ≡ cond (is_at (key_cmp k) q) w (get key_cmp m.entries q)
+Puts m n k w = (q : Key) → get key_eq n.entries q ≡ cond (key_eq k q) w (get key_eq m.entries q)
 
 module _ (m n : RowMap) (t r : ℕ) (w : Option (Option (List ℤ))) (puts : Puts m n (record { table = t; row = r }) w) where
   entry_put : (u s : ℕ) → entry_of n u s ≡ cond (same_key t r u s) w (entry_of m u s)
-  entry_put u s = puts (key u s) ∙ ap (λ b. cond b w (entry_of m u s)) (at_key t r u s)
+  entry_put u s = puts (key u s)
 
   -- the rows change at the key alone
   pub rows_put : rows_of n ≡ with_row (rows_of m) t r (unwrap_or w None)

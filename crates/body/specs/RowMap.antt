@@ -1,19 +1,18 @@
--- The rows that an ordered map holds.
-use Rattle.std.specs.Prelude.{ℕ, ℤ, Option, None, List, IsSome, unwrap_or}
-use Rattle.std.specs.BTreeMap.{get}
-use Rattle.std.specs.Ordering.{nat_cmp, ordering_then}
-use Rattle.std.specs.declared.cmp.Ordering.{Ordering}
+-- The rows that a map by hash holds.
+use Rattle.std.specs.Prelude.{ℕ, ℤ, Bool, Option, None, List, IsSome, unwrap_or}
+use Rattle.std.specs.HashMap.{get}
 use Rattle.model_base.specs.Rows.{Rows}
 use Rattle.model_base.specs.declared.row.Key.{Key}
+use Rattle.body.specs.Room.{same_key}
 use Rattle.body.specs.declared.row_map.RowMap.{RowMap}
 
--- the order of keys: by table, and in a table by the row's number
-abbrev pub key_cmp : Key → Key → Ordering
-key_cmp a b = ordering_then (nat_cmp a.table b.table) (nat_cmp a.row b.row)
+-- whether two keys are one
+abbrev pub key_eq : Key → Key → Bool
+key_eq a b = same_key a.table a.row b.table b.row
 
 -- the entry of a key
 abbrev pub entry_of : RowMap → ℕ → ℕ → Option (Option (List ℤ))
-entry_of map table row = get key_cmp map.entries (record { table = table; row = row })
+entry_of map table row = get key_eq map.entries (record { table = table; row = row })
 
 -- the rows that the map holds
 abbrev pub rows_of : RowMap → Rows

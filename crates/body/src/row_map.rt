@@ -1,4 +1,4 @@
-//! An ordered map as the store of the rows of all tables.
+//! A map by hash as the store of the rows of all tables.
 
 ghost use Rattle.std.specs.Prelude.{◌≡◌};
 ghost use Rattle.model_base.specs.Rows.{no_rows};
@@ -8,13 +8,13 @@ ghost use Rattle.body.specs.RowMap.{HasEntry, rows_of};
 use crate::filling::{RowSource, RowStore};
 use model_base::{Key, Row};
 use std::alloc::{AllocError, Global};
-use std::collections::BTreeMap;
+use std::collections::HashMap;
 
-/// The rows of all tables, in the order of their keys. A key with no entry has no row; nor has a key whose entry is
-/// `None`, which stands while rows are written.
+/// The rows of all tables. A row is found in a time that doesn't grow with their number, on average. A key with no entry has
+/// no row; nor has a key whose entry is `None`, which stands while rows are written.
 #[derive(Drop)]
 pub struct RowMap {
-    entries: BTreeMap<Key, Option<Row>>,
+    entries: HashMap<Key, Option<Row>>,
 }
 
 impl RowMap {
@@ -24,7 +24,7 @@ impl RowMap {
         ensures lean { IsLean (HasEntry result) (rows_of result) }
     {
         RowMap {
-            entries: BTreeMap::new(alloc),
+            entries: HashMap::new(alloc),
         }
     }
 }

@@ -6,7 +6,6 @@ use Rattle.std.proofs.lemmas.List.{length-append, length-map}
 use Rattle.std.specs.BTreeMap.{insert_entry, is_at}
 use Rattle.std.specs.Map.{lookup, remove_entry, set_value}
 use Rattle.model_base.specs.declared.row.Key.{Key}
-use Rattle.body.specs.RowMap.{key_cmp}
 use Rattle.body.proofs.Rows.{same_key-own}
 use Rattle.chains.specs.declared.chain.Dated.{Dated}
 use Rattle.chains.specs.declared.version.Version.{Version}
@@ -14,7 +13,7 @@ use Rattle.chains.specs.Chain.{is_spent_chain, newest_below}
 use Rattle.chains.specs.Keyed.{version_at, versions_in, without_all, without_first, without_last}
 use Rattle.chains.specs.Store.{is_spent, newest_or, of_key}
 use Rattle.chains.proofs.Keyed.{among-own, among-put, among-last, among-first, none-last, none-first}
-use Rattle.chains.proofs.Entries.{Entries, Found, Gap, absent-none, around, without}
+use Rattle.chains.proofs.Entries.{Entries, Found, Gap, absent-none, around, without, key_cmp}
 use Rattle.chains.proofs.Newest.{newest-of_key}
 
 -- a version was put behind the others of its key, and taking it out again undoes that

@@ -13,12 +13,15 @@ use Rattle.std.proofs.lemmas.List.Elements.{filter-append}
 use Rattle.std.proofs.lemmas.Map.Keys.{sorted_head, sorted_tail}
 use Rattle.model_base.specs.declared.row.Key.{Key}
 use Rattle.body.specs.Room.{same_key}
-use Rattle.body.specs.RowMap.{key_cmp}
 use Rattle.body.proofs.Rows.{by_cases, same_key-true, same_key-of}
 use Rattle.chains.specs.declared.chain.Dated.{Dated}
 use Rattle.chains.specs.Keyed.{version_at, versions_in}
 use Rattle.chains.specs.Store.{is_of, of_key}
 use Rattle.chains.proofs.Keyed.{key-is, other-key}
+
+-- the order of keys: by table, and in a table by the row's number
+abbrev pub key_cmp : Key → Key → Ordering
+key_cmp a b = ordering_then (nat_cmp a.table b.table) (nat_cmp a.row b.row)
 
 abbrev pub Entries : Type 0
 Entries = List (Key × List Dated)

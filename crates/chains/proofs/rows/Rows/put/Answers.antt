@@ -3,12 +3,11 @@ use Rattle.std.proofs.lemmas.Bool.Decides.{nat_tests}
 use Rattle.std.specs.BTreeMap.{BTreeMap, insert_entry, is_at}
 use Rattle.std.specs.Map.{set_value}
 use Rattle.model_base.specs.declared.row.Key.{Key}
-use Rattle.body.specs.RowMap.{key_cmp}
 use Rattle.chains.specs.declared.chain.Dated.{Dated}
 use Rattle.chains.specs.declared.version.Version.{Version}
 use Rattle.chains.specs.Keyed.{version_at, versions_in}
 use Rattle.chains.specs.Store.{of_key}
-use Rattle.chains.proofs.Entries.{Found, absent-none, found, gap}
+use Rattle.chains.proofs.Entries.{Found, absent-none, found, gap, key_cmp}
 use Rattle.chains.proofs.Changed.{IsPut, on_err, own-found, put-found, put-new, rewritten}
 use Rattle.chains.proofs.rows.Rows.put.Goals as goal
 

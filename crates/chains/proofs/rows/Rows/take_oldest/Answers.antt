@@ -2,10 +2,9 @@ use Rattle.std.proofs.Common.{◌≡◌, Some, List, [], ◌∷◌, sym, ◌∙�
 use Rattle.std.specs.BTreeMap.{BTreeMap, is_at}
 use Rattle.std.specs.Map.{remove_entry, set_value}
 use Rattle.model_base.specs.declared.row.Key.{Key}
-use Rattle.body.specs.RowMap.{key_cmp}
 use Rattle.chains.specs.declared.chain.Dated.{Dated}
 use Rattle.chains.specs.Keyed.{versions_in, without_first}
-use Rattle.chains.proofs.Entries.{Found, found}
+use Rattle.chains.proofs.Entries.{Found, found, key_cmp}
 use Rattle.chains.proofs.Changed.{absent-first, removed-first, rewritten, shortened-first}
 use Rattle.chains.proofs.rows.Rows.take_oldest.Goals as goal
 
