@@ -4,3 +4,4 @@ pub mod Reports
 pub mod Sofar
 pub mod Ended
 pub mod Cutting
+pub mod TakenLines

@@ -48,7 +48,7 @@ impl Batching {
 }
 
 /// Trims the rows to the mark.
-fn trim_to(engine: &mut Engine, mark: Place)
+pub(crate) fn trim_to(engine: &mut Engine, mark: Place)
     requires order { engine.old.store.mark ≤ mark }
     requires within { mark ≤ finished engine.old }
     ensures mark { engine.new.store.mark ≡ mark }

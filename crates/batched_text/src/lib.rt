@@ -8,10 +8,13 @@ mod batching;
 mod history;
 mod laws;
 mod lines;
+mod quiet;
 mod reporting;
 mod running;
 mod settings;
 
 pub use laws::reports_stand;
+pub use quiet::run_quietly;
+pub use reporting::put_place;
 pub use running::{report_text, run_text};
 pub use settings::Settings;

@@ -40,7 +40,7 @@ fn take_statement(engine: &mut Engine, statement: RawStatement) -> Result<Became
 }
 
 /// Takes the statement that a line was read as into the log if it is one that is not refused, and says what the line became.
-fn take_read(
+pub(crate) fn take_read(
     engine: &mut Engine,
     found: Result<RawStatement, LineFault>,
 ) -> Result<Became, EngineFault>

@@ -13,8 +13,9 @@ use model_base::Place;
 use report::{put_fault, put_outcome, put_refused};
 use std::alloc::AllocError;
 
-/// Puts the report's line for a place that is finished behind the text.
-fn put_place(text: &mut Vec<u8>, engine: &Engine, place: Place) -> Result<(), AllocError>
+/// Puts the report's line behind the text for a place that is finished, and whose statement and outcome are kept. An error is want
+/// of memory: some of the line may stand behind the text then.
+pub fn put_place(text: &mut Vec<u8>, engine: &Engine, place: Place) -> Result<(), AllocError>
     requires kept { engine.now.dropped ≤ place }
     requires within { place < finished engine.now }
     ensures { OnOk result (text.new.items ≡ text.old.items ++ place_text engine.now.log.statements engine.now.log.names.tables place) }

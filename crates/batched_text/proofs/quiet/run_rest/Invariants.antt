@@ -1,0 +1,12 @@
+use Rattle.std.proofs.Common.{◌≡◌, ◌-◌, length}
+use Rattle.engine.specs.Engine.{finished}
+use Rattle.batched_text.proofs.quiet.run_rest.Given as goal
+
+abbrev pub invariant-batches : goal.invariant-batches
+invariant-batches g l = record {
+  log : l.engine.log ≡ l.initial.engine.log;
+  dropped : l.engine.dropped ≡ l.initial.engine.dropped;
+}
+
+abbrev pub decreases-batches : goal.decreases-batches
+decreases-batches g l = length l.engine.log.statements - finished l.engine

@@ -1,0 +1,18 @@
+use Rattle.std.proofs.Common.{◌≡◌, ◌<◌, ◌≤◌, ◌+◌, ◌^◌, ◌-◌, length}
+use Rattle.std.specs.Io.KnownBytes.{prepend_known}
+use Rattle.log_text_base.specs.Ahead.{ahead}
+use Rattle.engine.specs.Engine.{finished}
+use Rattle.batched_text.proofs.TakenLines.{TakenSoFar}
+use Rattle.batched_text.proofs.quiet.take_lines.Given as goal
+
+abbrev pub invariant-lines : goal.invariant-lines
+invariant-lines g l = record {
+  taken : TakenSoFar (g.R.Read.remaining l.initial.reader.inner) (prepend_known (ahead l.lines) (g.R.Read.remaining l.reader.inner)) l.engine.log;
+  none : finished l.engine ≡ finished l.initial.engine;
+  kept : l.engine.dropped ≡ l.initial.engine.dropped;
+  bounded : 0 < length (ahead l.lines) → l.reader.given ≤ 2 ^ 62 + 65536;
+  read_errors : l.reader.errors ≡ l.initial.reader.errors;
+}
+
+abbrev pub decreases-lines : goal.decreases-lines
+decreases-lines g l = 2 ^ 62 + 65536 + length (ahead l.lines) - l.reader.given
