@@ -1,9 +1,23 @@
 -- Names that are looked up among the keys of a set.
-use Rattle.std.proofs.Common.{◌≡◌, ℕ, ◌+◌, Bool, true, false, not, cond, List, [], ◌∷◌, ◌++◌, length, map, Some, None, refl, ap, sym, ◌∙◌}
+use Rattle.std.proofs.Common.{◌≡◌, ℕ, ◌+◌, ◌<◌, Bool, true, false, not, cond, List, [], ◌∷◌, ◌++◌, length, map, slice_get, Some, None, refl, ap, sym, ◌∙◌, subst, true≢false, arith}
 use Rattle.std.specs.Prelude.{bytes_eq, position, nat_lt, ◌||◌}
-use Rattle.std.specs.List.{list_any, prefix_len, position_or_len}
+use Rattle.std.specs.List.{list_any, prefix_len, position_or_len, IsDistinct}
+use Rattle.std.proofs.Math.ListN.{get_or}
+use Rattle.std.proofs.lemmas.Bool.{lt-ltb}
+use Rattle.std.proofs.lemmas.List.Sums.{position_or_len_is}
+use Rattle.std.proofs.lemmas.Map.Keys.{any_passes_from_place, apart_from_distinct}
+use Rattle.std.proofs.lemmas.Option.{get_or_from_slice_get, slice_get_within}
+use Rattle.std.proofs.lemmas.Slice.Eq.{bytes_eq-Decides}
 use Rattle.std.proofs.lemmas.List.{length-map, map-append}
 use Rattle.sequencer.specs.Names.{is_known, known_number, number_of, with_name}
+
+-- names that differ, whichever stands first
+differ_back : (first second : List ℕ) → bytes_eq first second ≡ false → bytes_eq second first ≡ false
+differ_back first second differ = by (bytes_eq second first) refl
+  where
+    by : (b : Bool) → bytes_eq second first ≡ b → b ≡ false
+    by false is = refl
+    by true is = absurd (true≢false (sym ((bytes_eq-Decides first second).1 (sym ((bytes_eq-Decides second first).0 is))) ∙ differ))
 
 module _ {X : Type 0} (view : X → List ℕ) where
   prefix_len-map : (p : List ℕ → Bool) (xs : List X) → prefix_len p (map view xs) ≡ prefix_len (λ x. p (view x)) xs
@@ -32,3 +46,34 @@ module _ {X : Type 0} (view : X → List ℕ) where
     where
       choose : (b : Bool) → map view (cond b xs (xs ++ k ∷ [])) ≡ cond b (map view xs) (map view xs ++ view k ∷ [])
       choose b = elim b as (λ v. map view (cond v xs (xs ++ k ∷ [])) ≡ cond v (map view xs) (map view xs ++ view k ∷ [])) [ true ↦ refl | false ↦ map-append view xs (k ∷ []) ]
+
+  -- where the names are distinct, each has the number at which it stands
+  pub own_number : (keys : List X) (i : ℕ) (key : X) (name : List ℕ) → IsDistinct (λ x y. bytes_eq (view x) (view y)) keys
+      → slice_get keys i ≡ Some key → view key ≡ name → known_number (map view keys) name ≡ Some i
+  own_number keys i key name distinct at same =
+      known_number-map name keys ∙ ap (λ (n : ℕ). cond (nat_lt n (length keys)) (Some n) None) first
+      ∙ ap (λ (b : Bool). cond b (Some i) None) (lt-ltb i (length keys) within)
+    where
+      test : X → Bool
+      test x = bytes_eq name (view x)
+
+      within : i < length keys
+      within = slice_get_within keys i key at
+
+      own : get_or keys i key ≡ key
+      own = get_or_from_slice_get keys i key key at
+
+      passes : test (get_or keys i key) ≡ true
+      passes = (bytes_eq-Decides name (view (get_or keys i key))).1 (sym same ∙ sym (ap view own))
+
+      others : (k : ℕ) → k < i → test (get_or keys k key) ≡ false
+      others k low =
+          subst (λ (n : List ℕ). bytes_eq n (view (get_or keys k key)) ≡ false) (ap view own ∙ same)
+          (differ_back (view (get_or keys k key)) (view (get_or keys i key)) (apart_from_distinct _ keys k i key distinct low within))
+
+      first : position_or_len test keys ≡ i
+      first = position_or_len_is test keys i key (omega (arith, within)) others (λ _. passes)
+
+  pub own_known : (keys : List X) (i : ℕ) (key : X) (name : List ℕ) → slice_get keys i ≡ Some key → view key ≡ name → is_known (map view keys) name ≡ true
+  own_known keys i key name at same =
+      is_known-map name keys ∙ any_passes_from_place (λ x. bytes_eq name (view x)) keys i key at ((bytes_eq-Decides name (view key)).1 (sym same))

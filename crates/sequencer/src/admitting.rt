@@ -27,7 +27,8 @@ impl Catalog {
         ensures err { OnErr result (self.new ≡ self.old) }
     {
         let (table, grantee) = names_in(deed);
-        let table = self.known_table(table)?;
+        let mut recent = self.recent;
+        let table = self.known_table(&mut recent, table)?;
         let (user, grantee) = self.users.enter_both(user.as_str(), grantee.as_str())?;
         Ok((User(user), deed_form(deed, table, User(grantee))))
     }
@@ -75,8 +76,10 @@ impl Catalog {
         ensures refused { IfErr result (λ r. IsRefusal r (refusal self.old record { user = user.now; form = RawForm.Run accesses steps deed.now })) }
         ensures err { OnErr result (self.new ≡ self.old) }
     {
-        let accesses = self.numbered_accesses(accesses.as_slice(), room.accesses)?;
-        let steps = self.numbered_steps(steps, room.steps)?;
+        let mut recent = self.recent;
+        let accesses = self.numbered_accesses(&mut recent, accesses.as_slice(), room.accesses)?;
+        let steps = self.numbered_steps(&mut recent, steps, room.steps)?;
+        self.recent = recent;
         let (user, deed) = self.enter_users(user, deed)?;
         self.places += 1;
         Ok(Statement {

@@ -15,6 +15,8 @@ pub struct Catalog {
     pub(crate) owners: Vec<User>,
     pub(crate) columns: Vec<u8>,
     pub(crate) places: u64,
+    /// The table that a statement named last. It says nothing of the names: it is only tried first.
+    pub(crate) recent: Table,
     pub(crate) alloc: Global,
 }
 
@@ -48,6 +50,7 @@ impl Catalog {
             owners: Vec::new(alloc),
             columns: Vec::new(alloc),
             places: 0,
+            recent: Table(0),
             alloc,
         }
     }

@@ -58,6 +58,21 @@ impl NameTable {
         Some(index as u32)
     }
 
+    /// The number of a name, if it is there, as `find`. The name of one number is compared first: where it is the same, nothing
+    /// is hashed.
+    pub(crate) fn find_near(&self, near: u32, name: &str) -> Option<u32>
+        ensures number { result ≡ known_number self.now name.now }
+        ensures known { is_some result ≡ is_known self.now name.now }
+    {
+        let names = self.names.as_slice();
+        if let Some(own) = names.get(near as usize) {
+            if own.as_str() == name {
+                return Some(near);
+            }
+        }
+        self.find(name)
+    }
+
     /// The name of this number.
     pub fn name(&self, number: u32) -> &str
         requires { number < length self.now }

@@ -62,12 +62,13 @@ impl Catalog {
     /// The access with its table by number. It has to be to a known table, and to another row than those before it.
     pub(crate) fn numbered_access(
         &self,
+        recent: &mut Table,
         earlier: &[RawAccess],
         access: &RawAccess,
     ) -> Result<Access, Refused>
         ensures { IsAnswerOf result (access_refusal self.now earlier.now access.now) (numbered_access self.now access.now) }
     {
-        let table = self.known_table(&access.table)?;
+        let table = self.known_table(recent, &access.table)?;
         if is_repeated(access, earlier) {
             return Err(Refused::DuplicateAccess);
         }
@@ -83,6 +84,7 @@ impl Catalog {
     /// The accesses with their tables by number, from left to right. They go where room was made.
     pub(crate) fn numbered_accesses(
         &self,
+        recent: &mut Table,
         accesses: &[RawAccess],
         mut found: Vec<Access>,
     ) -> Result<Items<Access>, Refused>
@@ -91,7 +93,7 @@ impl Catalog {
         ensures { IsAnswerOf result (accesses_refusal self.now [] accesses.now) (map (numbered_access self.now) accesses.now) }
     {
         for (index, access) in accesses.iter().enumerate() {
-            found.push_reserved(self.numbered_access(&accesses[..index], access)?);
+            found.push_reserved(self.numbered_access(recent, &accesses[..index], access)?);
         }
         Ok(Items::new(found))
     }
@@ -99,6 +101,7 @@ impl Catalog {
     /// A LOAD with its table by number. The table has to be known, and to have the column.
     fn numbered_load(
         &self,
+        recent: &mut Table,
         to: Register,
         table: &Name,
         row: RowName,
@@ -106,7 +109,7 @@ impl Catalog {
     ) -> Result<Step, Refused>
         ensures { IsAnswerOf result (column_refusal self.now table.now column) (Step.Load to (number_of self.now.tables table.now) row column) }
     {
-        let table = self.table_with_column(table, column)?;
+        let table = self.table_with_column(recent, table, column)?;
         Ok(Step::Load {
             to,
             table,
@@ -118,6 +121,7 @@ impl Catalog {
     /// A STORE with its table by number. The table has to be known, and to have the column.
     fn numbered_store(
         &self,
+        recent: &mut Table,
         table: &Name,
         row: RowName,
         column: u32,
@@ -125,7 +129,7 @@ impl Catalog {
     ) -> Result<Step, Refused>
         ensures { IsAnswerOf result (column_refusal self.now table.now column) (Step.Store (number_of self.now.tables table.now) row column from) }
     {
-        let table = self.table_with_column(table, column)?;
+        let table = self.table_with_column(recent, table, column)?;
         Ok(Step::Store {
             table,
             row,
@@ -136,7 +140,12 @@ impl Catalog {
 
     /// The step with its table by number, where so many steps come later. It has to fit the table, and to pass over no
     /// more steps than there are.
-    fn numbered_step(&self, later: usize, step: RawStep) -> Result<Step, Refused>
+    fn numbered_step(
+        &self,
+        recent: &mut Table,
+        later: usize,
+        step: RawStep,
+    ) -> Result<Step, Refused>
         ensures { IsAnswerOf result (step_refusal self.now later step) (numbered_step self.now step) }
     {
         Ok(match step {
@@ -147,7 +156,7 @@ impl Catalog {
             RawStep::Less { to, left, right } => Step::Less { to, left, right },
             RawStep::Same { to, left, right } => Step::Same { to, left, right },
             RawStep::Has { to, table, row } => {
-                let table = self.known_table(&table)?;
+                let table = self.known_table(recent, &table)?;
                 Step::Has { to, table, row }
             }
             RawStep::Load {
@@ -155,19 +164,19 @@ impl Catalog {
                 table,
                 row,
                 column,
-            } => self.numbered_load(to, &table, row, column)?,
+            } => self.numbered_load(recent, to, &table, row, column)?,
             RawStep::Store {
                 table,
                 row,
                 column,
                 from,
-            } => self.numbered_store(&table, row, column, from)?,
+            } => self.numbered_store(recent, &table, row, column, from)?,
             RawStep::Insert { table, row, from } => {
-                let table = self.table_of_width(&table, from.as_slice().len())?;
+                let table = self.table_of_width(recent, &table, from.as_slice().len())?;
                 Step::Insert { table, row, from }
             }
             RawStep::Delete { table, row } => {
-                let table = self.known_table(&table)?;
+                let table = self.known_table(recent, &table)?;
                 Step::Delete { table, row }
             }
             RawStep::Check { of } => Step::Check { of },
@@ -182,6 +191,7 @@ impl Catalog {
     /// The steps with their tables by number, from left to right. They go where room was made.
     pub(crate) fn numbered_steps(
         &self,
+        recent: &mut Table,
         steps: Items<RawStep>,
         mut found: Vec<Step>,
     ) -> Result<Items<Step>, Refused>
@@ -192,7 +202,7 @@ impl Catalog {
         let mut later = steps.as_slice().len();
         for step in steps.into_vec() {
             later -= 1;
-            found.push_reserved(self.numbered_step(later, step)?);
+            found.push_reserved(self.numbered_step(recent, later, step)?);
         }
         Ok(Items::new(found))
     }

@@ -80,13 +80,17 @@ pub(crate) fn test_skip(steps: u32, later: usize) -> Result<(), Refused>
 }
 
 impl Catalog {
-    /// The table of a name that has to be known.
-    pub(crate) fn known_table(&self, name: &Name) -> Result<Table, Refused>
+    /// The table of a name that has to be known. The recent table is tried first, and the one that is answered is the
+    /// recent one then.
+    pub(crate) fn known_table(&self, recent: &mut Table, name: &Name) -> Result<Table, Refused>
         ensures answer { IsAnswerOf result (unless (is_known self.now.tables name.now) Refused.UnknownTable) (number_of self.now.tables name.now) }
         ensures known { IfOk result (λ t. t < length self.now.tables) }
     {
-        match self.tables().find(name.as_str()) {
-            Some(number) => Ok(Table(number)),
+        match self.tables().find_near(recent.0, name.as_str()) {
+            Some(number) => {
+                *recent = Table(number);
+                Ok(Table(number))
+            }
             None => Err(Refused::UnknownTable),
         }
     }
@@ -95,17 +99,23 @@ impl Catalog {
     fn test_accesses(&self, accesses: &[RawAccess]) -> Result<(), Refused>
         ensures { IsAnswer result (accesses_refusal self.now [] accesses.now) }
     {
+        let mut recent = self.recent;
         for (index, access) in accesses.iter().enumerate() {
-            self.numbered_access(&accesses[..index], access)?;
+            self.numbered_access(&mut recent, &accesses[..index], access)?;
         }
         Ok(())
     }
 
     /// The table of a column. It has to be a column of a known table.
-    pub(crate) fn table_with_column(&self, table: &Name, column: u32) -> Result<Table, Refused>
+    pub(crate) fn table_with_column(
+        &self,
+        recent: &mut Table,
+        table: &Name,
+        column: u32,
+    ) -> Result<Table, Refused>
         ensures { IsAnswerOf result (column_refusal self.now table.now column) (number_of self.now.tables table.now) }
     {
-        let table = self.known_table(table)?;
+        let table = self.known_table(recent, table)?;
         if column < u32::from(self.columns(table)) {
             return Ok(table);
         }
@@ -113,10 +123,15 @@ impl Catalog {
     }
 
     /// The table of a new row. The row has to have as many numbers as its table has columns.
-    pub(crate) fn table_of_width(&self, table: &Name, width: usize) -> Result<Table, Refused>
+    pub(crate) fn table_of_width(
+        &self,
+        recent: &mut Table,
+        table: &Name,
+        width: usize,
+    ) -> Result<Table, Refused>
         ensures { IsAnswerOf result (width_refusal self.now table.now width) (number_of self.now.tables table.now) }
     {
-        let table = self.known_table(table)?;
+        let table = self.known_table(recent, table)?;
         if width == usize::from(self.columns(table)) {
             return Ok(table);
         }
@@ -125,20 +140,20 @@ impl Catalog {
 
     /// A step, behind which there are so many, has to fit the table that it names, and to pass over no more steps than
     /// there are.
-    fn test_step(&self, later: usize, step: &RawStep) -> Result<(), Refused>
+    fn test_step(&self, recent: &mut Table, later: usize, step: &RawStep) -> Result<(), Refused>
         ensures { IsAnswer result (step_refusal self.now later step.now) }
     {
         match step {
             RawStep::Has { table, .. } | RawStep::Delete { table, .. } => {
-                self.known_table(table)?;
+                self.known_table(recent, table)?;
                 Ok(())
             }
             RawStep::Load { table, column, .. } | RawStep::Store { table, column, .. } => {
-                self.table_with_column(table, *column)?;
+                self.table_with_column(recent, table, *column)?;
                 Ok(())
             }
             RawStep::Insert { table, from, .. } => {
-                self.table_of_width(table, from.as_slice().len())?;
+                self.table_of_width(recent, table, from.as_slice().len())?;
                 Ok(())
             }
             RawStep::Skip { steps, .. } => test_skip(*steps, later),
@@ -150,8 +165,9 @@ impl Catalog {
     fn test_steps(&self, steps: &[RawStep]) -> Result<(), Refused>
         ensures { IsAnswer result (steps_refusal self.now steps.now) }
     {
+        let mut recent = self.recent;
         for (index, step) in steps.iter().enumerate() {
-            self.test_step(steps.len() - index - 1, step)?;
+            self.test_step(&mut recent, steps.len() - index - 1, step)?;
         }
         Ok(())
     }
@@ -173,7 +189,8 @@ impl Catalog {
     fn test_deed(&self, deed: &RawDeed) -> Result<(), Refused>
         ensures { IsAnswer result (deed_refusal self.now (Some deed.now)) }
     {
-        self.known_table(names_in(deed).0)?;
+        let mut recent = self.recent;
+        self.known_table(&mut recent, names_in(deed).0)?;
         Ok(())
     }
 
