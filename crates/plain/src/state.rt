@@ -109,9 +109,9 @@ impl State {
     /// other statement is denied by the first need that its user doesn't hold, or its body runs, and only if that completes
     /// its rows are changed and its deed is made. On `Err` memory was refused, and rows and book are as they were.
     ///
-    /// A body costs a multiple of its steps and of its accesses, each of which takes a time that grows with the logarithm of
-    /// the number of rows; a need that its user doesn't hold as owner, a denial and a revocation cost a look at each grant
-    /// that was ever made.
+    /// A body costs a multiple of its steps and of its accesses, each of which takes a time that doesn't grow with the number of
+    /// rows, on average. A need that its user doesn't hold as owner costs a look at the grants of that kind on that table to the
+    /// user, up to one that gives it, and a denial a look at all of them; a revocation costs what `Book::revoke` tells.
     pub fn execute(
         &mut self,
         alloc: Global,
