@@ -2,7 +2,7 @@
 //!
 //! To write a row may take memory, which may be refused when some rows are written and some aren't. So a store has two
 //! steps: room is made for each row first, which changes no row, and then the rows are put, which can't fail. Nothing has
-//! to be undone. In the end each entry whose row is absent is given up again, so a store keeps no memory for rows that
+//! to be undone. In the end each entry whose row is absent is given up again, so a store keeps no entry for rows that
 //! were only looked for, or that were deleted.
 
 ghost use Rattle.std.specs.Prelude.{◌≡◌, ◌≢◌, ◌≤◌, ℕ, [], length, OnErr, OnOk, IfOk};
