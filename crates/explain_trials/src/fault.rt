@@ -1,6 +1,8 @@
 //! Why the program ends without success.
 
+use audit_text::AuditFault;
 use engine::EngineFault;
+use log_text_base::ReadFault;
 use std::alloc::{AllocError, AllocFailed};
 use std::io;
 use thiserror::Error;
@@ -14,7 +16,7 @@ pub enum TrialFault {
     /// A growth was refused.
     #[error("out of memory")]
     NoMemory,
-    /// A batch failed.
+    /// A batch or a run failed.
     #[error("a run failed")]
     Run,
     /// A line that is meant to be accepted isn't.
@@ -42,6 +44,18 @@ impl From<io::Error> for TrialFault {
 
 impl From<EngineFault> for TrialFault {
     fn from(_fault: EngineFault) -> TrialFault {
+        TrialFault::Run
+    }
+}
+
+impl From<ReadFault> for TrialFault {
+    fn from(_fault: ReadFault) -> TrialFault {
+        TrialFault::Run
+    }
+}
+
+impl From<AuditFault> for TrialFault {
+    fn from(_fault: AuditFault) -> TrialFault {
         TrialFault::Run
     }
 }

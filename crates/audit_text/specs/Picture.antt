@@ -1,0 +1,38 @@
+-- The picture of the grants before a place of the text of a log.
+use Rattle.std.specs.Prelude.{◌≡◌, ◌<◌, ℕ, List, Option, length, unwrap_or}
+use Rattle.model_base.specs.declared.statement.Statement.{Statement}
+use Rattle.model_base.specs.Outcomes.{deeds_before, owners}
+use Rattle.log_text_base.specs.Lines.{lines_of}
+use Rattle.grants.specs.Book.{Entries, ShowsBook}
+use Rattle.grants_graph.specs.Graph.{graph_text}
+use Rattle.sequencer.specs.Catalog.{Names, no_names}
+use Rattle.sequencer.specs.Log.{Accepted}
+use Rattle.report.specs.Report.{AreReadings, Reading, log_of, names_after}
+
+-- the place that is asked of, or the end of the log
+abbrev pub place_before : List Statement → Option ℕ → ℕ
+place_before log limit = unwrap_or limit (length log)
+
+-- the text pictures the grants of a log before a place: they stand in a book of all that the log's deeds made and ended
+abbrev pub Pictures : List Statement → Names → Option ℕ → List ℕ → Type 0
+Pictures log names limit text =
+    (book : Entries)
+    × (ShowsBook book (owners log) (deeds_before log (length log))
+    × (text ≡ graph_text names.users names.tables (place_before log limit) book))
+
+-- so it does for a log that was taken
+abbrev pub IsPictureOf : Accepted → Option ℕ → List ℕ → Type 0
+IsPictureOf log limit text = Pictures log.statements log.names limit text
+
+-- the text pictures the grants of the log that the lines of the input make
+abbrev pub IsPicture : List ℕ → Option ℕ → List ℕ → Type 0
+IsPicture input limit text =
+    (readings : List Reading)
+    × (AreReadings (lines_of input) readings × Pictures (log_of no_names readings) (names_after no_names readings) limit text)
+
+-- the log that the lines of the input make ends before the place
+abbrev pub EndsBefore : List ℕ → Option ℕ → Type 0
+EndsBefore input limit =
+    (readings : List Reading)
+    × (AreReadings (lines_of input) readings
+    × (length (log_of no_names readings) < place_before (log_of no_names readings) limit))

@@ -1,0 +1,79 @@
+//! Why a place of the text of a log was admitted or denied.
+
+ghost use Rattle.std.specs.Prelude.{◌≡◌, ◌<◌, ◌≤◌, ◌-◌, ◌^◌, ◌⊎◌, ℕ, List, Err, IfSome, OnOk, length};
+ghost use Rattle.std.specs.Io.KnownBytes.{Appends};
+ghost use Rattle.log_text_base.specs.Known.{AppendsFront, raised};
+ghost use Rattle.engine.specs.Engine.{finished};
+ghost use Rattle.audit_text.specs.Answer.{HasNoPlace, IsAnswerOf, IsExplanation};
+
+use crate::fault::AuditFault;
+use crate::putting::put_answer;
+use crate::question::Question;
+use batched_text::run_quietly;
+use engine::Engine;
+use log_text_base::{Counted, flush, write_out, writing_laws};
+use std::alloc::Global;
+use std::io::{Read, Write};
+use std::sync::Wait;
+use std::thread::Threads;
+
+/// Writes the answer to a question about a log that is run, and flushes the writer.
+fn write_answer<W: Write>(
+    alloc: Global,
+    writer: &mut Counted<W>,
+    engine: &Engine,
+    question: Question,
+) -> Result<(), AuditFault>
+    requires kept { engine.now.dropped ≡ 0 }
+    requires all { finished engine.now ≡ length engine.now.log.statements }
+    ensures done { OnOk result ((text : List ℕ)
+        × (IsAnswerOf engine.now.log question text × Appends (W.contents writer.old.inner) (W.contents writer.new.inner) text)) }
+    ensures begun { (W.contents writer.new.inner ≡ W.contents writer.old.inner) ⊎ ((text : List ℕ)
+        × (IsAnswerOf engine.now.log question text × AppendsFront (W.contents writer.old.inner) (W.contents writer.new.inner) text)) }
+    ensures none { result ≡ Err AuditFault.NoSuchPlace
+        → (writer.new ≡ writer.old) × (length engine.now.log.statements ≤ question.place) }
+    ensures read { result ≡ Err AuditFault.Read → ⊥ }
+    ensures write { result ≡ Err AuditFault.Write → writer.new.errors ≡ raised writer.old.errors }
+    ensures whole { OnOk result (writer.new.errors ≡ writer.old.errors) }
+{
+    writing_laws();
+    let mut text = Vec::new(alloc);
+    put_answer(alloc, &mut text, engine, question)?;
+    write_out(writer, &text)?;
+    flush(writer)?;
+    Ok(())
+}
+
+/// Reads a log to its end and runs it, and writes why a place of it was admitted or denied: the report's line for the place, then a
+/// line for each need of its statement up to the first that isn't held, as `explained_text` spells it, and `checked` where that is
+/// asked. Then the writer is flushed. The log's report isn't made.
+///
+/// `NoSuchPlace` comes only where the log has no such place, `NoMemory` where a growth was refused, `Read` where the reader failed,
+/// `Write` where the writer failed, or took no byte of a piece that wasn't empty. After `Write` a beginning of the answer stands, and
+/// after any other fault nothing was written.
+pub fn explain_text<T: Threads + Wait + Sync, R: Read, W: Write>(
+    rt: &T,
+    alloc: Global,
+    reader: &mut Counted<R>,
+    writer: &mut Counted<W>,
+    question: Question,
+) -> Result<(), AuditFault>
+    // What was written is the explanation of the place of what was read.
+    ensures done { OnOk result (IfSome (R.remaining reader.old.inner) (λ input. (text : List ℕ)
+        × (IsExplanation input question text × Appends (W.contents writer.old.inner) (W.contents writer.new.inner) text))) }
+    // After a fault it is a beginning of it, or nothing.
+    ensures begun { IfSome (R.remaining reader.old.inner) (λ input. (W.contents writer.new.inner ≡ W.contents writer.old.inner)
+        ⊎ ((text : List ℕ) × (IsExplanation input question text
+        × AppendsFront (W.contents writer.old.inner) (W.contents writer.new.inner) text))) }
+    // NoSuchPlace comes only where the log of the text has no such place, and nothing is written then.
+    ensures none { result ≡ Err AuditFault.NoSuchPlace
+        → (writer.new ≡ writer.old) × IfSome (R.remaining reader.old.inner) (λ input. HasNoPlace input question.place) }
+    // Read and Write come only where the reader or the writer failed.
+    ensures read { result ≡ Err AuditFault.Read → reader.old.errors < 2 ^ 64 - 1 → reader.old.errors < reader.new.errors }
+    ensures write { result ≡ Err AuditFault.Write → writer.old.errors < 2 ^ 64 - 1 → writer.old.errors < writer.new.errors }
+    // Ok says that neither of them failed, in the flush at the end neither.
+    ensures whole { OnOk result ((reader.new.errors ≡ reader.old.errors) × (writer.new.errors ≡ writer.old.errors)) }
+{
+    let engine = run_quietly(rt, alloc, reader)?;
+    write_answer(alloc, writer, &engine, question)
+}

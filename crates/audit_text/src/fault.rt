@@ -1,0 +1,61 @@
+//! Why a question has no answer.
+
+ghost use Rattle.std.specs.Prelude.{◌≡◌};
+ghost use Rattle.audit_text.specs.Faults.{of_reading};
+ghost use Rattle.audit_text.specs.declared.fault.AuditFault.TheVariants.{NoMemory, Write};
+
+use log_text_base::{ReadFault, WriteFault};
+use std::alloc::{AllocError, AllocFailed};
+use thiserror::Error;
+
+/// Why a question has no answer.
+#[derive(Clone, Copy, Debug, PartialEq, Eq, Error)]
+pub enum AuditFault {
+    /// A growth was refused.
+    #[error("out of memory")]
+    NoMemory,
+    /// The reader failed.
+    #[error("cannot read")]
+    Read,
+    /// The writer failed, or took no byte of a piece that wasn't empty.
+    #[error("cannot write")]
+    Write,
+    /// The log has no such place.
+    #[error("no such place")]
+    NoSuchPlace,
+}
+
+impl From<AllocError> for AuditFault {
+    ghost from_gives = { λ _ e. e ≡ NoMemory };
+
+    fn from(_e: AllocError) -> AuditFault {
+        AuditFault::NoMemory
+    }
+}
+
+impl<T: Drop> From<AllocFailed<T>> for AuditFault {
+    ghost from_gives = { λ _ e. e ≡ NoMemory };
+
+    fn from(_e: AllocFailed<T>) -> AuditFault {
+        AuditFault::NoMemory
+    }
+}
+
+impl From<ReadFault> for AuditFault {
+    ghost from_gives = { λ fault e. e ≡ of_reading fault };
+
+    fn from(fault: ReadFault) -> AuditFault {
+        match fault {
+            ReadFault::NoMemory => AuditFault::NoMemory,
+            ReadFault::Read => AuditFault::Read,
+        }
+    }
+}
+
+impl From<WriteFault> for AuditFault {
+    ghost from_gives = { λ _ e. e ≡ Write };
+
+    fn from(_fault: WriteFault) -> AuditFault {
+        AuditFault::Write
+    }
+}

@@ -1,0 +1,94 @@
+//! The grants in force before a place of the text of a log, as a picture.
+
+ghost use Rattle.std.specs.Prelude.{◌≡◌, ◌<◌, ◌-◌, ◌^◌, ◌⊎◌, [], ℕ, List, Err, IfErr, IfSome, OnOk, length};
+ghost use Rattle.std.specs.Io.KnownBytes.{Appends};
+ghost use Rattle.log_text_base.specs.Known.{AppendsFront, raised};
+ghost use Rattle.engine.specs.Engine.{finished};
+ghost use Rattle.audit_text.specs.Picture.{EndsBefore, IsPicture, IsPictureOf, place_before};
+
+use crate::fault::AuditFault;
+use batched_text::run_quietly;
+use engine::Engine;
+use grants_graph::put_graph;
+use log_text_base::{Counted, flush, write_out, writing_laws};
+use model_base::Place;
+use std::alloc::Global;
+use std::io::{Read, Write};
+use std::sync::Wait;
+use std::thread::Threads;
+
+/// Puts the picture of the grants before a place of a log that is run, or at its end, into an empty text.
+fn put_picture(text: &mut Vec<u8>, engine: &Engine, limit: Option<Place>) -> Result<(), AuditFault>
+    requires all { finished engine.now ≡ length engine.now.log.statements }
+    requires empty { text.old.items ≡ [] }
+    ensures picture { OnOk result (IsPictureOf engine.now.log limit text.new.items) }
+    ensures none { result ≡ Err AuditFault.NoSuchPlace → length engine.now.log.statements < place_before engine.now.log.statements limit }
+    ensures err { IfErr result (λ f. (f ≡ AuditFault.NoMemory) ⊎ (f ≡ AuditFault.NoSuchPlace)) }
+{
+    let log = engine.log();
+    let place = limit.unwrap_or(log.len());
+    if log.len() < place {
+        return Err(AuditFault::NoSuchPlace);
+    }
+    put_graph(text, log.catalog(), engine.book(), place)?;
+    Ok(())
+}
+
+/// Writes the picture of the grants before a place of a log that is run, and flushes the writer.
+fn write_picture<W: Write>(
+    alloc: Global,
+    writer: &mut Counted<W>,
+    engine: &Engine,
+    limit: Option<Place>,
+) -> Result<(), AuditFault>
+    requires all { finished engine.now ≡ length engine.now.log.statements }
+    ensures done { OnOk result ((text : List ℕ)
+        × (IsPictureOf engine.now.log limit text × Appends (W.contents writer.old.inner) (W.contents writer.new.inner) text)) }
+    ensures begun { (W.contents writer.new.inner ≡ W.contents writer.old.inner) ⊎ ((text : List ℕ)
+        × (IsPictureOf engine.now.log limit text × AppendsFront (W.contents writer.old.inner) (W.contents writer.new.inner) text)) }
+    ensures none { result ≡ Err AuditFault.NoSuchPlace → (writer.new ≡ writer.old)
+        × (length engine.now.log.statements < place_before engine.now.log.statements limit) }
+    ensures read { result ≡ Err AuditFault.Read → ⊥ }
+    ensures write { result ≡ Err AuditFault.Write → writer.new.errors ≡ raised writer.old.errors }
+    ensures whole { OnOk result (writer.new.errors ≡ writer.old.errors) }
+{
+    writing_laws();
+    let mut text = Vec::new(alloc);
+    put_picture(&mut text, engine, limit)?;
+    write_out(writer, &text)?;
+    flush(writer)?;
+    Ok(())
+}
+
+/// Reads a log to its end and runs it, and writes the grants in force before a place, or at its end where none is told, as a
+/// digraph of Graphviz, as `grants_graph` spells it. Then the writer is flushed. The log's report isn't made.
+///
+/// `NoSuchPlace` comes only where the log ends before the place, `NoMemory` where a growth was refused, `Read` where the reader
+/// failed, `Write` where the writer failed, or took no byte of a piece that wasn't empty. After `Write` a beginning of the picture
+/// stands, and after any other fault nothing was written.
+pub fn grants_text<T: Threads + Wait + Sync, R: Read, W: Write>(
+    rt: &T,
+    alloc: Global,
+    reader: &mut Counted<R>,
+    writer: &mut Counted<W>,
+    limit: Option<Place>,
+) -> Result<(), AuditFault>
+    // What was written is the picture of the grants before the place of what was read.
+    ensures done { OnOk result (IfSome (R.remaining reader.old.inner) (λ input. (text : List ℕ)
+        × (IsPicture input limit text × Appends (W.contents writer.old.inner) (W.contents writer.new.inner) text))) }
+    // After a fault it is a beginning of it, or nothing.
+    ensures begun { IfSome (R.remaining reader.old.inner) (λ input. (W.contents writer.new.inner ≡ W.contents writer.old.inner)
+        ⊎ ((text : List ℕ) × (IsPicture input limit text
+        × AppendsFront (W.contents writer.old.inner) (W.contents writer.new.inner) text))) }
+    // NoSuchPlace comes only where the log of the text ends before the place, and nothing is written then.
+    ensures none { result ≡ Err AuditFault.NoSuchPlace
+        → (writer.new ≡ writer.old) × IfSome (R.remaining reader.old.inner) (λ input. EndsBefore input limit) }
+    // Read and Write come only where the reader or the writer failed.
+    ensures read { result ≡ Err AuditFault.Read → reader.old.errors < 2 ^ 64 - 1 → reader.old.errors < reader.new.errors }
+    ensures write { result ≡ Err AuditFault.Write → writer.old.errors < 2 ^ 64 - 1 → writer.old.errors < writer.new.errors }
+    // Ok says that neither of them failed, in the flush at the end neither.
+    ensures whole { OnOk result ((reader.new.errors ≡ reader.old.errors) × (writer.new.errors ≡ writer.old.errors)) }
+{
+    let engine = run_quietly(rt, alloc, reader)?;
+    write_picture(alloc, writer, &engine, limit)
+}

@@ -1,0 +1,112 @@
+//! The answer to a question about a place of a log that is run.
+
+ghost use Rattle.std.specs.Prelude.{◌≡◌, ◌<◌, ◌≤◌, ◌++◌, ◌⊎◌, [], Err, IfErr, IfOk, OnOk, Some, codes, length};
+ghost use Rattle.engine.specs.Engine.{finished};
+ghost use Rattle.report.specs.Report.{place_text};
+ghost use Rattle.explain.specs.Explained.{AreNamed, IsExplainedBy, explained};
+ghost use Rattle.explained_text.specs.Text.{explanation_text};
+ghost use Rattle.audit_text.specs.Answer.{IsAnswerOf};
+
+use crate::fault::AuditFault;
+use crate::question::Question;
+use batched_text::put_place;
+use engine::Engine;
+use explain::{ExplainFault, Explanation, check, explain, explanations_are_sound};
+use explained_text::put_explanation;
+use model_base::Place;
+use std::alloc::{AllocError, Global};
+
+/// Why the statement of a place that is finished and kept was admitted or denied. An error is want of memory.
+fn explain_place(alloc: Global, engine: &Engine, place: Place) -> Result<Explanation, AllocError>
+    requires kept { engine.now.dropped ≤ place }
+    requires within { place < finished engine.now }
+    ensures place { IfOk result (λ found. found.place ≡ place) }
+    ensures lines { IfOk result (λ found. explained engine.now.log.statements place ≡ Some found.lines.items) }
+    ensures named { IfOk result (λ found. AreNamed (length engine.now.log.names.tables) found.lines.items) }
+{
+    let _finished = engine.finished();
+    match explain(alloc, engine, place) {
+        Ok(found) => Ok(found),
+        Err(ExplainFault::NoMemory) => Err(AllocError),
+        Err(ExplainFault::NoSuchPlace | ExplainFault::NotFinished | ExplainFault::Forgotten) => {
+            unreachable!()
+        }
+    }
+}
+
+/// Puts `checked` behind the text where the check accepts the explanation, as it does if that is sound.
+fn put_checked(
+    text: &mut Vec<u8>,
+    engine: &Engine,
+    explanation: &Explanation,
+) -> Result<(), AllocError>
+    requires kept { engine.now.dropped ≤ explanation.now.place }
+    requires within { explanation.now.place < finished engine.now }
+    requires sound { IsExplainedBy engine.now.log.statements explanation.now.place explanation.now.lines.items }
+    ensures { OnOk result (text.new.items ≡ text.old.items ++ codes "checked\n") }
+{
+    let _finished = engine.finished();
+    if !check(explanation, engine.log(), engine.book()) {
+        return Ok(());
+    }
+    text.extend_from_slice(b"checked\n")
+}
+
+/// Puts the report's line for a place, and then a line for each need that explains it.
+fn put_explained(
+    text: &mut Vec<u8>,
+    engine: &Engine,
+    explanation: &Explanation,
+) -> Result<(), AllocError>
+    requires kept { engine.now.dropped ≤ explanation.now.place }
+    requires within { explanation.now.place < finished engine.now }
+    requires named { AreNamed (length engine.now.log.names.tables) explanation.now.lines.items }
+    ensures { OnOk result (text.new.items ≡ text.old.items
+        ++ place_text engine.now.log.statements engine.now.log.names.tables explanation.now.place
+        ++ explanation_text engine.now.log.names.tables explanation.now.lines.items) }
+{
+    put_place(text, engine, explanation.place)?;
+    put_explanation(text, engine.log().catalog().tables(), explanation)
+}
+
+/// Puts the answer to a question about a place of the log behind the text. An error is want of memory.
+fn put_found(
+    alloc: Global,
+    text: &mut Vec<u8>,
+    engine: &Engine,
+    question: Question,
+) -> Result<(), AllocError>
+    requires kept { engine.now.dropped ≤ question.place }
+    requires within { question.place < finished engine.now }
+    requires empty { text.old.items ≡ [] }
+    ensures { OnOk result (IsAnswerOf engine.now.log question text.new.items) }
+{
+    explanations_are_sound();
+    let found = explain_place(alloc, engine, question.place)?;
+    put_explained(text, engine, &found)?;
+    if question.is_checked {
+        put_checked(text, engine, &found)?;
+    }
+    Ok(())
+}
+
+/// Puts the answer to a question about a log that is run into an empty text.
+pub(crate) fn put_answer(
+    alloc: Global,
+    text: &mut Vec<u8>,
+    engine: &Engine,
+    question: Question,
+) -> Result<(), AuditFault>
+    requires kept { engine.now.dropped ≡ 0 }
+    requires all { finished engine.now ≡ length engine.now.log.statements }
+    requires empty { text.old.items ≡ [] }
+    ensures answer { OnOk result (IsAnswerOf engine.now.log question text.new.items) }
+    ensures none { result ≡ Err AuditFault.NoSuchPlace → length engine.now.log.statements ≤ question.place }
+    ensures err { IfErr result (λ f. (f ≡ AuditFault.NoMemory) ⊎ (f ≡ AuditFault.NoSuchPlace)) }
+{
+    if engine.log().len() <= question.place {
+        return Err(AuditFault::NoSuchPlace);
+    }
+    put_found(alloc, text, engine, question)?;
+    Ok(())
+}

@@ -1,0 +1,12 @@
+//! What an auditor asks.
+
+use model_base::Place;
+
+/// What is asked about a place of a log.
+#[derive(Clone, Copy, Debug, PartialEq, Eq)]
+pub struct Question {
+    /// The place: the index of a statement among those that the log accepted, from 0 on.
+    pub place: Place,
+    /// Whether the answer is checked, and `checked` is told behind it where the check accepts it.
+    pub is_checked: bool,
+}

@@ -1,0 +1,137 @@
+//! Each place of drawn logs explained, and asked about.
+
+use crate::fault::TrialFault;
+use crate::generator::Generator;
+use crate::logs::{LINES, drawn_log};
+use crate::questions::answer;
+use audit_text::{AuditFault, Question};
+use batched_text::run_quietly;
+use engine::Engine;
+use explain::{check, explain};
+use log_text_base::Counted;
+use model_base::Place;
+use std::alloc::Global;
+use std::sync::Wait;
+use std::thread::Threads;
+
+/// How many logs are drawn.
+const LOGS: u32 = 300;
+
+/// What was found of places.
+#[derive(Drop)]
+struct Counts {
+    places: u32,
+    /// Of how many the explanation is accepted.
+    accepted: u32,
+    /// Of how many the answer tells `checked`.
+    checked: u32,
+    /// Of how many logs no place is told behind the last.
+    ended: u32,
+    /// The answers, one behind the other.
+    answers: Vec<u8>,
+}
+
+/// Whether the explanation of a place is accepted.
+fn is_accepted(alloc: Global, engine: &Engine, place: Place) -> bool {
+    match explain(alloc, engine, place) {
+        Ok(explanation) => check(&explanation, engine.log(), engine.book()),
+        Err(_fault) => false,
+    }
+}
+
+impl Counts {
+    /// One place more of a log that is run.
+    fn add_place(&mut self, is_accepted: bool, answer: &[u8]) -> Result<(), TrialFault> {
+        self.places = self.places.saturating_add(1);
+        if is_accepted {
+            self.accepted = self.accepted.saturating_add(1);
+        }
+        if answer.ends_with(b"\nchecked\n") {
+            self.checked = self.checked.saturating_add(1);
+        }
+        self.answers.extend_from_slice(answer)?;
+        Ok(())
+    }
+}
+
+/// Asks about each place of a log, and about the one behind the last.
+fn ask<R: Threads + Wait + Sync>(
+    rt: &R,
+    alloc: Global,
+    log: &[u8],
+    engine: &Engine,
+    counts: &mut Counts,
+) -> Result<(), TrialFault> {
+    let is_checked = true;
+    for place in 0..engine.finished() {
+        let found = answer(rt, alloc, log, Question { place, is_checked })?;
+        counts.add_place(is_accepted(alloc, engine, place), found.as_slice())?;
+    }
+    let place = engine.finished();
+    if let Err(AuditFault::NoSuchPlace) = answer(rt, alloc, log, Question { place, is_checked }) {
+        counts.ended = counts.ended.saturating_add(1);
+    }
+    Ok(())
+}
+
+/// Draws a log and asks about it.
+fn ask_drawn<R: Threads + Wait + Sync>(
+    rt: &R,
+    alloc: Global,
+    generator: &mut Generator,
+    counts: &mut Counts,
+) -> Result<(), TrialFault> {
+    let log = drawn_log(alloc, generator)?;
+    let engine = run_quietly(rt, alloc, &mut Counted::new(log.as_slice()))?;
+    ask(rt, alloc, log.as_slice(), &engine, counts)
+}
+
+/// How often the text has this word.
+fn count(text: &[u8], word: &[u8]) -> u32 {
+    let mut found: u32 = 0;
+    for start in 0..text.len() {
+        if text[start..].starts_with(word) {
+            found = found.saturating_add(1);
+        }
+    }
+    found
+}
+
+/// Tells how often the answers say each kind of line.
+fn tell_kinds<R: Print>(rt: &R, answers: &[u8]) -> Result<(), TrialFault> {
+    for word in [
+        "\nneed ", " owner\n", " grants ", " never\n", " taken ", " option ", " denied ",
+    ] {
+        let found = count(answers, word.as_bytes());
+        println!(rt; "  {found} of {word:?}")?;
+    }
+    Ok(())
+}
+
+/// Tells of how many places of drawn logs the explanation is accepted, and what is answered of them.
+pub fn tell_drawn<R: Threads + Wait + Print + Sync>(
+    rt: &R,
+    alloc: Global,
+) -> Result<(), TrialFault> {
+    let mut generator = Generator::new(1976);
+    let mut counts = Counts {
+        places: 0,
+        accepted: 0,
+        checked: 0,
+        ended: 0,
+        answers: Vec::new(alloc),
+    };
+    for _ in 0..LOGS {
+        ask_drawn(rt, alloc, &mut generator, &mut counts)?;
+    }
+    let (places, accepted, checked, ended) = (
+        counts.places,
+        counts.accepted,
+        counts.checked,
+        counts.ended,
+    );
+    println!(rt;
+        "{LOGS} logs of {LINES} lines: {places} places, {accepted} accepted, {checked} checked; no place behind {ended}"
+    )?;
+    tell_kinds(rt, counts.answers.as_slice())
+}
