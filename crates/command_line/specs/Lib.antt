@@ -1,3 +1,5 @@
 pub mod Options
 pub mod Running
+pub mod Shapes
 pub mod Words
+pub mod Works

@@ -1,10 +1,12 @@
--- The options of `run`: their rules, and the settings that they tell.
-use Rattle.std.specs.Prelude.{◌&&◌, ◌==◌, ℕ, Bool, List, [], ◌∷◌, Option, Some, None, codes, if◌then◌else◌, option_and_then, option_map}
+-- The numbers among the words: the options of `run`, their rules and the settings that they tell, and the places that are asked of.
+use Rattle.std.specs.Prelude.{◌&&◌, ◌==◌, ℕ, Bool, List, [], ◌∷◌, Option, Some, None, bytes_eq, codes, false, if◌then◌else◌, option_and_then, option_map}
+use Rattle.std.specs.Option.{option_map_or}
 use Rattle.std.specs.Str.Parse.{digits_value, without_leading_plus}
 use Rattle.clap.specs.ValueTests.{is_unsigned_in}
 use Rattle.clap.specs.Walk.{Row, Rule, Text, first_of}
 use Rattle.clap.specs.Simple.{App, new_rule, with_rule}
 use Rattle.clap.specs.declared.builder.value_parser.ValueParser.TheVariants as vp
+use Rattle.audit_text.specs.declared.question.Question.{Question}
 use Rattle.batched_text.specs.declared.settings.Settings.{Settings}
 
 -- an option whose value is a number within these limits, by default this one
@@ -46,6 +48,25 @@ settings_among rows =
     (number_among (codes "batch") 1 65536 rows))
     (number_among (codes "partitions") 1 64 rows))
     (number_among (codes "workers") 1 64 rows)
+
+-- whether the flag of this name is among the words
+abbrev pub has_flag : Text → List Row → Bool
+has_flag name rows = option_map_or (λ text. bytes_eq text (codes "true")) (first_of name rows) false
+
+-- the question of `explain`, if its place is within the limits
+abbrev pub question_among : List Row → Option Question
+question_among rows =
+    option_map (λ place. record { place = place; is_checked = has_flag (codes "check") rows })
+    (number_among (codes "PLACE") 0 4294967294 rows)
+
+-- the place that a word names, if there is one, and if it is within the limits
+abbrev pub limit_named : Option Text → Option (Option ℕ)
+limit_named None = Some None
+limit_named (Some text) = option_map (λ place. Some place) (number_within 0 4294967294 text)
+
+-- the place of `grants`, if it has one
+abbrev pub limit_among : List Row → Option (Option ℕ)
+limit_among rows = limit_named (first_of (codes "PLACE") rows)
 
 -- whether one worker runs the log, and places it by one partition
 abbrev pub is_alone : Settings → Bool

@@ -1,18 +1,18 @@
 -- Which words of the command line are a command, and how the program ends: its exit status, and what it prints of a fault.
-use Rattle.std.specs.Prelude.{◌≡◌, ◌≢◌, ◌⊎◌, ℕ, Bool, List, Option, None, Some, bytes_eq, codes, false, if◌then◌else◌, map, option_and_then, string_bytes, true}
-use Rattle.std.specs.Option.{option_map_or}
-use Rattle.clap.specs.Words.{App, IsAmong, Kinds, Row, Shape, Text, first_of, new_app, new_rule, with_rule, with_subcommand}
+use Rattle.std.specs.Prelude.{◌≡◌, ◌≢◌, ◌⊎◌, ℕ, List, Option, None, Some, bytes_eq, codes, if◌then◌else◌, option_and_then, option_map, string_bytes, true}
+use Rattle.clap.specs.Words.{IsAmong, Kinds, Row, Text, first_of}
 use Rattle.clap.specs.declared.error.kind.ErrorKind.{ErrorKind}
-use denote.Ref.{Bor}
+use Rattle.audit_text.specs.declared.question.Question.{Question}
 use Rattle.bohm_base.specs.declared.command_line.ArgumentFault.{ArgumentFault}
-use Rattle.bohm_base.specs.declared.fault.EngineFault.{EngineFault}
 use Rattle.batched_text.specs.Settings.{are_within_limits}
 use Rattle.batched_text.specs.declared.settings.Settings.{Settings}
-use Rattle.command_line.specs.Options.{settings_among, with_options}
+use Rattle.command_line.specs.Options.{limit_among, question_among, settings_among}
 use Rattle.command_line.specs.declared.command_words.Command.{Command}
 use Rattle.command_line.specs.declared.command_words.ProgramFault.{ProgramFault}
 use Rattle.command_line.specs.declared.command_words.Source.{Source}
 use Rattle.command_line.specs.declared.command_words.Usage.{Usage}
+use Rattle.command_line.specs.declared.command_words.Verb.{Verb}
+use Rattle.command_line.specs.declared.work.WorkFault.{WorkFault}
 
 -- whether an error of this kind is told so: help and the version as help, any other as a fault of the words
 abbrev pub Tells : Usage → ErrorKind → Type 0
@@ -34,13 +34,14 @@ status_of (ProgramFault.Usage (Usage.Help text)) = 0
 status_of (ProgramFault.Usage Usage.OutsideLimits) = 2
 status_of (ProgramFault.Usage Usage.NoMemory) = 1
 status_of ProgramFault.Open = 1
-status_of (ProgramFault.Engine fault) = 1
+status_of (ProgramFault.Work fault) = 1
 
--- a fault of the run has one line
-abbrev pub engine_message : EngineFault → List ℕ
-engine_message EngineFault.NoMemory = codes "bohm: out of memory"
-engine_message EngineFault.Read = codes "bohm: cannot read"
-engine_message EngineFault.Write = codes "bohm: cannot write"
+-- a fault of the work on a log has one line
+abbrev pub work_message : WorkFault → List ℕ
+work_message WorkFault.NoMemory = codes "bohm: out of memory"
+work_message WorkFault.Read = codes "bohm: cannot read"
+work_message WorkFault.Write = codes "bohm: cannot write"
+work_message WorkFault.NoSuchPlace = codes "bohm: no such place"
 
 -- the text of a fault
 abbrev pub message_of : ProgramFault → List ℕ
@@ -51,33 +52,15 @@ message_of (ProgramFault.Usage (Usage.Help text)) = string_bytes text
 message_of (ProgramFault.Usage Usage.OutsideLimits) = codes "bohm: bad settings"
 message_of (ProgramFault.Usage Usage.NoMemory) = codes "bohm: out of memory"
 message_of ProgramFault.Open = codes "bohm: cannot open file"
-message_of (ProgramFault.Engine fault) = engine_message fault
+message_of (ProgramFault.Work fault) = work_message fault
 
--- `run` may have one word, FILE, and its options
-abbrev pub run_shape : Shape
-run_shape = (with_options (with_rule (new_app (codes "run")) (new_rule (codes "FILE")))).top
-
--- and `serial` has to have it
-abbrev pub serial_shape : Shape
-serial_shape = (with_rule (new_app (codes "serial")) (record (new_rule (codes "FILE")) { required = true })).top
-
--- the program has a version and these two subcommands, one of which has to be there
-abbrev pub bohm_app : App
-bohm_app =
-    let app = with_subcommand (with_subcommand (new_app (codes "bohm")) run_shape) serial_shape in
-    record app { top = record app.top { has_version = true; subcommand_required = true } }
-
--- the texts of some words
-abbrev pub texts_of : List (Bor Text) → List Text
-texts_of words = map (λ word. word.now) words
-
--- whether the words name the subcommand of this name
-abbrev pub is_entered : Text → Option (Text × List Row) → Bool
-is_entered name entered = option_map_or (λ found. bytes_eq found.0 name) entered false
-
--- the file that the words of a subcommand name, if they name one
-abbrev pub file_among : Option (Text × List Row) → Option Text
-file_among entered = option_map_or (λ found. first_of (codes "FILE") found.1) entered None
+-- the subcommand of a name
+abbrev pub verb_named : Text → Verb
+verb_named name =
+    if bytes_eq name (codes "serial") then Verb.Serial
+    else (if bytes_eq name (codes "explain") then Verb.Explain
+    else (if bytes_eq name (codes "grants") then Verb.Grants
+    else Verb.Run))
 
 -- the path of a log that isn't standard input
 abbrev pub path_of : Source → Option Text
@@ -88,24 +71,43 @@ path_of (Source.File path) = Some path.now
 abbrev pub path_named : Option Text → Option Text
 path_named word = option_and_then (λ path. if bytes_eq path (codes "-") then None else Some path) word
 
--- the settings that the words of a subcommand tell, if each is within its limits
-abbrev pub settings_told : Option (Text × List Row) → Option Settings
-settings_told entered = option_and_then (λ found. settings_among found.1) entered
+-- what is asked for, over the log of a path, or of standard input without one
+pub data Asked : Type 0 where
+  run : Option Text → Settings → Asked
+  serial : Option Text → Asked
+  explain : Option Text → Question → Asked
+  grants : Option Text → Option ℕ → Asked
 
--- whether the command is the one of a subcommand that was entered with some words, over the log that they name, by the settings
--- that they tell
+-- what a subcommand asks for with these words, if its numbers are within their limits
+abbrev pub asked_by : Verb → Option Text → List Row → Option Asked
+asked_by Verb.Run path rows = option_map (run path) (settings_among rows)
+asked_by Verb.Serial path rows = Some (serial path)
+asked_by Verb.Explain path rows = option_map (explain path) (question_among rows)
+asked_by Verb.Grants path rows = option_map (grants path) (limit_among rows)
+
+-- what the words of a subcommand that was entered ask for
+abbrev pub asked_in : Option (Text × List Row) → Option Asked
+asked_in entered =
+    option_and_then (λ found. asked_by (verb_named found.0) (path_named (first_of (codes "FILE") found.1)) found.1) entered
+
+-- what a command asks for
+abbrev pub asked : Command → Asked
+asked (Command.Run source settings) = run (path_of source) settings
+asked (Command.Serial source) = serial (path_of source)
+asked (Command.Explain source question) = explain (path_of source) question
+asked (Command.Grants source limit) = grants (path_of source) limit
+
+-- the command is what the words of a subcommand ask for
 abbrev pub Asks : Command → Option (Text × List Row) → Type 0
-Asks (Command.Run source settings) entered =
-    (is_entered (codes "serial") entered ≡ false)
-    × ((path_of source ≡ path_named (file_among entered)) × (settings_told entered ≡ Some settings))
-Asks (Command.Serial source) entered =
-    (is_entered (codes "serial") entered ≡ true) × (path_of source ≡ path_named (file_among entered))
+Asks command entered = asked_in entered ≡ Some (asked command)
 
--- a run is asked for by settings of which one isn't within its limits
+-- a number among the words of a subcommand isn't within its limits
 abbrev pub AsksOutsideLimits : Option (Text × List Row) → Type 0
-AsksOutsideLimits entered = (is_entered (codes "serial") entered ≡ false) × (settings_told entered ≡ None)
+AsksOutsideLimits entered = asked_in entered ≡ None
 
 -- the settings of a run are within their limits
 abbrev pub IsWithinLimits : Command → Type 0
 IsWithinLimits (Command.Run source settings) = are_within_limits settings ≡ true
 IsWithinLimits (Command.Serial source) = Unit {0}
+IsWithinLimits (Command.Explain source question) = Unit {0}
+IsWithinLimits (Command.Grants source limit) = Unit {0}

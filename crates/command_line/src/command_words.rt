@@ -1,16 +1,21 @@
 //! The words of the command line, and how a run of the program ends.
 
-ghost use Rattle.std.specs.Prelude.{◌≡◌, ◌⊎◌, [], Err, IfOk, IfErr, IfNone, IfSome, OnOk};
+ghost use Rattle.std.specs.Prelude.{◌≡◌, ◌⊎◌, [], Err, IfOk, IfErr, IfSome, OnOk};
 ghost use Rattle.std.specs.Option.{option_map};
-ghost use Rattle.clap.specs.Words.{app_of, fault_of, kind_of, subcommand_of, subcommand_rows_of, with_subcommand};
-ghost use Rattle.command_line.specs.Words.{Asks, AsksOutsideLimits, IsWithinLimits, Tells, TellsOneOf, bohm_app, message_of, path_named, path_of, run_shape, serial_shape, status_of, texts_of};
+ghost use Rattle.clap.specs.Words.{fault_of, found_of, kind_of, rows_of, subcommand_of, subcommand_rows_of};
+ghost use Rattle.command_line.specs.Shapes.{bohm_app, texts_of};
+ghost use Rattle.command_line.specs.Words.{Asks, AsksOutsideLimits, IsWithinLimits, Tells, TellsOneOf, asked, asked_by, asked_in, message_of, path_named, path_of, status_of, verb_named};
 
-use crate::options::{settings_of, with_options};
+use crate::options::{limit_of, question_of, settings_of};
+use crate::subcommands::program;
+use crate::work::WorkFault;
+use audit_text::Question;
 use batched_text::Settings;
-use bohm_base::{ArgumentFault, EngineFault};
+use bohm_base::ArgumentFault;
 use clap::error::ErrorKind;
-use clap::{Arg, ArgMatches, Error};
-use std::alloc::{AllocError, Global};
+use clap::{ArgMatches, Error};
+use model_base::Place;
+use std::alloc::Global;
 
 /// Where a log is read from.
 #[derive(Clone, Copy, Debug, PartialEq, Eq)]
@@ -27,6 +32,19 @@ pub enum Command<'a> {
     Run(Source<'a>, Settings),
     /// Execute a log by the slow serial run, and write its report.
     Serial(Source<'a>),
+    /// Answer a question about a place of a log.
+    Explain(Source<'a>, Question),
+    /// Write the grants in force before a place of a log, or at its end.
+    Grants(Source<'a>, Option<Place>),
+}
+
+/// The subcommands.
+#[derive(Clone, Copy, Debug, PartialEq, Eq)]
+pub(crate) enum Verb {
+    Run,
+    Serial,
+    Explain,
+    Grants,
 }
 
 /// Why the words are no command, with the text to print.
@@ -50,49 +68,8 @@ pub enum ProgramFault {
     Usage(Usage),
     /// The file can't be opened.
     Open,
-    Engine(EngineFault),
-}
-
-/// Adds the description of `run` to the program's.
-fn with_run<'a>(alloc: Global, program: clap::Command<'a>) -> Result<clap::Command<'a>, AllocError>
-    ensures { IfOk result (λ c. app_of c ≡ with_subcommand (app_of program.entry) run_shape) }
-{
-    let file = Arg::new(alloc, "FILE").help(
-        "The log. Without it, or if it is -, standard input is read",
-    );
-    let run = clap::Command::new(alloc, "run")
-        .about("Executes a log, and writes its report to standard output")
-        .arg(file)?;
-    let run = with_options(alloc, run)?;
-    program.subcommand(run)
-}
-
-/// Adds the description of `serial` to the program's.
-fn with_serial<'a>(
-    alloc: Global,
-    program: clap::Command<'a>,
-) -> Result<clap::Command<'a>, AllocError>
-    ensures { IfOk result (λ c. app_of c ≡ with_subcommand (app_of program.entry) serial_shape) }
-{
-    let file = Arg::new(alloc, "FILE")
-        .required(true)
-        .help("The log. If it is -, standard input is read");
-    let serial = clap::Command::new(alloc, "serial")
-        .about("Executes a log by the slow serial run, and writes its report to standard output")
-        .arg(file)?;
-    program.subcommand(serial)
-}
-
-/// The program's own description of its words.
-fn program<'a>(alloc: Global) -> Result<clap::Command<'a>, AllocError>
-    ensures { IfOk result (λ c. app_of c ≡ bohm_app) }
-{
-    let bohm = clap::Command::new(alloc, "bohm")
-        .version("0.1.0")
-        .about("A deterministic transaction executor");
-    let bohm = with_run(alloc, bohm)?;
-    let bohm = with_serial(alloc, bohm)?;
-    Ok(bohm.subcommand_required(true))
+    /// The work on the log failed.
+    Work(WorkFault),
 }
 
 /// The usage fault, or the help, that the words came to.
@@ -110,6 +87,18 @@ fn usage_of(alloc: Global, error: &Error) -> Usage
     }
 }
 
+/// The subcommand of a name.
+fn verb_of(name: &str) -> Verb
+    ensures { result ≡ verb_named name.now }
+{
+    match name {
+        "serial" => Verb::Serial,
+        "explain" => Verb::Explain,
+        "grants" => Verb::Grants,
+        _ => Verb::Run,
+    }
+}
+
 /// Where a log is read from by the word for its file: without one, and by `-`, from standard input.
 fn source_of<'a>(file: Option<&'a str>) -> Source<'a>
     ensures { path_of result ≡ path_named (option_map (λ path. path.now) file.entry) }
@@ -120,27 +109,45 @@ fn source_of<'a>(file: Option<&'a str>) -> Source<'a>
     }
 }
 
-/// The command of the subcommand that was entered, if its settings are within their limits.
-fn command_in<'a>(matches: &ArgMatches<'a>) -> Option<Command<'a>>
-    ensures asks { IfSome result (λ command. Asks command (subcommand_rows_of matches.now)) }
+/// The command of a subcommand over the log of a source, if its numbers are within their limits.
+fn command_of<'a>(verb: Verb, source: Source<'a>, found: &ArgMatches<'a>) -> Option<Command<'a>>
+    ensures asks { option_map asked result ≡ asked_by verb (path_of source.entry) (rows_of (found_of found.now)) }
     ensures within { IfSome result IsWithinLimits }
-    ensures outside { IfNone result (AsksOutsideLimits (subcommand_rows_of matches.now)) }
+{
+    match verb {
+        Verb::Run => match settings_of(found) {
+            Some(settings) => Some(Command::Run(source, settings)),
+            None => None,
+        },
+        Verb::Serial => Some(Command::Serial(source)),
+        Verb::Explain => match question_of(found) {
+            Some(question) => Some(Command::Explain(source, question)),
+            None => None,
+        },
+        Verb::Grants => match limit_of(found) {
+            Some(limit) => Some(Command::Grants(source, limit)),
+            None => None,
+        },
+    }
+}
+
+/// The command of the subcommand that was entered, if its numbers are within their limits.
+fn command_in<'a>(matches: &ArgMatches<'a>) -> Option<Command<'a>>
+    ensures asks { option_map asked result ≡ asked_in (subcommand_rows_of matches.now) }
+    ensures within { IfSome result IsWithinLimits }
 {
     let Some((name, found)) = matches.subcommand() else {
         return None;
     };
     let file = found.get_str("FILE");
+    let verb = verb_of(name);
     let source = source_of(file);
-    if name == "serial" {
-        return Some(Command::Serial(source));
-    }
-    let settings = settings_of(found)?;
-    Some(Command::Run(source, settings))
+    command_of(verb, source, found)
 }
 
 /// Reads the words of the command line, the program's name first. The words are judged by `clap`: an answered command
 /// is the one of the subcommand that it finds, with the file and the settings that it finds, and these are within their
-/// limits. Words that it takes fail only where a growth was refused, or where a setting isn't within its limits. Help is
+/// limits. Words that it takes fail only where a growth was refused, or where a number isn't within its limits. Help is
 /// answered only where the words ask for it, and a fault only where they are wrong.
 pub fn read_words<'a>(alloc: Global, words: &'a [&'a str]) -> Result<Command<'a>, Usage>
     ensures taken { OnOk result (fault_of bohm_app (texts_of words.entry.now) ≡ []) }
@@ -181,8 +188,9 @@ pub fn ending(fault: &ProgramFault) -> (u8, &str)
         ProgramFault::Usage(Usage::OutsideLimits) => (2, "bohm: bad settings"),
         ProgramFault::Usage(Usage::NoMemory) => (1, "bohm: out of memory"),
         ProgramFault::Open => (1, "bohm: cannot open file"),
-        ProgramFault::Engine(EngineFault::NoMemory) => (1, "bohm: out of memory"),
-        ProgramFault::Engine(EngineFault::Read) => (1, "bohm: cannot read"),
-        ProgramFault::Engine(EngineFault::Write) => (1, "bohm: cannot write"),
+        ProgramFault::Work(WorkFault::NoMemory) => (1, "bohm: out of memory"),
+        ProgramFault::Work(WorkFault::Read) => (1, "bohm: cannot read"),
+        ProgramFault::Work(WorkFault::Write) => (1, "bohm: cannot write"),
+        ProgramFault::Work(WorkFault::NoSuchPlace) => (1, "bohm: no such place"),
     }
 }

@@ -1,9 +1,12 @@
-//! The words of the command line, the run that they ask for, and how the program ends.
+//! The words of the command line, the work on a log that they ask for, and how the program ends.
 #![tactic(auto)]
 
 mod command_words;
 mod options;
 mod running;
+mod subcommands;
+mod work;
 
 pub use command_words::{Command, ProgramFault, Source, Usage, ending, read_words};
-pub use running::{Batched, BatchedExecution, Execution, Plain, Slow, do_command};
+pub use running::{Works, do_command};
+pub use work::{Batched, Explained, Pictured, Plain, Slow, Work, WorkFault};

@@ -1,13 +1,16 @@
-//! The options of `run`: how its log is cut into batches, and by how many workers and partitions these are run.
+//! The numbers among the words: the options of `run`, how its log is cut into batches and by how many workers and partitions these
+//! are run; and the places of which `explain` and `grants` are asked.
 
-ghost use Rattle.std.specs.Prelude.{◌≡◌, ◌≤◌, IfOk, IfSome, true};
+ghost use Rattle.std.specs.Prelude.{◌≡◌, ◌≤◌, IfOk, IfSome, codes, option_map, true};
 ghost use Rattle.clap.specs.Words.{app_of, found_of, rows_of, with_rule};
 ghost use Rattle.batched_text.specs.Settings.{are_within_limits};
-ghost use Rattle.command_line.specs.Options.{is_alone, number_among, number_rule, number_within, settings_among, with_options};
+ghost use Rattle.command_line.specs.Options.{has_flag, is_alone, limit_among, limit_named, number_among, number_rule, number_within, question_among, settings_among, with_options};
 
+use audit_text::Question;
 use batched_text::Settings;
 use clap::builder::ValueParser;
 use clap::{Arg, ArgMatches, Command};
+use model_base::Place;
 use std::alloc::{AllocError, Global};
 
 /// An option whose value is a number.
@@ -51,6 +54,9 @@ const KEEP: NumberOption = NumberOption {
     default: "1",
     help: "Before how many of the last batches the rows are kept, 0 to 65535",
 };
+
+/// The greatest place of a log.
+pub(crate) const MOST_PLACE: u64 = 4_294_967_294;
 
 /// Adds an option to a command's description.
 fn with_number<'a>(
@@ -117,6 +123,58 @@ pub(crate) fn settings_of(found: &ArgMatches<'_>) -> Option<Settings>
         batch,
         keep,
     })
+}
+
+/// Whether the flag of this name is among the words.
+fn has_flag(found: &ArgMatches<'_>, name: &str) -> bool
+    ensures { result ≡ has_flag name.now (rows_of (found_of found.now)) }
+{
+    match found.get_str(name) {
+        Some(text) => text == "true",
+        None => false,
+    }
+}
+
+/// The place that the words tell, if they tell one and it is within the limits.
+fn place_of(found: &ArgMatches<'_>) -> Option<Place>
+    ensures { result ≡ number_among (codes "PLACE") 0 4294967294 (rows_of (found_of found.now)) }
+{
+    match found.get_str("PLACE") {
+        Some(text) => number_within(text, 0, MOST_PLACE),
+        None => None,
+    }
+}
+
+/// The question that the words of `explain` ask, if its place is within the limits.
+pub(crate) fn question_of(found: &ArgMatches<'_>) -> Option<Question>
+    ensures { result ≡ question_among (rows_of (found_of found.now)) }
+{
+    let is_checked = has_flag(found, "check");
+    match place_of(found) {
+        Some(place) => Some(Question { place, is_checked }),
+        None => None,
+    }
+}
+
+/// The place that a word names, if there is a word, and if the place is within the limits.
+fn limit_named(word: Option<&str>) -> Option<Option<Place>>
+    ensures { result ≡ limit_named (option_map (λ text. text.now) word.entry) }
+{
+    match word {
+        None => Some(None),
+        Some(text) => match number_within(text, 0, MOST_PLACE) {
+            Some(place) => Some(Some(place)),
+            None => None,
+        },
+    }
+}
+
+/// The place before which the words of `grants` ask for the grants, if they name one, and if it is within the limits.
+pub(crate) fn limit_of(found: &ArgMatches<'_>) -> Option<Option<Place>>
+    ensures { result ≡ limit_among (rows_of (found_of found.now)) }
+{
+    let word = found.get_str("PLACE");
+    limit_named(word)
 }
 
 /// Whether one worker runs the log, and places it by one partition.

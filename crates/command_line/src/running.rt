@@ -1,20 +1,19 @@
-//! Runs the log that a command names, and tells how that ended.
+//! Does what a command asks for with its log, and tells how that ended.
 
-ghost use Rattle.std.specs.Prelude.{◌≡◌, ◌≢◌, ◌↔◌, ◌<◌, ◌-◌, ◌^◌, Err, IsErr, IsOk, OnOk, Result, true};
-ghost use Rattle.std.specs.Thread.{IsSync};
-ghost use Rattle.bohm_base.specs.declared.fault.EngineFault.{EngineFault};
-ghost use Rattle.engine.specs.declared.fault.EngineFault.TheVariants.{BadSettings};
-ghost use Rattle.batched_text.specs.Faults.{of_text};
+ghost use Rattle.std.specs.Prelude.{◌≡◌, ◌↔◌, ℕ, Err, IsErr, IsOk, Option, true};
+ghost use Rattle.audit_text.specs.declared.question.Question.{Question};
 ghost use Rattle.batched_text.specs.Settings.{are_within_limits};
 ghost use Rattle.batched_text.specs.declared.settings.Settings.{Settings};
-ghost use Rattle.command_line.specs.Running.{DoesCommand, EndsAt, EndsBySettings, IsAnswer, IsBegun, IsReported};
+ghost use Rattle.command_line.specs.Running.{DoesCommand, EndsAt, EndsBySettings, IsAnswer};
 ghost use Rattle.command_line.specs.Words.{IsWithinLimits};
 
 use crate::command_words::{Command, ProgramFault, Source};
 use crate::options::is_alone;
-use batched_text::{Settings, report_text};
-use bohm_base::{EngineFault, plain_text, serial_text};
+use crate::work::Work;
+use audit_text::Question;
+use batched_text::Settings;
 use log_text_base::Counted;
+use model_base::Place;
 use std::alloc::Global;
 use std::io::{Read, Write};
 use std::rt::Files;
@@ -22,265 +21,128 @@ use std::sync::Wait;
 use std::thread::Threads;
 use std::{fs, io};
 
-/// A run of a log, from the log's bytes to the report's.
-pub trait Execution {
-    // What the run may answer. Only a run can tell.
-    ghost answers: { Self → Result (Unit {0}) EngineFault → Type 0 };
-
-    /// Reads the log to its end, and writes its report. After a fault a beginning of the report was written; `Read` and
-    /// `Write` come only where the log's reader or the report's writer failed, and Ok only where neither did.
-    fn execute<R: Read, W: Write>(
-        &self,
-        alloc: Global,
-        log: &mut Counted<R>,
-        report: &mut Counted<W>,
-    ) -> Result<(), EngineFault>
-        ensures answers { answers self.now result }
-        ensures done { OnOk result (IsReported (R.remaining log.old.inner) (W.contents report.old.inner) (W.contents report.new.inner)) }
-        ensures begun { IsBegun (R.remaining log.old.inner) (W.contents report.old.inner) (W.contents report.new.inner) }
-        ensures read { result ≡ Err EngineFault.Read → log.old.errors < 2 ^ 64 - 1 → log.old.errors < log.new.errors }
-        ensures write { result ≡ Err EngineFault.Write → report.old.errors < 2 ^ 64 - 1 → report.old.errors < report.new.errors }
-        ensures whole { OnOk result ((log.new.errors ≡ log.old.errors) × (report.new.errors ≡ report.old.errors)) };
-}
-
-/// A run of a log in batches, by any settings within their limits.
-pub trait BatchedExecution {
-    // What the run by these settings may answer. Only a run can tell.
-    ghost answers: { Self → Settings → Result (Unit {0}) EngineFault → Type 0 };
-
-    /// Reads the log to its end, and writes its report, as `Execution::execute` does.
-    fn execute_by<T: Threads + Wait + Sync, R: Read, W: Write>(
-        &self,
-        rt: &T,
-        alloc: Global,
-        settings: &Settings,
-        log: &mut Counted<R>,
-        report: &mut Counted<W>,
-    ) -> Result<(), EngineFault>
-        requires shared { IsSync T.row }
-        requires within { are_within_limits settings.now ≡ true }
-        ensures answers { answers self.now settings.now result }
-        ensures done { OnOk result (IsReported (R.remaining log.old.inner) (W.contents report.old.inner) (W.contents report.new.inner)) }
-        ensures begun { IsBegun (R.remaining log.old.inner) (W.contents report.old.inner) (W.contents report.new.inner) }
-        ensures read { result ≡ Err EngineFault.Read → log.old.errors < 2 ^ 64 - 1 → log.old.errors < log.new.errors }
-        ensures write { result ≡ Err EngineFault.Write → report.old.errors < 2 ^ 64 - 1 → report.old.errors < report.new.errors }
-        ensures whole { OnOk result ((log.new.errors ≡ log.old.errors) × (report.new.errors ≡ report.old.errors)) };
-}
-
-/// The run of one statement after another, which keeps the rows and the grants.
-#[derive(Clone, Copy)]
-pub struct Plain;
-
-impl Execution for Plain {
-    ghost answers = { λ _ _. Unit {0} };
-
-    fn execute<R: Read, W: Write>(
-        &self,
-        alloc: Global,
-        log: &mut Counted<R>,
-        report: &mut Counted<W>,
-    ) -> Result<(), EngineFault> {
-        plain_text(alloc, log, report)
-    }
-}
-
-/// The slow run, which follows the definitions one by one.
-#[derive(Clone, Copy)]
-pub struct Slow;
-
-impl Execution for Slow {
-    ghost answers = { λ _ _. Unit {0} };
-
-    fn execute<R: Read, W: Write>(
-        &self,
-        alloc: Global,
-        log: &mut Counted<R>,
-        report: &mut Counted<W>,
-    ) -> Result<(), EngineFault> {
-        serial_text(alloc, log, report)
-    }
-}
-
-/// The run in batches, by placers and workers on threads. It keeps nothing that is finished but rows and grants.
-#[derive(Clone, Copy)]
-pub struct Batched;
-
-/// The fault of a run whose settings are within their limits.
-fn fault_of(fault: engine::EngineFault) -> EngineFault
-    requires { fault ≢ BadSettings }
-    ensures { of_text result ≡ fault }
-{
-    match fault {
-        engine::EngineFault::NoMemory => EngineFault::NoMemory,
-        engine::EngineFault::Read => EngineFault::Read,
-        engine::EngineFault::Write => EngineFault::Write,
-        engine::EngineFault::BadSettings => unreachable!(),
-    }
-}
-
-impl BatchedExecution for Batched {
-    ghost answers = { λ _ _ _. Unit {0} };
-
-    fn execute_by<T: Threads + Wait + Sync, R: Read, W: Write>(
-        &self,
-        rt: &T,
-        alloc: Global,
-        settings: &Settings,
-        log: &mut Counted<R>,
-        report: &mut Counted<W>,
-    ) -> Result<(), EngineFault> {
-        match report_text(rt, alloc, log, report, settings) {
-            Ok(()) => Ok(()),
-            Err(fault) => Err(fault_of(fault)),
-        }
-    }
-}
-
-/// Runs the log of a reader: the answer is the run's.
-fn run_reader<E: Execution, R: Read + Drop, W: Write + Drop>(
-    execution: &E,
+/// Works on the log of a reader: the answer is the work's.
+fn work_on<O: Copy, K: Work<O>, T: Threads + Wait + Sync, R: Read + Drop, W: Write + Drop>(
+    rt: &T,
     alloc: Global,
+    work: &K,
+    order: O,
     log: R,
-    report: W,
+    told: W,
 ) -> Result<(), ProgramFault>
-    ensures { IsAnswer (E.answers execution.now) result }
+    requires { K.takes work.now order }
+    ensures { IsAnswer (K.answers work.now order) result }
 {
     let mut log = Counted::new(log);
-    let mut report = Counted::new(report);
-    let ended = execution.execute(alloc, &mut log, &mut report);
-    ended.map_err(ProgramFault::Engine)
+    let mut told = Counted::new(told);
+    let ended = work.work(rt, alloc, order, &mut log, &mut told);
+    ended.map_err(ProgramFault::Work)
 }
 
-/// Runs the log of a file: the answer is `Open` exactly where the file wasn't opened, and else the run's.
-fn run_file<E: Execution, F: Read + Drop, W: Write + Drop>(
-    execution: &E,
+/// Works on the log of a file: the answer is `Open` exactly where the file wasn't opened, and else the work's.
+fn work_on_file<O: Copy, K: Work<O>, T: Threads + Wait + Sync, F: Read + Drop, W: Write + Drop>(
+    rt: &T,
     alloc: Global,
+    work: &K,
+    order: O,
     opened: io::Result<F>,
-    report: W,
+    told: W,
 ) -> Result<(), ProgramFault>
+    requires { K.takes work.now order }
     ensures unopened { (result ≡ Err ProgramFault.Open) ↔ IsErr opened }
-    ensures opened { IsOk opened → IsAnswer (E.answers execution.now) result }
+    ensures opened { IsOk opened → IsAnswer (K.answers work.now order) result }
 {
     match opened {
-        Ok(log) => run_reader(execution, alloc, log, report),
+        Ok(log) => work_on(rt, alloc, work, order, log, told),
         Err(_) => Err(ProgramFault::Open),
     }
 }
 
-/// Runs the log of a source, and reports on standard output.
-fn run<E: Execution, R: Files + Input + Print>(
+/// Works on the log of a source, and tells on standard output.
+fn run<O: Copy, K: Work<O>, R: Files + Input + Print + Threads + Wait + Sync>(
     rt: &R,
     alloc: Global,
-    execution: &E,
+    work: &K,
+    order: O,
     source: Source<'_>,
 ) -> Result<(), ProgramFault>
-    ensures { EndsAt (E.answers execution.now) source.entry result }
+    requires { K.takes work.now order }
+    ensures { EndsAt (K.answers work.now order) source.entry result }
 {
-    let report = io::writer(rt);
+    let told = io::writer(rt);
     match source {
-        Source::StandardInput => run_reader(execution, alloc, rt.reader(), report),
-        Source::File(path) => run_file(execution, alloc, fs::open(rt, path), report),
+        Source::StandardInput => work_on(rt, alloc, work, order, rt.reader(), told),
+        Source::File(path) => work_on_file(rt, alloc, work, order, fs::open(rt, path), told),
     }
 }
 
-/// Runs the log of a reader in batches: the answer is the run's.
-fn run_reader_by<B: BatchedExecution, T: Threads + Wait + Sync, R: Read + Drop, W: Write + Drop>(
-    rt: &T,
-    alloc: Global,
-    batched: &B,
-    settings: &Settings,
-    log: R,
-    report: W,
-) -> Result<(), ProgramFault>
-    requires { are_within_limits settings.now ≡ true }
-    ensures { IsAnswer (B.answers batched.now settings.now) result }
-{
-    let mut log = Counted::new(log);
-    let mut report = Counted::new(report);
-    let ended = batched.execute_by(rt, alloc, settings, &mut log, &mut report);
-    ended.map_err(ProgramFault::Engine)
-}
-
-/// Runs the log of a file in batches: the answer is `Open` exactly where the file wasn't opened, and else the run's.
-fn run_file_by<B: BatchedExecution, T: Threads + Wait + Sync, F: Read + Drop, W: Write + Drop>(
-    rt: &T,
-    alloc: Global,
-    batched: &B,
-    settings: &Settings,
-    opened: io::Result<F>,
-    report: W,
-) -> Result<(), ProgramFault>
-    requires { are_within_limits settings.now ≡ true }
-    ensures unopened { (result ≡ Err ProgramFault.Open) ↔ IsErr opened }
-    ensures opened { IsOk opened → IsAnswer (B.answers batched.now settings.now) result }
-{
-    match opened {
-        Ok(log) => run_reader_by(rt, alloc, batched, settings, log, report),
-        Err(_) => Err(ProgramFault::Open),
-    }
-}
-
-/// Runs the log of a source in batches, and reports on standard output.
-fn run_by<B: BatchedExecution, R: Files + Input + Print + Threads + Wait + Sync>(
-    rt: &R,
-    alloc: Global,
-    batched: &B,
-    settings: &Settings,
-    source: Source<'_>,
-) -> Result<(), ProgramFault>
-    requires { are_within_limits settings.now ≡ true }
-    ensures { EndsAt (B.answers batched.now settings.now) source.entry result }
-{
-    let report = io::writer(rt);
-    match source {
-        Source::StandardInput => run_reader_by(rt, alloc, batched, settings, rt.reader(), report),
-        Source::File(path) => run_file_by(rt, alloc, batched, settings, fs::open(rt, path), report),
-    }
+/// The works by which commands are done.
+pub struct Works<P, B, S, E, G> {
+    /// The run of one statement after another.
+    pub plain: P,
+    /// The run in batches.
+    pub batched: B,
+    /// The slow run.
+    pub slow: S,
+    /// The answer to a question about a place.
+    pub explained: E,
+    /// The picture of the grants before a place.
+    pub pictured: G,
 }
 
 /// Runs the log of a source by some settings: with one worker and one partition by the plain run, otherwise in batches.
 fn run_by_settings<
-    P: Execution,
-    B: BatchedExecution,
+    P: Work<()>,
+    B: Work<Settings>,
     R: Files + Input + Print + Threads + Wait + Sync,
 >(
     rt: &R,
     alloc: Global,
     plain: &P,
     batched: &B,
+    settings: Settings,
     source: Source<'_>,
-    settings: &Settings,
 ) -> Result<(), ProgramFault>
-    requires { are_within_limits settings.now ≡ true }
-    ensures { EndsBySettings (P.answers plain.now) (B.answers batched.now) settings.now source.entry result }
+    requires plain { P.takes plain.now tt }
+    requires batched { B.takes batched.now settings }
+    ensures { EndsBySettings (P.answers plain.now tt) (B.answers batched.now) settings source.entry result }
 {
-    if is_alone(settings) {
-        return run(rt, alloc, plain, source);
+    if is_alone(&settings) {
+        return run(rt, alloc, plain, (), source);
     }
-    run_by(rt, alloc, batched, settings, source)
+    run(rt, alloc, batched, settings, source)
 }
 
-/// Does what a command asks for: `run` by the plain run or in batches, as its settings ask, and `serial` by the slow run.
+/// Does what a command asks for: `run` by the plain run or in batches, as its settings ask, `serial` by the slow run, `explain` by
+/// the answer to its question, and `grants` by the picture of the grants.
 pub fn do_command<
-    P: Execution,
-    B: BatchedExecution,
-    S: Execution,
+    P: Work<()>,
+    B: Work<Settings>,
+    S: Work<()>,
+    E: Work<Question>,
+    G: Work<Option<Place>>,
     R: Files + Input + Print + Threads + Wait + Sync,
 >(
     rt: &R,
     alloc: Global,
-    plain: &P,
-    batched: &B,
-    slow: &S,
+    works: &Works<P, B, S, E, G>,
     command: Command<'_>,
 ) -> Result<(), ProgramFault>
-    requires { IsWithinLimits command }
-    ensures { DoesCommand (P.answers plain.now) (B.answers batched.now) (S.answers slow.now) command.entry result }
+    requires within { IsWithinLimits command }
+    requires plain { P.takes works.now.plain tt }
+    requires batched { (settings : Settings) → are_within_limits settings ≡ true → B.takes works.now.batched settings }
+    requires slow { S.takes works.now.slow tt }
+    requires explained { (question : Question) → E.takes works.now.explained question }
+    requires pictured { (limit : Option ℕ) → G.takes works.now.pictured limit }
+    ensures { DoesCommand (P.answers works.now.plain tt) (B.answers works.now.batched) (S.answers works.now.slow tt)
+        (E.answers works.now.explained) (G.answers works.now.pictured) command.entry result }
 {
     match command {
         Command::Run(source, settings) => {
-            run_by_settings(rt, alloc, plain, batched, source, &settings)
+            run_by_settings(rt, alloc, &works.plain, &works.batched, settings, source)
         }
-        Command::Serial(source) => run(rt, alloc, slow, source),
+        Command::Serial(source) => run(rt, alloc, &works.slow, (), source),
+        Command::Explain(source, question) => run(rt, alloc, &works.explained, question, source),
+        Command::Grants(source, limit) => run(rt, alloc, &works.pictured, limit, source),
     }
 }

@@ -1,8 +1,8 @@
 //! The ends of a run.
 
 use crate::fault::TrialFault;
-use bohm_base::{ArgumentFault, EngineFault};
-use command_line::{ProgramFault, Usage, ending};
+use bohm_base::ArgumentFault;
+use command_line::{ProgramFault, Usage, WorkFault, ending};
 
 /// Tells the status and the line of a fault.
 fn tell_ending<R: Print>(rt: &R, fault: &ProgramFault) -> Result<(), TrialFault> {
@@ -19,9 +19,10 @@ pub fn tell_endings<R: Print>(rt: &R) -> Result<(), TrialFault> {
         ProgramFault::Usage(Usage::OutsideLimits),
         ProgramFault::Usage(Usage::NoMemory),
         ProgramFault::Open,
-        ProgramFault::Engine(EngineFault::NoMemory),
-        ProgramFault::Engine(EngineFault::Read),
-        ProgramFault::Engine(EngineFault::Write),
+        ProgramFault::Work(WorkFault::NoMemory),
+        ProgramFault::Work(WorkFault::Read),
+        ProgramFault::Work(WorkFault::Write),
+        ProgramFault::Work(WorkFault::NoSuchPlace),
     ] {
         tell_ending(rt, &fault)?;
     }

@@ -1,7 +1,8 @@
-use Rattle.std.proofs.Common.{subst, ◌≡◌, [], true, refl, ap, inr, ◌∙◌}
+use Rattle.std.proofs.Common.{subst, sym, ◌≡◌, [], true, refl, ap, inr, ◌∙◌}
 use Rattle.clap.specs.Words.{App, HasKind, fault_of, is_simple, is_simple_and_free, subcommand_of}
 use Rattle.clap.proofs.OnLiterals.{clap_on_literals}
-use Rattle.command_line.specs.Words.{Asks, AsksOutsideLimits, bohm_app, texts_of}
+use Rattle.command_line.specs.Shapes.{bohm_app, texts_of}
+use Rattle.command_line.specs.Words.{Asks, AsksOutsideLimits}
 use Rattle.command_line.proofs.Telling.{told}
 use Rattle.command_line.proofs.command_words.read_words.Goals as goal
 
@@ -21,12 +22,12 @@ returns-in-Some-clause-taken c =
 pub returns-in-Some-clause-asked : goal.returns-in-Some-clause-asked
 returns-in-Some-clause-asked c =
     let found = (c.in-Ok-try_get_matches_from.ensures.matches (ap is_simple c.in-Ok.ensures ∙ simple)).1 in
-    subst (Asks c.in-Some.command) (found ∙ ap (λ (a : App). subcommand_of a (texts_of c.args.words.now)) c.in-Ok.ensures) c.in-Some.ensures.asks
+    subst (Asks c.in-Some.command) (found ∙ ap (λ (a : App). subcommand_of a (texts_of c.args.words.now)) c.in-Ok.ensures) (sym c.in-Some.ensures.asks)
 
 pub returns-clause-outside : goal.returns-clause-outside
 returns-clause-outside c _ =
     let found = (c.in-Ok-try_get_matches_from.ensures.matches (ap is_simple c.in-Ok.ensures ∙ simple)).1 in
-    subst AsksOutsideLimits (found ∙ ap (λ (a : App). subcommand_of a (texts_of c.args.words.now)) c.in-Ok.ensures) c.in-None.ensures.outside
+    subst AsksOutsideLimits (found ∙ ap (λ (a : App). subcommand_of a (texts_of c.args.words.now)) c.in-Ok.ensures) (sym c.in-None.ensures.asks)
 
 pub returns-in-Err-try_get_matches_from-clause-told : goal.returns-in-Err-try_get_matches_from-clause-told
 returns-in-Err-try_get_matches_from-clause-told c =

@@ -3,7 +3,7 @@ use Rattle.std.proofs.lemmas.Result.{IfOk-weaker}
 use Rattle.clap.specs.Words.{App, app_of, new_app, new_rule, rule_of, with_rule, with_subcommand}
 use Rattle.command_line.specs.Options.{with_options}
 use Rattle.command_line.proofs.Telling.{plain_is_local}
-use Rattle.command_line.proofs.command_words.with_run.Goals as goal
+use Rattle.command_line.proofs.subcommands.with_run.Goals as goal
 
 pub returns : goal.returns
 returns c =
