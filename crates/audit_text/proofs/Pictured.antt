@@ -1,5 +1,5 @@
 -- From a log that was run to the text that it was read from, for the picture of its grants.
-use Rattle.std.proofs.Common.{◌≡◌, ◌⊎◌, ℕ, List, Option, Some, None, subst, inl, inr}
+use Rattle.std.proofs.Common.{◌≡◌, ◌<◌, ◌⊎◌, ℕ, List, Option, Some, None, length, subst, inl, inr}
 use Rattle.std.specs.Prelude.{Err, IfSome, Ok, OnOk, Result}
 use Rattle.std.specs.Io.KnownBytes.{Appends}
 use Rattle.log_text_base.specs.Known.{AppendsFront}
@@ -9,7 +9,7 @@ use Rattle.sequencer.specs.Log.{Accepted}
 use Rattle.report.specs.Report.{Reading, log_of, names_after}
 use Rattle.bohm_base.specs.Collecting.{IsLogOf}
 use Rattle.batched_text.specs.Batching.{IsLogOfText}
-use Rattle.audit_text.specs.Picture.{IsPicture, IsPictureOf, Pictures}
+use Rattle.audit_text.specs.Picture.{EndsBefore, IsPicture, IsPictureOf, Pictures, place_before}
 use Rattle.audit_text.specs.declared.fault.AuditFault.{AuditFault}
 
 -- the picture of the log of a text is the picture of the text
@@ -40,3 +40,11 @@ pub begun : (i old new : Option (List ℕ)) (log : Accepted) (limit : Option ℕ
 begun None old new log limit so picture = tt
 begun (Some input) old new log limit so (inl same) = inl same
 begun (Some input) old new log limit so (inr picture) = inr (picture.0, (pictures input log limit picture.0 so picture.1.0, picture.1.1))
+
+-- the log ends before the place
+pub ends_before : (i : Option (List ℕ)) (log : Accepted) (limit : Option ℕ) → IsLogOfText i log
+    → length log.statements < place_before log.statements limit → IfSome i (λ input. EndsBefore input limit)
+ends_before None log limit so past = tt
+ends_before (Some input) log limit so past =
+    let of : IsLogOf so.1.0 log so.0 = so.1.1.1 in
+    (so.1.0, (so.1.1.0, subst (λ (statements : List Statement). length statements < place_before statements limit) of.statements past))

@@ -1,4 +1,4 @@
-use Rattle.audit_text.proofs.Pictured.{begun, pictured}
+use Rattle.audit_text.proofs.Pictured.{begun, ends_before, pictured}
 use Rattle.audit_text.proofs.picturing.grants_text.Goals as goal
 
 pub returns-clause-done : goal.returns-clause-done
@@ -6,3 +6,8 @@ returns-clause-done g c = pictured _ _ _ _ _ c.args.limit c.in_ok-engine.ensures
 
 pub returns-clause-begun : goal.returns-clause-begun
 returns-clause-begun g c = begun _ _ _ _ c.args.limit c.in_ok-engine.ensures.log c.write_picture.ensures.begun
+
+pub returns-clause-none : goal.returns-clause-none
+returns-clause-none g c is =
+    let told = c.write_picture.ensures.none is in
+    (told.0, ends_before _ _ c.args.limit c.in_ok-engine.ensures.log told.1)
