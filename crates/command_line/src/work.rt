@@ -3,7 +3,8 @@
 ghost use Rattle.std.specs.Prelude.{◌≡◌, ◌≢◌, ◌<◌, ◌-◌, ◌^◌, ℕ, Err, List, OnOk, Result, true};
 ghost use Rattle.std.specs.Thread.{IsSync};
 ghost use Rattle.report.specs.Report.{IsReport};
-ghost use Rattle.audit_text.specs.Answer.{IsExplanation, IsPicture};
+ghost use Rattle.audit_text.specs.Answer.{IsExplanation};
+ghost use Rattle.audit_text.specs.Picture.{IsPicture};
 ghost use Rattle.batched_text.specs.Settings.{are_within_limits};
 ghost use Rattle.engine.specs.declared.fault.EngineFault.TheVariants.{BadSettings};
 ghost use Rattle.command_line.specs.Running.{HasBegun, HasTold};
