@@ -12,6 +12,7 @@ mod logs;
 mod pictures;
 mod questions;
 mod stepping;
+mod texts;
 mod worked;
 
 use drawn::tell_drawn;
@@ -21,12 +22,14 @@ use questions::{tell_failures, tell_questions};
 use std::process::ExitCode;
 use std::sync::Wait;
 use std::thread::Threads;
+use texts::tell_texts;
 use worked::tell_worked;
 
 /// Makes all trials in turn.
 fn tell<R: Threads + Wait + Print + AllocGlobal + Sync>(rt: &R) -> Result<(), TrialFault> {
     tell_worked(rt, rt.alloc())?;
     tell_questions(rt, rt.alloc())?;
+    tell_texts(rt, rt.alloc())?;
     tell_failures(rt, rt.alloc())?;
     tell_pictures(rt, rt.alloc())?;
     tell_drawn(rt, rt.alloc())
