@@ -1,5 +1,6 @@
 //! Each place of drawn logs explained, and asked about.
 
+use crate::changed::{Changes, change_place};
 use crate::fault::TrialFault;
 use crate::generator::Generator;
 use crate::logs::{LINES, drawn_log};
@@ -27,6 +28,8 @@ struct Counts {
     checked: u32,
     /// Of how many logs no place is told behind the last.
     ended: u32,
+    /// What was found of explanations with one place changed.
+    changes: Changes,
     /// The answers, one behind the other.
     answers: Vec<u8>,
 }
@@ -66,6 +69,7 @@ fn ask<R: Threads + Wait + Sync>(
     for place in 0..engine.finished() {
         let found = answer(rt, alloc, log, Question { place, is_checked })?;
         counts.add_place(is_accepted(alloc, engine, place), found.as_slice())?;
+        change_place(alloc, engine, place, &mut counts.changes)?;
     }
     let place = engine.finished();
     if let Err(AuditFault::NoSuchPlace) = answer(rt, alloc, log, Question { place, is_checked }) {
@@ -119,6 +123,11 @@ pub fn tell_drawn<R: Threads + Wait + Print + Sync>(
         accepted: 0,
         checked: 0,
         ended: 0,
+        changes: Changes {
+            tried: 0,
+            alike: 0,
+            accepted: 0,
+        },
         answers: Vec::new(alloc),
     };
     for _ in 0..LOGS {
@@ -132,6 +141,11 @@ pub fn tell_drawn<R: Threads + Wait + Print + Sync>(
     );
     println!(rt;
         "{LOGS} logs of {LINES} lines: {places} places, {accepted} accepted, {checked} checked; no place behind {ended}"
+    )?;
+    let changes = counts.changes;
+    println!(rt;
+        "one place changed, left out, repeated or exchanged: {} explanations, {} judged as by the slow walk, {} accepted",
+        changes.tried, changes.alike, changes.accepted
     )?;
     tell_kinds(rt, counts.answers.as_slice())
 }

@@ -1,8 +1,8 @@
-//! Places of a worked log explained, explanations that are handed in, questions about texts of logs, and
-//! pictures of grants. What is printed, a line for
-//! each finding, is compared with `stdout`.
+//! Places of a worked log explained, explanations that are handed in, questions about texts of logs, pictures of grants, and drawn
+//! logs. What is printed, a line for each finding, is compared with `stdout`.
 #![tactic(auto)]
 
+mod changed;
 mod doubles;
 mod drawn;
 mod fault;
