@@ -4,8 +4,7 @@ use Rattle.audit_text.proofs.picturing.write_picture.Goals as goal
 
 pub returns-in_err-flush-clause-begun : goal.returns-in_err-flush-clause-begun
 returns-in_err-flush-clause-begun g c =
-    inr
-    (
+    inr (
       c.put_picture.new.text.items,
       (
         c.in_ok-put_picture.ensures.picture,
@@ -17,8 +16,7 @@ returns-in_err-flush-clause-begun g c =
 
 pub returns-clause-begun : goal.returns-clause-begun
 returns-clause-begun g c =
-    inr
-    (
+    inr (
       c.put_picture.new.text.items,
       (
         c.in_ok-put_picture.ensures.picture,
