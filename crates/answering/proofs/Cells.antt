@@ -10,13 +10,13 @@ use Rattle.model_base.specs.Rows.{Rows}
 use Rattle.model_base.specs.Versions.{is_writing}
 use Rattle.body.specs.declared.window.Window.{Window}
 use Rattle.body.specs.Shape.{HasColumns}
-use Rattle.body.specs.Shown.{Shows}
+use Rattle.body.specs.Shown.{WindowShows}
 use Rattle.own_words.specs.Words.{bits, row_words}
 use Rattle.answering.specs.Answering.{IsShaped, columns_in}
 use Rattle.answering.specs.Judged.{cells_at}
 
 -- the row of the access at a place is the window's
-pub row_shown : (accesses : List Access) (window : Window) (rows : Rows) (place : ℕ) (access : Access) → Shows accesses window rows
+pub row_shown : (accesses : List Access) (window : Window) (rows : Rows) (place : ℕ) (access : Access) → WindowShows accesses window rows
     → place < length accesses → access ≡ get_or accesses place access
     → get_or window.rows place None ≡ rows access.key.table access.key.row
 row_shown accesses window rows place access shows below is =

@@ -14,7 +14,7 @@ use Rattle.model_base.specs.Outcomes.{World, at_place, cause, judged, missing, s
 use Rattle.model_base.specs.Privileges.{gives}
 use Rattle.model_base.specs.Versions.{accesses_of}
 use Rattle.body.specs.declared.window.Window.{Window}
-use Rattle.body.specs.Shown.{Shows}
+use Rattle.body.specs.Shown.{WindowShows}
 use Rattle.grants.specs.Loss.{last_end, later_of, loss_of}
 use Rattle.grants.specs.View.{IsLawful, View, entries}
 use Rattle.checker.specs.Admission.{admission, admitted_if, told_if}
@@ -93,7 +93,7 @@ module _ (owners : List ℕ) (place : ℕ) (world : World) (statement : Statemen
 
   module _ (window : Window) (other : (table columns : ℕ) → statement.form ≡ Form.Create table columns → ⊥) where
     -- a denial leaves the rows that were found
-    pub denied_tells : (need : Need) (why : Cause) → Shows (accesses_of statement.form) window world.rows
+    pub denied_tells : (need : Need) (why : Cause) → WindowShows (accesses_of statement.form) window world.rows
         → Admission.Denied need why ≡ admission owners world.deeds statement.user statement.form
         → Tells statement window (at_place owners place world statement) (Outcome.Denied need why) window
     denied_tells need why shows is =

@@ -11,7 +11,7 @@ use Rattle.model_base.specs.Versions.{accesses_of}
 use Rattle.body.specs.declared.window.Window.{Window}
 use Rattle.body.specs.Laws.{AreApart}
 use Rattle.body.specs.Premises.{HasFittingBody}
-use Rattle.body.specs.Shown.{Shows, with_rows}
+use Rattle.body.specs.Shown.{WindowShows, with_rows}
 use Rattle.body.proofs.Frame.{shows_rows}
 use Rattle.body.proofs.Shapes.{keeps_columns}
 use Rattle.answering.specs.Judged.{KeepsShaped, Tells}
@@ -24,15 +24,15 @@ few_accesses (Form.Deed deed) fits = omega arith
 
 module _ (statement : Statement) (window after : Window) (fits : HasFittingBody statement.form) (sixteen : length after.rows ≡ 16)
     (apart : AreApart (accesses_of statement.form)) (outputs : List ℤ)
-    (ends : (rows : Rows) → Shows (accesses_of statement.form) window rows
+    (ends : (rows : Rows) → WindowShows (accesses_of statement.form) window rows
     → body rows statement.form ≡ completed (with_rows (accesses_of statement.form) after.rows rows) outputs) where
   -- behind a completed body the window shows the new rows
-  shown : (rows : Rows) → Shows (accesses_of statement.form) after (with_rows (accesses_of statement.form) after.rows rows)
+  shown : (rows : Rows) → WindowShows (accesses_of statement.form) after (with_rows (accesses_of statement.form) after.rows rows)
   shown rows =
       let few : length (accesses_of statement.form) ≤ 16 = few_accesses statement.form fits in
       shows_rows (accesses_of statement.form) after.rows rows apart (omega arith)
 
-  pub completed_tells : (owners : List ℕ) (place : ℕ) (world : World) → Shows (accesses_of statement.form) window world.rows
+  pub completed_tells : (owners : List ℕ) (place : ℕ) (world : World) → WindowShows (accesses_of statement.form) window world.rows
       → Tells statement window (judged owners place world statement None) (Outcome.Done outputs DeedDone.None) after
   completed_tells owners place world shows = rw (ends world.rows shows) (record { told = refl; rows = shown world.rows })
 

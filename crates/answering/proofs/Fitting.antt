@@ -23,13 +23,13 @@ use Rattle.model_base.specs.Privileges.{holds, place_of}
 use Rattle.model_base.proofs.Causes.{cause-revocation}
 use Rattle.model_base.proofs.Growth.{deeds_before-stands}
 use Rattle.model_base.proofs.Replay.{by_cases}
-use Rattle.body.specs.Premises.{HasFittingBody, IsRunnable, outputs_of as outputs_of_step}
+use Rattle.body.specs.Premises.{HasFittingBody, IsRunnable, outputs_of_step}
 use Rattle.body.specs.Shape.{FormFits, HaveShape, IsNumber}
 use Rattle.body.specs.Steps.{EndsWithin, steps_of}
 use Rattle.body.proofs.Shapes.{keeps_shape, logs_have_shape}
 use Rattle.body.proofs.Within.{ends_within}
 use Rattle.own_words.specs.Places.{cells, own_words, words_at}
-use Rattle.own_words.specs.Words.{FitsDetails, FitsForm, cause_word, creates, deed_form, deed_told, ended_by, ended_in, header, is_created, outcome_from, outputs_of}
+use Rattle.own_words.specs.Words.{FitsDetails, FitsForm, cause_word, creates, deed_form, deed_told, places_ended_by, ended_in, header, is_created, outcome_from, outputs_of}
 use Rattle.own_words.proofs.Undoing.{details_told}
 use Rattle.answering.specs.Keeping.{KeepsToSteps}
 use Rattle.answering.proofs.Room.{few_outputs, outputs_counted}
@@ -72,11 +72,11 @@ module _ (own : List ℕ) (place : ℕ) (world : World) (statement : Statement) 
   created_fits (Form.Deed deed) = judged_plain (missing own world statement.user (Form.Deed deed))
 
   -- what a deed comes to is of its kind
-  deed_kind : (deed : DeedForm) → deed_done own world (Some (deed_at place statement.user deed)) ≡ deed_told (ended_by (deed_done own world (Some (deed_at place statement.user deed)))) (Some deed)
+  deed_kind : (deed : DeedForm) → deed_done own world (Some (deed_at place statement.user deed)) ≡ deed_told (places_ended_by (deed_done own world (Some (deed_at place statement.user deed)))) (Some deed)
   deed_kind (DeedForm.Grant kind table grantee option) = refl
   deed_kind (DeedForm.Revoke kind table grantee) = refl
 
-  form_kind : (form : Form) → deed_done own world (deed_of place statement.user form) ≡ deed_told (ended_by (deed_done own world (deed_of place statement.user form))) (deed_form form)
+  form_kind : (form : Form) → deed_done own world (deed_of place statement.user form) ≡ deed_told (places_ended_by (deed_done own world (deed_of place statement.user form))) (deed_form form)
   form_kind (Form.Create table columns) = refl
   form_kind (Form.Run accesses steps None) = refl
   form_kind (Form.Run accesses steps (Some deed)) = deed_kind deed
@@ -102,7 +102,7 @@ module _ (columns : ℕ → ℕ) (own : List ℕ) (place : ℕ) (world : World) 
       → FitsDetails statement.form (ended own world (deed_of place statement.user statement.form) ending)
   ended_fits (completed rows outputs) is keeps = record {
     room = keeps;
-    eight = omega (arith, keeps, few_outputs statement.form runnable);
+    few = omega (arith, keeps, few_outputs statement.form runnable);
     range = All-weaker IsNumber (FitsSigned w64) number_fits outputs (keeps_shape columns statement.form world.rows rows outputs fits shaped is).1;
     kind = form_kind own place world statement statement.form;
   }

@@ -6,9 +6,9 @@ use Rattle.std.proofs.lemmas.List.{length-map, length-replicate}
 use Rattle.model_base.specs.declared.outcome.Outcome.{Outcome}
 use Rattle.model_base.specs.declared.statement.Form.{Form}
 use Rattle.model_base.specs.declared.statement.Step.{Step}
-use Rattle.model_base.specs.declared.statement.Step.TheVariants.{Const, Add, Sub, Mul, Less, Same, Has, Load, Store, Insert, Delete, Check, Skip, Out}
+use Rattle.model_base.specs.declared.statement.Step.TheVariants.{Const, Compute, Has, Load, Store, Insert, Delete, Check, Skip, Out}
 use Rattle.model_base.specs.Outcomes.{needs}
-use Rattle.body.specs.Premises.{HasFittingBody, outputs_of as outputs_of_step}
+use Rattle.body.specs.Premises.{HasFittingBody, outputs_of_step}
 use Rattle.own_words.specs.Words.{bits, header, is_out, outputs_of, outputs_told}
 use Rattle.own_words.proofs.Undoing.{needs_length}
 use Rattle.answering.proofs.Executing.{few_accesses}
@@ -20,11 +20,7 @@ few_needs form fits = omega (arith, needs_length form, few_accesses form fits)
 -- a step has at most one output
 one_if_out : (step : Step) → cond (is_out step) 1 0 ≡ outputs_of_step step
 one_if_out (Const to value) = refl
-one_if_out (Add to left right) = refl
-one_if_out (Sub to left right) = refl
-one_if_out (Mul to left right) = refl
-one_if_out (Less to left right) = refl
-one_if_out (Same to left right) = refl
+one_if_out (Compute operation to left right) = refl
 one_if_out (Has to table row) = refl
 one_if_out (Load to table row column) = refl
 one_if_out (Store table row column from) = refl

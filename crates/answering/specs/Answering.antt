@@ -10,7 +10,7 @@ use Rattle.model_base.specs.Privileges.{ended_by}
 use Rattle.model_base.specs.Rows.{Rows}
 use Rattle.body.specs.declared.window.Window.{Window}
 use Rattle.body.specs.Shape.{HaveColumns}
-use Rattle.body.specs.Shown.{Shows}
+use Rattle.body.specs.Shown.{WindowShows}
 
 -- the columns of each table, by a list of them
 abbrev pub columns_in : List ℕ → ℕ → ℕ
@@ -19,7 +19,7 @@ columns_in columns table = slice_index_or columns table 0
 -- the rows of the window, at the accesses, are those of a map in which each row has the columns of its table
 pub record IsShaped (columns : ℕ → ℕ) (accesses : List Access) (window : Window) : Type 0 where
   pub rows : Rows
-  pub shows : Shows accesses window rows
+  pub shows : WindowShows accesses window rows
   pub shape : HaveColumns columns rows
 
 -- the places of the grants that a deed takes out of force

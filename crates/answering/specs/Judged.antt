@@ -9,7 +9,7 @@ use Rattle.model_base.specs.Rows.{Rows}
 use Rattle.model_base.specs.Versions.{accesses_of, is_writing}
 use Rattle.body.specs.declared.window.Window.{Window}
 use Rattle.body.specs.Shape.{FormFits}
-use Rattle.body.specs.Shown.{Shows}
+use Rattle.body.specs.Shown.{WindowShows}
 use Rattle.own_words.specs.Words.{header, row_words}
 use Rattle.answering.specs.Answering.{IsShaped}
 
@@ -22,7 +22,7 @@ cells_at columns accesses rows =
 -- statement's deed came to isn't in the header
 pub record Tells (statement : Statement) (window : Window) (result : Outcome × World) (outcome : Outcome) (after : Window) : Type 0 where
   pub told : header statement.form outcome ≡ header statement.form result.0
-  pub rows : Shows (accesses_of statement.form) after result.1.rows
+  pub rows : WindowShows (accesses_of statement.form) after result.1.rows
 
 -- a window in which each row has the columns of its table is followed by such a window
 abbrev pub KeepsShaped : Statement → Window → Window → Type 0

@@ -8,20 +8,20 @@ ghost use Rattle.model_base.specs.Rows.{Rows};
 ghost use Rattle.model_base.specs.Versions.{accesses_of};
 ghost use Rattle.body.specs.Laws.{AreApart};
 ghost use Rattle.body.specs.Premises.{IsRunnable};
-ghost use Rattle.body.specs.Shown.{Shows};
+ghost use Rattle.body.specs.Shown.{WindowShows};
 ghost use Rattle.checker.specs.Missing.{Covers};
-ghost use Rattle.grants.specs.View.{Shows as ShowsDeeds};
+ghost use Rattle.grants.specs.View.{ShowsDeeds};
 ghost use Rattle.own_words.specs.Words.{outputs_told, second_detail};
 ghost use Rattle.answering.specs.Judged.{KeepsShaped, Tells};
 
 use body::{BodyEnd, Window, run};
 use checker::{Admission, admit};
 use grants::Records;
-use model_base::{DeedDone, Form, Outcome, Statement};
+use model_base::{DeedDone, Form, MOST_ACCESSES, MOST_OUTPUTS, Outcome, Statement};
 
-/// A window has sixteen rows, which the contract of reading one tells.
-fn has_sixteen_rows(window: &Window)
-    ensures { length window.now.rows ≡ 16 }
+/// A window has a row for each access that a statement may have, which the contract of reading one tells.
+fn has_all_rows(window: &Window)
+    ensures { length window.now.rows ≡ MOST_ACCESSES }
 {
     let _ = window.row(0);
 }
@@ -32,16 +32,16 @@ fn executed(statement: &Statement, window: &mut Window) -> Outcome
     requires runnable { IsRunnable statement.now }
     requires apart { AreApart (accesses_of statement.now.form) }
     requires fresh { window.old.outputs ≡ [] }
-    ensures tells { (owners : List ℕ) (place : ℕ) (world : World) → Shows (accesses_of statement.now.form) window.old world.rows
+    ensures tells { (owners : List ℕ) (place : ℕ) (world : World) → WindowShows (accesses_of statement.now.form) window.old world.rows
         → Tells statement.now window.old (judged owners place world statement.now None) result window.new }
     ensures shaped { KeepsShaped statement.now window.old window.new }
     ensures detail { second_detail result < 2 ^ 64 }
-    ensures outputs { length (outputs_told result) ≤ 8 }
+    ensures outputs { length (outputs_told result) ≤ MOST_OUTPUTS }
 {
     let found = *window;
     match run(statement, window) {
         BodyEnd::Completed => {
-            has_sixteen_rows(window);
+            has_all_rows(window);
             let outputs = window.outputs();
             let deed = DeedDone::None;
             Outcome::Done { outputs, deed }
@@ -69,12 +69,12 @@ pub(crate) fn judged<V: Records>(
     requires fresh { window.old.outputs ≡ [] }
     requires covered { Covers (V.shown view.old) (needs statement.now.form) }
     ensures tells { (owners : List ℕ) (deeds : List Deed) (rows : Rows)
-        → ShowsDeeds (V.shown view.old) owners deeds → Shows (accesses_of statement.now.form) window.old rows
+        → ShowsDeeds (V.shown view.old) owners deeds → WindowShows (accesses_of statement.now.form) window.old rows
         → Tells statement.now window.old (at_place owners (V.shown view.old).place (record { rows = rows; deeds = deeds }) statement.now)
         result window.new }
     ensures shaped { KeepsShaped statement.now window.old window.new }
     ensures detail { second_detail result < 2 ^ 64 }
-    ensures outputs { length (outputs_told result) ≤ 8 }
+    ensures outputs { length (outputs_told result) ≤ MOST_OUTPUTS }
     ensures same { V.shown view.new ≡ V.shown view.old }
 {
     if let Form::Create { .. } = &statement.form {

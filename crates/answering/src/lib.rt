@@ -8,9 +8,9 @@
 
 mod judging;
 mod laws;
+mod place_words;
 mod revoking;
-mod words;
 
 pub use laws::{outcomes_fit_their_forms, words_tell_outcomes};
+pub use place_words::own_words;
 pub use revoking::ended;
-pub use words::own_words;

@@ -4,7 +4,7 @@ ghost use Rattle.std.specs.Prelude.{◌≡◌, ℕ, All, IfOk, IsSome, List};
 ghost use Rattle.model_base.specs.declared.deed.Deed.{Deed};
 ghost use Rattle.model_base.specs.Outcomes.{deed_of};
 ghost use Rattle.model_base.specs.References.{deed_tables};
-ghost use Rattle.grants.specs.View.{Shows};
+ghost use Rattle.grants.specs.View.{ShowsDeeds};
 ghost use Rattle.answering.specs.Answering.{ended_by_deed};
 
 use grants::{Records, to_end};
@@ -20,7 +20,7 @@ pub fn ended<V: Records>(
     view: &mut V,
 ) -> Result<Vec<Place>, AllocError>
     requires covered { All (λ table. IsSome ((V.shown view.old).owner table)) (deed_tables statement.now.form) }
-    ensures value { IfOk result (λ ended. (owners : List ℕ) (deeds : List Deed) → Shows (V.shown view.old) owners deeds
+    ensures value { IfOk result (λ ended. (owners : List ℕ) (deeds : List Deed) → ShowsDeeds (V.shown view.old) owners deeds
         → ended.items ≡ ended_by_deed owners deeds (deed_of (V.shown view.old).place statement.now.user statement.now.form)) }
     ensures same { V.shown view.new ≡ V.shown view.old }
 {

@@ -6,15 +6,15 @@ use Rattle.log_text_base.specs.Known.{AppendsFront}
 use Rattle.model_base.specs.declared.statement.Statement.{Statement}
 use Rattle.sequencer.specs.Catalog.{Names, no_names}
 use Rattle.sequencer.specs.Log.{Accepted}
-use Rattle.report.specs.Report.{Reading, log_of, names_after}
+use Rattle.report.specs.Report.{Reading, log_of}
 use Rattle.bohm_base.specs.Collecting.{IsLogOf}
 use Rattle.batched_text.specs.Batching.{IsLogOfText}
-use Rattle.audit_text.specs.Answer.{Answers, IsAnswerOf, IsExplanation}
+use Rattle.audit_text.specs.Answer.{Answers, AnswersAccepted, IsExplanation}
 use Rattle.audit_text.specs.declared.fault.AuditFault.{AuditFault}
 use Rattle.audit_text.specs.declared.question.Question.{Question}
 
 -- the answer about the log of a text is the answer about the text
-explains : (input : List ℕ) (log : Accepted) (question : Question) (text : List ℕ) → IsLogOfText (Some input) log → IsAnswerOf log question text
+explains : (input : List ℕ) (log : Accepted) (question : Question) (text : List ℕ) → IsLogOfText (Some input) log → AnswersAccepted log question text
     → IsExplanation input question text
 explains input log question text so answers =
     let readings : List Reading = so.1.0 in
@@ -28,7 +28,7 @@ explains input log question text so answers =
     )
 
 pub explained : (result : Result (Unit {0}) AuditFault) (i old new : Option (List ℕ)) (log : Accepted) (question : Question) → IsLogOfText i log
-    → OnOk result ((text : List ℕ) × (IsAnswerOf log question text × Appends old new text))
+    → OnOk result ((text : List ℕ) × (AnswersAccepted log question text × Appends old new text))
     → OnOk result (IfSome i (λ input. (text : List ℕ) × (IsExplanation input question text × Appends old new text)))
 explained (Ok x) None old new log question so answer = tt
 explained (Ok x) (Some input) old new log question so answer = (answer.0, (explains input log question answer.0 so answer.1.0, answer.1.1))
@@ -36,7 +36,7 @@ explained (Err fault) i old new log question so answer = tt
 
 -- nothing was written, or a beginning of the answer
 pub begun : (i old new : Option (List ℕ)) (log : Accepted) (question : Question) → IsLogOfText i log
-    → (new ≡ old) ⊎ ((text : List ℕ) × (IsAnswerOf log question text × AppendsFront old new text))
+    → (new ≡ old) ⊎ ((text : List ℕ) × (AnswersAccepted log question text × AppendsFront old new text))
     → IfSome i (λ input. (new ≡ old) ⊎ ((text : List ℕ) × (IsExplanation input question text × AppendsFront old new text)))
 begun None old new log question so answer = tt
 begun (Some input) old new log question so (inl same) = inl same

@@ -6,7 +6,7 @@ use Rattle.log_text_base.specs.Known.{AppendsFront}
 use Rattle.model_base.specs.declared.statement.Statement.{Statement}
 use Rattle.sequencer.specs.Catalog.{Names, no_names}
 use Rattle.sequencer.specs.Log.{Accepted}
-use Rattle.report.specs.Report.{Reading, log_of, names_after}
+use Rattle.report.specs.Report.{Reading, log_of}
 use Rattle.bohm_base.specs.Collecting.{IsLogOf}
 use Rattle.batched_text.specs.Batching.{IsLogOfText}
 use Rattle.audit_text.specs.Picture.{EndsBefore, IsPicture, IsPictureOf, Pictures, place_before}

@@ -24,8 +24,8 @@ Answers log tables question text =
     (lines : List Line) × ((explained log question.place ≡ Some lines) × (text ≡ answer_text log tables question lines))
 
 -- so it does for a log that was taken
-abbrev pub IsAnswerOf : Accepted → Question → List ℕ → Type 0
-IsAnswerOf log question text = Answers log.statements log.names.tables question text
+abbrev pub AnswersAccepted : Accepted → Question → List ℕ → Type 0
+AnswersAccepted log question text = Answers log.statements log.names.tables question text
 
 -- the text answers the question about the log that the lines of the input make
 abbrev pub IsExplanation : List ℕ → Question → List ℕ → Type 0

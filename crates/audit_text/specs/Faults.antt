@@ -2,6 +2,6 @@
 use Rattle.log_text_base.specs.declared.fault.ReadFault.{ReadFault}
 use Rattle.audit_text.specs.declared.fault.AuditFault.{AuditFault}
 
-abbrev pub of_reading : ReadFault → AuditFault
-of_reading ReadFault.NoMemory = AuditFault.NoMemory
-of_reading ReadFault.Read = AuditFault.Read
+abbrev pub audit_fault_of : ReadFault → AuditFault
+audit_fault_of ReadFault.NoMemory = AuditFault.NoMemory
+audit_fault_of ReadFault.Read = AuditFault.Read

@@ -4,7 +4,7 @@ ghost use Rattle.std.specs.Prelude.{◌≡◌, ◌<◌, ◌≤◌, ◌-◌, ◌^
 ghost use Rattle.std.specs.Io.KnownBytes.{Appends};
 ghost use Rattle.log_text_base.specs.Known.{AppendsFront, raised};
 ghost use Rattle.engine.specs.Engine.{finished};
-ghost use Rattle.audit_text.specs.Answer.{HasNoPlace, IsAnswerOf, IsExplanation};
+ghost use Rattle.audit_text.specs.Answer.{HasNoPlace, AnswersAccepted, IsExplanation};
 
 use crate::fault::AuditFault;
 use crate::putting::put_answer;
@@ -27,9 +27,9 @@ fn write_answer<W: Write>(
     requires kept { engine.now.dropped ≡ 0 }
     requires all { finished engine.now ≡ length engine.now.log.statements }
     ensures done { OnOk result ((text : List ℕ)
-        × (IsAnswerOf engine.now.log question text × Appends (W.contents writer.old.inner) (W.contents writer.new.inner) text)) }
+        × (AnswersAccepted engine.now.log question text × Appends (W.contents writer.old.inner) (W.contents writer.new.inner) text)) }
     ensures begun { (W.contents writer.new.inner ≡ W.contents writer.old.inner) ⊎ ((text : List ℕ)
-        × (IsAnswerOf engine.now.log question text × AppendsFront (W.contents writer.old.inner) (W.contents writer.new.inner) text)) }
+        × (AnswersAccepted engine.now.log question text × AppendsFront (W.contents writer.old.inner) (W.contents writer.new.inner) text)) }
     ensures none { result ≡ Err AuditFault.NoSuchPlace
         → (writer.new ≡ writer.old) × (length engine.now.log.statements ≤ question.place) }
     ensures read { result ≡ Err AuditFault.Read → ⊥ }

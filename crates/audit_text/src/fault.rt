@@ -1,7 +1,7 @@
 //! Why a question has no answer.
 
 ghost use Rattle.std.specs.Prelude.{◌≡◌};
-ghost use Rattle.audit_text.specs.Faults.{of_reading};
+ghost use Rattle.audit_text.specs.Faults.{audit_fault_of};
 ghost use Rattle.audit_text.specs.declared.fault.AuditFault.TheVariants.{NoMemory, Write};
 
 use log_text_base::{ReadFault, WriteFault};
@@ -42,7 +42,7 @@ impl<T: Drop> From<AllocFailed<T>> for AuditFault {
 }
 
 impl From<ReadFault> for AuditFault {
-    ghost from_gives = { λ fault e. e ≡ of_reading fault };
+    ghost from_gives = { λ fault e. e ≡ audit_fault_of fault };
 
     fn from(fault: ReadFault) -> AuditFault {
         match fault {

@@ -3,9 +3,9 @@
 ghost use Rattle.std.specs.Prelude.{◌≡◌, ◌<◌, ◌≤◌, ◌++◌, ◌⊎◌, [], Err, IfErr, IfOk, OnOk, Some, codes, length};
 ghost use Rattle.engine.specs.Engine.{finished};
 ghost use Rattle.report.specs.Report.{place_text};
-ghost use Rattle.explain.specs.Explained.{AreNamed, IsExplainedBy, explained};
+ghost use Rattle.explain.specs.Explained.{LinesAreNamed, IsExplainedBy, explained};
 ghost use Rattle.explained_text.specs.Text.{explanation_text};
-ghost use Rattle.audit_text.specs.Answer.{IsAnswerOf};
+ghost use Rattle.audit_text.specs.Answer.{AnswersAccepted};
 
 use crate::fault::AuditFault;
 use crate::question::Question;
@@ -22,7 +22,7 @@ fn explain_place(alloc: Global, engine: &Engine, place: Place) -> Result<Explana
     requires within { place < finished engine.now }
     ensures place { IfOk result (λ found. found.place ≡ place) }
     ensures lines { IfOk result (λ found. explained engine.now.log.statements place ≡ Some found.lines.items) }
-    ensures named { IfOk result (λ found. AreNamed (length engine.now.log.names.tables) found.lines.items) }
+    ensures named { IfOk result (λ found. LinesAreNamed (length engine.now.log.names.tables) found.lines.items) }
 {
     let _finished = engine.finished();
     match explain(alloc, engine, place) {
@@ -60,7 +60,7 @@ fn put_explained(
 ) -> Result<(), AllocError>
     requires kept { engine.now.dropped ≤ explanation.now.place }
     requires within { explanation.now.place < finished engine.now }
-    requires named { AreNamed (length engine.now.log.names.tables) explanation.now.lines.items }
+    requires named { LinesAreNamed (length engine.now.log.names.tables) explanation.now.lines.items }
     ensures { OnOk result (text.new.items ≡ text.old.items
         ++ place_text engine.now.log.statements engine.now.log.names.tables explanation.now.place
         ++ explanation_text engine.now.log.names.tables explanation.now.lines.items) }
@@ -79,7 +79,7 @@ fn put_found(
     requires kept { engine.now.dropped ≤ question.place }
     requires within { question.place < finished engine.now }
     requires empty { text.old.items ≡ [] }
-    ensures { OnOk result (IsAnswerOf engine.now.log question text.new.items) }
+    ensures { OnOk result (AnswersAccepted engine.now.log question text.new.items) }
 {
     explanations_are_sound();
     let found = explain_place(alloc, engine, question.place)?;
@@ -100,7 +100,7 @@ pub(crate) fn put_answer(
     requires kept { engine.now.dropped ≡ 0 }
     requires all { finished engine.now ≡ length engine.now.log.statements }
     requires empty { text.old.items ≡ [] }
-    ensures answer { OnOk result (IsAnswerOf engine.now.log question text.new.items) }
+    ensures answer { OnOk result (AnswersAccepted engine.now.log question text.new.items) }
     ensures none { result ≡ Err AuditFault.NoSuchPlace → length engine.now.log.statements ≤ question.place }
     ensures err { IfErr result (λ f. (f ≡ AuditFault.NoMemory) ⊎ (f ≡ AuditFault.NoSuchPlace)) }
 {

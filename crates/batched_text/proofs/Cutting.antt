@@ -10,9 +10,9 @@ use Rattle.sequencer.specs.Taken.{IsWhole}
 use Rattle.bohm_base.specs.Collecting.{became, with_reading}
 use Rattle.bohm_base.specs.declared.collecting.Became.{Became}
 use Rattle.engine.specs.Engine.{Run, finished}
-use Rattle.batched_text.specs.Batching.{Deals, IsCounted, IsFilling, IsFirst, IsOpen, Reports, Takes, lines_text}
+use Rattle.batched_text.specs.Batching.{Deals, IsCounted, IsFilling, IsFresh, IsOpen, ReportsLines, Takes, lines_text}
 use Rattle.batched_text.specs.History.{EndsEarly, IsCutBy, IsTrimmedBy}
-use Rattle.batched_text.specs.Settings.{IsCut, IsTrimmed, are_within_limits, mark_behind}
+use Rattle.batched_text.specs.Settings.{IsTrimmed, are_within_limits, mark_behind}
 use Rattle.batched_text.specs.declared.batching.Batching.{Batching}
 use Rattle.batched_text.specs.declared.history.History.{History}
 use Rattle.batched_text.specs.declared.settings.Settings.{Settings}
@@ -27,10 +27,6 @@ some-kept keep batch start end =
     let one : suc keep - 1 ≡ keep = omega arith in
     ap (λ (b : Bool). if b then end else start - batch * (suc keep - 1)) (ne_eqb (suc keep) 0 (λ same. omega (arith, same)))
     ∙ ap (λ (n : ℕ). start - batch * n) one
-
-pub mark_within : (keep batch start end : ℕ) → start ≤ end → mark_by keep batch start end ≤ end
-mark_within zero batch start end less = omega arith
-mark_within (suc keep) batch start end less = omega (arith, some-kept keep batch start end)
 
 pub mark_later : (keep batch batches start end mark : ℕ) → start ≤ end → start ≡ batch * batches → mark ≡ batch * (batches - keep) → mark ≤ mark_by keep batch start end
 mark_later zero batch batches start end mark less is at =
@@ -230,7 +226,7 @@ module _ (settings : Settings) (old new : Batching) (reported : IsReported setti
 
   -- all lines that waited are reported
   pub reports_all : (history : History) → IsFilling history settings old → (text : List ℕ) → text ≡ lines_text old.engine.log (old.number - length old.waiting.items) (finished old.engine) old.waiting.items
-      → Reports old.engine.log (finished old.engine) (finished new.engine) old.waiting.items new.waiting.items old.number text
+      → ReportsLines old.engine.log (finished old.engine) (finished new.engine) old.waiting.items new.waiting.items old.number text
   reports_all history filling text told = record {
     out = old.waiting.items;
     all = sym (append-nil old.waiting.items) ∙ ap (λ (ls : List Became). old.waiting.items ++ ls) (sym reported.left);
@@ -242,7 +238,7 @@ module _ (settings : Settings) (old new : Batching) (reported : IsReported setti
 
 -- none is reported
 pub reports_none : (batching : Batching) (text : List ℕ) → length batching.waiting.items < batching.number → text ≡ []
-    → Reports batching.engine.log (finished batching.engine) (finished batching.engine) batching.waiting.items batching.waiting.items batching.number text
+    → ReportsLines batching.engine.log (finished batching.engine) (finished batching.engine) batching.waiting.items batching.waiting.items batching.number text
 reports_none batching text few empty = record {
   out = [];
   all = refl;
@@ -275,20 +271,20 @@ filled history settings old new reading room takes whole =
 
 -- a line that was taken, and what was reported then
 pub dealt : (reading : Reading) (old taken new : Batching) → Takes reading old taken → new.engine.log ≡ taken.engine.log → new.number ≡ taken.number
-    → Reports taken.engine.log (finished taken.engine) (finished new.engine) taken.waiting.items new.waiting.items taken.number new.text.items → Deals reading old new
+    → ReportsLines taken.engine.log (finished taken.engine) (finished new.engine) taken.waiting.items new.waiting.items taken.number new.text.items → Deals reading old new
 dealt reading old taken new takes log number reports =
     let done : finished taken.engine ≡ finished old.engine = ap finished takes.engine in
     record {
       log = log ∙ ap (λ (run : Run). run.log) takes.engine;
       number = number ∙ takes.number;
-      reports = subst (λ (l : Accepted). Reports l (finished old.engine) (finished new.engine) (old.waiting.items ++ became old.engine.log.names reading ∷ []) new.waiting.items new.number new.text.items) (sym log)
-          (subst (λ (n : ℕ). Reports taken.engine.log (finished old.engine) (finished new.engine) (old.waiting.items ++ became old.engine.log.names reading ∷ []) new.waiting.items n new.text.items) (sym number)
-          (subst (λ (ls : List Became). Reports taken.engine.log (finished old.engine) (finished new.engine) ls new.waiting.items taken.number new.text.items) takes.waiting
-          (subst (λ (n : ℕ). Reports taken.engine.log n (finished new.engine) taken.waiting.items new.waiting.items taken.number new.text.items) done reports)));
+      reports = subst (λ (l : Accepted). ReportsLines l (finished old.engine) (finished new.engine) (old.waiting.items ++ became old.engine.log.names reading ∷ []) new.waiting.items new.number new.text.items) (sym log)
+          (subst (λ (n : ℕ). ReportsLines taken.engine.log (finished old.engine) (finished new.engine) (old.waiting.items ++ became old.engine.log.names reading ∷ []) new.waiting.items n new.text.items) (sym number)
+          (subst (λ (ls : List Became). ReportsLines taken.engine.log (finished old.engine) (finished new.engine) ls new.waiting.items taken.number new.text.items) takes.waiting
+          (subst (λ (n : ℕ). ReportsLines taken.engine.log n (finished new.engine) taken.waiting.items new.waiting.items taken.number new.text.items) done reports)));
     }
 
 -- before the first batch
-cut_first : (history : History) (settings : Settings) (batching : Batching) → IsFirst batching → IsCutBy history settings batching.engine
+cut_first : (history : History) (settings : Settings) (batching : Batching) → IsFresh batching → IsCutBy history settings batching.engine
 cut_first History.Kept settings batching first =
     record { batches = 0; full = omega (arith, first.none); mark = first.mark ∙ sym (nothing settings.batch settings.keep) }
   where
@@ -300,7 +296,7 @@ cut_first History.Kept settings batching first =
 cut_first History.Dropped settings batching first = omega (arith, first.mark)
 
 -- at first
-pub open_first : (history : History) (settings : Settings) (batching : Batching) → 0 < settings.batch → IsFirst batching → IsOpen history settings batching
+pub open_first : (history : History) (settings : Settings) (batching : Batching) → 0 < settings.batch → IsFresh batching → IsOpen history settings batching
 open_first history settings batching some first =
     let none : length batching.engine.log.statements ≡ 0 = ap (λ (log : Accepted). length log.statements) first.log in
     record {

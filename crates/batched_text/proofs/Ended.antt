@@ -12,14 +12,14 @@ use Rattle.sequencer.specs.Refusal.{refusal}
 use Rattle.sequencer.specs.declared.refused.Refused.{Refused}
 use Rattle.report.specs.Report.{IsReport, Reading, accepted, faulty, read, statement_if}
 use Rattle.bohm_base.specs.declared.collecting.Became.{Became}
-use Rattle.bohm_base.specs.Collecting.{Collects, IsLogOf, LeadsTo, became, became_if, log_text, places_of}
+use Rattle.bohm_base.specs.Collecting.{Collects, IsLogOf, AreReadBefore, became, became_if, log_text, places_of}
 use Rattle.bohm_base.proofs.Beginnings.{rest_lost}
-use Rattle.bohm_base.proofs.Reached.{all_written, report_begun}
+use Rattle.bohm_base.proofs.Reached.{all_written, report_begun, appends_nothing}
 use Rattle.bohm_base.specs.Pending.{HasBegunReport, HasReport}
 use Rattle.bohm_base.proofs.LinesRead.{collect_end}
 use Rattle.bohm_base.proofs.Logs.{report_is}
 use Rattle.engine.specs.Engine.{Run, finished}
-use Rattle.batched_text.specs.Batching.{Batched, Gathers, IsBatched, IsCounted, IsFirst, IsLogOfText, Takes, lines_text}
+use Rattle.batched_text.specs.Batching.{Batched, Gathers, IsBatched, IsCounted, IsFresh, IsLogOfText, Takes, lines_text}
 use Rattle.batched_text.specs.declared.batching.Batching.{Batching}
 use Rattle.batched_text.specs.Places.{places_in}
 use Rattle.batched_text.proofs.Reports.{parts}
@@ -52,12 +52,8 @@ pub one_more : (names : Names) (reading : Reading) → length (accepted names re
 one_more names (read sentence) = one_if names sentence (refusal names sentence)
 one_more names (faulty fault) = omega arith
 
-appends_nothing : (o : Option (List ℕ)) → Appends o o []
-appends_nothing None = tt
-appends_nothing (Some ys) = sym (append-nil ys)
-
 -- at first nothing is read, and nothing is written
-pub batched_start : (i o : Option (List ℕ)) (bytes : List ℕ) (batching : Batching) → bytes ≡ [] → IsFirst batching
+pub batched_start : (i o : Option (List ℕ)) (bytes : List ℕ) (batching : Batching) → bytes ≡ [] → IsFresh batching
     → Batched i (prepend_known bytes i) o o [] batching.engine.log (finished batching.engine) batching.waiting.items batching.number
 batched_start None o bytes batching b first = tt
 batched_start (Some xs) o bytes batching b first = (
@@ -66,7 +62,7 @@ batched_start (Some xs) o bytes batching b first = (
     appends_nothing o,
     record {
       earlier = [];
-      leads = subst (λ (w : List ℕ). LeadsTo xs (w ++ xs) []) (sym b) (λ later reads. reads);
+      leads = subst (λ (w : List ℕ). AreReadBefore xs (w ++ xs) []) (sym b) (λ later reads. reads);
       reported = [];
       made = subst (λ (ls : List Became). IsLogOf [] batching.engine.log ls) (sym first.nobody)
           (subst (λ (log : Accepted). IsLogOf [] log []) (sym first.log) (record { names = refl; statements = refl; each = refl }));

@@ -1,5 +1,5 @@
 -- How many places were dropped, as the run goes on.
-use Rattle.std.proofs.Common.{◌≡◌, ℕ, sym, ◌∙◌}
+use Rattle.std.proofs.Common.{◌≡◌, sym, ◌∙◌}
 use Rattle.engine.specs.Engine.{Run, finished}
 use Rattle.batched_text.specs.History.{KeepsAll, dropped_by}
 use Rattle.batched_text.specs.declared.history.History.{History}

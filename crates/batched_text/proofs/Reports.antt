@@ -1,40 +1,22 @@
 -- The report of some lines stands when more comes behind their log.
 use Rattle.std.proofs.Common.{◌≡◌, ◌<◌, ◌≤◌, ◌+◌, ◌++◌, ℕ, suc, List, [], ◌∷◌, Option, Some, None, get_or, length, refl, ap, sym, ◌∙◌, subst, arith, append_assoc}
-use Rattle.std.specs.Prelude.{All, codes, if◌then◌else◌, slice_get, unwrap_or}
-use Rattle.std.specs.Fmt.{decimal}
+use Rattle.std.specs.Prelude.{All, slice_get}
 use Rattle.std.proofs.lemmas.Option.{slice_get-get_or}
 use Rattle.std.proofs.lemmas.List.Elements.{All-weaker}
 use Rattle.model_base.specs.declared.outcome.Outcome.{Outcome}
-use Rattle.model_base.specs.declared.statement.Form.{Form}
 use Rattle.model_base.specs.declared.statement.Statement.{Statement}
 use Rattle.model_base.specs.Outcomes.{outcome, owners}
-use Rattle.log_text.specs.Statement.{kind_word}
 use Rattle.sequencer.specs.Log.{Accepted}
 use Rattle.sequencer.specs.Taken.{IsTaken, IsWhole}
-use Rattle.report.specs.Text.{IsNamed, cause_text, outcome_text, table_name}
+use Rattle.report.specs.Text.{IsNamed}
 use Rattle.report.specs.Report.{place_text, text_of}
 use Rattle.bohm_base.specs.Collecting.{became_text, places_of, report_text}
 use Rattle.bohm_base.specs.declared.collecting.Became.{Became}
 use Rattle.bohm_base.proofs.Named.{outcome-named}
-use Rattle.bohm_base.proofs.WholeLogs.{slice_get_longer}
 use Rattle.model_base.specs.Growing.{NeedsOwnTables, NeedsWithin}
 use Rattle.model_base.proofs.Growing.{get-front, outcome-stands}
 use Rattle.batched_text.specs.Places.{places_in}
-
--- a table's name is the same where others come behind it
-name-longer : (tables more : List (List ℕ)) (table : ℕ) → table < length tables → table_name (tables ++ more) table ≡ table_name tables table
-name-longer tables more table low =
-    let here = slice_get-get_or tables table [] low in
-    ap (λ (o : Option (List ℕ)). unwrap_or o []) (slice_get_longer tables more table (get_or tables table []) here ∙ sym here)
-
-text-longer : (tables more : List (List ℕ)) (place : ℕ) (form : Form) (o : Outcome) → IsNamed (length tables) o → outcome_text (tables ++ more) place form o ≡ outcome_text tables place form o
-text-longer tables more place form Outcome.Created named = refl
-text-longer tables more place form (Outcome.Done outputs deed) named = refl
-text-longer tables more place form (Outcome.Denied need cause) named =
-    ap (λ (name : List ℕ). decimal place ++ (codes " denied " ++ (kind_word need.kind ++ codes " " ++ name ++ (if need.option then codes " option" else [])) ++ cause_text cause) ++ codes "\n")
-    (name-longer tables more need.table named)
-text-longer tables more place form (Outcome.Aborted step reason) named = refl
-text-longer tables more place form (Outcome.Undeclared step) named = refl
+use Rattle.bohm_base.proofs.Reporting.{text-longer}
 
 needs-own : (log : Accepted) → IsWhole log → NeedsOwnTables log.statements
 needs-own log whole =

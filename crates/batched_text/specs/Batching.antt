@@ -1,10 +1,11 @@
 -- A text that is read, run and reported in batches.
-use Rattle.std.specs.Prelude.{◌≡◌, ◌≤◌, ◌<◌, ◌+◌, ◌^◌, ◌++◌, ◌∷◌, [], ⊤, ℕ, Bool, true, false, Result, Ok, List, Option, Some, None, length}
+use Rattle.std.specs.Prelude.{◌≡◌, ◌≤◌, ◌<◌, ◌+◌, ◌++◌, ◌∷◌, [], ⊤, ℕ, Bool, true, false, Result, Ok, List, Option, Some, None, length}
 use Rattle.std.specs.Io.KnownBytes.{Appends, IsAtEnd}
+use Rattle.log_text_base.specs.declared.limits.TheConstants.{BUFFER_BYTES, MOST_GIVEN_BYTES}
 use Rattle.report.specs.Report.{Reading}
 use Rattle.sequencer.specs.Log.{Accepted, empty_log}
 use Rattle.sequencer.specs.Taken.{IsWhole}
-use Rattle.bohm_base.specs.Collecting.{Collects, IsLogOf, LeadsTo, became, report_text, with_reading}
+use Rattle.bohm_base.specs.Collecting.{Collects, IsLogOf, AreReadBefore, became, report_text, with_reading}
 use Rattle.bohm_base.specs.Pending.{HasBegunReport}
 use Rattle.bohm_base.specs.declared.collecting.Became.{Became}
 use Rattle.bohm_base.specs.declared.fault.EngineFault.{EngineFault}
@@ -31,7 +32,7 @@ pub record Takes (reading : Reading) (old new : Batching) : Type 0 where
   pub text : new.text.items ≡ []
 
 -- of some lines, of which the last has the number before this one, the first were reported and the others wait
-pub record Reports (log : Accepted) (done_old done_new : ℕ) (lines waiting : List Became) (next : ℕ) (text : List ℕ) : Type 0 where
+pub record ReportsLines (log : Accepted) (done_old done_new : ℕ) (lines waiting : List Became) (next : ℕ) (text : List ℕ) : Type 0 where
   pub out : List Became
   pub all : lines ≡ out ++ waiting
   pub first : ℕ
@@ -44,7 +45,8 @@ pub record Deals (reading : Reading) (old new : Batching) : Type 0 where
   pub log : new.engine.log ≡ with_reading old.engine.log reading
   pub number : new.number ≡ old.number + 1
   pub reports :
-      Reports new.engine.log (finished old.engine) (finished new.engine) (old.waiting.items ++ became old.engine.log.names reading ∷ [])
+      ReportsLines new.engine.log (finished old.engine) (finished new.engine) (old.waiting.items
+      ++ became old.engine.log.names reading ∷ [])
       new.waiting.items new.number new.text.items
 
 -- the lines that wait are counted, the batches that are finished are full, but where nothing is kept, and the next one isn't
@@ -62,7 +64,7 @@ pub record IsOpen (history : History) (settings : Settings) (batching : Batching
   pub less : length batching.engine.log.statements < finished batching.engine + settings.batch
 
 -- no line was taken yet
-pub record IsFirst (batching : Batching) : Type 0 where
+pub record IsFresh (batching : Batching) : Type 0 where
   pub log : batching.engine.log ≡ empty_log
   pub whole : IsWhole batching.engine.log
   pub none : finished batching.engine ≡ 0
@@ -72,15 +74,15 @@ pub record IsFirst (batching : Batching) : Type 0 where
   pub number : batching.number ≡ 1
 
 -- a further line can be dealt with
-pub record IsReady (history : History) (settings : Settings) (batching : Batching) (ahead given : ℕ) : Type 0 where
+pub record IsBatchReady (history : History) (settings : Settings) (batching : Batching) (ahead given : ℕ) : Type 0 where
   pub room : IsOpen history settings batching
-  pub bounded : 0 < ahead → given ≤ 2 ^ 62 + 65536
+  pub bounded : 0 < ahead → given ≤ MOST_GIVEN_BYTES + BUFFER_BYTES
   pub numbered : batching.number + ahead ≤ given + 1
 
 -- the lines so far: those that were reported and those that are waiting
 pub record IsBatched (input rest written : List ℕ) (log : Accepted) (done : ℕ) (waiting : List Became) (next : ℕ) : Type 0 where
   pub earlier : List Reading
-  pub leads : LeadsTo input rest earlier
+  pub leads : AreReadBefore input rest earlier
   pub reported : List Became
   pub made : IsLogOf earlier log (reported ++ waiting)
   pub number : 1 + length reported + length waiting ≡ next
@@ -90,7 +92,8 @@ pub record IsBatched (input rest written : List ℕ) (log : Accepted) (done : �
   pub within : done ≤ length log.statements
 
 -- so it is with what the reader had and has, and with what the writer had, has, and has pending
-abbrev pub Batched : Option (List ℕ) → Option (List ℕ) → Option (List ℕ) → Option (List ℕ) → List ℕ → Accepted → ℕ → List Became → ℕ → Type 0
+abbrev pub Batched : Option (List ℕ) → Option (List ℕ) → Option (List ℕ) → Option (List ℕ) → List ℕ → Accepted
+    → ℕ → List Became → ℕ → Type 0
 Batched None in_now out_old out_now pending log done waiting next = ⊤
 Batched (Some input) None out_old out_now pending log done waiting next = ⊥
 Batched (Some input) (Some rest) out_old out_now pending log done waiting next =
@@ -98,7 +101,7 @@ Batched (Some input) (Some rest) out_old out_now pending log done waiting next =
 
 -- where a run stands between two lines: what is still to come, how many bytes of it are ahead and how many the reader gave; what
 -- the writer holds; and the lines that were dealt with
-pub record Standing : Type 0 where
+pub record BatchedStanding : Type 0 where
   pub rest : Option (List ℕ)
   pub ahead : ℕ
   pub given : ℕ
@@ -106,15 +109,16 @@ pub record Standing : Type 0 where
   pub batching : Batching
 
 -- the lines of the input up to where the run stands are reported or wait
-abbrev pub BatchedTo : Option (List ℕ) → Option (List ℕ) → Standing → Type 0
+abbrev pub BatchedTo : Option (List ℕ) → Option (List ℕ) → BatchedStanding → Type 0
 BatchedTo input out now =
-    Batched input now.rest out now.out [] now.batching.engine.log (finished now.batching.engine) now.batching.waiting.items now.batching.number
+    Batched input now.rest out now.out [] now.batching.engine.log
+    (finished now.batching.engine) now.batching.waiting.items now.batching.number
 
 -- one more line was taken
-pub record TakesLine (history : History) (settings : Settings) (old new : Standing) : Type 0 where
-  pub ready : IsReady history settings new.batching new.ahead new.given
+pub record TakesBatchedLine (history : History) (settings : Settings) (old new : BatchedStanding) : Type 0 where
+  pub ready : IsBatchReady history settings new.batching new.ahead new.given
   pub forward : old.given + new.ahead < new.given + old.ahead
-  pub most : new.given ≤ 2 ^ 62 + 65536
+  pub most : new.given ≤ MOST_GIVEN_BYTES + BUFFER_BYTES
   pub batched : (input out : Option (List ℕ)) → BatchedTo input out old → BatchedTo input out new
 
 -- all lines of the input are reported or wait
@@ -126,14 +130,16 @@ Gathers input out_old out_now batching =
 
 -- what a turn came to by its answer, whatever input is batched: one more line was taken, or there was none; and in any case a
 -- beginning of the report was written
-pub record Turn (history : History) (settings : Settings) (result : Result Bool EngineFault) (old new : Standing) : Type 0 where
-  pub taken : result ≡ Ok true → TakesLine history settings old new
+pub record BatchedTurn (history : History) (settings : Settings) (result : Result Bool EngineFault)
+    (old new : BatchedStanding) : Type 0 where
+  pub taken : result ≡ Ok true → TakesBatchedLine history settings old new
   pub room : result ≡ Ok false → IsOpen history settings new.batching
   pub ended : result ≡ Ok false → (input out : Option (List ℕ)) → BatchedTo input out old → Gathers input out new.out new.batching
   pub begun : (input out : Option (List ℕ)) → BatchedTo input out old → HasBegunReport input out new.out []
 
 -- what the turns to the end of the input came to, whatever input is batched
-pub record Ends (history : History) (settings : Settings) (result : Result (Unit {0}) EngineFault) (old : Standing) (out_now : Option (List ℕ)) (batching : Batching) : Type 0 where
+pub record EndsBatching (history : History) (settings : Settings) (result : Result (Unit {0}) EngineFault)
+    (old : BatchedStanding) (out_now : Option (List ℕ)) (batching : Batching) : Type 0 where
   pub room : result ≡ Ok tt → IsOpen history settings batching
   pub done : result ≡ Ok tt → (input out : Option (List ℕ)) → BatchedTo input out old → Gathers input out out_now batching
   pub begun : (input out : Option (List ℕ)) → BatchedTo input out old → HasBegunReport input out out_now []

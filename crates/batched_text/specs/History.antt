@@ -39,6 +39,6 @@ IsUrgent History.Kept ahead = ⊥
 IsUrgent History.Dropped ahead = ¬ HasLine ahead
 
 -- where some lines wait a whole line is at hand, so that the reader isn't asked for the next one
-abbrev pub Waits : History → List Became → List ℕ → Type 0
-Waits History.Kept waiting ahead = ⊤
-Waits History.Dropped waiting ahead = 0 < length waiting → HasLine ahead
+abbrev pub LinesWait : History → List Became → List ℕ → Type 0
+LinesWait History.Kept waiting ahead = ⊤
+LinesWait History.Dropped waiting ahead = 0 < length waiting → HasLine ahead

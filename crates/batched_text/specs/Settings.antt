@@ -2,17 +2,18 @@
 -- transaction can read (J. M. Faleiro and D. J. Abadi, "Rethinking Serializable Multiversion Concurrency Control", PVLDB 8,
 -- 2015, section 3). The limits, and that the rows before the last few batches are kept, are this project's own.
 use Rattle.std.specs.Prelude.{◌≡◌, ◌==◌, ◌&&◌, ◌<◌, ◌≤◌, ◌+◌, ◌-◌, ◌*◌, ℕ, Bool, min, nat_le, if◌then◌else◌}
+use Rattle.model_base.specs.declared.limits.TheConstants.{MOST_BATCH_STATEMENTS, MOST_KEPT_BATCHES, MOST_PARTITIONS, MOST_WORKERS}
 use Rattle.engine.specs.Engine.{Run, finished}
 use Rattle.batched_text.specs.declared.settings.Settings.{Settings}
 
--- whether each setting is within its limits: 1 to 64 workers and partitions, 1 to 65,536 places in a batch, and 0 to 65,535
--- batches whose rows are kept
+-- whether each setting is within its limits: of workers, partitions and places in a batch at least 1, of batches whose rows are
+-- kept at least 0
 abbrev pub are_within_limits : Settings → Bool
 are_within_limits settings =
-    (nat_le 1 settings.workers && nat_le settings.workers 64)
-    && (nat_le 1 settings.partitions && nat_le settings.partitions 64)
-    && (nat_le 1 settings.batch && nat_le settings.batch 65536)
-    && nat_le settings.keep 65535
+    (nat_le 1 settings.workers && nat_le settings.workers MOST_WORKERS)
+    && (nat_le 1 settings.partitions && nat_le settings.partitions MOST_PARTITIONS)
+    && (nat_le 1 settings.batch && nat_le settings.batch MOST_BATCH_STATEMENTS)
+    && nat_le settings.keep MOST_KEPT_BATCHES
 
 -- the mark once a batch is finished that has these places: the start of the batch so many from the last one, or its end where
 -- none is kept

@@ -2,7 +2,7 @@
 
 ghost use Rattle.std.specs.Prelude.{◌≡◌, ◌<◌, ◌≤◌, ◌+◌, ◌-◌, ◌++◌, ◌^◌, ◌||◌, IsTrue, OnOk, [], true, length, if◌then◌else◌, nat_le, nat_lt};
 ghost use Rattle.engine.specs.Engine.{finished};
-ghost use Rattle.batched_text.specs.Batching.{IsCounted, IsFilling, IsOpen, Reports, lines_text};
+ghost use Rattle.batched_text.specs.Batching.{IsCounted, IsFilling, IsOpen, ReportsLines, lines_text};
 ghost use Rattle.batched_text.specs.History.{EndsEarly, KeepsAll, dropped_by};
 ghost use Rattle.batched_text.specs.Settings.{are_within_limits, mark_behind};
 
@@ -30,11 +30,11 @@ pub(crate) struct Batching {
 }
 
 impl Batching {
-    ghost use Rattle.batched_text.specs.Batching.{IsFirst};
+    ghost use Rattle.batched_text.specs.Batching.{IsFresh};
 
     /// Before the first line. It takes no memory.
     pub(crate) fn new(alloc: Global) -> Self
-        ensures { IsFirst result }
+        ensures { IsFresh result }
     {
         let engine = Engine::new(alloc);
         let _dropped = engine.log().dropped();
@@ -166,7 +166,7 @@ pub(crate) fn report_due<T: Threads + Wait + Sync>(
     requires kept { batching.old.engine.dropped ≡ dropped_by history batching.old.engine }
     requires empty { batching.old.text.items ≡ [] }
     requires early { IsTrue urgent → EndsEarly history }
-    ensures reports { OnOk result (Reports batching.old.engine.log (finished batching.old.engine) (finished batching.new.engine)
+    ensures reports { OnOk result (ReportsLines batching.old.engine.log (finished batching.old.engine) (finished batching.new.engine)
         batching.old.waiting.items batching.new.waiting.items batching.old.number batching.new.text.items) }
     ensures log { OnOk result (batching.new.engine.log ≡ batching.old.engine.log) }
     ensures number { OnOk result (batching.new.number ≡ batching.old.number) }

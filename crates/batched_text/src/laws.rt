@@ -1,4 +1,4 @@
-//! What holds of the report of a log to which more is put behind.
+//! What holds of the report of a log to which more is appended.
 
 ghost use Rattle.std.specs.Prelude.{◌≡◌, ◌≤◌, ◌+◌, ◌++◌, ℕ, List, length};
 ghost use Rattle.model_base.specs.Growing.{NeedsOwnTables};

@@ -9,7 +9,7 @@ ghost use Rattle.bohm_base.specs.declared.collecting.Became.{Became};
 ghost use Rattle.bohm_base.specs.Collecting.{ReadsAs, became, reading_of, with_reading};
 ghost use Rattle.engine.specs.Engine.{finished};
 ghost use Rattle.batched_text.specs.Batching.{Deals, IsOpen, Takes};
-ghost use Rattle.batched_text.specs.History.{IsUrgent, Waits, dropped_by};
+ghost use Rattle.batched_text.specs.History.{IsUrgent, LinesWait, dropped_by};
 ghost use Rattle.batched_text.specs.Settings.{are_within_limits};
 
 use crate::batching::{Batching, report_due};
@@ -66,7 +66,8 @@ pub(crate) fn take_read(
 fn take_line(alloc: Global, batching: &mut Batching, line: &[u8]) -> Result<(), EngineFault>
     requires { batching.old.number < 2 ^ 64 - 1 }
     ensures ok { OnOk result ((reading : Reading) × (ReadsAs line.now reading × Takes reading batching.old batching.new)) }
-    ensures kept { OnOk result ((batching.new.engine.dropped ≡ batching.old.engine.dropped) × (finished batching.new.engine ≡ finished batching.old.engine)) }
+    ensures kept { OnOk result ((batching.new.engine.dropped ≡ batching.old.engine.dropped)
+        × (finished batching.new.engine ≡ finished batching.old.engine)) }
     ensures err { IfErr result (λ f. f ≡ EngineFault.NoMemory) }
 {
     batching.text.clear();
@@ -81,7 +82,7 @@ fn take_line(alloc: Global, batching: &mut Batching, line: &[u8]) -> Result<(), 
 /// at hand, since the reader is asked for the next line then.
 fn is_urgent(history: History, lines: &LineReader) -> bool
     ensures urgent { IsTrue result → IsUrgent history (ahead lines.now) }
-    ensures calm { result ≡ false → (waiting : List Became) → Waits history waiting (ahead lines.now) }
+    ensures calm { result ≡ false → (waiting : List Became) → LinesWait history waiting (ahead lines.now) }
 {
     match history {
         History::Kept => false,
@@ -105,7 +106,7 @@ pub(crate) fn deal<T: Threads + Wait + Sync>(
     requires number { batching.old.number < 2 ^ 64 - 1 }
     ensures dealt { OnOk result ((reading : Reading) × (ReadsAs (found_line lines.now) reading × Deals reading batching.old batching.new)) }
     ensures room { OnOk result (IsOpen history settings.now batching.new) }
-    ensures waits { OnOk result (Waits history batching.new.waiting.items (ahead lines.now)) }
+    ensures waits { OnOk result (LinesWait history batching.new.waiting.items (ahead lines.now)) }
     ensures kept { OnOk result (batching.new.engine.dropped ≡ dropped_by history batching.new.engine) }
     ensures err { IfErr result (λ f. f ≡ EngineFault.NoMemory) }
 {

@@ -8,9 +8,9 @@ ghost use Rattle.report.specs.Report.{IsReport};
 ghost use Rattle.bohm_base.specs.Faults.{read_errors, write_errors};
 ghost use Rattle.bohm_base.specs.Pending.{HasBegunReport, HasReport};
 ghost use Rattle.engine.specs.Engine.{finished};
-ghost use Rattle.batched_text.specs.Batching.{Ends, Gathers, IsFirst, IsLogOfText, IsOpen, IsReady, Turn};
+ghost use Rattle.batched_text.specs.Batching.{EndsBatching, Gathers, IsFresh, IsLogOfText, IsOpen, IsBatchReady, BatchedTurn};
 ghost use Rattle.batched_text.specs.Faults.{of_text};
-ghost use Rattle.batched_text.specs.History.{IsTrimmedBy, Waits, dropped_by};
+ghost use Rattle.batched_text.specs.History.{IsTrimmedBy, LinesWait, dropped_by};
 ghost use Rattle.batched_text.specs.Settings.{IsTrimmed, are_within_limits};
 
 use crate::batching::{Batching, report_batch};
@@ -19,7 +19,9 @@ use crate::lines::deal;
 use crate::settings::{Settings, are_within_limits};
 use bohm_base::Became;
 use engine::{Engine, EngineFault};
-use log_text_base::{Counted, LineReader, ReadFault, flush, write_out};
+use log_text_base::{
+    BUFFER_BYTES, Counted, LineReader, MOST_GIVEN_BYTES, ReadFault, flush, write_out,
+};
 use std::alloc::Global;
 use std::io::{Read, Write};
 use std::sync::Wait;
@@ -33,8 +35,8 @@ fn next_line<R: Read>(
     history: History,
     waiting: &[Became],
 ) -> Result<bool, ReadFault>
-    requires waits { Waits history waiting.now (ahead lines.old) }
-    requires bounded { 0 < length (ahead lines.old) → reader.old.given ≤ 2 ^ 62 + 65536 }
+    requires waits { LinesWait history waiting.now (ahead lines.old) }
+    requires bounded { 0 < length (ahead lines.old) → reader.old.given ≤ MOST_GIVEN_BYTES + BUFFER_BYTES }
     ensures waits { history ≡ History.Dropped → 0 < length waiting.now → reader.new ≡ reader.old }
     ensures line { IfOk result (λ found. MatchBool found
         (TookLine (prepend_known (ahead lines.old) (R.remaining reader.old.inner))
@@ -46,9 +48,9 @@ fn next_line<R: Read>(
     ensures other { (result ≡ Err ReadFault.Read → ⊥) → reader.new.errors ≡ reader.old.errors }
     ensures given { IfOk result (λ found. MatchBool found
         ((reader.old.given + length (ahead lines.new) < reader.new.given + length (ahead lines.old))
-        × (reader.new.given ≤ 2 ^ 62 + 65536))
+        × (reader.new.given ≤ MOST_GIVEN_BYTES + BUFFER_BYTES))
         (reader.new.given ≡ reader.old.given)) }
-    ensures bound { 0 < length (ahead lines.new) → reader.new.given ≤ 2 ^ 62 + 65536 }
+    ensures bound { 0 < length (ahead lines.new) → reader.new.given ≤ MOST_GIVEN_BYTES + BUFFER_BYTES }
 {
     lines.next_line(reader)
 }
@@ -66,12 +68,12 @@ fn report_line<T: Threads + Wait + Sync, R: Read, W: Write>(
     history: History,
 ) -> Result<bool, bohm_base::EngineFault>
     requires settings { are_within_limits settings.now ≡ true }
-    requires ready { IsReady history settings.now batching.old (length (ahead lines.old)) reader.old.given }
-    requires waits { Waits history batching.old.waiting.items (ahead lines.old) }
+    requires ready { IsBatchReady history settings.now batching.old (length (ahead lines.old)) reader.old.given }
+    requires waits { LinesWait history batching.old.waiting.items (ahead lines.old) }
     requires kept { batching.old.engine.dropped ≡ dropped_by history batching.old.engine }
     ensures kept { OnOk result (batching.new.engine.dropped ≡ dropped_by history batching.new.engine) }
-    ensures waits { result ≡ Ok true → Waits history batching.new.waiting.items (ahead lines.new) }
-    ensures turn { Turn history settings.now result
+    ensures waits { result ≡ Ok true → LinesWait history batching.new.waiting.items (ahead lines.new) }
+    ensures turn { BatchedTurn history settings.now result
         (record {
           rest = prepend_known (ahead lines.old) (R.remaining reader.old.inner);
           ahead = length (ahead lines.old);
@@ -109,11 +111,11 @@ fn report_rest<T: Threads + Wait + Sync, R: Read, W: Write>(
     history: History,
 ) -> Result<(), bohm_base::EngineFault>
     requires settings { are_within_limits settings.now ≡ true }
-    requires ready { IsReady history settings.now batching.old (length (ahead lines.old)) reader.old.given }
-    requires waits { Waits history batching.old.waiting.items (ahead lines.old) }
+    requires ready { IsBatchReady history settings.now batching.old (length (ahead lines.old)) reader.old.given }
+    requires waits { LinesWait history batching.old.waiting.items (ahead lines.old) }
     requires kept { batching.old.engine.dropped ≡ dropped_by history batching.old.engine }
     ensures kept { OnOk result (batching.new.engine.dropped ≡ dropped_by history batching.new.engine) }
-    ensures ends { Ends history settings.now result
+    ensures ends { EndsBatching history settings.now result
         (record {
           rest = prepend_known (ahead lines.old) (R.remaining reader.old.inner);
           ahead = length (ahead lines.old);
@@ -142,11 +144,12 @@ fn report_lines<T: Threads + Wait + Sync, R: Read, W: Write>(
     history: History,
 ) -> Result<(), bohm_base::EngineFault>
     requires settings { are_within_limits settings.now ≡ true }
-    requires first { IsFirst batching.old }
+    requires first { IsFresh batching.old }
     requires kept { batching.old.engine.dropped ≡ dropped_by history batching.old.engine }
     ensures kept { OnOk result (batching.new.engine.dropped ≡ dropped_by history batching.new.engine) }
     ensures room { OnOk result (IsOpen history settings.now batching.new) }
-    ensures done { OnOk result (Gathers (R.remaining reader.old.inner) (W.contents writer.old.inner) (W.contents writer.new.inner) batching.new) }
+    ensures done { OnOk result (Gathers (R.remaining reader.old.inner) (W.contents writer.old.inner)
+        (W.contents writer.new.inner) batching.new) }
     ensures begun { HasBegunReport (R.remaining reader.old.inner) (W.contents writer.old.inner) (W.contents writer.new.inner) [] }
     ensures reads { reader.new.errors ≡ read_errors result reader.old.errors }
     ensures writes { writer.new.errors ≡ write_errors result writer.old.errors }
@@ -168,7 +171,7 @@ fn report_all<T: Threads + Wait + Sync, R: Read, W: Write>(
     history: History,
 ) -> Result<(), bohm_base::EngineFault>
     requires settings { are_within_limits settings.now ≡ true }
-    requires first { IsFirst batching.old }
+    requires first { IsFresh batching.old }
     requires kept { batching.old.engine.dropped ≡ dropped_by history batching.old.engine }
     ensures kept { OnOk result (batching.new.engine.dropped ≡ dropped_by history batching.new.engine) }
     ensures log { OnOk result (IsLogOfText (R.remaining reader.old.inner) batching.new.engine.log) }
@@ -278,7 +281,7 @@ pub fn run_text<T: Threads + Wait + Sync, R: Read, W: Write>(
 /// grants doesn't grow with the accepted lines.
 ///
 /// A batch ends also where no whole line is at hand, so that the reader is asked only when all lines before are reported: a line
-/// that comes alone is answered at once. It has at most the whole lines of one read of 65,536 bytes then, and the one that was begun
+/// that comes alone is answered at once. It has at most the whole lines of one read of `BUFFER_BYTES` then, and the one that was begun
 /// before. After each batch the store's mark is `batch * (keep - 1)` places before the start of the batch, or its end if `keep` is 0.
 pub fn report_text<T: Threads + Wait + Sync, R: Read, W: Write>(
     rt: &T,

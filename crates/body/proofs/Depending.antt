@@ -1,5 +1,5 @@
 -- What a body comes to depends on no row but those that its statement declares.
-use Rattle.std.proofs.Common.{◌≡◌, ℕ, zero, suc, ◌+◌, ℤ, pos, ◌+ℤ◌, ◌-ℤ◌, ◌*ℤ◌, Bool, true, false, Option, Some, None, List, [], ◌∷◌, refl, sym, ◌∙◌, ap, cond, subst}
+use Rattle.std.proofs.Common.{◌≡◌, ℕ, zero, suc, ◌+◌, ℤ, pos, Bool, true, false, Option, Some, None, List, [], ◌∷◌, refl, sym, ◌∙◌, ap, cond, subst}
 use Rattle.std.specs.List.{find}
 use Rattle.std.specs.Option.{is_some}
 use Rattle.model_base.specs.declared.deed.Kind.{Kind}
@@ -8,13 +8,14 @@ use Rattle.model_base.specs.declared.outcome.Reason.TheVariants.{Overflow, Check
 use Rattle.model_base.specs.declared.statement.Access.{Access}
 use Rattle.model_base.specs.declared.statement.Form.{Form}
 use Rattle.model_base.specs.declared.statement.Step.{Step}
-use Rattle.model_base.specs.declared.statement.Step.TheVariants.{Const, Add, Sub, Mul, Less, Same, Has, Load, Store, Insert as InsertStep, Delete as DeleteStep, Check, Skip, Out}
+use Rattle.model_base.specs.declared.statement.Step.TheVariants.{Const, Compute, Has, Load, Store, Insert as InsertStep, Delete as DeleteStep, Check, Skip, Out}
 use Rattle.model_base.specs.Rows.{Rows, with_row}
 use Rattle.model_base.specs.Privileges.{has_kind}
-use Rattle.model_base.specs.Body.{Machine, Effect, goes_on, aborts, is_undeclared, of_kind, declared, is_of, is_zero, fits, put, flag, read_register, touch_declared, load_column, store_column, insert_row, delete_row, perform, after_step, run_steps, row_number}
+use Rattle.model_base.specs.Body.{Machine, Effect, goes_on, aborts, is_undeclared, of_kind, declared, is_of, is_zero, computed, fits_64_bits, put, flag, read_register, touch_declared, load_column, store_column, insert_row, delete_row, perform, after_step, run_steps, row_number}
 use Rattle.body.specs.Laws.{AgreeAt, DependsOnDeclared, SameEnding}
 use Rattle.body.specs.Room.{same_key}
-use Rattle.body.proofs.Rows.{by_cases, is_of-true}
+use Rattle.body.proofs.Rows.{is_of-true}
+use Rattle.model_base.proofs.Replay.{by_cases}
 
 -- two machines that differ in rows that aren't declared alone
 record AreAlike (accesses : List Access) (m n : Machine) : Type 0 where
@@ -104,17 +105,9 @@ module _ (accesses : List Access) where
 
     performed : (step : Step) → SameEffect accesses (perform accesses step m) (perform accesses step n)
     performed (Const to value) = put_alike to value
-    performed (Add to left right) =
-        let value = read_register m left +ℤ read_register m right in
-        cond_same (fits value) (put m to value) (aborts Overflow) (put n to value) (aborts Overflow) (put_alike to value) refl
-    performed (Sub to left right) =
-        let value = read_register m left -ℤ read_register m right in
-        cond_same (fits value) (put m to value) (aborts Overflow) (put n to value) (aborts Overflow) (put_alike to value) refl
-    performed (Mul to left right) =
-        let value = read_register m left *ℤ read_register m right in
-        cond_same (fits value) (put m to value) (aborts Overflow) (put n to value) (aborts Overflow) (put_alike to value) refl
-    performed (Less to left right) = put_alike to _
-    performed (Same to left right) = put_alike to _
+    performed (Compute operation to left right) =
+        let value = computed operation (read_register m left) (read_register m right) in
+        cond_same (fits_64_bits value) (put m to value) (aborts Overflow) (put n to value) (aborts Overflow) (put_alike to value) refl
     performed (Has to u row) = touched Read u (row_number registers row) (λ _ found. put m to (flag (is_some found))) (λ _ found. put n to (flag (is_some found))) (λ row content. put_alike to (flag (is_some content)))
     performed (Load to u row column) = touched Read u (row_number registers row) (λ _ found. load_column m to column found) (λ _ found. load_column n to column found) (λ row content. loaded to column content)
     performed (Store u row column from) = touched Update u (row_number registers row) (λ number found. store_column m u column from number found) (λ number found. store_column n u column from number found) (λ row content. stored u column from row content)

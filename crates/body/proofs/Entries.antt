@@ -8,7 +8,8 @@ use Rattle.model_base.specs.declared.row.Key.{Key}
 use Rattle.body.specs.declared.row_map.RowMap.{RowMap}
 use Rattle.body.specs.RowMap.{key_eq, entry_of, rows_of, HasEntry}
 use Rattle.body.specs.Room.{same_key}
-use Rattle.body.proofs.Rows.{by_cases, same_key-true, same_key-own, with_row-own}
+use Rattle.body.proofs.Rows.{same_key-true, same_key-own, with_row-own}
+use Rattle.model_base.proofs.Replay.{by_cases}
 
 abbrev key : ℕ → ℕ → Key
 key t r = record { table = t; row = r }

@@ -1,5 +1,5 @@
 -- A body changes no row that it does not declare to write.
-use Rattle.std.proofs.Common.{◌≡◌, ℕ, zero, suc, ◌+◌, ℤ, pos, ◌+ℤ◌, ◌-ℤ◌, ◌*ℤ◌, ◌||◌, ◌&&◌, Bool, true, false, Option, Some, None, List, [], ◌∷◌, length, map, take, refl, sym, ◌∙◌, ap, arith, cond, subst}
+use Rattle.std.proofs.Common.{◌≡◌, ℕ, zero, suc, ◌+◌, ℤ, pos, ◌||◌, ◌&&◌, Bool, true, false, Option, Some, None, List, [], ◌∷◌, length, map, take, refl, sym, ◌∙◌, ap, arith, cond, subst}
 use Rattle.std.specs.List.{find, list_any}
 use Rattle.std.proofs.lemmas.Bool.{true≢false}
 use Rattle.std.specs.Option.{is_some}
@@ -12,14 +12,15 @@ use Rattle.model_base.specs.declared.statement.Step.{Step}
 use Rattle.model_base.specs.Outcomes.{body}
 use Rattle.model_base.specs.References.{is_write_to}
 use Rattle.model_base.specs.Versions.{accesses_of, is_writing}
-use Rattle.model_base.specs.declared.statement.Step.TheVariants.{Const, Add, Sub, Mul, Less, Same, Has, Load, Store, Insert as InsertStep, Delete as DeleteStep, Check, Skip, Out}
+use Rattle.model_base.specs.declared.statement.Step.TheVariants.{Const, Compute, Has, Load, Store, Insert as InsertStep, Delete as DeleteStep, Check, Skip, Out}
 use Rattle.model_base.specs.Rows.{Rows, with_row}
 use Rattle.model_base.specs.Privileges.{has_kind}
-use Rattle.model_base.specs.Body.{Machine, Effect, goes_on, aborts, is_undeclared, Ending, completed, aborted, undeclared, of_kind, declared, is_of, is_zero, fits, put, flag, read_register, touch_declared, load_column, store_column, insert_row, delete_row, perform, after_step, run_steps, row_number}
+use Rattle.model_base.specs.Body.{Machine, Effect, goes_on, aborts, is_undeclared, Ending, completed, aborted, undeclared, of_kind, declared, is_of, is_zero, computed, fits_64_bits, put, flag, read_register, touch_declared, load_column, store_column, insert_row, delete_row, perform, after_step, run_steps, row_number}
 use Rattle.body.specs.Shown.{with_rows}
 use Rattle.body.specs.Laws.{IsOther, LeavesOthers, LeavesUnwritten, ShowsRows, KeepsOthers}
 use Rattle.body.specs.Room.{same_key}
-use Rattle.body.proofs.Rows.{by_cases, same_key-true, same_key-own, is_of-of, is_of-true}
+use Rattle.body.proofs.Rows.{same_key-true, same_key-own, is_of-of, is_of-true}
+use Rattle.model_base.proofs.Replay.{by_cases}
 
 -- an access to another row has another key
 pub apart : (t n : ℕ) (access : Access) → is_of t (pos n) access ≡ false → same_key access.key.table access.key.row t n ≡ false
@@ -180,17 +181,9 @@ module _ (accesses : List Access) (t n : ℕ) (unwritten : list_any (is_write_to
 
   performed : (step : Step) (m : Machine) → m.rows t n ≡ before → Kept t n before (perform accesses step m)
   performed (Const to value) m kept = kept
-  performed (Add to left right) m kept =
-      let value = read_register m left +ℤ read_register m right in
-      cond_kept (fits value) (put m to value) (aborts Overflow) kept tt
-  performed (Sub to left right) m kept =
-      let value = read_register m left -ℤ read_register m right in
-      cond_kept (fits value) (put m to value) (aborts Overflow) kept tt
-  performed (Mul to left right) m kept =
-      let value = read_register m left *ℤ read_register m right in
-      cond_kept (fits value) (put m to value) (aborts Overflow) kept tt
-  performed (Less to left right) m kept = kept
-  performed (Same to left right) m kept = kept
+  performed (Compute operation to left right) m kept =
+      let value = computed operation (read_register m left) (read_register m right) in
+      cond_kept (fits_64_bits value) (put m to value) (aborts Overflow) kept tt
   performed (Has to u row) m kept = touched m Read u (row_number m.registers row) (λ _ found. put m to (flag (is_some found))) (λ access content at. kept)
   performed (Load to u row column) m kept = touched m Read u (row_number m.registers row) (λ _ found. load_column m to column found) (λ access content at. loaded m to column content kept)
   performed (Store u row column from) m kept =

@@ -11,17 +11,18 @@ use Rattle.model_base.specs.Body.{is_of}
 use Rattle.body.specs.Laws.{IsOther}
 use Rattle.body.specs.Room.{same_key, IsLean, IsLeanWhereAbsent, IsElsewhere, MakesRoomBelow}
 use Rattle.body.specs.Shown.{with_rows}
-use Rattle.body.specs.Work.{IsFirst}
-use Rattle.body.proofs.Rows.{by_cases, is_of-true, with_rows-at, IsFirst-passes}
+use Rattle.body.specs.Work.{IsFirstAccess}
+use Rattle.body.proofs.Rows.{is_of-true, with_rows-at, IsFirst-passes}
 use Rattle.body.proofs.Frame.{apart, head_misses, keeps_others}
+use Rattle.model_base.proofs.Replay.{by_cases}
 
 -- an access that a search finds stands at some place, and is the first there that passes
-first_found : (test : Access → Bool) (accesses : List Access) (access : Access) → find test accesses ≡ Some access → (place : ℕ) × (place < length accesses) × (access ≡ get_or accesses place access) × IsFirst test accesses place access
+first_found : (test : Access → Bool) (accesses : List Access) (access : Access) → find test accesses ≡ Some access → (place : ℕ) × (place < length accesses) × (access ≡ get_or accesses place access) × IsFirstAccess test accesses place access
 first_found test [] access some = cc
 first_found test (first ∷ accesses) access some =
     by_cases (test first)
     (λ hit. let e : Some first ≡ Some access = sym (ap (λ b. cond b (Some first) (find test accesses)) hit) ∙ some in let same : access ≡ first = cc in (0, omega arith, same, (sym same, hit)))
-    (λ miss. let rest : (place : ℕ) × (place < length accesses) × (access ≡ get_or accesses place access) × IsFirst test accesses place access = first_found test accesses access (sym (ap (λ b. cond b (Some first) (find test accesses)) miss) ∙ some) in (suc rest.0, omega arith, rest.2, (miss, rest.3)))
+    (λ miss. let rest : (place : ℕ) × (place < length accesses) × (access ≡ get_or accesses place access) × IsFirstAccess test accesses place access = first_found test accesses access (sym (ap (λ b. cond b (Some first) (find test accesses)) miss) ∙ some) in (suc rest.0, omega arith, rest.2, (miss, rest.3)))
 
 -- a row to which no access is has another key than each access
 elsewhere : (accesses : List Access) (t r : ℕ) → IsOther accesses t r → IsElsewhere (length accesses) accesses t r
@@ -40,7 +41,7 @@ inside (first ∷ contents) (suc place) content some = let rest : place < length
 
 module _ (accesses : List Access) (contents : List (Option (List ℤ))) (HadRoom MadeRoom HasRoom : ℕ → ℕ → Type 0) (before after : Rows) (was_lean : IsLean HadRoom before) (made : MakesRoomBelow HadRoom MadeRoom (length accesses) accesses) (no_more : (t r : ℕ) → HasRoom t r → MadeRoom t r) (put : after ≡ with_rows accesses contents before) (released : IsLeanWhereAbsent HasRoom after (length accesses) accesses contents) where
   -- of the first access to a row the list has the row, which is put, or it has none, and room was given up
-  put_or_released : (t r place : ℕ) (access : Access) → place < length accesses → access ≡ get_or accesses place access → IsFirst (is_of t (pos r)) accesses place access → HasRoom access.key.table access.key.row → IsSome (after access.key.table access.key.row)
+  put_or_released : (t r place : ℕ) (access : Access) → place < length accesses → access ≡ get_or accesses place access → IsFirstAccess (is_of t (pos r)) accesses place access → HasRoom access.key.table access.key.row → IsSome (after access.key.table access.key.row)
   put_or_released t r place access below is first room = by_content (get_or contents place None) refl
     where
       by_content : (content : Option (List ℤ)) → get_or contents place None ≡ content → IsSome (after access.key.table access.key.row)
@@ -59,7 +60,7 @@ module _ (accesses : List Access) (contents : List (Option (List ℤ))) (HadRoom
           let kept : after t r ≡ before t r = ap (λ (m : Rows). m t r) put ∙ keeps_others accesses contents before t r none in
           subst P (sym kept) (was_lean t r (made t r (elsewhere accesses t r none) (no_more t r room)))
       by_found (Some access) some =
-          let at : (place : ℕ) × (place < length accesses) × (access ≡ get_or accesses place access) × IsFirst (is_of t (pos r)) accesses place access = first_found (is_of t (pos r)) accesses access some in
+          let at : (place : ℕ) × (place < length accesses) × (access ≡ get_or accesses place access) × IsFirstAccess (is_of t (pos r)) accesses place access = first_found (is_of t (pos r)) accesses access some in
           let keys : (access.key.table ≡ t) × (pos access.key.row ≡ pos r) = is_of-true t (pos r) access (IsFirst-passes (is_of t (pos r)) accesses at.0 access at.3) in
           let rows : access.key.row ≡ r = cc in
           let P : ℕ → Type 0 = λ u. HasRoom u r in

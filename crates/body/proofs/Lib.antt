@@ -1,6 +1,5 @@
 pub mod Rows
 pub mod Touching
-pub mod Signed
 pub mod Running
 pub mod Frame
 pub mod Entries

@@ -1,18 +1,15 @@
 -- A map whose rows at the declared keys come from a list: what it holds, and how it changes.
-use Rattle.std.proofs.Common.{◌≡◌, ℕ, suc, zero, ◌<◌, ℤ, pos, Bool, true, false, ◌&&◌, Option, None, List, [], ◌∷◌, length, map, take, set, get_or, refl, sym, ◌∙◌, ap, arith, eqb, inl, inr}
+use Rattle.std.proofs.Common.{◌≡◌, ℕ, suc, zero, ◌<◌, ℤ, pos, Bool, true, false, ◌&&◌, Option, None, List, [], ◌∷◌, length, map, take, set, get_or, refl, sym, ◌∙◌, ap, arith, eqb}
 use mathlib.Core.Path.{fun_ext}
 use Rattle.std.specs.Ordering.{int_eq}
-use Rattle.std.proofs.lemmas.Bool.{cases_Bool}
 use Rattle.std.proofs.lemmas.Bool.Decides.{nat_tests, Decides-int_eq}
 use Rattle.model_base.specs.declared.statement.Access.{Access}
 use Rattle.model_base.specs.Rows.{Rows, with_row}
 use Rattle.model_base.specs.Body.{is_of}
 use Rattle.body.specs.Shown.{with_rows}
-use Rattle.body.specs.Work.{IsFirst}
+use Rattle.body.specs.Work.{IsFirstAccess}
 use Rattle.body.specs.Room.{same_key}
-
-pub by_cases : {G : Type 0} (test : Bool) → (test ≡ true → G) → (test ≡ false → G) → G
-by_cases test holds fails = elim (cases_Bool test) [ inl e ↦ holds e | inr e ↦ fails e ]
+use Rattle.model_base.proofs.Replay.{by_cases}
 
 pub same_key-true : (t r u s : ℕ) → same_key t r u s ≡ true → (t ≡ u) × (r ≡ s)
 same_key-true t r u s e = (grind (arith, nat_tests), grind (arith, nat_tests))
@@ -75,14 +72,14 @@ other_key t number access found miss hit =
     (λ same. let keys : (access.key.table ≡ t) × (access.key.row ≡ found.key.row) = same_key-true access.key.table access.key.row t found.key.row same in let facts : (found.key.table ≡ t) × (pos found.key.row ≡ number) = is_of-true t number found hit in let also : is_of t number access ≡ true = is_of-of t number access keys.0 (ap pos keys.1 ∙ facts.1) in let no : true ≡ false = sym also ∙ miss in cc)
     (λ other. other)
 
-pub IsFirst-passes : (test : Access → Bool) (accesses : List Access) (place : ℕ) (found : Access) → IsFirst test accesses place found → test found ≡ true
+pub IsFirst-passes : (test : Access → Bool) (accesses : List Access) (place : ℕ) (found : Access) → IsFirstAccess test accesses place found → test found ≡ true
 IsFirst-passes test [] place found first = absurd first
 IsFirst-passes test (access ∷ accesses) zero found first = sym (ap test first.0) ∙ first.1
 IsFirst-passes test (access ∷ accesses) (suc place) found first = IsFirst-passes test accesses place found first.1
 
 module _ (t : ℕ) (number : ℤ) (rows : Rows) where
   -- the row of a declared key is the one at its access's place
-  pub with_rows-at : (accesses : List Access) (contents : List (Option (List ℤ))) (place : ℕ) (found : Access) → IsFirst (is_of t number) accesses place found → place < length contents → with_rows accesses contents rows t found.key.row ≡ get_or contents place None
+  pub with_rows-at : (accesses : List Access) (contents : List (Option (List ℤ))) (place : ℕ) (found : Access) → IsFirstAccess (is_of t number) accesses place found → place < length contents → with_rows accesses contents rows t found.key.row ≡ get_or contents place None
   with_rows-at [] contents place found first within = absurd first
   with_rows-at (access ∷ accesses) [] place found first within = absurd (omega arith)
   with_rows-at (access ∷ accesses) (content ∷ contents) zero found first within =
@@ -94,7 +91,7 @@ module _ (t : ℕ) (number : ℤ) (rows : Rows) where
       rw other (with_rows-at accesses contents place found first.1 (omega arith))
 
   -- another row at that place is another row at its key
-  pub with_rows-set : (accesses : List Access) (contents : List (Option (List ℤ))) (place : ℕ) (found : Access) (content : Option (List ℤ)) → IsFirst (is_of t number) accesses place found → place < length contents → with_rows accesses (set contents place content) rows ≡ with_row (with_rows accesses contents rows) t found.key.row content
+  pub with_rows-set : (accesses : List Access) (contents : List (Option (List ℤ))) (place : ℕ) (found : Access) (content : Option (List ℤ)) → IsFirstAccess (is_of t number) accesses place found → place < length contents → with_rows accesses (set contents place content) rows ≡ with_row (with_rows accesses contents rows) t found.key.row content
   with_rows-set [] contents place found content first within = absurd first
   with_rows-set (access ∷ accesses) [] place found content first within = absurd (omega arith)
   with_rows-set (access ∷ accesses) (old ∷ contents) zero found content first within =

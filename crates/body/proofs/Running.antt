@@ -6,11 +6,11 @@ use Rattle.model_base.specs.declared.statement.Step.{Step}
 use Rattle.model_base.specs.Rows.{Rows}
 use Rattle.model_base.specs.Body.{Machine, Effect, completed, after_step, perform, run_steps, meaning}
 use Rattle.body.specs.declared.window.Window.{Window}
-use Rattle.body.specs.Shown.{Shows}
+use Rattle.body.specs.Shown.{WindowShows}
 use Rattle.body.specs.Work.{seen}
 use Rattle.body.proofs.Rows.{with_rows-shown}
 
-pub begins : (steps : List Step) (accesses : List Access) (window : Window) (rows : Rows) → Shows accesses window rows → window.outputs ≡ [] → meaning steps accesses rows ≡ run_steps accesses steps 0 0 (seen accesses rows window (replicate 16 (pos 0)))
+pub begins : (steps : List Step) (accesses : List Access) (window : Window) (rows : Rows) → WindowShows accesses window rows → window.outputs ≡ [] → meaning steps accesses rows ≡ run_steps accesses steps 0 0 (seen accesses rows window (replicate 16 (pos 0)))
 begins steps accesses window rows shown fresh =
     ap (λ (m : Rows). run_steps accesses steps 0 0 (record { rows = m; registers = replicate 16 (pos 0); outputs = [] })) (sym (with_rows-shown rows accesses window.rows shown))
     ∙ ap (λ (o : List ℤ). run_steps accesses steps 0 0 (record { rows = (seen accesses rows window []).rows; registers = replicate 16 (pos 0); outputs = o })) (sym fresh)

@@ -1,5 +1,5 @@
 -- A body leaves rows of the right shape, and so does a log.
-use Rattle.std.proofs.Common.{◌≡◌, ℕ, zero, suc, ◌+◌, ℤ, pos, ◌+ℤ◌, ◌-ℤ◌, ◌*ℤ◌, Bool, true, false, Option, Some, None, List, [], ◌∷◌, All, length, map, replicate, slice_index_or, slice_set, take, refl, ◌∙◌, cond, subst}
+use Rattle.std.proofs.Common.{◌≡◌, ℕ, zero, suc, ◌+◌, ℤ, pos, Bool, true, false, Option, Some, None, List, [], ◌∷◌, All, length, map, replicate, slice_index_or, slice_set, take, refl, ◌∙◌, cond, subst}
 use Rattle.std.specs.Option.{is_some}
 use Rattle.std.proofs.lemmas.List.{length-set, length-map}
 use Rattle.std.proofs.lemmas.List.Elements.{All-append, All-cons, All-head, All-nil, All-set, All-tail, All-take}
@@ -12,15 +12,16 @@ use Rattle.model_base.specs.declared.statement.Access.{Access}
 use Rattle.model_base.specs.declared.statement.Form.{Form}
 use Rattle.model_base.specs.declared.statement.Statement.{Statement}
 use Rattle.model_base.specs.declared.statement.Step.{Step}
-use Rattle.model_base.specs.declared.statement.Step.TheVariants.{Const, Add, Sub, Mul, Less, Same, Has, Load, Store, Insert as InsertStep, Delete as DeleteStep, Check, Skip, Out}
+use Rattle.model_base.specs.declared.statement.Step.TheVariants.{Const, Compute, Has, Load, Store, Insert as InsertStep, Delete as DeleteStep, Check, Skip, Out}
 use Rattle.model_base.specs.Outcomes.{World, at_place, body, changed, deed_of, empty_world, judged, missing, owners, step_form, world_after}
 use Rattle.model_base.specs.Rows.{Rows, with_row}
-use Rattle.model_base.specs.Body.{Machine, Effect, goes_on, aborts, is_undeclared, Ending, completed, aborted, undeclared, declared, is_zero, fits, put, flag, read_register, touch_declared, load_column, store_column, insert_row, delete_row, perform, after_step, run_steps, row_number}
+use Rattle.model_base.specs.Body.{Machine, Effect, goes_on, aborts, is_undeclared, Ending, completed, aborted, undeclared, declared, is_zero, computed, fits_64_bits, put, flag, read_register, touch_declared, load_column, store_column, insert_row, delete_row, perform, after_step, run_steps, row_number}
 use Rattle.body.specs.Room.{same_key}
-use Rattle.body.specs.Shape.{FitsColumns, FormFits, HasColumns, IsNumber, IsRowOf, KeepsColumns, KeepsShape, LogsHaveShape}
-use Rattle.body.proofs.Rows.{by_cases, same_key-true}
+use Rattle.body.specs.Shape.{StepFits, FormFits, HasColumns, IsNumber, IsRowOf, KeepsColumns, KeepsShape, LogsHaveShape}
+use Rattle.body.proofs.Rows.{same_key-true}
+use Rattle.model_base.proofs.Replay.{by_cases}
 
-module _ (P : ℤ → Type 0) (zero-such : P (pos 0)) (one-such : P (pos 1)) (such : (value : ℤ) → fits value ≡ true → P value) where
+module _ (P : ℤ → Type 0) (zero-such : P (pos 0)) (one-such : P (pos 1)) (such : (value : ℤ) → fits_64_bits value ≡ true → P value) where
   -- each row has the columns of its table, and each of its numbers is such
   abbrev Shaped : (ℕ → ℕ) → Rows → Type 0
   Shaped columns rows = (table row : ℕ) → IsRowOf P (columns table) (rows table row)
@@ -58,9 +59,9 @@ module _ (P : ℤ → Type 0) (zero-such : P (pos 0)) (one-such : P (pos 1)) (su
   module _ (columns : ℕ → ℕ) where
     -- a row of its table's shape put into a map
     put_row : (rows : Rows) (u row : ℕ) (content : Option (List ℤ)) → Shaped columns rows → IsRowOf P (columns u) content → Shaped columns (with_row rows u row content)
-    put_row rows u row content shaped fits t n =
+    put_row rows u row content shaped fits_64_bits t n =
         by_cases (same_key u row t n)
-        (λ same. rw same (subst (λ (table : ℕ). IsRowOf P (columns table) content) (same_key-true u row t n same).0 fits))
+        (λ same. rw same (subst (λ (table : ℕ). IsRowOf P (columns table) content) (same_key-true u row t n same).0 fits_64_bits))
         (λ other. rw other (shaped t n))
 
     module _ (m : Machine) (shaped : IsShaped columns m) where
@@ -72,12 +73,12 @@ module _ (P : ℤ → Type 0) (zero-such : P (pos 0)) (one-such : P (pos 1)) (su
       numbers (register ∷ from) = All-cons P (read_register m register) (map (read_register m) from) (number register) (numbers from)
 
       put_number : (to : ℕ) (value : ℤ) → P value → ShapedEffect columns (put m to value)
-      put_number to value fits =
-          record { rows = shaped.rows; registers = All-set P m.registers to value fits shaped.registers; outputs = shaped.outputs }
+      put_number to value fits_64_bits =
+          record { rows = shaped.rows; registers = All-set P m.registers to value fits_64_bits shaped.registers; outputs = shaped.outputs }
 
-      put_fitting : (to : ℕ) (value : ℤ) → ShapedEffect columns (cond (fits value) (put m to value) (aborts Overflow))
+      put_fitting : (to : ℕ) (value : ℤ) → ShapedEffect columns (cond (fits_64_bits value) (put m to value) (aborts Overflow))
       put_fitting to value =
-          by_cases (fits value) (λ fit. rw fit (put_number to value (such value fit))) (λ over. rw over tt)
+          by_cases (fits_64_bits value) (λ fit. rw fit (put_number to value (such value fit))) (λ over. rw over tt)
 
       touched : (accesses : List Access) (kind : Kind) (u : ℕ) (number : ℤ) (effect : ℕ → Option (List ℤ) → Effect) → ((row : ℕ) (content : Option (List ℤ)) → IsRowOf P (columns u) content → ShapedEffect columns (effect row content)) → ShapedEffect columns (touch_declared m u (declared accesses kind u number) effect)
       touched accesses kind u number effect shapes = by_found (declared accesses kind u number)
@@ -118,13 +119,10 @@ module _ (P : ℤ → Type 0) (zero-such : P (pos 0)) (one-such : P (pos 1)) (su
       checked true = tt
       checked false = shaped
 
-      performed : (accesses : List Access) (step : Step) → FitsColumns columns step → ShapedEffect columns (perform accesses step m)
+      performed : (accesses : List Access) (step : Step) → StepFits columns step → ShapedEffect columns (perform accesses step m)
       performed accesses (Const to value) fit = put_number to value (such value fit)
-      performed accesses (Add to left right) fit = put_fitting to (read_register m left +ℤ read_register m right)
-      performed accesses (Sub to left right) fit = put_fitting to (read_register m left -ℤ read_register m right)
-      performed accesses (Mul to left right) fit = put_fitting to (read_register m left *ℤ read_register m right)
-      performed accesses (Less to left right) fit = put_number to _ (is_flag _)
-      performed accesses (Same to left right) fit = put_number to _ (is_flag _)
+      performed accesses (Compute operation to left right) fit =
+          put_fitting to (computed operation (read_register m left) (read_register m right))
       performed accesses (Has to u row) fit = touched accesses Read u (row_number m.registers row) (λ _ found. put m to (flag (is_some found))) (λ row content shape. put_number to (flag (is_some content)) (is_flag (is_some content)))
       performed accesses (Load to u row column) fit = touched accesses Read u (row_number m.registers row) (λ _ found. load_column m to column found) (λ row content shape. loaded u to column content shape)
       performed accesses (Store u row column from) fit = touched accesses Update u (row_number m.registers row) (λ number found. store_column m u column from number found) (λ row content shape. stored u column from row content shape)
@@ -140,12 +138,12 @@ module _ (P : ℤ → Type 0) (zero-such : P (pos 0)) (one-such : P (pos 1)) (su
     after_shaped accesses at steps (aborts reason) shaped rest = tt
     after_shaped accesses at steps is_undeclared shaped rest = tt
 
-    run_shaped : (accesses : List Access) (steps : List Step) (number passed : ℕ) (m : Machine) → All (FitsColumns columns) steps → IsShaped columns m → ShapedEnding columns (run_steps accesses steps number passed m)
+    run_shaped : (accesses : List Access) (steps : List Step) (number passed : ℕ) (m : Machine) → All (StepFits columns) steps → IsShaped columns m → ShapedEnding columns (run_steps accesses steps number passed m)
     run_shaped accesses [] at passed m fit shaped = (shaped.rows, shaped.outputs)
-    run_shaped accesses (step ∷ steps) at (suc passed) m fit shaped = run_shaped accesses steps (at + 1) passed m (All-tail (FitsColumns columns) step steps fit) shaped
+    run_shaped accesses (step ∷ steps) at (suc passed) m fit shaped = run_shaped accesses steps (at + 1) passed m (All-tail (StepFits columns) step steps fit) shaped
     run_shaped accesses (step ∷ steps) at zero m fit shaped =
-        after_shaped accesses at steps (perform accesses step m) (performed m shaped accesses step (All-head (FitsColumns columns) step steps fit))
-        (λ passed next also. run_shaped accesses steps (at + 1) passed next (All-tail (FitsColumns columns) step steps fit) also)
+        after_shaped accesses at steps (perform accesses step m) (performed m shaped accesses step (All-head (StepFits columns) step steps fit))
+        (λ passed next also. run_shaped accesses steps (at + 1) passed next (All-tail (StepFits columns) step steps fit) also)
 
     body_shaped : (form : Form) (rows : Rows) → FormFits columns form → Shaped columns rows → ShapedEnding columns (body rows form)
     body_shaped (Form.Create table width) rows fit shaped = (shaped, All-nil P)

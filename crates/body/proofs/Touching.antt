@@ -10,15 +10,16 @@ use Rattle.model_base.specs.Rows.{Rows, with_row}
 use Rattle.model_base.specs.Privileges.{has_kind}
 use Rattle.model_base.specs.Body.{Machine, Effect, goes_on, is_undeclared, declared, is_of, touch_declared}
 use Rattle.body.specs.Shown.{with_rows}
-use Rattle.body.specs.Work.{IsFirst, IsPlace}
-use Rattle.body.proofs.Rows.{by_cases, with_rows-at, with_rows-set}
+use Rattle.body.specs.Work.{IsFirstAccess, IsPlace}
+use Rattle.body.proofs.Rows.{with_rows-at, with_rows-set}
+use Rattle.model_base.proofs.Replay.{by_cases}
 
-pub find_first : (test : Access → Bool) (accesses : List Access) (place : ℕ) (found : Access) → IsFirst test accesses place found → find test accesses ≡ Some found
+pub find_first : (test : Access → Bool) (accesses : List Access) (place : ℕ) (found : Access) → IsFirstAccess test accesses place found → find test accesses ≡ Some found
 find_first test [] place found first = absurd first
 find_first test (access ∷ accesses) zero found first = rw first.1 (ap Some first.0)
 find_first test (access ∷ accesses) (suc place) found first = rw first.0 (find_first test accesses place found first.1)
 
-pub first_at : (test : Access → Bool) (accesses : List Access) (place : ℕ) (d : Access) → place < length accesses → test (get_or accesses place d) ≡ true → ((k : ℕ) → k < place → test (get_or accesses k d) ≡ false) → IsFirst test accesses place (get_or accesses place d)
+pub first_at : (test : Access → Bool) (accesses : List Access) (place : ℕ) (d : Access) → place < length accesses → test (get_or accesses place d) ≡ true → ((k : ℕ) → k < place → test (get_or accesses k d) ≡ false) → IsFirstAccess test accesses place (get_or accesses place d)
 first_at test [] place d within hit before = absurd (omega arith)
 first_at test (access ∷ accesses) zero d within hit before = (refl, hit)
 first_at test (access ∷ accesses) (suc place) d within hit before =
@@ -38,24 +39,24 @@ module _ (rows : Rows) (contents : List (Option (List ℤ))) (registers outputs 
   pub touch_none : declared accesses kind t number ≡ None → touch_declared machine t (declared accesses kind t number) effect ≡ is_undeclared
   touch_none none = rw none refl
 
-  pub touch_place : (place : ℕ) (found : Access) → declared accesses kind t number ≡ Some found → IsFirst (is_of t number) accesses place found → place < length contents → touch_declared machine t (declared accesses kind t number) effect ≡ effect found.key.row (get_or contents place None)
+  pub touch_place : (place : ℕ) (found : Access) → declared accesses kind t number ≡ Some found → IsFirstAccess (is_of t number) accesses place found → place < length contents → touch_declared machine t (declared accesses kind t number) effect ≡ effect found.key.row (get_or contents place None)
   touch_place place found some first within =
       rw some (ap (effect found.key.row) (with_rows-at t number rows accesses contents place found first within))
 
 pub place_found : (accesses : List Access) (kind : Kind) (t : ℕ) (number : ℤ) (place : ℕ) (found : Access) → position (is_of t number) accesses ≡ Some place → found ≡ get_or accesses place found → has_kind found.kinds kind ≡ true → IsPlace accesses kind t number (Some place)
 place_found accesses kind t number place found at is kept =
     let facts : (place < length accesses) × (is_of t number (get_or accesses place found) ≡ true) × ((k : ℕ) → k < place → is_of t number (get_or accesses k found) ≡ false) = position-Some (is_of t number) accesses place found at in
-    let there : IsFirst (is_of t number) accesses place (get_or accesses place found) = first_at (is_of t number) accesses place found facts.0 facts.1 facts.2 in
-    let P : Access → Type 0 = IsFirst (is_of t number) accesses place in
-    let first : IsFirst (is_of t number) accesses place found = subst P (sym is) there in
+    let there : IsFirstAccess (is_of t number) accesses place (get_or accesses place found) = first_at (is_of t number) accesses place found facts.0 facts.1 facts.2 in
+    let P : Access → Type 0 = IsFirstAccess (is_of t number) accesses place in
+    let first : IsFirstAccess (is_of t number) accesses place found = subst P (sym is) there in
     (found, (rw (find_first (is_of t number) accesses place found first, kept) refl, first))
 
 pub place_unkind : (accesses : List Access) (kind : Kind) (t : ℕ) (number : ℤ) (place : ℕ) (found : Access) → position (is_of t number) accesses ≡ Some place → found ≡ get_or accesses place found → has_kind found.kinds kind ≡ false → declared accesses kind t number ≡ None
 place_unkind accesses kind t number place found at is missed =
     let facts : (place < length accesses) × (is_of t number (get_or accesses place found) ≡ true) × ((k : ℕ) → k < place → is_of t number (get_or accesses k found) ≡ false) = position-Some (is_of t number) accesses place found at in
-    let there : IsFirst (is_of t number) accesses place (get_or accesses place found) = first_at (is_of t number) accesses place found facts.0 facts.1 facts.2 in
-    let P : Access → Type 0 = IsFirst (is_of t number) accesses place in
-    let first : IsFirst (is_of t number) accesses place found = subst P (sym is) there in
+    let there : IsFirstAccess (is_of t number) accesses place (get_or accesses place found) = first_at (is_of t number) accesses place found facts.0 facts.1 facts.2 in
+    let P : Access → Type 0 = IsFirstAccess (is_of t number) accesses place in
+    let first : IsFirstAccess (is_of t number) accesses place found = subst P (sym is) there in
     rw (find_first (is_of t number) accesses place found first, missed) refl
 
 pub place_none : (accesses : List Access) (kind : Kind) (t : ℕ) (number : ℤ) → position (is_of t number) accesses ≡ None → declared accesses kind t number ≡ None

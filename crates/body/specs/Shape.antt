@@ -3,13 +3,13 @@ use Rattle.std.specs.Prelude.{◌≡◌, ℕ, ℤ, true, Option, Some, None, Lis
 use Rattle.model_base.specs.declared.statement.Form.{Form}
 use Rattle.model_base.specs.declared.statement.Statement.{Statement}
 use Rattle.model_base.specs.declared.statement.Step.{Step}
-use Rattle.model_base.specs.Body.{completed, fits}
+use Rattle.model_base.specs.Body.{completed, fits_64_bits}
 use Rattle.model_base.specs.Outcomes.{body, rows_before}
 use Rattle.model_base.specs.Rows.{Rows}
 
 -- the number fits 64 bits
 abbrev pub IsNumber : ℤ → Type 0
-IsNumber value = fits value ≡ true
+IsNumber value = fits_64_bits value ≡ true
 
 -- a row that is there has so many columns, and each of its numbers is such
 abbrev pub IsRowOf : (ℤ → Type 0) → ℕ → Option (List ℤ) → Type 0
@@ -30,15 +30,15 @@ abbrev pub HaveShape : (ℕ → ℕ) → Rows → Type 0
 HaveShape columns rows = (table row : ℕ) → IsRowOf IsNumber (columns table) (rows table row)
 
 -- a constant has 64 bits, and an inserted row has the columns of its table
-abbrev pub FitsColumns : (ℕ → ℕ) → Step → Type 0
-FitsColumns columns (Step.Const to value) = IsNumber value
-FitsColumns columns (Step.Insert table row from) = length from ≡ columns table
-FitsColumns columns _ = Unit {0}
+abbrev pub StepFits : (ℕ → ℕ) → Step → Type 0
+StepFits columns (Step.Const to value) = IsNumber value
+StepFits columns (Step.Insert table row from) = length from ≡ columns table
+StepFits columns _ = Unit {0}
 
 -- so does each step of a form
 abbrev pub FormFits : (ℕ → ℕ) → Form → Type 0
 FormFits columns (Form.Create table width) = Unit {0}
-FormFits columns (Form.Run accesses steps deed) = All (FitsColumns columns) steps
+FormFits columns (Form.Run accesses steps deed) = All (StepFits columns) steps
 FormFits columns (Form.Deed deed) = Unit {0}
 
 -- a completed body that fits the columns leaves rows of the right shape, and its outputs have 64 bits

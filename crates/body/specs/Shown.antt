@@ -5,8 +5,8 @@ use Rattle.model_base.specs.Rows.{Rows, with_row}
 use Rattle.body.specs.declared.window.Window.{Window}
 
 -- the window has, at the place of each access, the row that the map has at its key
-abbrev pub Shows : List Access → Window → Rows → Type 0
-Shows accesses window rows =
+abbrev pub WindowShows : List Access → Window → Rows → Type 0
+WindowShows accesses window rows =
     take (length accesses) window.rows ≡ map (λ (access : Access). rows access.key.table access.key.row) accesses
 
 -- the same map, with the rows at the keys of the accesses taken from a list

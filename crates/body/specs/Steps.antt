@@ -4,7 +4,7 @@ use Rattle.std.specs.List.{sum_by}
 use Rattle.model_base.specs.declared.statement.Form.{Form}
 use Rattle.model_base.specs.declared.statement.Step.{Step}
 use Rattle.model_base.specs.Body.{Ending, aborted, completed, undeclared}
-use Rattle.body.specs.Premises.{outputs_of}
+use Rattle.body.specs.Premises.{outputs_of_step}
 
 -- the steps of a form; only a RUN has any
 abbrev pub steps_of : Form → List Step
@@ -14,6 +14,6 @@ steps_of (Form.Deed deed) = []
 
 -- a completed body has no more outputs than its steps make at most, and any other ended at one of its steps
 abbrev pub EndsWithin : List Step → Ending → Type 0
-EndsWithin steps (completed rows outputs) = length outputs ≤ sum_by outputs_of steps
+EndsWithin steps (completed rows outputs) = length outputs ≤ sum_by outputs_of_step steps
 EndsWithin steps (aborted step reason) = step < length steps
 EndsWithin steps (undeclared step) = step < length steps

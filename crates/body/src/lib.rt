@@ -7,27 +7,27 @@ ghost use Rattle.model_base.specs.Rows.{Rows};
 ghost use Rattle.model_base.specs.Versions.{accesses_of};
 ghost use Rattle.body.specs.Ending.{LeavesIdle, ending_of};
 ghost use Rattle.body.specs.Premises.{IsRunnable};
-ghost use Rattle.body.specs.Shown.{Shows, with_rows};
+ghost use Rattle.body.specs.Shown.{WindowShows, with_rows};
 
 mod ending;
-mod filling;
 mod laws;
 mod registers;
 mod row_map;
+mod row_store;
 mod steps;
 mod window;
 
 pub use ending::BodyEnd;
-pub use filling::{
-    RowSource, RowStore, filled, put_rows, release_absent, release_rows, reserve_rows, run_on,
-    write_back,
-};
 pub use laws::{
     depends_on_declared, ends_within_steps, keeps_columns, keeps_others, keeps_shape,
     leaves_others, leaves_unwritten, logs_have_shape, shows_rows,
 };
 use model_base::{Form, Statement};
 pub use row_map::RowMap;
+pub use row_store::{
+    RowSource, RowStore, filled, put_rows, release_absent, release_rows, reserve_rows, run_on,
+    write_back,
+};
 use steps::run_steps;
 pub use window::Window;
 
@@ -42,7 +42,7 @@ pub use window::Window;
 pub fn run(statement: &Statement, window: &mut Window) -> BodyEnd
     requires runnable { IsRunnable statement.now }
     requires fresh { window.old.outputs ≡ [] }
-    ensures ends { (rows : Rows) → Shows (accesses_of statement.now.form) window.old rows
+    ensures ends { (rows : Rows) → WindowShows (accesses_of statement.now.form) window.old rows
         → body rows statement.now.form
         ≡ ending_of result (with_rows (accesses_of statement.now.form) window.new.rows rows) window.new.outputs }
     ensures idle { LeavesIdle statement.now.form window.old window.new }

@@ -5,7 +5,7 @@ ghost use Rattle.model_base.specs.Rows.{no_rows};
 ghost use Rattle.body.specs.Room.{IsLean};
 ghost use Rattle.body.specs.RowMap.{HasEntry, rows_of};
 
-use crate::filling::{RowSource, RowStore};
+use crate::row_store::{RowSource, RowStore};
 use model_base::{Key, Row};
 use std::alloc::{AllocError, Global};
 use std::collections::HashMap;

@@ -3,16 +3,19 @@
 ghost use Rattle.std.specs.Prelude.{◌≡◌, ◌<◌, ◌≤◌, ◌+◌, [], length, map, pos, IfSome, slice_index_or};
 ghost use Rattle.std.specs.List.{position};
 ghost use Rattle.model_base.specs.Rows.{Rows};
-ghost use Rattle.model_base.specs.Body.{is_of, meaning, perform, row_number};
+ghost use Rattle.model_base.specs.Body.{is_of, meaning, row_number};
 ghost use Rattle.body.specs.Ending.{ending_of};
-ghost use Rattle.body.specs.Premises.{FitsWindow, IsNarrow, outputs_of};
-ghost use Rattle.body.specs.Shown.{Shows, with_rows};
-ghost use Rattle.body.specs.Work.{effect_of, seen, IsPlace};
+ghost use Rattle.body.specs.Premises.{FitsWindow, IsNarrow, outputs_of_step};
+ghost use Rattle.body.specs.Shown.{WindowShows, with_rows};
+ghost use Rattle.body.specs.Work.{IsPlace, Performs};
 
 use crate::ending::BodyEnd;
-use crate::registers::{add, flag, multiply, read, subtract, write};
+use crate::registers::{compute, flag, read, write};
 use crate::window::Window;
-use model_base::{Access, Items, Kind, Reason, Register, Row, RowName, Step, Table};
+use model_base::{
+    Access, Items, Kind, MOST_ACCESSES, MOST_COLUMNS, MOST_OUTPUTS, MOST_REGISTERS, Reason,
+    Register, Row, RowName, Step, Table,
+};
 
 /// What one step comes to.
 #[derive(Drop)]
@@ -23,7 +26,7 @@ pub(crate) enum StepEnd {
 }
 
 /// The number of a row, as a step gives it.
-fn number(registers: &[i64; 16], row: RowName) -> i64
+fn number(registers: &[i64; MOST_REGISTERS], row: RowName) -> i64
     ensures { result ≡ row_number registers.now row }
 {
     match row {
@@ -51,7 +54,7 @@ fn position(accesses: &[Access], table: Table, number: i64) -> Option<usize>
 /// The place of the access that declares this kind for the row that a step names.
 fn place_of(
     accesses: &[Access],
-    registers: &[i64; 16],
+    registers: &[i64; MOST_REGISTERS],
     kind: Kind,
     table: Table,
     row: RowName,
@@ -75,13 +78,13 @@ fn place_of(
 fn has(
     accesses: &[Access],
     window: &Window,
-    registers: &mut [i64; 16],
+    registers: &mut [i64; MOST_REGISTERS],
     to: Register,
     table: Table,
     row: RowName,
 ) -> StepEnd
-    requires { length accesses.now ≤ 16 }
-    ensures { (rows : Rows) → effect_of result (seen accesses.now rows window.now registers.new) ≡ perform accesses.now (Step.Has to table row) (seen accesses.now rows window.now registers.old) }
+    requires { length accesses.now ≤ MOST_ACCESSES }
+    ensures { Performs accesses.now (Step.Has to table row) window.now registers.old result window.now registers.new }
 {
     match place_of(accesses, registers, Kind::Read, table, row) {
         None => StepEnd::Undeclared,
@@ -96,14 +99,14 @@ fn has(
 fn load(
     accesses: &[Access],
     window: &Window,
-    registers: &mut [i64; 16],
+    registers: &mut [i64; MOST_REGISTERS],
     to: Register,
     table: Table,
     row: RowName,
     column: u32,
 ) -> StepEnd
-    requires { length accesses.now ≤ 16 }
-    ensures { (rows : Rows) → effect_of result (seen accesses.now rows window.now registers.new) ≡ perform accesses.now (Step.Load to table row column) (seen accesses.now rows window.now registers.old) }
+    requires { length accesses.now ≤ MOST_ACCESSES }
+    ensures { Performs accesses.now (Step.Load to table row column) window.now registers.old result window.now registers.new }
 {
     match place_of(accesses, registers, Kind::Read, table, row) {
         None => StepEnd::Undeclared,
@@ -118,14 +121,14 @@ fn load(
 fn store(
     accesses: &[Access],
     window: &mut Window,
-    registers: &[i64; 16],
+    registers: &[i64; MOST_REGISTERS],
     table: Table,
     row: RowName,
     column: u32,
     from: Register,
 ) -> StepEnd
-    requires { length accesses.now ≤ 16 }
-    ensures effect { (rows : Rows) → effect_of result (seen accesses.now rows window.new registers.now) ≡ perform accesses.now (Step.Store table row column from) (seen accesses.now rows window.old registers.now) }
+    requires { length accesses.now ≤ MOST_ACCESSES }
+    ensures effect { Performs accesses.now (Step.Store table row column from) window.old registers.now result window.new registers.now }
     ensures outputs { window.new.outputs ≡ window.old.outputs }
 {
     match place_of(accesses, registers, Kind::Update, table, row) {
@@ -143,8 +146,8 @@ fn store(
 }
 
 /// The numbers in these registers.
-fn gathered(registers: &[i64; 16], from: &[Register]) -> Row
-    requires { length from.now ≤ 8 }
+fn gathered(registers: &[i64; MOST_REGISTERS], from: &[Register]) -> Row
+    requires { length from.now ≤ MOST_COLUMNS }
     ensures { result ≡ map (λ register. slice_index_or registers.now register (pos 0)) from.now }
 {
     let mut row = Row::new();
@@ -158,14 +161,14 @@ fn gathered(registers: &[i64; 16], from: &[Register]) -> Row
 fn insert(
     accesses: &[Access],
     window: &mut Window,
-    registers: &[i64; 16],
+    registers: &[i64; MOST_REGISTERS],
     table: Table,
     row: RowName,
     from: &Items<Register>,
 ) -> StepEnd
-    requires places { length accesses.now ≤ 16 }
-    requires columns { length from.now ≤ 8 }
-    ensures effect { (rows : Rows) → effect_of result (seen accesses.now rows window.new registers.now) ≡ perform accesses.now (Step.Insert table row from.now) (seen accesses.now rows window.old registers.now) }
+    requires places { length accesses.now ≤ MOST_ACCESSES }
+    requires columns { length from.now ≤ MOST_COLUMNS }
+    ensures effect { Performs accesses.now (Step.Insert table row from.now) window.old registers.now result window.new registers.now }
     ensures outputs { window.new.outputs ≡ window.old.outputs }
 {
     match place_of(accesses, registers, Kind::Insert, table, row) {
@@ -184,12 +187,12 @@ fn insert(
 fn delete(
     accesses: &[Access],
     window: &mut Window,
-    registers: &[i64; 16],
+    registers: &[i64; MOST_REGISTERS],
     table: Table,
     row: RowName,
 ) -> StepEnd
-    requires { length accesses.now ≤ 16 }
-    ensures effect { (rows : Rows) → effect_of result (seen accesses.now rows window.new registers.now) ≡ perform accesses.now (Step.Delete table row) (seen accesses.now rows window.old registers.now) }
+    requires { length accesses.now ≤ MOST_ACCESSES }
+    ensures effect { Performs accesses.now (Step.Delete table row) window.old registers.now result window.new registers.now }
     ensures outputs { window.new.outputs ≡ window.old.outputs }
 {
     match place_of(accesses, registers, Kind::Delete, table, row) {
@@ -209,27 +212,22 @@ fn perform(
     accesses: &[Access],
     step: &Step,
     window: &mut Window,
-    registers: &mut [i64; 16],
+    registers: &mut [i64; MOST_REGISTERS],
 ) -> StepEnd
-    requires places { length accesses.now ≤ 16 }
+    requires places { length accesses.now ≤ MOST_ACCESSES }
     requires columns { IsNarrow step.now }
-    requires room { length window.old.outputs + outputs_of step.now ≤ 8 }
-    ensures effect { (rows : Rows) → effect_of result (seen accesses.now rows window.new registers.new) ≡ perform accesses.now step.now (seen accesses.now rows window.old registers.old) }
-    ensures outputs { length window.new.outputs ≤ length window.old.outputs + outputs_of step.now }
+    requires room { length window.old.outputs + outputs_of_step step.now ≤ MOST_OUTPUTS }
+    ensures effect { Performs accesses.now step.now window.old registers.old result window.new registers.new }
+    ensures outputs { length window.new.outputs ≤ length window.old.outputs + outputs_of_step step.now }
 {
     match step {
         Step::Const { to, value } => write(registers, *to, *value),
-        Step::Add { to, left, right } => add(registers, *to, *left, *right),
-        Step::Sub { to, left, right } => subtract(registers, *to, *left, *right),
-        Step::Mul { to, left, right } => multiply(registers, *to, *left, *right),
-        Step::Less { to, left, right } => {
-            let holds = read(registers, *left) < read(registers, *right);
-            write(registers, *to, flag(holds))
-        }
-        Step::Same { to, left, right } => {
-            let holds = read(registers, *left) == read(registers, *right);
-            write(registers, *to, flag(holds))
-        }
+        Step::Compute {
+            operation,
+            to,
+            left,
+            right,
+        } => compute(registers, *operation, *to, *left, *right),
         Step::Has { to, table, row } => has(accesses, window, registers, *to, *table, *row),
         Step::Load {
             to,
@@ -270,11 +268,11 @@ fn perform(
 pub(crate) fn run_steps(accesses: &[Access], steps: &[Step], window: &mut Window) -> BodyEnd
     requires fits { FitsWindow accesses.now steps.now }
     requires fresh { window.old.outputs ≡ [] }
-    ensures { (rows : Rows) → Shows accesses.now window.old rows
+    ensures { (rows : Rows) → WindowShows accesses.now window.old rows
         → meaning steps.now accesses.now rows
         ≡ ending_of result (with_rows accesses.now window.new.rows rows) window.new.outputs }
 {
-    let mut registers = [0; 16];
+    let mut registers = [0; MOST_REGISTERS];
     let mut passed = 0;
     for (number, step) in steps.iter().enumerate() {
         if passed > 0 {

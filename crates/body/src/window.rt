@@ -2,39 +2,39 @@
 
 ghost use Rattle.std.specs.Prelude.{◌≡◌, ◌<◌, ◌++◌, ◌∷◌, [], length, replicate, slice_index_or, slice_set};
 
-use model_base::{Outputs, Row, Statement};
+use model_base::{MOST_ACCESSES, MOST_OUTPUTS, Outputs, Row, Statement};
 
 /// The row of each access of a statement, or its absence, by the access's place; and the outputs so far.
 #[derive(Clone, Copy)]
 pub struct Window {
-    rows: [Option<Row>; 16],
+    rows: [Option<Row>; MOST_ACCESSES],
     outputs: Outputs,
 }
 
 impl Window {
     /// The window of a body that hasn't begun: its rows are all absent, and there is no output.
     pub fn new(_statement: &Statement) -> Self
-        ensures rows { result.rows ≡ replicate 16 None }
+        ensures rows { result.rows ≡ replicate MOST_ACCESSES None }
         ensures outputs { result.outputs ≡ [] }
     {
         Window {
-            rows: [None; 16],
+            rows: [None; MOST_ACCESSES],
             outputs: Outputs::new(),
         }
     }
 
-    /// The row of the access at this place, from 0 to 15.
+    /// The row of the access at this place, from 0.
     pub fn row(&self, access: usize) -> Option<Row>
-        requires { access < 16 }
+        requires { access < MOST_ACCESSES }
         ensures row { result ≡ slice_index_or self.now.rows access None }
-        ensures sixteen { length self.now.rows ≡ 16 }
+        ensures whole { length self.now.rows ≡ MOST_ACCESSES }
     {
         self.rows[access]
     }
 
-    /// Puts a row, or its absence, at this place, from 0 to 15.
+    /// Puts a row, or its absence, at this place, from 0.
     pub fn set(&mut self, access: usize, row: Option<Row>)
-        requires { access < 16 }
+        requires { access < MOST_ACCESSES }
         ensures rows { self.new.rows ≡ slice_set self.old.rows access row }
         ensures outputs { self.new.outputs ≡ self.old.outputs }
     {
@@ -48,9 +48,9 @@ impl Window {
         self.outputs
     }
 
-    /// Puts an output after the others, of which there are at most seven.
+    /// Puts an output after the others, of which there are fewer than `MOST_OUTPUTS`.
     pub(crate) fn push_output(&mut self, value: i64)
-        requires { length self.old.outputs < 8 }
+        requires { length self.old.outputs < MOST_OUTPUTS }
         ensures outputs { self.new.outputs ≡ self.old.outputs ++ value ∷ [] }
         ensures rows { self.new.rows ≡ self.old.rows }
     {

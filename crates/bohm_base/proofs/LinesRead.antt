@@ -16,7 +16,7 @@ use Rattle.report.specs.Report.{AreReadings, IsReading, Reading}
 use Rattle.bohm_base.specs.declared.collecting.Became.{Became}
 use Rattle.bohm_base.specs.declared.fault.EngineFault.{EngineFault}
 use Rattle.bohm_base.specs.Faults.{of_reading, read_errors}
-use Rattle.bohm_base.specs.Collecting.{Collects, CollectsSoFar, LeadsTo, ReadsAs, became, reading_of, with_reading}
+use Rattle.bohm_base.specs.Collecting.{Collects, CollectsSoFar, AreReadBefore, ReadsAs, became, reading_of, with_reading}
 use Rattle.bohm_base.proofs.Logs.{log_step}
 
 too_long : (l : List ℕ) → 4096 < length l → line_fault l ≡ Some LineFault.TooLong
@@ -52,10 +52,10 @@ reads_as line (Err fault) reads sound faulty told = λ whole is.
 pub collect_start : (i : Option (List ℕ)) (bytes : List ℕ) → bytes ≡ [] → CollectsSoFar i (prepend_known bytes i) empty_log []
 collect_start None bytes none = tt
 collect_start (Some xs) bytes none =
-    ([], (subst (λ (w : List ℕ). LeadsTo xs (w ++ xs) []) (sym none) (λ later reads. reads), record { names = refl; statements = refl; each = refl }))
+    ([], (subst (λ (w : List ℕ). AreReadBefore xs (w ++ xs) []) (sym none) (λ later reads. reads), record { names = refl; statements = refl; each = refl }))
 
 lead_step : (input ys zs : List ℕ) (earlier : List Reading) (reading : Reading) → 0 < length ys → zs ≡ other_lines ys → IsReading (first_line ys) reading
-    → LeadsTo input ys earlier → LeadsTo input zs (earlier ++ reading ∷ [])
+    → AreReadBefore input ys earlier → AreReadBefore input zs (earlier ++ reading ∷ [])
 lead_step input [] zs earlier reading some others reads leads = absurd (omega arith)
 lead_step input (b ∷ bs) zs earlier reading some others reads leads = λ later rest.
     let first : AreReadings (lines_of (b ∷ bs)) (reading ∷ later) =

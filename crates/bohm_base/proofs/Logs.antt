@@ -4,10 +4,10 @@ use Rattle.std.proofs.lemmas.List.{append-nil}
 use Rattle.model_base.specs.declared.statement.Statement.{Statement}
 use Rattle.log_text.specs.Statement.{Sentence}
 use Rattle.sequencer.specs.Catalog.{Names, no_names}
-use Rattle.sequencer.specs.Log.{Accepted, with_accepted}
+use Rattle.sequencer.specs.Log.{Accepted}
 use Rattle.sequencer.specs.Refusal.{refusal}
 use Rattle.sequencer.specs.declared.refused.Refused.{Refused}
-use Rattle.report.specs.Report.{IsReport, Reading, read, faulty, accepted, line_text, log_of, names_after, names_if, names_with, report_from, statement_if, text_if}
+use Rattle.report.specs.Report.{IsReport, Reading, read, faulty, accepted, line_text, log_of, names_after, names_if, names_with, report_from, text_if}
 use Rattle.report.proofs.ReportLemmas.{log_of-append, names_after-append}
 use Rattle.bohm_base.specs.declared.collecting.Became.{Became}
 use Rattle.bohm_base.specs.Collecting.{Collects, IsLogOf, all_became, became, became_if, became_text, log_text, places_of, report_text, with_reading}
@@ -21,17 +21,6 @@ pub unchanged : (log : Accepted) → log ≡ record { names = log.names; stateme
 unchanged log =
     let with_statements : List Statement → Accepted = λ statements. record { names = log.names; statements = statements } in
     ap with_statements (sym (append-nil log.statements))
-
--- the log after a statement that it takes or refuses
-abbrev pub log_if : Accepted → Sentence → Option Refused → Accepted
-log_if log sentence o = record {
-  names = names_if log.names sentence o;
-  statements = log.statements ++ statement_if log.names sentence o;
-}
-
-pub after_taken : (log new : Accepted) (sentence : Sentence) → refusal log.names sentence ≡ None → new ≡ with_accepted log sentence
-    → new ≡ with_reading log (read sentence)
-after_taken log new sentence passes is = is ∙ ap (log_if log sentence) (sym passes)
 
 -- the lines so far, and one more
 pub log_step : (earlier : List Reading) (reading : Reading) (log new : Accepted) (lines more : List Became) (line : Became)

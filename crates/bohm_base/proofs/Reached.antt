@@ -4,8 +4,8 @@ use Rattle.std.specs.Prelude.{Result, Ok, Err, IfSome, OnOk}
 use Rattle.std.specs.Io.KnownBytes.{Appends, Keeps, IsAtEnd, prepend_known}
 use Rattle.std.proofs.lemmas.List.{append-nil, take-append-drop}
 use Rattle.model_base.specs.Outcomes.{empty_world}
-use Rattle.plain.specs.State.{Stands, world_of}
-use Rattle.plain.specs.declared.state.State.{State}
+use Rattle.plain.specs.State.{StateStands, world_with}
+use Rattle.plain.specs.declared.plain_state.State.{State}
 use Rattle.log_text_base.specs.Lines.{lines_of, first_line}
 use Rattle.log_text_base.specs.Known.{AppendsFront, HasBegun, MovesOut, TookLine, HadSome}
 use Rattle.log_text_base.proofs.Written.{appends_then, appends_kept, appends_front, front_kept}
@@ -20,7 +20,7 @@ use Rattle.bohm_base.proofs.Reporting.{so_far}
 use Rattle.report.proofs.Readings.{IsTotal, readings, some_report}
 
 -- at first nothing is read, and nothing is written
-so_far_start : (xs : List ℕ) (state : State) → Stands state 0 [] → world_of state [] ≡ empty_world → IsSoFar xs xs [] 1 no_names state []
+so_far_start : (xs : List ℕ) (state : State) → StateStands state 0 [] → world_with state [] ≡ empty_world → IsSoFar xs xs [] 1 no_names state []
 so_far_start xs state stands empty = record {
   named = refl;
   reads = λ later r. r;
@@ -30,11 +30,11 @@ so_far_start xs state stands empty = record {
   text = λ later. refl;
 }
 
-appends_nothing : (o : Option (List ℕ)) → Appends o o []
+pub appends_nothing : (o : Option (List ℕ)) → Appends o o []
 appends_nothing None = tt
 appends_nothing (Some ys) = sym (append-nil ys)
 
-pub report_start : (i o : Option (List ℕ)) (bytes pending : List ℕ) (state : State) → bytes ≡ [] → pending ≡ [] → Stands state 0 [] → world_of state [] ≡ empty_world
+pub report_start : (i o : Option (List ℕ)) (bytes pending : List ℕ) (state : State) → bytes ≡ [] → pending ≡ [] → StateStands state 0 [] → world_with state [] ≡ empty_world
     → Reported i (prepend_known bytes i) o o pending 1 no_names state
 report_start None o bytes pending state b p stands empty = tt
 report_start (Some xs) o bytes pending state b p stands empty =

@@ -18,8 +18,8 @@ use Rattle.sequencer.specs.Catalog.{Names, no_names, numbered, with_statement}
 use Rattle.sequencer.specs.Refusal.{refusal}
 use Rattle.sequencer.specs.declared.refused.Refused.{Refused}
 use Rattle.grants.specs.Book.{owners_of}
-use Rattle.plain.specs.State.{Leads, Stands, world_of}
-use Rattle.plain.specs.declared.state.State.{State}
+use Rattle.plain.specs.State.{Leads, StateStands, world_with}
+use Rattle.plain.specs.declared.plain_state.State.{State}
 use Rattle.report.specs.Text.{IsNamed, cause_text, fault_word, outcome_text, refused_text, refused_word, table_name}
 use Rattle.report.specs.Report.{AreReadings, IsReading, Reading, read, faulty, accepted, line_text, log_of, names_after, names_if, names_with, place_text, report_from, report_of, statement_if, text_if, text_of}
 use Rattle.bohm_base.specs.Progress.{Advances, AdvancesIf, IsSoFar, Refuses, Reports}
@@ -27,12 +27,12 @@ use Rattle.report.proofs.ReportLemmas.{log_of-append, names_after-append}
 use Rattle.bohm_base.proofs.WholeLogs.{Longer, owners_after, places_after, slice_get_at, slice_get_longer, tables_after, world_after-append}
 
 -- a table's name is the same where others come behind it
-name-longer : (tables more : List (List ℕ)) (table : ℕ) → table < length tables → table_name (tables ++ more) table ≡ table_name tables table
+pub name-longer : (tables more : List (List ℕ)) (table : ℕ) → table < length tables → table_name (tables ++ more) table ≡ table_name tables table
 name-longer tables more table low =
     let here = slice_get-get_or tables table [] low in
     ap (λ (o : Option (List ℕ)). unwrap_or o []) (slice_get_longer tables more table (get_or tables table []) here ∙ sym here)
 
-text-longer : (tables more : List (List ℕ)) (place : ℕ) (form : Form) (o : Outcome) → IsNamed (length tables) o → outcome_text (tables ++ more) place form o ≡ outcome_text tables place form o
+pub text-longer : (tables more : List (List ℕ)) (place : ℕ) (form : Form) (o : Outcome) → IsNamed (length tables) o → outcome_text (tables ++ more) place form o ≡ outcome_text tables place form o
 text-longer tables more place form Outcome.Created named = refl
 text-longer tables more place form (Outcome.Done outputs deed) named = refl
 text-longer tables more place form (Outcome.Denied need cause) named =
@@ -81,30 +81,30 @@ pub record IsStep (earlier : List Reading) (reading : Reading) (later : List Rea
 
 -- the deeds after a line, and that they stand
 abbrev deeds_if : (names : Names) (old new : State) (number : ℕ) (sentence : Sentence) (r : Option Refused) (text longer : List ℕ) (deeds : List Deed)
-    → AdvancesIf names old number sentence r text new longer → Stands old names.places deeds → List Deed
+    → AdvancesIf names old number sentence r text new longer → StateStands old names.places deeds → List Deed
 deeds_if names old new number sentence None text longer deeds reports stood = (reports.leads deeds stood).after
 deeds_if names old new number sentence (Some refused) text longer deeds refuses stood = deeds
 
 stands_if : (names : Names) (old new : State) (number : ℕ) (sentence : Sentence) (r : Option Refused) (text longer : List ℕ) (deeds : List Deed)
-    (advances : AdvancesIf names old number sentence r text new longer) (stands : Stands old names.places deeds)
-    → Stands new (names_if names sentence r).places (deeds_if names old new number sentence r text longer deeds advances stands)
+    (advances : AdvancesIf names old number sentence r text new longer) (stands : StateStands old names.places deeds)
+    → StateStands new (names_if names sentence r).places (deeds_if names old new number sentence r text longer deeds advances stands)
 stands_if names old new number sentence None text longer deeds reports stood = (reports.leads deeds stood).stands
 stands_if names old new number sentence (Some refused) text longer deeds refuses stood =
-    subst (λ (s : State). Stands s names.places deeds) (sym refuses.0) stood
+    subst (λ (s : State). StateStands s names.places deeds) (sym refuses.0) stood
 
 abbrev pub deeds_with : (names : Names) (old new : State) (number : ℕ) (reading : Reading) (text longer : List ℕ) (deeds : List Deed)
-    → Advances names old number reading text new longer → Stands old names.places deeds → List Deed
+    → Advances names old number reading text new longer → StateStands old names.places deeds → List Deed
 deeds_with names old new number (read sentence) text longer deeds advances stood = deeds_if names old new number sentence (refusal names sentence) text longer deeds advances stood
 deeds_with names old new number (faulty fault) text longer deeds refuses stood = deeds
 
 pub stands_with : (names : Names) (old new : State) (number : ℕ) (reading : Reading) (text longer : List ℕ) (deeds : List Deed)
-    (advances : Advances names old number reading text new longer) (stands : Stands old names.places deeds)
-    → Stands new (names_with names reading).places (deeds_with names old new number reading text longer deeds advances stands)
+    (advances : Advances names old number reading text new longer) (stands : StateStands old names.places deeds)
+    → StateStands new (names_with names reading).places (deeds_with names old new number reading text longer deeds advances stands)
 stands_with names old new number (read sentence) text longer deeds advances stood = stands_if names old new number sentence (refusal names sentence) text longer deeds advances stood
 stands_with names old new number (faulty fault) text longer deeds refuses stood =
-    subst (λ (s : State). Stands s names.places deeds) (sym refuses.0) stood
+    subst (λ (s : State). StateStands s names.places deeds) (sym refuses.0) stood
 
-module _ (earlier later : List Reading) (number : ℕ) (names : Names) (old new : State) (text : List ℕ) (deeds : List Deed) (stands : Stands old names.places deeds)
+module _ (earlier later : List Reading) (number : ℕ) (names : Names) (old new : State) (text : List ℕ) (deeds : List Deed) (stands : StateStands old names.places deeds)
     (named : names ≡ names_after no_names earlier) where
   log-behind : (reading : Reading) (rest : List Reading) → log_of no_names (earlier ++ reading ∷ rest) ≡ log_of no_names earlier ++ (accepted names reading ++ log_of (names_with names reading) rest)
   log-behind reading rest = log_of-append no_names earlier (reading ∷ rest) ∙ ap (λ (n : Names). log_of no_names earlier ++ log_of n (reading ∷ rest)) (sym named)
@@ -112,13 +112,13 @@ module _ (earlier later : List Reading) (number : ℕ) (names : Names) (old new 
   -- a line that changes nothing
   refused : (reading : Reading) (line : List ℕ) → accepted names reading ≡ []
       → ((log : List Statement) (tables : List (List ℕ)) → line_text log tables number names reading ≡ line)
-      → world_after (owners (log_of no_names (earlier ++ reading ∷ later))) 0 empty_world (log_of no_names earlier) ≡ world_of old deeds
-      → Refuses line old [] new text → IsStep earlier reading later number names (world_of new deeds) text
+      → world_after (owners (log_of no_names (earlier ++ reading ∷ later))) 0 empty_world (log_of no_names earlier) ≡ world_with old deeds
+      → Refuses line old [] new text → IsStep earlier reading later number names (world_with new deeds) text
   refused reading line none spelled stood (same, is) = record {
     line = is ∙ sym (spelled _ _);
     left = ap (world_after (owners (log_of no_names (earlier ++ reading ∷ later))) 0 empty_world)
         (log-behind reading [] ∙ ap (λ (xs : List Statement). log_of no_names earlier ++ (xs ++ [])) none ∙ append-nil (log_of no_names earlier))
-        ∙ stood ∙ ap (λ (s : State). world_of s deeds) (sym same);
+        ∙ stood ∙ ap (λ (s : State). world_with s deeds) (sym same);
   }
 
   place_is : names.places ≡ length (log_of no_names earlier)
@@ -141,9 +141,9 @@ module _ (earlier later : List Reading) (number : ℕ) (names : Names) (old new 
 
   -- a statement that the log takes
   taken : (sentence : Sentence) → refusal names sentence ≡ None
-      → world_after (owners (log_of no_names (earlier ++ read sentence ∷ later))) 0 empty_world (log_of no_names earlier) ≡ world_of old deeds
+      → world_after (owners (log_of no_names (earlier ++ read sentence ∷ later))) 0 empty_world (log_of no_names earlier) ≡ world_with old deeds
       → (reports : Reports (with_statement names sentence) names.places (numbered names sentence) old [] new text)
-      → IsStep earlier (read sentence) later number names (world_of new (reports.leads deeds stands).after) text
+      → IsStep earlier (read sentence) later number names (world_with new (reports.leads deeds stands).after) text
   taken sentence passed stood reports =
       let own = owners-behind (read sentence) in
       let tab = tables-behind (read sentence) in
@@ -152,8 +152,8 @@ module _ (earlier later : List Reading) (number : ℕ) (names : Names) (old new 
       let before : List Statement = log_of no_names earlier in
       let statement : Statement = numbered names sentence in
       let leads : Leads old new names.places deeds statement reports.outcome = reports.leads deeds stands in
-      let world : World = world_of old deeds in
-      let next : World = world_of new leads.after in
+      let world : World = world_with old deeds in
+      let next : World = world_with new leads.after in
       let after : List Statement = log_of (names_with names (read sentence)) later in
       let with_it : names_with names (read sentence) ≡ with_statement names sentence = ap (names_if names sentence) passed in
       let added : accepted names (read sentence) ≡ statement ∷ [] = ap (statement_if names sentence) passed in
@@ -178,17 +178,17 @@ module _ (earlier later : List Reading) (number : ℕ) (names : Names) (old new 
       }
 
   step_if : (sentence : Sentence) (r : Option Refused) → refusal names sentence ≡ r
-      → world_after (owners (log_of no_names (earlier ++ read sentence ∷ later))) 0 empty_world (log_of no_names earlier) ≡ world_of old deeds
+      → world_after (owners (log_of no_names (earlier ++ read sentence ∷ later))) 0 empty_world (log_of no_names earlier) ≡ world_with old deeds
       → (advances : AdvancesIf names old number sentence r [] new text)
-      → IsStep earlier (read sentence) later number names (world_of new (deeds_if names old new number sentence r [] text deeds advances stands)) text
+      → IsStep earlier (read sentence) later number names (world_with new (deeds_if names old new number sentence r [] text deeds advances stands)) text
   step_if sentence None e stood advances = taken sentence e stood advances
   step_if sentence (Some r) e stood advances =
       refused (read sentence) (refused_text number (refused_word r)) (ap (statement_if names sentence) e) (λ log tables. ap (text_if log tables number names.places) e) stood advances
 
   pub step : (reading : Reading)
-      → world_after (owners (log_of no_names (earlier ++ reading ∷ later))) 0 empty_world (log_of no_names earlier) ≡ world_of old deeds
+      → world_after (owners (log_of no_names (earlier ++ reading ∷ later))) 0 empty_world (log_of no_names earlier) ≡ world_with old deeds
       → (advances : Advances names old number reading [] new text)
-      → IsStep earlier reading later number names (world_of new (deeds_with names old new number reading [] text deeds advances stands)) text
+      → IsStep earlier reading later number names (world_with new (deeds_with names old new number reading [] text deeds advances stands)) text
   step (read sentence) stood advances = step_if sentence (refusal names sentence) refl stood advances
   step (faulty f) stood advances = refused (faulty f) (refused_text number (fault_word f)) refl (λ log tables. refl) stood advances
 

@@ -13,15 +13,16 @@ use Rattle.log_text.specs.declared.statement.RawDeed.{RawDeed}
 use Rattle.log_text.specs.declared.statement.RawForm.{RawForm}
 use Rattle.sequencer.specs.Names.{is_known, number_of, with_name}
 use Rattle.sequencer.specs.Catalog.{Names, no_names, numbered, numbered_deed, numbered_form, with_form, with_statement}
-use Rattle.sequencer.specs.Refusal.{accesses_refusal, create_refusal, deed_refusal, form_refusal, name_refusal, refusal, steps_refusal, table_refusal, unless}
+use Rattle.sequencer.specs.Refusal.{accesses_refusal, create_refusal, deed_refusal, form_refusal, name_refusal, refusal, steps_refusal, table_refusal, refuse_unless}
 use Rattle.sequencer.specs.declared.refused.Refused.{Refused}
 use Rattle.grants.specs.Book.{IsLater, owners_of}
 use Rattle.grants.specs.declared.book.Creation.{Creation}
-use Rattle.plain.specs.State.{Leads, NamesTables, Stands, table_of, world_of}
-use Rattle.plain.specs.declared.state.State.{State}
+use Rattle.plain.specs.State.{Leads, NamesTables, StateStands, world_with}
+use Rattle.plain.specs.declared.plain_state.State.{State}
 use Rattle.report.specs.Text.{IsNamed}
 use Rattle.bohm_base.specs.Progress.{AdvancesIf, IsAfter, IsAt, Reports}
 use Rattle.sequencer.specs.Taken.{IsTaken}
+use Rattle.model_base.specs.References.{table_of}
 use Rattle.sequencer.proofs.KnownTables.{accesses-below}
 use Rattle.sequencer.proofs.Passed.{both_none, known-table, passes}
 use Rattle.bohm_base.proofs.Named.{IsWithin, place-named}
@@ -46,7 +47,7 @@ not_true false is = refl
 -- a new table finds room
 room : (names : Names) (table : List ℕ) (columns : ℕ) → create_refusal names table columns ≡ None → name_refusal names.tables table ≡ None → length names.tables < 65536
 room names table columns new few =
-    let unknown = not_true (is_known names.tables table) (passes (not (is_known names.tables table)) Refused.TableExists (both_none (unless (not (is_known names.tables table)) Refused.TableExists) _ new).0) in
+    let unknown = not_true (is_known names.tables table) (passes (not (is_known names.tables table)) Refused.TableExists (both_none (refuse_unless (not (is_known names.tables table)) Refused.TableExists) _ new).0) in
     elim (or_cases (nat_lt (length names.tables) 65536) (is_known names.tables table) (passes (nat_lt (length names.tables) 65536 || is_known names.tables table) Refused.TooManyNames few)) [
       | inl less ↦ ltb-true (length names.tables) 65536 less
       | inr known ↦ absurd (true≢false (sym known ∙ unknown))
@@ -104,7 +105,7 @@ pub named_by : (names : Names) (old new : State) (place : ℕ) (statement : Stat
     → Leads old new place deeds statement outcome → IsNamed (length names.tables) outcome
 named_by names old new place statement outcome deeds within leads =
     subst (IsNamed (length names.tables)) (ap (λ (p : Outcome × World). p.0) (leads.same []))
-    (place-named (length names.tables) (owners_of new.book.tables ++ []) place (world_of old deeds) statement within)
+    (place-named (length names.tables) (owners_of new.book.tables ++ []) place (world_with old deeds) statement within)
 
 -- a statement that was taken and executed was dealt with
 pub advanced : (names after : Names) (sentence : Sentence) (statement : Statement) (place : ℕ) (old : State) (number : ℕ) (text : List ℕ) (new : State) (longer : List ℕ)
@@ -118,7 +119,7 @@ advanced names after sentence statement place old number text new longer passed 
     subst S (sym passed) (subst R at (subst Q is (subst P named reports)))
 
 -- at first there is no table
-pub at_start : (names : Names) (state : State) → names ≡ no_names → state.book.tables ≡ [] → IsLater state.book 0 → Stands state 0 [] → IsAt names state
+pub at_start : (names : Names) (state : State) → names ≡ no_names → state.book.tables ≡ [] → IsLater state.book 0 → StateStands state 0 [] → IsAt names state
 at_start names state none tables later stands = subst (λ (n : Names). IsAt n state) (sym none) (record {
   counted = refl;
   owned = ap owners_of tables;

@@ -2,17 +2,14 @@
 use Rattle.std.proofs.Common.{◌≡◌, ℕ, zero, suc, ◌+◌, List, [], ◌∷◌, ◌++◌, length, Option, Some, None, refl, ap, sym, ◌∙◌, append_assoc, arith, length-append}
 use Rattle.std.specs.Prelude.{slice_get}
 use Rattle.std.proofs.lemmas.List.{append-nil}
-use Rattle.std.proofs.lemmas.Grind.{flat_map-append}
 use Rattle.model_base.specs.declared.statement.Statement.{Statement}
-use Rattle.model_base.specs.Outcomes.{World, at_place, creator, owners, world_after}
+use Rattle.model_base.specs.Outcomes.{World, at_place, owners, world_after}
 use Rattle.log_text.specs.declared.statement.RawForm.{RawForm}
 use Rattle.sequencer.specs.Catalog.{Names}
 use Rattle.sequencer.specs.Refusal.{refusal}
 use Rattle.sequencer.specs.declared.refused.Refused.{Refused}
 use Rattle.report.specs.Report.{Reading, read, faulty, accepted, log_of, names_after, names_if, names_with, statement_if}
-
-pub owners-append : (xs ys : List Statement) → owners (xs ++ ys) ≡ owners xs ++ owners ys
-owners-append xs ys = flat_map-append (λ (s : Statement). creator s.user s.form) xs ys
+use Rattle.model_base.proofs.Growing.{owners-append}
 
 pub world_after-append : (own : List ℕ) (place : ℕ) (world : World) (xs ys : List Statement)
     → world_after own place world (xs ++ ys) ≡ world_after own (place + length xs) (world_after own place world xs) ys

@@ -3,6 +3,7 @@ use Rattle.std.specs.Prelude.{◌≡◌, ◌≢◌, ℕ, ◌+◌, ⊤, Result, O
 use Rattle.std.specs.declared.alloc.Global.{Global}
 use Rattle.model_base.specs.declared.statement.Statement.{Statement}
 use Rattle.log_text_base.specs.Lines.{lines_of}
+use Rattle.log_text_base.specs.declared.limits.TheConstants.{KEPT_BYTES}
 use Rattle.log_text.specs.Statement.{Sentence}
 use Rattle.log_text.specs.declared.fault.LineFault.{LineFault}
 use Rattle.sequencer.specs.Catalog.{Names, no_names}
@@ -50,9 +51,9 @@ report_text log tables number place (line ∷ lines) =
 abbrev pub log_text : Accepted → List Became → List ℕ
 log_text log lines = report_text log.statements log.names.tables 1 0 lines
 
--- a line of which at most 4,097 bytes are known is read so
+-- a line of which at most `KEPT_BYTES` are known is read so
 abbrev pub ReadsAs : List ℕ → Reading → Type 0
-ReadsAs known reading = (line : List ℕ) → known ≡ take 4097 line → IsReading line reading
+ReadsAs known reading = (line : List ℕ) → known ≡ take KEPT_BYTES line → IsReading line reading
 
 -- how a line was read, by what the parser answers
 abbrev pub reading_of : Result Sentence LineFault → Reading
@@ -67,10 +68,10 @@ with_reading log reading = record {
 }
 
 -- memory may be refused while a line is read and taken that becomes so: it has no fault, and the log does not refuse it
-abbrev pub MayLackMemory : Became → Type 0
-MayLackMemory Became.Accepted = ⊤
-MayLackMemory (Became.Faulty fault) = fault ≡ LineFault.NoMemory
-MayLackMemory (Became.Refused refused) = ⊥
+abbrev pub LineMayLackMemory : Became → Type 0
+LineMayLackMemory Became.Accepted = ⊤
+LineMayLackMemory (Became.Faulty fault) = fault ≡ LineFault.NoMemory
+LineMayLackMemory (Became.Refused refused) = ⊥
 
 -- memory may be refused for the report's line for a line that became so: where it has no place, the line finds no room
 -- behind the text
@@ -91,8 +92,8 @@ Collects input log lines =
     (readings : List Reading) × (AreReadings (lines_of input) readings × IsLogOf readings log lines)
 
 -- the lines before what is still to come are read so
-abbrev pub LeadsTo : List ℕ → List ℕ → List Reading → Type 0
-LeadsTo input rest earlier =
+abbrev pub AreReadBefore : List ℕ → List ℕ → List Reading → Type 0
+AreReadBefore input rest earlier =
     (later : List Reading) → AreReadings (lines_of rest) later → AreReadings (lines_of input) (earlier ++ later)
 
 -- the log of the reader's lines up to where it is now, and what each of them became
@@ -100,4 +101,4 @@ abbrev pub CollectsSoFar : Option (List ℕ) → Option (List ℕ) → Accepted 
 CollectsSoFar None rest log lines = ⊤
 CollectsSoFar (Some input) None log lines = ⊥
 CollectsSoFar (Some input) (Some rest) log lines =
-    (earlier : List Reading) × (LeadsTo input rest earlier × IsLogOf earlier log lines)
+    (earlier : List Reading) × (AreReadBefore input rest earlier × IsLogOf earlier log lines)

@@ -1,7 +1,8 @@
 -- What one line adds to a report.
-use Rattle.std.specs.Prelude.{◌≡◌, ℕ, ◌+◌, ◌<◌, ◌≤◌, ◌^◌, ◌++◌, [], ⊤, Bool, true, false, Result, Ok, Option, Some, None, List, All, length}
+use Rattle.std.specs.Prelude.{◌≡◌, ℕ, ◌+◌, ◌<◌, ◌≤◌, ◌++◌, [], ⊤, Bool, true, false, Result, Ok, Option, Some, None, List, All, length}
 use Rattle.std.specs.Io.KnownBytes.{Appends}
 use Rattle.log_text_base.specs.Lines.{lines_of}
+use Rattle.log_text_base.specs.declared.limits.TheConstants.{BUFFER_BYTES, MOST_GIVEN_BYTES}
 use Rattle.model_base.specs.Outcomes.{creator, empty_world, needs, owners, world_after}
 use Rattle.model_base.specs.declared.deed.Deed.{Deed}
 use Rattle.model_base.specs.declared.deed.Need.{Need}
@@ -12,8 +13,8 @@ use Rattle.sequencer.specs.Catalog.{Names, no_names, numbered, with_statement}
 use Rattle.sequencer.specs.Refusal.{refusal}
 use Rattle.sequencer.specs.declared.refused.Refused.{Refused}
 use Rattle.grants.specs.Book.{IsLater, owners_of}
-use Rattle.plain.specs.State.{Leads, Stands, world_of}
-use Rattle.plain.specs.declared.state.State.{State}
+use Rattle.plain.specs.State.{Leads, StateStands, world_with}
+use Rattle.plain.specs.declared.plain_state.State.{State}
 use Rattle.report.specs.Text.{IsNamed, fault_word, outcome_text, refused_text, refused_word}
 use Rattle.report.specs.Report.{AreReadings, Reading, read, faulty, log_of, names_after, names_with, report_from, report_of}
 use Rattle.bohm_base.specs.declared.fault.EngineFault.{EngineFault}
@@ -26,7 +27,7 @@ pub record IsAt (names : Names) (state : State) : Type 0 where
   pub owned : owners_of state.book.tables ≡ names.owners
   pub later : IsLater state.book names.places
   pub deeds : List Deed
-  pub stands : Stands state names.places deeds
+  pub stands : StateStands state names.places deeds
 
 -- the names are those after the statement of a place, before which the state stands
 pub record IsAfter (names : Names) (state : State) (place : ℕ) (statement : Statement) : Type 0 where
@@ -35,18 +36,19 @@ pub record IsAfter (names : Names) (state : State) (place : ℕ) (statement : St
   pub places : names.places ≡ place + 1
   pub within : All (λ (need : Need). need.table < length names.tables) (needs statement.form)
   pub deeds : List Deed
-  pub stands : Stands state place deeds
+  pub stands : StateStands state place deeds
 
--- a statement at a place was executed, which led from the old state to the new one, and its line was put behind a text;
+-- a statement at a place was executed, which led from the old state to the new one, and its line was appended to a text;
 -- the names are those after it
-pub record Reports (names : Names) (place : ℕ) (statement : Statement) (old : State) (text : List ℕ) (new : State) (longer : List ℕ) : Type 0 where
+pub record Reports (names : Names) (place : ℕ) (statement : Statement) (old : State) (text : List ℕ)
+    (new : State) (longer : List ℕ) : Type 0 where
   pub outcome : Outcome
-  pub leads : (deeds : List Deed) → Stands old place deeds → Leads old new place deeds statement outcome
+  pub leads : (deeds : List Deed) → StateStands old place deeds → Leads old new place deeds statement outcome
   pub owned : owners_of new.book.tables ≡ names.owners
   pub named : IsNamed (length names.tables) outcome
   pub line : longer ≡ text ++ outcome_text names.tables place statement.form outcome
 
--- a line that changes nothing was put behind a text
+-- a line that changes nothing was appended to a text
 abbrev pub Refuses : List ℕ → State → List ℕ → State → List ℕ → Type 0
 Refuses line old text new longer = (new ≡ old) × (longer ≡ text ++ line)
 
@@ -68,9 +70,9 @@ pub record IsSoFar (input rest written : List ℕ) (number : ℕ) (names : Names
   pub named : names ≡ names_after no_names earlier
   pub reads : (later : List Reading) → AreReadings (lines_of rest) later → AreReadings (lines_of input) (earlier ++ later)
   pub deeds : List Deed
-  pub stands : Stands state names.places deeds
+  pub stands : StateStands state names.places deeds
   pub left : (later : List Reading)
-      → world_after (owners (log_of no_names (earlier ++ later))) 0 empty_world (log_of no_names earlier) ≡ world_of state deeds
+      → world_after (owners (log_of no_names (earlier ++ later))) 0 empty_world (log_of no_names earlier) ≡ world_with state deeds
   pub text : (later : List Reading)
       → written ++ report_from (log_of no_names (earlier ++ later)) (names_after no_names (earlier ++ later)).tables number names later
       ≡ report_of (earlier ++ later)
@@ -103,7 +105,7 @@ pub record Standing : Type 0 where
 -- a further line can be dealt with
 pub record IsReady (dealt : Dealt) (ahead given : ℕ) : Type 0 where
   pub at : IsAt dealt.catalog dealt.state
-  pub bounded : 0 < ahead → given ≤ 2 ^ 62 + 65536
+  pub bounded : 0 < ahead → given ≤ MOST_GIVEN_BYTES + BUFFER_BYTES
   pub counted : dealt.number + ahead ≤ given + 1
 
 -- the lines of the input up to where the run stands are reported behind what the writer held
@@ -115,7 +117,7 @@ ReportedTo input out now =
 pub record TakesLine (old new : Standing) : Type 0 where
   pub ready : IsReady new.dealt new.ahead new.given
   pub forward : old.given + new.ahead < new.given + old.ahead
-  pub most : new.given ≤ 2 ^ 62 + 65536
+  pub most : new.given ≤ MOST_GIVEN_BYTES + BUFFER_BYTES
   pub reported : (input out : Option (List ℕ)) → ReportedTo input out old → ReportedTo input out new
 
 -- what a turn came to by its answer, whatever input is reported: one more line was taken, or there was none and the report
@@ -126,6 +128,7 @@ pub record Turn (result : Result Bool EngineFault) (old new : Standing) : Type 0
   pub begun : (input out : Option (List ℕ)) → ReportedTo input out old → HasBegunReport input out new.out new.pending
 
 -- what the turns to the end of the input came to, whatever input is reported
-pub record Ends (result : Result (Unit {0}) EngineFault) (old : Standing) (out_now : Option (List ℕ)) (pending : List ℕ) : Type 0 where
+pub record EndsReporting (result : Result (Unit {0}) EngineFault) (old : Standing) (out_now : Option (List ℕ))
+    (pending : List ℕ) : Type 0 where
   pub done : result ≡ Ok tt → (input out : Option (List ℕ)) → ReportedTo input out old → HasReport input out out_now pending
   pub begun : (input out : Option (List ℕ)) → ReportedTo input out old → HasBegunReport input out out_now pending

@@ -5,7 +5,7 @@ ghost use Rattle.std.specs.Result.{ForOk};
 ghost use Rattle.log_text.specs.Statement.{IsInGrammar};
 ghost use Rattle.report.specs.Report.{Reading, read};
 ghost use Rattle.bohm_base.specs.Faults.{read_errors};
-ghost use Rattle.bohm_base.specs.Collecting.{Collects, MayLackMemory, ReadsAs, became, places_of, reading_of, with_reading};
+ghost use Rattle.bohm_base.specs.Collecting.{Collects, LineMayLackMemory, ReadsAs, became, places_of, reading_of, with_reading};
 
 use crate::fault::EngineFault;
 use log_text::{LineFault, RawStatement, parse_line};
@@ -76,7 +76,7 @@ fn take_statement(log: &mut Log, statement: RawStatement) -> Result<Became, Engi
     ensures line { IfOk result (λ line. line ≡ became log.old.names (read statement)) }
     ensures log { OnOk result (log.new ≡ with_reading log.old (read statement)) }
     ensures err { IfErr result (λ f. f ≡ EngineFault.NoMemory) }
-    ensures want { OnErr result (MayLackMemory (became log.old.names (read statement))) }
+    ensures want { OnErr result (LineMayLackMemory (became log.old.names (read statement))) }
 {
     match log.push(statement) {
         Ok(_) => Ok(Became::Accepted),
@@ -95,7 +95,7 @@ fn take_read(log: &mut Log, found: Result<RawStatement, LineFault>) -> Result<Be
     ensures log { OnOk result (log.new ≡ with_reading log.old (reading_of found)) }
     ensures told { OnOk result (found ≢ Err LineFault.NoMemory) }
     ensures err { IfErr result (λ f. f ≡ EngineFault.NoMemory) }
-    ensures want { OnErr result (MayLackMemory (became log.old.names (reading_of found))) }
+    ensures want { OnErr result (LineMayLackMemory (became log.old.names (reading_of found))) }
 {
     match found {
         Ok(statement) => {
@@ -127,7 +127,8 @@ pub fn collect_lines<R: Read>(
     alloc: Global,
     reader: &mut Counted<R>,
 ) -> Result<Collected, EngineFault>
-    ensures whole { IfOk result (λ collected. IfSome (R.remaining reader.old.inner) (λ input. Collects input collected.log collected.lines.items)) }
+    ensures whole { IfOk result (λ collected. IfSome (R.remaining reader.old.inner)
+        (λ input. Collects input collected.log collected.lines.items)) }
     ensures reads { reader.new.errors ≡ read_errors result reader.old.errors }
     ensures err { IfErr result (λ f. f ≢ EngineFault.Write) }
 {

@@ -10,9 +10,6 @@ use crate::fault::EngineFault;
 use log_text_base::{Counted, LineReader, write_much, write_pending};
 use std::io::Write;
 
-/// How many bytes of the report are gathered before they are written.
-pub(crate) const PENDING: usize = 65_536;
-
 /// Puts a line behind what is pending, and writes what is pending if that is much. Where there is no room for the line,
 /// what was pending stays so; after a fault of writing nothing is pending, and a front of it was written.
 pub(crate) fn put_out<W: Write>(

@@ -9,18 +9,20 @@ ghost use Rattle.body.specs.Premises.{IsRunnable};
 ghost use Rattle.grants.specs.Book.{IsLater};
 ghost use Rattle.log_text.specs.Statement.{IsInGrammar};
 ghost use Rattle.model_base.specs.Outcomes.{empty_world};
-ghost use Rattle.plain.specs.State.{NamesTables, Stands, world_of};
+ghost use Rattle.plain.specs.State.{NamesTables, StateStands, world_with};
 ghost use Rattle.sequencer.specs.Catalog.{no_names};
 ghost use Rattle.report.specs.Report.{IsReport, Reading, names_with, read};
 ghost use Rattle.bohm_base.specs.Collecting.{MayLackRoom, ReadsAs, became, reading_of};
 ghost use Rattle.bohm_base.specs.Faults.{read_errors, write_errors};
 ghost use Rattle.bohm_base.specs.Pending.{HasBegunReport, HasReport, Waits};
-ghost use Rattle.bohm_base.specs.Progress.{Advances, DealsWith, IsAt, IsAfter, IsReady, Ends, Reports, Turn};
+ghost use Rattle.bohm_base.specs.Progress.{Advances, DealsWith, IsAt, IsAfter, IsReady, EndsReporting, Reports, Turn};
 
 use crate::fault::EngineFault;
-use crate::pending::{PENDING, put_out, put_waiting};
+use crate::pending::{put_out, put_waiting};
 use log_text::{LineFault, RawStatement, parse_line};
-use log_text_base::{Counted, LineReader, ReadFault, flush, write_out};
+use log_text_base::{
+    BUFFER_BYTES, Counted, LineReader, MOST_GIVEN_BYTES, PENDING_BYTES, ReadFault, flush, write_out,
+};
 use model_base::{Place, Statement};
 use plain::State;
 use report::{put_fault, put_outcome, put_refused};
@@ -151,8 +153,8 @@ impl Dealt {
         ensures at { IsAt result.catalog result.state }
         ensures names { result.catalog ≡ no_names }
         ensures number { result.number ≡ 1 }
-        ensures stands { Stands result.state 0 [] }
-        ensures world { world_of result.state [] ≡ empty_world }
+        ensures stands { StateStands result.state 0 [] }
+        ensures world { world_with result.state [] ≡ empty_world }
     {
         let catalog = Catalog::new(alloc);
         let state = State::new(alloc);
@@ -194,7 +196,7 @@ fn next_line<R: Read>(
     pending: &[u8],
 ) -> Result<bool, ReadFault>
     requires waits { Waits pending.now (ahead lines.old) }
-    requires bounded { 0 < length (ahead lines.old) → reader.old.given ≤ 2 ^ 62 + 65536 }
+    requires bounded { 0 < length (ahead lines.old) → reader.old.given ≤ MOST_GIVEN_BYTES + BUFFER_BYTES }
     ensures waits { 0 < length pending.now → reader.new ≡ reader.old }
     ensures line { IfOk result (λ found. MatchBool found
         (TookLine (prepend_known (ahead lines.old) (R.remaining reader.old.inner))
@@ -206,9 +208,9 @@ fn next_line<R: Read>(
     ensures other { (result ≡ Err ReadFault.Read → ⊥) → reader.new.errors ≡ reader.old.errors }
     ensures given { IfOk result (λ found. MatchBool found
         ((reader.old.given + length (ahead lines.new) < reader.new.given + length (ahead lines.old))
-        × (reader.new.given ≤ 2 ^ 62 + 65536))
+        × (reader.new.given ≤ MOST_GIVEN_BYTES + BUFFER_BYTES))
         (reader.new.given ≡ reader.old.given)) }
-    ensures bound { 0 < length (ahead lines.new) → reader.new.given ≤ 2 ^ 62 + 65536 }
+    ensures bound { 0 < length (ahead lines.new) → reader.new.given ≤ MOST_GIVEN_BYTES + BUFFER_BYTES }
 {
     lines.next_line(reader)
 }
@@ -263,7 +265,7 @@ fn report_rest<R: Read, W: Write>(
     pending: &mut Vec<u8>,
 ) -> Result<(), EngineFault>
     requires { IsReady dealt.old (length (ahead lines.old)) reader.old.given }
-    ensures report { Ends result
+    ensures report { EndsReporting result
         (record {
           rest = prepend_known (ahead lines.old) (R.remaining reader.old.inner);
           ahead = length (ahead lines.old);
@@ -288,8 +290,10 @@ fn report_lines<R: Read, W: Write>(
     pending: &mut Vec<u8>,
 ) -> Result<(), EngineFault>
     requires { pending.old.items ≡ [] }
-    ensures done { OnOk result (HasReport (R.remaining reader.old.inner) (W.contents writer.old.inner) (W.contents writer.new.inner) pending.new.items) }
-    ensures begun { HasBegunReport (R.remaining reader.old.inner) (W.contents writer.old.inner) (W.contents writer.new.inner) pending.new.items }
+    ensures done { OnOk result (HasReport (R.remaining reader.old.inner) (W.contents writer.old.inner)
+        (W.contents writer.new.inner) pending.new.items) }
+    ensures begun { HasBegunReport (R.remaining reader.old.inner) (W.contents writer.old.inner)
+        (W.contents writer.new.inner) pending.new.items }
     ensures reads { reader.new.errors ≡ read_errors result reader.old.errors }
     ensures writes { writer.new.errors ≡ write_errors result writer.old.errors }
 {
@@ -324,7 +328,7 @@ pub fn plain_text<R: Read, W: Write>(
     // Ok says that neither of them failed, in the flush at the end neither.
     ensures whole { OnOk result ((reader.new.errors ≡ reader.old.errors) × (writer.new.errors ≡ writer.old.errors)) }
 {
-    let mut pending = Vec::with_capacity(alloc, PENDING)?;
+    let mut pending = Vec::with_capacity(alloc, PENDING_BYTES)?;
     let ended = report_lines(alloc, reader, writer, &mut pending);
     let written = write_out(writer, pending.as_slice());
     ended?;

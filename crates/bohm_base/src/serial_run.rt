@@ -10,8 +10,8 @@ ghost use Rattle.bohm_base.specs.Faults.{write_errors};
 
 use crate::collecting::{Became, Collected, collect_lines};
 use crate::fault::EngineFault;
-use crate::pending::{PENDING, put_out};
-use log_text_base::{Counted, flush, write_out};
+use crate::pending::put_out;
+use log_text_base::{Counted, PENDING_BYTES, flush, write_out};
 use model::serial;
 use model_base::{Outcome, Place};
 use report::{put_fault, put_outcome, put_refused};
@@ -151,7 +151,7 @@ pub fn serial_text<R: Read, W: Write>(
     // Ok says that neither of them failed, in the flush at the end neither.
     ensures whole { OnOk result ((reader.new.errors ≡ reader.old.errors) × (writer.new.errors ≡ writer.old.errors)) }
 {
-    let mut pending = Vec::with_capacity(alloc, PENDING)?;
+    let mut pending = Vec::with_capacity(alloc, PENDING_BYTES)?;
     let collected = collect_lines(alloc, reader)?;
     let outcomes = serial(alloc, collected.log.statements())?;
     let ended = report_lines(alloc, writer, &collected, &outcomes, &mut pending);

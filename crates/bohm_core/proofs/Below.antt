@@ -1,11 +1,7 @@
 -- A test on all numbers below one.
-use Rattle.std.proofs.Common.{◌≡◌, ◌<◌, ◌+◌, ◌&&◌, ℕ, suc, zero, Bool, true, false, add-one, refl, arith, inl, inr}
+use Rattle.std.proofs.Common.{◌≡◌, ◌<◌, ◌&&◌, ℕ, suc, zero, Bool, true, false, refl, arith, inl, inr}
 use Rattle.std.proofs.lemmas.Bool.{cases_eq}
 use Rattle.bohm_core_base.specs.Machine.{all_below}
-
--- where all numbers below one pass, and that one does, all below the next do
-pub all_below_more : (test : ℕ → Bool) (n : ℕ) → all_below test n ≡ true → test n ≡ true → all_below test (n + 1) ≡ true
-all_below_more test n all here = rw (add-one, here, all) refl
 
 -- where a number below one fails, not all below it pass
 pub all_below_fails : (test : ℕ → Bool) (n k : ℕ) → k < n → test k ≡ false → all_below test n ≡ false

@@ -5,7 +5,7 @@ use Rattle.std.proofs.Math.Seq.{take-suc}
 use Rattle.bohm_core_base.specs.declared.event.Event.{Event}
 use Rattle.bohm_core_base.specs.declared.hold.Hold.{Hold}
 use Rattle.bohm_core_base.specs.declared.hold.Hold.TheVariants.{Free, Held, Done}
-use Rattle.bohm_core_base.specs.Batch.{Batch, IsSound, slots_of, words_length}
+use Rattle.bohm_core_base.specs.Batch.{Batch, IsSoundBatch, batch_slots, words_length}
 use Rattle.bohm_core_base.specs.Laws.{HasReferences, HasSizes, ShowsSerial}
 use Rattle.bohm_core_base.specs.Machine.{State, all_filled, all_past, all_ready, effect, hold_of, is_held_by, own_of, run_from, start}
 use Rattle.bohm_core_base.proofs.Reach.{has-references, has-sizes, shown-serial, word-rests}
@@ -66,10 +66,10 @@ shown_to_filled batch state actor index reached held filled =
 pub next_within : (batch : Batch) (state : State) (index : ℕ) → IsReached batch state → index < length state.references → index < batch.size
 next_within batch state index reached low = (let size = (sizes batch state reached).references in omega arith)
 
-pub slot_within : (batch : Batch) (state : State) (slot : ℕ) → IsReached batch state → slot < length state.ends → slot < length (slots_of batch)
+pub slot_within : (batch : Batch) (state : State) (slot : ℕ) → IsReached batch state → slot < length state.ends → slot < length (batch_slots batch)
 slot_within batch state slot reached low = (let size = (sizes batch state reached).ends in omega arith)
 
-pub one_end_each : (batch : Batch) (state : State) → IsReached batch state → length state.ends ≡ length (slots_of batch)
+pub one_end_each : (batch : Batch) (state : State) → IsReached batch state → length state.ends ≡ length (batch_slots batch)
 one_end_each batch state reached = (sizes batch state reached).ends
 
 -- the state after one more event is reached by one more
@@ -86,7 +86,7 @@ reached_after batch state event reached = record {
 }
 
 -- and so is the state at first
-pub reached_start : (batch : Batch) → IsSound batch → IsReached batch (start batch)
+pub reached_start : (batch : Batch) → IsSoundBatch batch → IsReached batch (start batch)
 reached_start batch sound = record { sound = sound; events = []; reached = refl }
 
 -- the events up to one, and then that one, are the events up to the next

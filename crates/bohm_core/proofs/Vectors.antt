@@ -3,7 +3,7 @@ use Rattle.std.proofs.Common.{◌≡◌, ◌<◌, ℕ, suc, zero, List, [], leng
 use Rattle.std.specs.declared.vec.Vec.{Vec}
 use Rattle.std.specs.declared.alloc.Global.{Global}
 use Rattle.std.proofs.lemmas.List.{length-append, length-map, map-append, map-set, get_or-map, set-get_or}
-use Rattle.bohm_core_base.specs.Batch.{Batch, references}
+use Rattle.bohm_core_base.specs.Batch.{Batch, reference_words}
 use Rattle.bohm_core_base.specs.Machine.{empty_references}
 use Rattle.bohm_core.specs.Storage.{lists_of}
 
@@ -18,10 +18,6 @@ pub lists-pushed : (vectors : List (Vec ℕ Global)) (i : ℕ) (v d : Vec ℕ Gl
 lists-pushed vectors i v d x within is grown =
     map-set (λ (v : Vec ℕ Global). v.items) vectors i v ∙
     rw (grown) (ap (λ (xs : List ℕ). set (lists_of vectors) i (xs ++ x ∷ [])) (ap (λ (v : Vec ℕ Global). v.items) is ∙ sym (get_or-map (λ (v : Vec ℕ Global). v.items) vectors i d [] within)))
-
--- the list of an element
-pub lists-at : (vectors : List (Vec ℕ Global)) (i : ℕ) (d : Vec ℕ Global) → i < length vectors → d ≡ get_or vectors i d → get_or (lists_of vectors) i [] ≡ d.items
-lists-at vectors i d within is = get_or-map (λ (v : Vec ℕ Global). v.items) vectors i d [] within ∙ sym (ap (λ (v : Vec ℕ Global). v.items) is)
 
 pub lists-set : (vectors : List (Vec ℕ Global)) (i : ℕ) (v : Vec ℕ Global) → lists_of (set vectors i v) ≡ set (lists_of vectors) i v.items
 lists-set vectors i v = map-set (λ (v : Vec ℕ Global). v.items) vectors i v
@@ -43,4 +39,4 @@ lists-length vectors lists same = sym (length-map vectors (λ (v : Vec ℕ Globa
 pub empty-length : (batch : Batch) (places : ℕ) → length (empty_references batch places) ≡ places
 empty-length batch zero = refl
 empty-length batch (suc index) =
-    rw (length-append (empty_references batch index) (map {B = ℕ} (λ _. 0) (references batch index) ∷ []), empty-length batch index) (omega arith)
+    rw (length-append (empty_references batch index) (map {B = ℕ} (λ _. 0) (reference_words batch index) ∷ []), empty-length batch index) (omega arith)

@@ -3,7 +3,7 @@
 -- Control", PVLDB 8, 2015, section 3).
 use Rattle.std.specs.Prelude.{◌≡◌, ◌++◌, List}
 use Rattle.bohm_core_base.specs.declared.event.Event.{Event}
-use Rattle.bohm_core_base.specs.Batch.{Batch, IsSound}
+use Rattle.bohm_core_base.specs.Batch.{Batch, IsSoundBatch}
 use Rattle.bohm_core_base.specs.Machine.{State, effect, reach, run_from, start}
 
 -- the statements of a batch, and a state of the batch
@@ -13,7 +13,7 @@ pub record Running (S : Type 0) : Type 0 where
 
 -- the batch is one that the law speaks of, and its state is one that some events reach
 pub record IsReached (batch : Batch) (state : State) : Type 0 where
-  pub sound : IsSound batch
+  pub sound : IsSoundBatch batch
   pub events : List Event
   pub reached : state ≡ reach batch events
 

@@ -1,7 +1,7 @@
 //! What one event does.
 
 ghost use Rattle.std.specs.Prelude.{◌≡◌, ◌<◌, ◌^◌, ℕ, ◌+◌, Bool, true, false, nat_lt, not, IfOk, IsTrue, OnErr, OnOk, length, if◌then◌else◌};
-ghost use Rattle.bohm_core_base.specs.Batch.{slots_of, words_length};
+ghost use Rattle.bohm_core_base.specs.Batch.{batch_slots, words_length};
 ghost use Rattle.bohm_core_base.specs.Laws.{ShowsSerial};
 ghost use Rattle.bohm_core_base.specs.Machine.{all_below, all_ended, all_filled, can_claim, can_give_back, effect, end_of, hold_of, is_held_by, own_of, with_hold};
 ghost use Rattle.bohm_core_base.specs.Serial.{is_end};
@@ -55,7 +55,7 @@ fn has_ended<S: Statements>(
 ) -> Result<bool, AllocError>
     requires place { place ≡ (S.batch statements.now).first + index }
     requires within { index < (S.batch statements.now).size }
-    requires slots { length state.now.ends ≡ length (slots_of (S.batch statements.now)) }
+    requires slots { length state.now.ends ≡ length (batch_slots (S.batch statements.now)) }
     requires shown { ShowsSerial (S.batch statements.now) state.now index }
     ensures { IfOk result (λ ended. ended ≡ all_ended (S.batch statements.now) state.now index) }
 {
@@ -172,7 +172,8 @@ fn finish<S: Statements>(
 
 /// The actor gives the place back.
 fn give_back<S: Statements>(statements: &S, state: &mut State, actor: u64, index: usize)
-    ensures { state.new ≡ (if can_give_back (S.batch statements.now) state.old actor index then with_hold state.old index Hold.Free else state.old) }
+    ensures { state.new ≡ (if can_give_back (S.batch statements.now) state.old actor index
+        then with_hold state.old index Hold.Free else state.old) }
 {
     if is_held(state, actor, index) && state.own(index).is_empty() {
         let place = statements.first() + index as u64;

@@ -28,16 +28,23 @@ impl Model for State {
 
     ghost Value = { Contents };
 
-    ghost view = { λ s. record { fronts = s.fronts.items; references = lists_of s.references.items; holds = s.holds.items; own = lists_of s.own.items; ends = s.ends.items } };
+    ghost view = { λ s. record {
+      fronts = s.fronts.items;
+      references = lists_of s.references.items;
+      holds = s.holds.items;
+      own = lists_of s.own.items;
+      ends = s.ends.items;
+    } };
 
     ghost invariant = { λ s. OneEach (length s.references.items) (length s.holds.items) (length s.own.items) };
 }
 
 impl State {
-    ghost use Rattle.bohm_core_base.specs.Machine.{all_past, all_ready, end_of, front_of, hold_of, is_ready, own_of, references_of, start, with_hold};
+    ghost use Rattle.bohm_core_base.specs.Machine.{all_past, all_ready, end_of, front_of, hold_of, is_ready, own_of, stored_references_of, start, with_hold};
     ghost use Rattle.bohm_core_base.specs.Serial.{is_end};
-    ghost use Rattle.std.specs.Prelude.{IfOk, slice_set, nat_lt, ◌++◌, ◌∷◌, [], suc, ◌&&◌, ◌^◌};
+    ghost use Rattle.std.specs.Prelude.{IfOk, slice_set, ◌++◌, ◌∷◌, [], ◌^◌};
     ghost use Rattle.std.specs.List.{list_all};
+    ghost use Rattle.bohm_core.specs.Storage.{has_next_place, with_next_place};
 
     /// The first state of a batch: nothing is placed, held or stored, and only records of grants before the batch have ends.
     /// An error is want of memory.
@@ -94,7 +101,7 @@ impl State {
     /// The references of a place, first those of its accesses and then those of its tables; those of partitions that haven't
     /// placed it are 0. Past the last place there are none.
     pub fn references(&self, index: usize) -> &[usize]
-        ensures { result.now ≡ references_of self.now index }
+        ensures { result.now ≡ stored_references_of self.now index }
     {
         if index < self.references.len() {
             &self.references[index]
@@ -165,7 +172,7 @@ impl State {
 
     /// Whether a partition has a next place.
     pub fn has_next(&self, partition: usize) -> bool
-        ensures { result ≡ (nat_lt partition (length self.now.fronts) && nat_lt (front_of self.now partition) (length self.now.references)) }
+        ensures { result ≡ has_next_place self.now partition }
     {
         partition < self.fronts.len() && self.fronts[partition] < self.references.len()
     }
@@ -201,7 +208,7 @@ impl State {
     pub(crate) fn place_next(&mut self, partition: usize, references: Vec<usize>)
         requires front { partition < length self.old.fronts }
         requires within { front_of self.old partition < length self.old.references }
-        ensures { self.new ≡ record self.old { fronts = slice_set self.old.fronts partition (suc (front_of self.old partition)); references = slice_set self.old.references (front_of self.old partition) references.items } }
+        ensures { self.new ≡ with_next_place self.old partition references.items }
     {
         let front = self.fronts[partition];
         self.references[front] = references;

@@ -1,7 +1,7 @@
 //! What the statements of a batch answer to what they are shown.
 
 ghost use Rattle.std.specs.Prelude.{◌≡◌, ◌<◌, ◌^◌, IfOk, length};
-ghost use Rattle.bohm_core_base.specs.Batch.{Batch, IsSound, references, slots_of, words_length};
+ghost use Rattle.bohm_core_base.specs.Batch.{Batch, IsSoundBatch, reference_words, batch_slots, words_length};
 ghost use Rattle.bohm_core_base.specs.Laws.{ShowsSerial};
 ghost use Rattle.bohm_core_base.specs.Machine.{end_of, front_of, must_end, next_word, placed_references, start};
 
@@ -18,7 +18,7 @@ pub trait Statements {
     /// How many places the batch has. The batch is one that the machine's law speaks of.
     fn places(&self) -> usize
         ensures value { result ≡ (batch self.now).size }
-        ensures sound { IsSound (batch self.now) };
+        ensures sound { IsSoundBatch (batch self.now) };
 
     /// How many partitions there are.
     fn partitions(&self) -> usize
@@ -32,17 +32,17 @@ pub trait Statements {
 
     /// How many slots there are.
     fn slots(&self) -> usize
-        ensures { result ≡ length (slots_of (batch self.now)) };
+        ensures { result ≡ length (batch_slots (batch self.now)) };
 
     /// The place of the log that ended the record of a slot before the batch, if one did.
     fn end_before(&self, slot: usize) -> Option<Place>
-        requires { slot < length (slots_of (batch self.now)) }
+        requires { slot < length (batch_slots (batch self.now)) }
         ensures { result ≡ end_of (start (batch self.now)) slot };
 
     /// How many references a place has: one for each access, and one for each table of its needs and its deed.
     fn references_length(&self, index: usize) -> usize
         requires { index < (batch self.now).size }
-        ensures { result ≡ length (references (batch self.now) index) };
+        ensures { result ≡ length (reference_words (batch self.now) index) };
 
     /// How many own words a place has.
     fn words_length(&self, index: usize) -> usize
@@ -58,12 +58,13 @@ pub trait Statements {
     /// Whether a place must end the record of a slot, by what the state shows it.
     fn must_end(&self, state: &State, index: usize, slot: usize) -> Result<bool, AllocError>
         requires within { index < (batch self.now).size }
-        requires slot { slot < length (slots_of (batch self.now)) }
+        requires slot { slot < length (batch_slots (batch self.now)) }
         requires shown { ShowsSerial (batch self.now) state.now index }
         ensures { IfOk result (λ must. must ≡ must_end (batch self.now) state.now index slot) };
 
     /// The references of a partition's next place, with those into the partition stored.
     fn stored(&self, state: &State, partition: usize) -> Result<Vec<usize>, AllocError>
         requires { front_of state.now partition < (batch self.now).size }
-        ensures { IfOk result (λ references. references.items ≡ placed_references (batch self.now) state.now partition (front_of state.now partition)) };
+        ensures { IfOk result (λ references. references.items
+            ≡ placed_references (batch self.now) state.now partition (front_of state.now partition)) };
 }

@@ -22,9 +22,9 @@ use Rattle.model_base.proofs.Records.{all_among, grants-append}
 use Rattle.model_base.proofs.Recorded.{All-both, part-kept_grants, rising-grants}
 use Rattle.model_base.proofs.Ends.{is_ended}
 use Rattle.bohm_core_base.specs.Deeds.{is_made, made_before, named_before}
-use Rattle.bohm_core_base.specs.Batch.{Batch, IsSound, deeds_of, place_at, slots_of, was_done}
+use Rattle.bohm_core_base.specs.Batch.{Batch, IsSoundBatch, deeds_of, place_at, batch_slots, was_done}
 use Rattle.bohm_core_base.specs.Cascades.{EndsByCascade, FallsWith}
-use Rattle.bohm_core_base.specs.Serial.{serial_ends, serial_words, world_before}
+use Rattle.bohm_core_base.specs.Serial.{serial_ends, serial_words, batch_world_before}
 use Rattle.bohm_core_base.proofs.Concerned.{Same, grant_here, kept-same}
 use Rattle.bohm_core_base.proofs.Slots.{made-named, made-split, slots-rise}
 use Rattle.bohm_core_base.proofs.Whole.{deeds-made, deeds-proper, no_grant, part-grants_filter, serial-at, serial-only, serial-placed, serial_deeds}
@@ -235,14 +235,14 @@ later-slot (first ∷ grants) (suc k) zero grant other rising at at' less = omeg
 later-slot (first ∷ grants) (suc k) (suc j) grant other rising at at' less =
     let earlier = later-slot grants k j grant other rising.1 at at' less in omega arith
 
-module _ (b : Batch) (sound : IsSound b) (k : ℕ) (slot : k < length (slots_of b)) where
-  slots-rising : IsRising (slots_of b)
-  unfolding slots_of
+module _ (b : Batch) (sound : IsSoundBatch b) (k : ℕ) (slot : k < length (batch_slots b)) where
+  slots-rising : IsRising (batch_slots b)
+  unfolding batch_slots
   slots-rising = slots-rise (deeds_of b (λ _. false)) sound.placed (rising-grants b.owners b.before sound.proper) b.size
 
   -- the grants in force are those of slots
-  kept-slots : (P : Grant → Type 0) → All P (slots_of b) → (n : ℕ) → n ≤ b.size → All P (kept b.owners (world_before b n).deeds)
-  unfolding slots_of
+  kept-slots : (P : Grant → Type 0) → All P (batch_slots b) → (n : ℕ) → n ≤ b.size → All P (kept b.owners (batch_world_before b n).deeds)
+  unfolding batch_slots
   kept-slots P all n within =
       let d = serial_deeds b in
       let placed = serial-placed b sound in
@@ -250,26 +250,26 @@ module _ (b : Batch) (sound : IsSound b) (k : ℕ) (slot : k < length (slots_of 
       let test : Deed → Bool = λ deed. is_made d (place_of deed) in
       let made : All P (grants_of (made_before d b.size)) = rw (made-named d placed b.size) (part-all P (part-grants_filter test (named_before d b.size)) all) in
       let both : All P (grants_of (made_before d n) ++ grants_of split.0) = rw (← grants-append (made_before d n) split.0) (rw split.1 at made) in
-      let here : All P (grants_of (world_before b n).deeds) = rw (deeds-made b sound n) (part-all P (part-beginning (grants_of (made_before d n)) (grants_of split.0)) both) in
-      part-all P (part-kept_grants b.owners (world_before b n).deeds) here
+      let here : All P (grants_of (batch_world_before b n).deeds) = rw (deeds-made b sound n) (part-all P (part-beginning (grants_of (made_before d n)) (grants_of split.0)) both) in
+      part-all P (part-kept_grants b.owners (batch_world_before b n).deeds) here
 
   -- a grant that falls with another does so at the same place
   falls-with : (n : ℕ) (revocation : Revocation) → n < b.size → was_done (serial_words b n) ≡ true → b.deed n ≡ Some (Revoking revocation)
-      → (grant : Grant) → slice_get (slots_of b) k ≡ Some grant → (giver : Grant)
-      → ((j : ℕ) × (j < length (slots_of b)) × (slice_get (slots_of b) j ≡ Some giver)) × (is_among giver.place (kept b.owners (world_before b n).deeds) ≡ true)
-      → is_among giver.place (kept b.owners ((world_before b n).deeds ++ Revoking revocation ∷ [])) ≡ false
+      → (grant : Grant) → slice_get (batch_slots b) k ≡ Some grant → (giver : Grant)
+      → ((j : ℕ) × (j < length (batch_slots b)) × (slice_get (batch_slots b) j ≡ Some giver)) × (is_among giver.place (kept b.owners (batch_world_before b n).deeds) ≡ true)
+      → is_among giver.place (kept b.owners ((batch_world_before b n).deeds ++ Revoking revocation ∷ [])) ≡ false
       → giver.place < grant.place → gives giver grant.grantor (option_of grant) ≡ true → FallsWith b n k grant
   falls-with n revocation within done deed grant at giver found fell below lends =
       let j = (found.0).0 in
-      let here : slice_get (slots_of b) j ≡ Some giver = (found.0).2 in
+      let here : slice_get (batch_slots b) j ≡ Some giver = (found.0).2 in
       let place : place_at b j ≡ giver.place
-      = get_or-map (λ (g : Grant). g.place) (slots_of b) j no_grant 0 (found.0).1 ∙ ap (λ (g : Grant). g.place) (get_or_from_slice_get (slots_of b) j giver no_grant here) in
-      let ended : is_ended b.owners (world_before b n).deeds (Revoking revocation) (place_at b j) ≡ true
-      = rw place (and_from (is_among giver.place (kept b.owners (world_before b n).deeds)) _ found.1 (not_from_false (is_among giver.place (kept b.owners ((world_before b n).deeds ++ Revoking revocation ∷ []))) fell)) in
+      = get_or-map (λ (g : Grant). g.place) (batch_slots b) j no_grant 0 (found.0).1 ∙ ap (λ (g : Grant). g.place) (get_or_from_slice_get (batch_slots b) j giver no_grant here) in
+      let ended : is_ended b.owners (batch_world_before b n).deeds (Revoking revocation) (place_at b j) ≡ true
+      = rw place (and_from (is_among giver.place (kept b.owners (batch_world_before b n).deeds)) _ found.1 (not_from_false (is_among giver.place (kept b.owners ((batch_world_before b n).deeds ++ Revoking revocation ∷ []))) fell)) in
       record {
         bearer = j;
         giver = giver;
-        earlier = later-slot (slots_of b) k j grant giver slots-rising at here below;
+        earlier = later-slot (batch_slots b) k j grant giver slots-rising at here below;
         at = here;
         ends = serial-at b sound n j revocation within done deed ended;
         lends = lends;
@@ -278,14 +278,14 @@ module _ (b : Batch) (sound : IsSound b) (k : ℕ) (slot : k < length (slots_of 
   pub ends-by-cascade : (n : ℕ) → serial_ends b n k ≡ true → EndsByCascade b n k
   ends-by-cascade n ends =
       let only = serial-only b sound n k slot ends in
-      let past = (world_before b n).deeds in
+      let past = (batch_world_before b n).deeds in
       let before = kept b.owners past in
       let after = kept b.owners (past ++ Revoking only.revocation ∷ []) in
       let within : n ≤ b.size = (let less = only.within in omega arith) in
-      let InSlots : Grant → Type 0 = λ grant. (j : ℕ) × (j < length (slots_of b)) × (slice_get (slots_of b) j ≡ Some grant) in
+      let InSlots : Grant → Type 0 = λ grant. (j : ℕ) × (j < length (batch_slots b)) × (slice_get (batch_slots b) j ≡ Some grant) in
       let Q : Grant → Type 0 = λ grant. InSlots grant × (is_among grant.place before ≡ true) in
       let all : All Q before
-      = All-both InSlots (λ grant. is_among grant.place before ≡ true) before (kept-slots InSlots (indexed (slots_of b)) n within) (all_among before) in
+      = All-both InSlots (λ grant. is_among grant.place before ≡ true) before (kept-slots InSlots (indexed (batch_slots b)) n within) (all_among before) in
       let causes : All (Fallen b.owners only.revocation Q after) before
       = walk b.owners only.revocation Q after [] [] before (kept-revoke b.owners past only.revocation)
       (borne-replayed b.owners only.revocation [] (erased past)) (IsRising-kept b.owners past (deeds-proper b sound n)) all
@@ -303,9 +303,9 @@ module _ (b : Batch) (sound : IsSound b) (k : ℕ) (slot : k < length (slots_of 
         revocation = only.revocation;
         deed = only.deed;
         grant = grant_here b sound k slot;
-        at = slice_get-get_or (slots_of b) k no_grant slot;
+        at = slice_get-get_or (batch_slots b) k no_grant slot;
         cause = elim cause [
           | inl named ↦ inl named
-          | inr by ↦ inr (falls-with n only.revocation only.within only.done only.deed (grant_here b sound k slot) (slice_get-get_or (slots_of b) k no_grant slot) by.0 by.1 by.2 by.3 by.4)
+          | inr by ↦ inr (falls-with n only.revocation only.within only.done only.deed (grant_here b sound k slot) (slice_get-get_or (batch_slots b) k no_grant slot) by.0 by.1 by.2 by.3 by.4)
         ];
       }

@@ -21,9 +21,9 @@ use Rattle.model_base.proofs.Covered.{contrary}
 use Rattle.model_base.proofs.Ended.{kept-stays_other}
 use Rattle.model_base.proofs.Ends.{is_ended}
 use Rattle.bohm_core_base.specs.Deeds.{is_made, made_before, named_before}
-use Rattle.bohm_core_base.specs.Batch.{Batch, IsSound, deeds_of, place_at, slots_of}
+use Rattle.bohm_core_base.specs.Batch.{Batch, IsSoundBatch, deeds_of, place_at, batch_slots}
 use Rattle.bohm_core_base.specs.Laws.{EndsByRevocation}
-use Rattle.bohm_core_base.specs.Serial.{serial_ends, world_before}
+use Rattle.bohm_core_base.specs.Serial.{serial_ends, batch_world_before}
 use Rattle.bohm_core_base.proofs.Slots.{made-named, made-split, slots-rise}
 use Rattle.bohm_core_base.proofs.Whole.{deeds-made, no_grant, part-grants_filter, serial-only, serial-placed, serial_deeds}
 
@@ -52,18 +52,18 @@ ends-concerned owners past revocation place grant same ends =
         rw at at (both.1 unconcerned))
         (kept owners past) (All-both Same Stays (kept owners past) same (kept-stays_other owners revocation past))) found refl
 
-module _ (b : Batch) (sound : IsSound b) (k : ℕ) (slot : k < length (slots_of b)) where
+module _ (b : Batch) (sound : IsSoundBatch b) (k : ℕ) (slot : k < length (batch_slots b)) where
   abbrev pub grant_here : Grant
-  grant_here = get_or (slots_of b) k no_grant
+  grant_here = get_or (batch_slots b) k no_grant
 
   -- of a slot's place there is no other grant
   abbrev pub Same : Grant → Type 0
   Same g = g.place ≡ place_at b k → g ≡ grant_here
 
-  slots-same : All Same (slots_of b)
-  unfolding slots_of
+  slots-same : All Same (batch_slots b)
+  unfolding batch_slots
   slots-same =
-      let grants = slots_of b in
+      let grants = batch_slots b in
       let Alone : Grant → Grant → Type 0 = λ grant g. g.place ≡ grant.place → g ≡ grant in
       let rise : IsRising grants
       = slots-rise (deeds_of b (λ _. false)) sound.placed (rising-grants b.owners b.before sound.proper) b.size in
@@ -72,8 +72,8 @@ module _ (b : Batch) (sound : IsSound b) (k : ℕ) (slot : k < length (slots_of 
       (All-get_or (λ grant. All (Alone grant) grants) grants k no_grant slot (rising-unique grants rise))
 
   -- so it is among those in force
-  pub kept-same : (n : ℕ) → n ≤ b.size → All Same (kept b.owners (world_before b n).deeds)
-  unfolding slots_of
+  pub kept-same : (n : ℕ) → n ≤ b.size → All Same (kept b.owners (batch_world_before b n).deeds)
+  unfolding batch_slots
   kept-same n within =
       let d = serial_deeds b in
       let placed = serial-placed b sound in
@@ -82,14 +82,14 @@ module _ (b : Batch) (sound : IsSound b) (k : ℕ) (slot : k < length (slots_of 
       let all : All Same (grants_of (made_before d b.size))
       = rw (made-named d placed b.size) (part-all Same (part-grants_filter test (named_before d b.size)) slots-same) in
       let both : All Same (grants_of (made_before d n) ++ grants_of split.0) = rw (← grants-append (made_before d n) split.0) (rw split.1 at all) in
-      let here : All Same (grants_of (world_before b n).deeds)
+      let here : All Same (grants_of (batch_world_before b n).deeds)
       = rw (deeds-made b sound n) (part-all Same (part-beginning (grants_of (made_before d n)) (grants_of split.0)) both) in
-      part-all Same (part-kept_grants b.owners (world_before b n).deeds) here
+      part-all Same (part-kept_grants b.owners (batch_world_before b n).deeds) here
 
   pub ends-by-revocation : (n : ℕ) → serial_ends b n k ≡ true → EndsByRevocation b n k
   ends-by-revocation n ends =
       let only = serial-only b sound n k slot ends in
-      let concerned = ends-concerned b.owners (world_before b n).deeds only.revocation (place_at b k) grant_here
+      let concerned = ends-concerned b.owners (batch_world_before b n).deeds only.revocation (place_at b k) grant_here
       (kept-same n (let less = only.within in omega arith)) only.ended in
       record {
         within = only.within;
@@ -98,5 +98,5 @@ module _ (b : Batch) (sound : IsSound b) (k : ℕ) (slot : k < length (slots_of 
         concerned = λ grant at. ap (concerns only.revocation) (sym-get grant at) ∙ concerned;
       }
     where
-      sym-get : (grant : Grant) → slice_get (slots_of b) k ≡ Some grant → grant ≡ grant_here
-      sym-get grant at = sym (get_or_from_slice_get (slots_of b) k grant no_grant at)
+      sym-get : (grant : Grant) → slice_get (batch_slots b) k ≡ Some grant → grant ≡ grant_here
+      sym-get grant at = sym (get_or_from_slice_get (batch_slots b) k grant no_grant at)

@@ -5,7 +5,7 @@ use Rattle.std.proofs.lemmas.List.Elements.{All-head, All-tail}
 use Rattle.model_base.specs.declared.deed.Grant.{Grant}
 use Rattle.model_base.specs.Laws.{IsRising}
 use Rattle.model_base.proofs.Recorded.{rising-grants}
-use Rattle.bohm_core_base.specs.Batch.{Batch, IsSound, deeds_of, slots_of}
+use Rattle.bohm_core_base.specs.Batch.{Batch, IsSoundBatch, deeds_of, batch_slots}
 use Rattle.bohm_core_base.proofs.Slots.{slots-rise}
 
 -- what holds of all holds of one that is there
@@ -26,9 +26,9 @@ in-order (first ∷ grants) zero (suc j) grant later rise less at behind =
 in-order (first ∷ grants) (suc k) zero grant later rise less at behind = absurd (omega arith)
 in-order (first ∷ grants) (suc k) (suc j) grant later rise less at behind = in-order grants k j grant later rise.1 (omega arith) at behind
 
-pub slots-order : (b : Batch) → IsSound b → (k j : ℕ) (grant later : Grant) → k < j
-    → slice_get (slots_of b) k ≡ Some grant → slice_get (slots_of b) j ≡ Some later → grant.place < later.place
-unfolding slots_of
+pub slots-order : (b : Batch) → IsSoundBatch b → (k j : ℕ) (grant later : Grant) → k < j
+    → slice_get (batch_slots b) k ≡ Some grant → slice_get (batch_slots b) j ≡ Some later → grant.place < later.place
+unfolding batch_slots
 slots-order b sound k j grant later less at behind =
-    in-order (slots_of b) k j grant later
+    in-order (batch_slots b) k j grant later
     (slots-rise (deeds_of b (λ _. false)) sound.placed (rising-grants b.owners b.before sound.proper) b.size) less at behind

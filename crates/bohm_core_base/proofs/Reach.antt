@@ -18,10 +18,10 @@ use Rattle.bohm_core_base.specs.declared.event.Event.TheVariants.{Place, Claim, 
 use Rattle.bohm_core_base.specs.declared.hold.Hold.TheVariants.{Free, Held, Done}
 use Rattle.bohm_core_base.specs.declared.hold.Hold.{Hold}
 use Rattle.bohm_core_base.specs.Deeds.{made_before}
-use Rattle.bohm_core_base.specs.Batch.{Batch, has_deed_on, is_listed, table_at, declares_write, references, writer, was_done, slots_of, place_at, deeds_of, IsSound}
+use Rattle.bohm_core_base.specs.Batch.{Batch, place_has_deed_on, is_listed, table_at, changes_key, reference_words, writer_reference, was_done, batch_slots, place_at, deeds_of, IsSoundBatch}
 use Rattle.bohm_core_base.specs.Serial.{serial_words, serial_ends, whole_end}
-use Rattle.bohm_core_base.specs.Machine.{State, front_of, references_of, placed_references, hold_of, own_of, end_of, is_free, is_held_by, is_done, is_ready, all_ready, words_seen, must_end, all_filled, all_past, guard, with_hold, change, effect, run_from, empty_references, start, reach}
-use Rattle.bohm_core_base.specs.Laws.{HasSizes, actor_of, HasReferences, IsRight, IsWhole, ShowsSerial, Stands, SameTask, NoneBy}
+use Rattle.bohm_core_base.specs.Machine.{State, front_of, stored_references_of, placed_references, hold_of, own_of, end_of, is_free, is_held_by, is_done, is_ready, all_ready, words_seen, must_end, all_filled, all_past, guard, with_hold, change, effect, run_from, empty_references, start, reach}
+use Rattle.bohm_core_base.specs.Laws.{HasSizes, actor_of, HasReferences, IsSerialPlace, IsWholeBelow, ShowsSerial, KeepsStored, SameTask, NoneBy}
 use Rattle.bohm_core_base.proofs.Slots.{made-split}
 use Rattle.bohm_core_base.proofs.Whole.{no_grant, deeds-made, serial-placed, serial-ends-from, serial-only}
 use Rattle.bohm_core_base.proofs.Lists.{replicate-same, set-cases, list_all-weaker, list_all-set, list_all-get, chosen-none}
@@ -30,7 +30,7 @@ use Rattle.bohm_core_base.proofs.Rows.{row-right}
 use Rattle.bohm_core_base.proofs.View.{outcome-right, filled-words, table-ready, rests-tables, deeds-done, end-seen, words-right, records-right, rows-right, row-seen, must-right, done-words}
 use Rattle.bohm_core_base.proofs.Steps.{busy-not_free, done-is, placed-all, stands, claim-keeps, finish-keeps, give_back-keeps, fill-keeps, end-keeps, place-keeps, held-not_free, held-not_done, free-not_done}
 
-module _ (b : Batch) (sound : IsSound b) where
+module _ (b : Batch) (sound : IsSoundBatch b) where
   -- each event that may happen keeps what is kept
   change-keeps : (s : State) (e : Event) → IsKept b s → guard b s e ≡ true → IsKept b (change b s e)
   change-keeps s (Place p) kept holds = place-keeps b sound s kept p holds
@@ -55,32 +55,32 @@ module _ (b : Batch) (sound : IsSound b) where
   -- there are references of each place at first
   empty-length : (n : ℕ) → length (empty_references b n) ≡ n
   empty-length zero = refl
-  empty-length (suc n) = length_push (empty_references b n) (map (λ _. 0) (references b n)) ∙ (let len = empty-length n in omega arith)
+  empty-length (suc n) = length_push (empty_references b n) (map (λ _. 0) (reference_words b n)) ∙ (let len = empty-length n in omega arith)
 
   -- all of them 0
-  empty-at : (size n : ℕ) → n < size → get_or (empty_references b size) n [] ≡ map (λ _. 0) (references b n)
+  empty-at : (size n : ℕ) → n < size → get_or (empty_references b size) n [] ≡ map (λ _. 0) (reference_words b n)
   empty-at zero n below = absurd (omega arith)
   empty-at (suc size) n below =
       let len = empty-length size in
       elim (cases_lt n size) [
         | inl less ↦
-            get_or_append_left (empty_references b size) (map (λ _. 0) (references b size) ∷ []) [] n (omega arith) ∙ empty-at size n less
+            get_or_append_left (empty_references b size) (map (λ _. 0) (reference_words b size) ∷ []) [] n (omega arith) ∙ empty-at size n less
         | inr more ↦
             let same : n ≡ size = omega arith in
-            rw same (get_or_push (empty_references b size) (map (λ _. 0) (references b size)) [] size len)
+            rw same (get_or_push (empty_references b size) (map (λ _. 0) (reference_words b size)) [] size len)
       ]
 
   -- the end of a slot's record at first is that by the deeds before the batch
-  start-end : (k : ℕ) → k < length (slots_of b) → end_of (start b) k ≡ end_after b.owners [] b.before (place_at b k)
+  start-end : (k : ℕ) → k < length (batch_slots b) → end_of (start b) k ≡ end_after b.owners [] b.before (place_at b k)
   start-end k slot =
-      get_or-map (λ (g : Grant). end_after b.owners [] b.before g.place) (slots_of b) k no_grant None slot
-      ∙ ap (λ p. end_after b.owners [] b.before p) (sym (get_or-map (λ (g : Grant). g.place) (slots_of b) k no_grant 0 slot))
+      get_or-map (λ (g : Grant). end_after b.owners [] b.before g.place) (batch_slots b) k no_grant None slot
+      ∙ ap (λ p. end_after b.owners [] b.before p) (sym (get_or-map (λ (g : Grant). g.place) (batch_slots b) k no_grant 0 slot))
 
   -- past the slots there is no end
-  start-past : (k : ℕ) → length (slots_of b) ≤ k → end_of (start b) k ≡ None
+  start-past : (k : ℕ) → length (batch_slots b) ≤ k → end_of (start b) k ≡ None
   start-past k past =
       let end : Grant → Option ℕ = λ g. end_after b.owners [] b.before g.place in
-      get_or_past (map end (slots_of b)) k None (let len = length-map (slots_of b) end in omega arith)
+      get_or_past (map end (batch_slots b)) k None (let len = length-map (batch_slots b) end in omega arith)
 
   -- the end by the whole batch is that by the deeds before it, or else one from its first place on
   whole-start : (k : ℕ)
@@ -97,7 +97,7 @@ module _ (b : Batch) (sound : IsSound b) where
   start-ended : (k q : ℕ) → end_of (start b) k ≡ Some q
       → (end_after b.owners [] b.before (place_at b k) ≡ Some q) × (whole_end b k ≡ Some q)
   start-ended k q is =
-      elim (cases_lt k (length (slots_of b))) [
+      elim (cases_lt k (length (batch_slots b))) [
         | inr past ↦ absurd (let none = start-past k past in cc)
         | inl slot ↦
             let early : end_after b.owners [] b.before (place_at b k) ≡ Some q = sym (start-end k slot) ∙ is in
@@ -106,7 +106,7 @@ module _ (b : Batch) (sound : IsSound b) where
       ]
 
   -- a record without an end at first gets one by the batch alone
-  start-unended : (k q : ℕ) → k < length (slots_of b) → end_of (start b) k ≡ None → whole_end b k ≡ Some q → b.first ≤ q
+  start-unended : (k q : ℕ) → k < length (batch_slots b) → end_of (start b) k ≡ None → whole_end b k ≡ Some q → b.first ≤ q
   start-unended k q slot is was =
       let early : end_after b.owners [] b.before (place_at b k) ≡ None = sym (start-end k slot) ∙ is in
       let whole = whole-start k in
@@ -115,7 +115,7 @@ module _ (b : Batch) (sound : IsSound b) where
       omega arith
 
   -- a record that no place of the batch ends has after it the end that it has at first
-  pub unended-stays : (k : ℕ) → k < length (slots_of b) → ((n : ℕ) → serial_ends b n k ≡ false) → whole_end b k ≡ end_of (start b) k
+  pub unended-stays : (k : ℕ) → k < length (batch_slots b) → ((n : ℕ) → serial_ends b n k ≡ false) → whole_end b k ≡ end_of (start b) k
   unended-stays k slot none = by_start (end_of (start b) k) refl
     where
       by_whole : end_of (start b) k ≡ None → (end : Option ℕ) → whole_end b k ≡ end → whole_end b k ≡ None
@@ -142,9 +142,9 @@ module _ (b : Batch) (sound : IsSound b) where
         references_length = empty-length b.size;
         holds_length = length-replicate b.size Free;
         own_length = length-replicate b.size [];
-        ends_length = length-map (slots_of b) (λ (g : Grant). end_after b.owners [] b.before g.place);
+        ends_length = length-map (batch_slots b) (λ (g : Grant). end_after b.owners [] b.before g.place);
         placed = λ n below. empty-at b.size n below
-            ∙ sym (chosen-none (λ p. nat_lt n (front_of s p)) (b.partitions_of n) (references b n) (sound.same_length n)
+            ∙ sym (chosen-none (λ p. nat_lt n (front_of s p)) (b.partitions_of n) (reference_words b n) (sound.same_length n)
             (λ q. rw (replicate-same {A = ℕ} b.partitions q 0) (le-ltb n 0 (omega arith))));
         claimed = λ n busy. contrary (is_free (hold_of s n)) (rw (free n) refl) busy;
         begun = λ n. rw (none n) refl;
@@ -166,7 +166,7 @@ module _ (b : Batch) (sound : IsSound b) where
   reach-keeps es = run-keeps (start b) es start-keeps
 
   -- a place that is done is right
-  pub done-right : (es : List Event) (n : ℕ) → hold_of (reach b es) n ≡ Done → IsRight b (reach b es) n
+  pub done-right : (es : List Event) (n : ℕ) → hold_of (reach b es) n ≡ Done → IsSerialPlace b (reach b es) n
   done-right es n done =
       let kept = reach-keeps es in
       let is : is_done (hold_of (reach b es) n) ≡ true = rw done refl in
@@ -187,7 +187,7 @@ module _ (b : Batch) (sound : IsSound b) where
   ends-right es j q set = (reach-keeps es).ended j q set
 
   -- once every place is done, no end is missing
-  pub ends-kept : (es : List Event) (k : ℕ) → ((i : ℕ) → i < b.size → hold_of (reach b es) i ≡ Done) → k < length (slots_of b)
+  pub ends-kept : (es : List Event) (k : ℕ) → ((i : ℕ) → i < b.size → hold_of (reach b es) i ≡ Done) → k < length (batch_slots b)
       → end_of (reach b es) k ≡ whole_end b k
   ends-kept es k all slot = by_end (end_of (reach b es) k) (whole_end b k) refl refl
     where
@@ -241,7 +241,7 @@ module _ (b : Batch) (sound : IsSound b) where
 
   -- a place that every partition has placed stays so after an event that may happen, and keeps its references
   change-past : (s : State) (e : Event) → guard b s e ≡ true → (n : ℕ) → all_past s n ≡ true
-      → (all_past (change b s e) n ≡ true) × (references_of (change b s e) n ≡ references_of s n)
+      → (all_past (change b s e) n ≡ true) × (stored_references_of (change b s e) n ≡ stored_references_of s n)
   change-past s (Claim actor m) holds n past = (past, refl)
   change-past s (Fill actor m) holds n past = (past, refl)
   change-past s (End actor m j) holds n past = (past, refl)
@@ -258,15 +258,15 @@ module _ (b : Batch) (sound : IsSound b) where
 
   -- references that are ready are so where every place that was done is
   still-ready : (s t : State) (n : ℕ) → ((m : ℕ) → hold_of s m ≡ Done → hold_of t m ≡ Done)
-      → references_of t n ≡ references_of s n → all_ready s n ≡ true → all_ready t n ≡ true
-  still-ready s t n holds same ready = rw same (list_all-weaker (is_ready s) (is_ready t) (references_of s n) more ready)
+      → stored_references_of t n ≡ stored_references_of s n → all_ready s n ≡ true → all_ready t n ≡ true
+  still-ready s t n holds same ready = rw same (list_all-weaker (is_ready s) (is_ready t) (stored_references_of s n) more ready)
     where
       more : (word : ℕ) → is_ready s word ≡ true → is_ready t word ≡ true
       more zero ready = refl
       more (suc m) ready = rw (holds m (done-is (hold_of s m) ready)) refl
 
   -- what a state stores stands in it
-  stands-same : (s : State) → Stands s s
+  stands-same : (s : State) → KeepsStored s s
   stands-same s =
       record {
         words = λ n. ([], append-nil (own_of s n));
@@ -278,7 +278,7 @@ module _ (b : Batch) (sound : IsSound b) where
       }
 
   -- what stands at one step after another stands at the end
-  stands-then : (first second third : State) → Stands first second → Stands second third → Stands first third
+  stands-then : (first second third : State) → KeepsStored first second → KeepsStored second third → KeepsStored first third
   stands-then first second third before after =
       record {
         words = λ n.
@@ -295,7 +295,7 @@ module _ (b : Batch) (sound : IsSound b) where
   -- so it does after an event that may happen, if its words and ends do
   all-stands : (s : State) (e : Event) → IsKept b s → guard b s e ≡ true
       → ((n : ℕ) → (rest : List ℕ) × (own_of s n ++ rest ≡ own_of (change b s e) n))
-      → ((j r : ℕ) → end_of s j ≡ Some r → end_of (change b s e) j ≡ Some r) → Stands s (change b s e)
+      → ((j r : ℕ) → end_of s j ≡ Some r → end_of (change b s e) j ≡ Some r) → KeepsStored s (change b s e)
   all-stands s e kept holds words ends =
       let done : (n : ℕ) → hold_of s n ≡ Done → hold_of (change b s e) n ≡ Done
       = λ n is. done-is (hold_of (change b s e) n) (change-done s e kept holds n (rw is refl)) in
@@ -309,7 +309,7 @@ module _ (b : Batch) (sound : IsSound b) where
       }
 
   -- what is stored stands after an event that may happen
-  change-stands : (s : State) (e : Event) → IsKept b s → guard b s e ≡ true → Stands s (change b s e)
+  change-stands : (s : State) (e : Event) → IsKept b s → guard b s e ≡ true → KeepsStored s (change b s e)
   change-stands s (Place p) kept holds = all-stands s (Place p) kept holds (λ n. ([], append-nil (own_of s n))) (λ j r set. set)
   change-stands s (Claim actor n) kept holds = all-stands s (Claim actor n) kept holds (λ m. ([], append-nil (own_of s m))) (λ j r set. set)
   change-stands s (Finish actor n) kept holds = all-stands s (Finish actor n) kept holds (λ m. ([], append-nil (own_of s m))) (λ j r set. set)
@@ -338,7 +338,7 @@ module _ (b : Batch) (sound : IsSound b) where
       (λ _. set))
 
   -- so it does after a list of events
-  pub run-stands : (s : State) (es : List Event) → IsKept b s → Stands s (run_from b s es)
+  pub run-stands : (s : State) (es : List Event) → IsKept b s → KeepsStored s (run_from b s es)
   run-stands s [] kept = stands-same s
   run-stands s (e ∷ es) kept =
       stands-then s (effect b s e) (run_from b (effect b s e) es)
@@ -351,12 +351,12 @@ module _ (b : Batch) (sound : IsSound b) where
   run-append s (e ∷ first) later = run-append (effect b s e) first later
 
   -- what is stored stands, whatever comes
-  pub stored-stands : (first later : List Event) → Stands (reach b first) (reach b (first ++ later))
+  pub stored-stands : (first later : List Event) → KeepsStored (reach b first) (reach b (first ++ later))
   stored-stands first later = rw (run-append (start b) first later) (run-stands (reach b first) later (reach-keeps first))
 
   -- so a resting place rests
   pub effect-rests : (s : State) (e : Event) → IsKept b s → (n : ℕ) → rests b s n ≡ true → rests b (effect b s e) n ≡ true
-  effect-rests s e kept n = list_all-weaker (is_ready s) (is_ready (effect b s e)) (references b n) more
+  effect-rests s e kept n = list_all-weaker (is_ready s) (is_ready (effect b s e)) (reference_words b n) more
     where
       more : (word : ℕ) → is_ready s word ≡ true → is_ready (effect b s e) word ≡ true
       more zero ready = refl
@@ -486,7 +486,7 @@ module _ (b : Batch) (sound : IsSound b) where
         ends = λ j slot some. must-right b sound s kept n j size slot some rest;
         outcome = λ some. outcome-right b sound s kept n some;
         referred = λ other number low is.
-            done-words b sound s kept other (subst (λ word. is_ready s word ≡ true) is (list_all-get (is_ready s) (references b n) number 0 rest low));
+            done-words b sound s kept other (subst (λ word. is_ready s word ≡ true) is (list_all-get (is_ready s) (reference_words b n) number 0 rest low));
         settled = λ other t less listed deed.
             done-words b sound s kept other
             (deeds-done b sound s kept n t (table-ready b sound s kept n t (b.tables n) (rests-tables b sound s kept n rest) listed) other less deed);
@@ -496,10 +496,10 @@ module _ (b : Batch) (sound : IsSound b) where
       }
 
   -- where all places below one are done, so is the last of them that may change the row of a key
-  writer-ready : (s : State) (n : ℕ) (key : Key) → ((i : ℕ) → i < n → hold_of s i ≡ Done) → is_ready s (writer b n key) ≡ true
+  writer-ready : (s : State) (n : ℕ) (key : Key) → ((i : ℕ) → i < n → hold_of s i ≡ Done) → is_ready s (writer_reference b n key) ≡ true
   writer-ready s zero key all = refl
   writer-ready s (suc n) key all =
-      by_cases (declares_write (b.accesses n) key)
+      by_cases (changes_key (b.accesses n) key)
       (λ named. rw (named, all n (omega arith)) refl)
       (λ other. rw other (writer-ready s n key (λ i less. all i (omega arith))))
 
@@ -511,12 +511,12 @@ module _ (b : Batch) (sound : IsSound b) where
       rw (same n (omega arith), made-same first second n (λ i less. same i (omega arith))) refl
 
   -- once every place below one is done, the rows and deeds by these places are those after the serial run of them
-  pub whole-right : (es : List Event) (n : ℕ) → ((i : ℕ) → i < n → hold_of (reach b es) i ≡ Done) → IsWhole b (reach b es) n
+  pub whole-right : (es : List Event) (n : ℕ) → ((i : ℕ) → i < n → hold_of (reach b es) i ≡ Done) → IsWholeBelow b (reach b es) n
   whole-right es n all =
       let s = reach b es in
       let kept = reach-keeps es in
       record {
-        rows = λ key. row-seen b sound s kept key (writer b n key) (writer-ready s n key all) ∙ sym (row-right b sound n key);
+        rows = λ key. row-seen b sound s kept key (writer_reference b n key) (writer-ready s n key all) ∙ sym (row-right b sound n key);
         deeds =
             made-same (λ i. was_done (own_of s i)) (λ i. was_done (serial_words b i)) n
             (λ i less. ap was_done (done-words b sound s kept i (rw (all i less) refl)))
@@ -529,12 +529,12 @@ module _ (b : Batch) (sound : IsSound b) where
 
   -- a place that every partition has placed has its references
   pub past-references : (es : List Event) (n : ℕ) → n < b.size → all_past (reach b es) n ≡ true
-      → references_of (reach b es) n ≡ references b n
+      → stored_references_of (reach b es) n ≡ reference_words b n
   past-references es n size past = placed-all b sound (reach b es) (reach-keeps es) n size past
 
   -- once all that a place refers to is done, each earlier place with a deed on one of its tables is done
   pub deeds-settled : (es : List Event) (n i t : ℕ) → n < b.size → all_past (reach b es) n ≡ true
-      → all_ready (reach b es) n ≡ true → is_listed (b.tables n) t ≡ true → i < n → has_deed_on b i t ≡ true
+      → all_ready (reach b es) n ≡ true → is_listed (b.tables n) t ≡ true → i < n → place_has_deed_on b i t ≡ true
       → hold_of (reach b es) i ≡ Done
   deeds-settled es n i t size past ready listed less deed =
       let s = reach b es in
@@ -544,7 +544,7 @@ module _ (b : Batch) (sound : IsSound b) where
 
   -- and the ends of the slots on its tables are, below it, those of the serial run
   pub end-told : (es : List Event) (n k : ℕ) → n < b.size → all_past (reach b es) n ≡ true
-      → all_ready (reach b es) n ≡ true → is_listed (b.tables n) (table_at b k) ≡ true → k < length (slots_of b)
+      → all_ready (reach b es) n ≡ true → is_listed (b.tables n) (table_at b k) ≡ true → k < length (batch_slots b)
       → end_below (b.first + n) (end_of (reach b es) k) ≡ end_below (b.first + n) (whole_end b k)
   end-told es n k size past ready listed slot =
       let s = reach b es in

@@ -6,7 +6,7 @@ use Rattle.model_base.specs.declared.deed.Deed.TheVariants.{Revoking}
 use Rattle.model_base.specs.declared.deed.Grant.{Grant}
 use Rattle.model_base.specs.declared.deed.Revocation.{Revocation}
 use Rattle.model_base.specs.Privileges.{gives, names, option_of}
-use Rattle.bohm_core_base.specs.Batch.{Batch, slots_of}
+use Rattle.bohm_core_base.specs.Batch.{Batch, batch_slots}
 use Rattle.bohm_core_base.specs.Serial.{serial_ends}
 
 -- the place ends the record of an earlier slot too, whose grant gave the grantor of this one the option
@@ -14,7 +14,7 @@ pub record FallsWith (batch : Batch) (index slot : ℕ) (grant : Grant) : Type 0
   pub bearer : ℕ
   pub giver : Grant
   pub earlier : bearer < slot
-  pub at : slice_get (slots_of batch) bearer ≡ Some giver
+  pub at : slice_get (batch_slots batch) bearer ≡ Some giver
   pub ends : serial_ends batch index bearer ≡ true
   pub lends : gives giver grant.grantor (option_of grant) ≡ true
 
@@ -24,5 +24,5 @@ pub record EndsByCascade (batch : Batch) (index slot : ℕ) : Type 0 where
   pub revocation : Revocation
   pub deed : batch.deed index ≡ Some (Revoking revocation)
   pub grant : Grant
-  pub at : slice_get (slots_of batch) slot ≡ Some grant
+  pub at : slice_get (batch_slots batch) slot ≡ Some grant
   pub cause : (names revocation grant ≡ true) ⊎ FallsWith batch index slot grant

@@ -1,7 +1,7 @@
 //! With which grants the grants of a batch fall.
 
 ghost use Rattle.std.specs.Prelude.{◌≡◌, ◌<◌, ℕ, true, length};
-ghost use Rattle.bohm_core_base.specs.Batch.{Batch, IsSound, slots_of};
+ghost use Rattle.bohm_core_base.specs.Batch.{Batch, IsSoundBatch, batch_slots};
 ghost use Rattle.bohm_core_base.specs.Cascades.{EndsByCascade};
 ghost use Rattle.bohm_core_base.specs.Serial.{serial_ends};
 
@@ -9,5 +9,5 @@ ghost use Rattle.bohm_core_base.specs.Serial.{serial_ends};
 /// earlier slot too, whose grant gave this one's grantor the option.
 pub fn records_end_by_cascades()
     ensures { (batch : Batch) (index slot : ℕ)
-        → IsSound batch → slot < length (slots_of batch) → serial_ends batch index slot ≡ true → EndsByCascade batch index slot }
+        → IsSoundBatch batch → slot < length (batch_slots batch) → serial_ends batch index slot ≡ true → EndsByCascade batch index slot }
 {}

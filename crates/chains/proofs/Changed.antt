@@ -1,5 +1,5 @@
 -- What the versions of all rows become where the chain of one key changes.
-use Rattle.std.proofs.Common.{◌≡◌, ℕ, ℤ, Bool, true, false, ◌&&◌, cond, ltb, Option, None, List, [], ◌∷◌, ◌++◌, map, Result, Ok, Err, OnErr, refl, sym, ◌∙◌, ap, ◌+◌, ◌<◌, ◌≤◌, suc, arith, eqb, length, is_none}
+use Rattle.std.proofs.Common.{◌≡◌, ℕ, ℤ, Bool, true, false, ◌&&◌, cond, ltb, Option, None, List, [], ◌∷◌, ◌++◌, map, Result, Ok, Err, OnErr, refl, sym, ◌∙◌, ap, ◌+◌, ◌<◌, suc, arith, eqb, length, is_none}
 use Rattle.std.specs.List.{list_all}
 use Rattle.std.proofs.lemmas.Bool.Decides.{nat_tests}
 use Rattle.std.proofs.lemmas.List.{length-append, length-map}
@@ -16,7 +16,7 @@ use Rattle.chains.proofs.Keyed.{among-own, among-put, among-last, among-first, n
 use Rattle.chains.proofs.Entries.{Entries, Found, Gap, absent-none, around, without, key_cmp}
 use Rattle.chains.proofs.Newest.{newest-of_key}
 
--- a version was put behind the others of its key, and taking it out again undoes that
+-- a version was appended to the others of its key, and taking it out again undoes that
 pub record IsPut (version : Version) (old new : List Version) : Type 0 where
   pub added : (other : Key) → of_key other new ≡ of_key other (old ++ version ∷ [])
   pub undone : without_last version.key new ≡ old
@@ -172,7 +172,3 @@ several-alive mark (first ∷ older) newest some =
     let long : length (older ++ newest ∷ []) ≡ length older + 1 = length-append older (newest ∷ []) ∙ omega arith in
     let many : eqb (suc (length (older ++ newest ∷ []))) 1 ≡ false = grind (arith, nat_tests, long) in
     sym (ap (λ b. b && list_all (λ (version : Dated). ltb version.place mark && is_none version.row) (first ∷ (older ++ newest ∷ []))) many)
-
-pub single-spent : (mark : ℕ) (older : List Dated) (newest : Dated) → length older ≤ 0 → (ltb newest.place mark && is_none newest.row) ≡ is_spent_chain mark (older ++ newest ∷ [])
-single-spent mark [] newest none = sym (and-true (ltb newest.place mark && is_none newest.row))
-single-spent mark (first ∷ older) newest none = absurd (omega arith)

@@ -13,11 +13,12 @@ use Rattle.std.proofs.lemmas.List.Elements.{filter-append}
 use Rattle.std.proofs.lemmas.Map.Keys.{sorted_head, sorted_tail}
 use Rattle.model_base.specs.declared.row.Key.{Key}
 use Rattle.body.specs.Room.{same_key}
-use Rattle.body.proofs.Rows.{by_cases, same_key-true, same_key-of}
+use Rattle.body.proofs.Rows.{same_key-true, same_key-of}
 use Rattle.chains.specs.declared.chain.Dated.{Dated}
 use Rattle.chains.specs.Keyed.{version_at, versions_in}
-use Rattle.chains.specs.Store.{is_of, of_key}
+use Rattle.chains.specs.Store.{is_version_of, of_key}
 use Rattle.chains.proofs.Keyed.{key-is, other-key}
+use Rattle.model_base.proofs.Replay.{by_cases}
 
 -- the order of keys: by table, and in a table by the row's number
 abbrev pub key_cmp : Key → Key → Ordering
@@ -59,7 +60,7 @@ apart key entry differ =
 apart-before : (key : Key) (entry : Key × List Dated) (entries : Entries) → is_at (key_cmp key) entry.0 ≡ false → of_key key (versions_in entries) ≡ []
     → of_key key (versions_in (entry ∷ entries)) ≡ []
 apart-before key entry entries differ none =
-    filter-append (is_of key) (map (version_at entry.0) entry.1) (versions_in entries)
+    filter-append (is_version_of key) (map (version_at entry.0) entry.1) (versions_in entries)
     ∙ ap (λ first. first ++ of_key key (versions_in entries)) (apart key entry differ)
     ∙ none
 

@@ -5,11 +5,12 @@ use Rattle.std.proofs.lemmas.List.{map-append, append_assoc, append-nil}
 use Rattle.std.proofs.lemmas.List.Elements.{filter-append}
 use Rattle.model_base.specs.declared.row.Key.{Key}
 use Rattle.body.specs.Room.{same_key}
-use Rattle.body.proofs.Rows.{by_cases, same_key-true, same_key-own}
+use Rattle.body.proofs.Rows.{same_key-true, same_key-own}
 use Rattle.chains.specs.declared.chain.Dated.{Dated}
 use Rattle.chains.specs.declared.version.Version.{Version}
 use Rattle.chains.specs.Keyed.{version_at, without_first, without_last}
-use Rattle.chains.specs.Store.{is_of, of_key}
+use Rattle.chains.specs.Store.{is_version_of, of_key}
+use Rattle.model_base.proofs.Replay.{by_cases}
 
 -- two keys with one table and one row are one
 pub key-is : (a b : Key) → same_key a.table a.row b.table b.row ≡ true → a ≡ b
@@ -43,36 +44,36 @@ other-key key other differ (dated ∷ chain) =
     let rest = of_key other (map (version_at key) chain) in
     ap (λ b. cond b (version_at key dated ∷ rest) rest) differ ∙ other-key key other differ chain
 
-none-any : (key : Key) (versions : List Version) → of_key key versions ≡ [] → list_any (is_of key) versions ≡ false
+none-any : (key : Key) (versions : List Version) → of_key key versions ≡ [] → list_any (is_version_of key) versions ≡ false
 none-any key [] none = refl
 none-any key (version ∷ versions) none =
-    let parts = tail-none (is_of key version) version (of_key key versions) none in
-    ap (λ b. b || list_any (is_of key) versions) parts.0 ∙ none-any key versions parts.1
+    let parts = tail-none (is_version_of key version) version (of_key key versions) none in
+    ap (λ b. b || list_any (is_version_of key) versions) parts.0 ∙ none-any key versions parts.1
 
-has-any : (key : Key) (front : List Version) (version : Version) (back : List Version) → is_of key version ≡ true → list_any (is_of key) (front ++ version ∷ back) ≡ true
-has-any key [] version back is = ap (λ b. b || list_any (is_of key) back) is
+has-any : (key : Key) (front : List Version) (version : Version) (back : List Version) → is_version_of key version ≡ true → list_any (is_version_of key) (front ++ version ∷ back) ≡ true
+has-any key [] version back is = ap (λ b. b || list_any (is_version_of key) back) is
 has-any key (first ∷ front) version back is =
-    ap (λ b. is_of key first || b) (has-any key front version back is) ∙ or-true (is_of key first)
+    ap (λ b. is_version_of key first || b) (has-any key front version back is) ∙ or-true (is_version_of key first)
 
 -- the last version of a key, where those of other keys follow it
-pub last-out : (key : Key) (front : List Version) (version : Version) (back : List Version) → is_of key version ≡ true → of_key key back ≡ []
+pub last-out : (key : Key) (front : List Version) (version : Version) (back : List Version) → is_version_of key version ≡ true → of_key key back ≡ []
     → without_last key (front ++ version ∷ back) ≡ front ++ back
 last-out key [] version back is none =
-    ap (λ b. cond (b && not (list_any (is_of key) back)) back (version ∷ without_last key back)) is
+    ap (λ b. cond (b && not (list_any (is_version_of key) back)) back (version ∷ without_last key back)) is
     ∙ ap (λ b. cond (not b) back (version ∷ without_last key back)) (none-any key back none)
 last-out key (first ∷ front) version back is none =
     let rest = front ++ version ∷ back in
-    ap (λ b. cond (is_of key first && not b) rest (first ∷ without_last key rest)) (has-any key front version back is)
-    ∙ kept (is_of key first) rest (first ∷ without_last key rest)
+    ap (λ b. cond (is_version_of key first && not b) rest (first ∷ without_last key rest)) (has-any key front version back is)
+    ∙ kept (is_version_of key first) rest (first ∷ without_last key rest)
     ∙ ap (λ rest. first ∷ rest) (last-out key front version back is none)
 
 -- the first version of a key, behind those of other keys
-pub first-out : (key : Key) (front : List Version) (version : Version) (back : List Version) → is_of key version ≡ true → of_key key front ≡ []
+pub first-out : (key : Key) (front : List Version) (version : Version) (back : List Version) → is_version_of key version ≡ true → of_key key front ≡ []
     → without_first key (front ++ version ∷ back) ≡ front ++ back
 first-out key [] version back is none = ap (λ b. cond b back (version ∷ without_first key back)) is
 first-out key (first ∷ front) version back is none =
     let rest = front ++ version ∷ back in
-    let parts = tail-none (is_of key first) first (of_key key front) none in
+    let parts = tail-none (is_version_of key first) first (of_key key front) none in
     ap (λ b. cond b rest (first ∷ without_first key rest)) parts.0
     ∙ ap (λ rest. first ∷ rest) (first-out key front version back is parts.1)
 
@@ -80,14 +81,14 @@ first-out key (first ∷ front) version back is none =
 pub none-last : (key : Key) (versions : List Version) → of_key key versions ≡ [] → without_last key versions ≡ versions
 none-last key [] none = refl
 none-last key (version ∷ versions) none =
-    let parts = tail-none (is_of key version) version (of_key key versions) none in
-    ap (λ b. cond (b && not (list_any (is_of key) versions)) versions (version ∷ without_last key versions)) parts.0
+    let parts = tail-none (is_version_of key version) version (of_key key versions) none in
+    ap (λ b. cond (b && not (list_any (is_version_of key) versions)) versions (version ∷ without_last key versions)) parts.0
     ∙ ap (λ rest. version ∷ rest) (none-last key versions parts.1)
 
 pub none-first : (key : Key) (versions : List Version) → of_key key versions ≡ [] → without_first key versions ≡ versions
 none-first key [] none = refl
 none-first key (version ∷ versions) none =
-    let parts = tail-none (is_of key version) version (of_key key versions) none in
+    let parts = tail-none (is_version_of key version) version (of_key key versions) none in
     ap (λ b. cond b versions (version ∷ without_first key versions)) parts.0
     ∙ ap (λ rest. version ∷ rest) (none-first key versions parts.1)
 
@@ -99,9 +100,9 @@ module _ (key : Key) (front back : List Version) (none_front : of_key key front 
   pub among-own : (chain : List Dated) → of_key key (among chain) ≡ map (version_at key) chain
   among-own chain =
       let own = map (version_at key) chain in
-      filter-append (is_of key) front (own ++ back)
+      filter-append (is_version_of key) front (own ++ back)
       ∙ ap (λ first. first ++ of_key key (own ++ back)) none_front
-      ∙ filter-append (is_of key) own back
+      ∙ filter-append (is_version_of key) own back
       ∙ ap (λ first. first ++ of_key key back) (own-key key chain)
       ∙ ap (λ last. own ++ last) none_back
       ∙ append-nil own
@@ -129,9 +130,9 @@ module _ (key : Key) (front back : List Version) (none_front : of_key key front 
   pub among-put : (chain : List Dated) (dated : Dated) (other : Key) → of_key other (among (chain ++ dated ∷ [])) ≡ of_key other (among chain ++ version_at key dated ∷ [])
   among-put chain dated other =
       ap (of_key other) (longer chain dated)
-      ∙ filter-append (is_of other) before (version ∷ back)
-      ∙ by_cases (is_of other version) same differ
-      ∙ sym (filter-append (is_of other) (among chain) (version ∷ []))
+      ∙ filter-append (is_version_of other) before (version ∷ back)
+      ∙ by_cases (is_version_of other version) same differ
+      ∙ sym (filter-append (is_version_of other) (among chain) (version ∷ []))
     where
       version : Version
       version = version_at key dated
@@ -140,16 +141,16 @@ module _ (key : Key) (front back : List Version) (none_front : of_key key front 
       before = front ++ map (version_at key) chain
 
       parted : of_key other before ++ of_key other back ≡ of_key other (among chain)
-      parted = sym (filter-append (is_of other) before back) ∙ ap (of_key other) (append_assoc front (map (version_at key) chain) back)
+      parted = sym (filter-append (is_version_of other) before back) ∙ ap (of_key other) (append_assoc front (map (version_at key) chain) back)
 
-      differ : is_of other version ≡ false → of_key other before ++ of_key other (version ∷ back) ≡ of_key other (among chain) ++ of_key other (version ∷ [])
+      differ : is_version_of other version ≡ false → of_key other before ++ of_key other (version ∷ back) ≡ of_key other (among chain) ++ of_key other (version ∷ [])
       differ miss =
           ap (λ b. of_key other before ++ cond b (version ∷ of_key other back) (of_key other back)) miss
           ∙ parted
           ∙ sym (append-nil (of_key other (among chain)))
           ∙ ap (λ b. of_key other (among chain) ++ cond b (version ∷ []) []) (sym miss)
 
-      same : is_of other version ≡ true → of_key other before ++ of_key other (version ∷ back) ≡ of_key other (among chain) ++ of_key other (version ∷ [])
+      same : is_version_of other version ≡ true → of_key other before ++ of_key other (version ∷ back) ≡ of_key other (among chain) ++ of_key other (version ∷ [])
       same hit =
           let none : of_key other back ≡ [] = subst (λ (k : Key). of_key k back ≡ []) (key-is key other hit) none_back in
           let all : of_key other before ≡ of_key other (among chain) = sym (append-nil (of_key other before)) ∙ ap (λ last. of_key other before ++ last) (sym none) ∙ parted in

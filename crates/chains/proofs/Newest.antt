@@ -8,9 +8,10 @@ use Rattle.model_base.specs.Rows.{Rows}
 use Rattle.model_base.specs.Versions.{is_writing}
 use Rattle.model_base.specs.References.{is_write_to}
 use Rattle.body.specs.Room.{same_key}
-use Rattle.body.proofs.Rows.{by_cases, same_key-true}
+use Rattle.body.proofs.Rows.{same_key-true}
 use Rattle.chains.specs.declared.version.Version.{Version}
-use Rattle.chains.specs.Store.{AreBetween, is_of, is_older, newest_or, of_key}
+use Rattle.chains.specs.Store.{AreBetween, is_version_of, is_older, newest_or, of_key}
+use Rattle.model_base.proofs.Replay.{by_cases}
 
 and-false : (b : Bool) → (b && false) ≡ false
 and-false true = refl
@@ -45,7 +46,7 @@ newest-early row first end place other key (version ∷ versions) between less l
 pub newest-of_key : (row : Option (List ℤ)) (place : ℕ) (key : Key) (versions : List Version) → newest_or row versions place key ≡ newest_or row (of_key key versions) place key
 newest-of_key row place key [] = refl
 newest-of_key row place key (version ∷ versions) =
-    by_cases (is_of key version)
+    by_cases (is_version_of key version)
     (λ hit. newest-of_key (stepped place key row version) place key versions ∙ ap (λ b. newest_or row (cond b (version ∷ of_key key versions) (of_key key versions)) place key) (sym hit))
     (λ miss. ap (λ b. newest_or (cond (ltb version.place place && b) version.row row) versions place key) miss ∙ ap (λ b. newest_or (cond b version.row row) versions place key) (and-false (ltb version.place place)) ∙ newest-of_key row place key versions ∙ ap (λ b. newest_or row (cond b (version ∷ of_key key versions) (of_key key versions)) place key) (sym miss))
 

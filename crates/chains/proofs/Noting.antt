@@ -5,14 +5,14 @@ use Rattle.std.proofs.lemmas.List.{append-nil, append_assoc, length-append, map-
 use Rattle.std.proofs.lemmas.List.Elements.{filter-append}
 use Rattle.model_base.specs.declared.row.Key.{Key}
 use Rattle.body.specs.Room.{same_key}
-use Rattle.body.proofs.Rows.{by_cases}
 use Rattle.chains.specs.declared.version.Version.{Version}
 use Rattle.chains.specs.declared.writes.Written.{Written}
-use Rattle.chains.specs.Kept.{AreRising, is_absent, replacing_of, written_by, written_to}
-use Rattle.chains.specs.Store.{AreBetween, is_of, of_key}
+use Rattle.chains.specs.Kept.{AreWrittenInOrder, is_absent, replacing_of, written_by, written_to}
+use Rattle.chains.specs.Store.{AreBetween, is_version_of, of_key}
 use Rattle.chains.proofs.Keyed.{key-is}
 use Rattle.chains.proofs.Order.{between-bound}
 use Rattle.chains.proofs.Trimming.{rising-earlier}
+use Rattle.model_base.proofs.Replay.{by_cases}
 
 -- the notes after a version was put
 abbrev pub noted : Bool → List Written → Version → List Written
@@ -22,15 +22,15 @@ noted others writes version = cond others (writes ++ written_by version ∷ []) 
 pub noted-replacing : (key : Key) (old new : List Version) (version : Version) (writes : List Written) (others : Bool)
     → ((other : Key) → of_key other new ≡ of_key other (old ++ version ∷ [])) → others ≡ ltb 0 (length (of_key version.key old))
     → written_to key writes ≡ replacing_of (of_key key old) → written_to key (noted others writes version) ≡ replacing_of (of_key key new)
-noted-replacing key old new version writes others added are replacing = by_cases (is_of key version) own other
+noted-replacing key old new version writes others added are replacing = by_cases (is_version_of key version) own other
   where
-    one_more : written_to key (writes ++ written_by version ∷ []) ≡ written_to key writes ++ cond (is_of key version) (written_by version ∷ []) []
+    one_more : written_to key (writes ++ written_by version ∷ []) ≡ written_to key writes ++ cond (is_version_of key version) (written_by version ∷ []) []
     one_more = filter-append (λ (write : Written). same_key write.key.table write.key.row key.table key.row) writes (written_by version ∷ [])
 
-    new_is : of_key key new ≡ of_key key old ++ cond (is_of key version) (version ∷ []) []
-    new_is = added key ∙ filter-append (is_of key) old (version ∷ [])
+    new_is : of_key key new ≡ of_key key old ++ cond (is_version_of key version) (version ∷ []) []
+    new_is = added key ∙ filter-append (is_version_of key) old (version ∷ [])
 
-    other : is_of key version ≡ false → written_to key (noted others writes version) ≡ replacing_of (of_key key new)
+    other : is_version_of key version ≡ false → written_to key (noted others writes version) ≡ replacing_of (of_key key new)
     other miss =
         let same : of_key key new ≡ of_key key old =
         new_is ∙ ap (λ b. of_key key old ++ cond b (version ∷ []) []) miss ∙ append-nil (of_key key old) in
@@ -42,7 +42,7 @@ noted-replacing key old new version writes others added are replacing = by_cases
         either true as_was = as_was
         either false as_was = refl
 
-    own : is_of key version ≡ true → written_to key (noted others writes version) ≡ replacing_of (of_key key new)
+    own : is_version_of key version ≡ true → written_to key (noted others writes version) ≡ replacing_of (of_key key new)
     own hit =
         let longer : of_key key new ≡ of_key key old ++ version ∷ [] = new_is ∙ ap (λ b. of_key key old ++ cond b (version ∷ []) []) hit in
         let whole : written_to key (writes ++ written_by version ∷ []) ≡ written_to key writes ++ written_by version ∷ [] =
@@ -68,23 +68,23 @@ noted-replacing key old new version writes others added are replacing = by_cases
             ∙ sym (ap replacing_of (longer ∙ ap (λ (vs : List Version). vs ++ version ∷ []) is))
 
 -- a write may be left out of those in order
-rising-skip : (first end : ℕ) (writes : List Written) (write : Written) (more : List Written) → AreRising first end (writes ++ write ∷ more) → AreRising first end (writes ++ more)
+rising-skip : (first end : ℕ) (writes : List Written) (write : Written) (more : List Written) → AreWrittenInOrder first end (writes ++ write ∷ more) → AreWrittenInOrder first end (writes ++ more)
 rising-skip first end [] write more rising = rising-earlier first write.place end more rising.0 rising.2
 rising-skip first end (other ∷ writes) write more rising = (rising.0, rising.1, rising-skip other.place end writes write more rising.2)
 
 pub noted-rising : (first end : ℕ) (writes : List Written) (version : Version) (more : List Written) (others : Bool)
-    → AreRising first end (writes ++ written_by version ∷ more) → AreRising first end (noted others writes version ++ more)
+    → AreWrittenInOrder first end (writes ++ written_by version ∷ more) → AreWrittenInOrder first end (noted others writes version ++ more)
 noted-rising first end writes version more true rising =
-    subst (AreRising first end) (sym (append_assoc writes (written_by version ∷ []) more)) rising
+    subst (AreWrittenInOrder first end) (sym (append_assoc writes (written_by version ∷ []) more)) rising
 noted-rising first end writes version more false rising = rising-skip first end writes (written_by version) more rising
 
 -- the writes of versions in order, and those behind others
-rising-versions : (first end : ℕ) (versions : List Version) → AreBetween first end versions → AreRising first end (map written_by versions)
+rising-versions : (first end : ℕ) (versions : List Version) → AreBetween first end versions → AreWrittenInOrder first end (map written_by versions)
 rising-versions first end [] between = between
 rising-versions first end (version ∷ versions) between = (between.0, between.1, rising-versions version.place end versions between.2)
 
-pub rising-append : (first middle end : ℕ) (writes : List Written) (versions : List Version) → AreRising first middle writes → AreBetween middle end versions
-    → AreRising first end (writes ++ map written_by versions)
+pub rising-append : (first middle end : ℕ) (writes : List Written) (versions : List Version) → AreWrittenInOrder first middle writes → AreBetween middle end versions
+    → AreWrittenInOrder first end (writes ++ map written_by versions)
 rising-append first middle end [] versions rising between =
     rising-earlier first middle end (map written_by versions) rising (rising-versions middle end versions between)
 rising-append first middle end (write ∷ writes) versions rising between =

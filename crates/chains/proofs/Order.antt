@@ -8,9 +8,9 @@ use Rattle.model_base.specs.declared.statement.Access.{Access}
 use Rattle.model_base.specs.declared.statement.Statement.{Statement}
 use Rattle.model_base.specs.Outcomes.{rows_before}
 use Rattle.model_base.specs.Versions.{writes_of, version_cells}
-use Rattle.body.proofs.Rows.{by_cases}
 use Rattle.chains.specs.declared.version.Version.{Version}
-use Rattle.chains.specs.Store.{AreBetween, is_of, of_key, versions_at, versions_between}
+use Rattle.chains.specs.Store.{AreBetween, is_version_of, of_key, versions_at, versions_between}
+use Rattle.model_base.proofs.Replay.{by_cases}
 
 -- the first place isn't behind the end
 pub between-bound : (first end : ℕ) (versions : List Version) → AreBetween first end versions → first ≤ end
@@ -42,7 +42,7 @@ between-filter passes first end (version ∷ versions) between =
     (λ miss. subst P (sym miss) (between-earlier first version.place end (filter passes versions) between.0 rest))
 
 pub between-of_key : (key : Key) (first end : ℕ) (versions : List Version) → AreBetween first end versions → AreBetween first end (of_key key versions)
-between-of_key key = between-filter (is_of key)
+between-of_key key = between-filter (is_version_of key)
 
 -- the versions of one place
 between-one : (place : ℕ) (log : List Statement) (accesses : List Access)

@@ -33,7 +33,7 @@ module _ (own : List ℕ) (place : ℕ) (world : World) (statement : Statement) 
   kept-at_place = kept-form statement.form
 
 -- what stands after one place more
-world_before-more : (log : List Statement) (place : ℕ) (statement : Statement) → slice_get log place ≡ Some statement
+pub world_before-more : (log : List Statement) (place : ℕ) (statement : Statement) → slice_get log place ≡ Some statement
     → world_before log (place + 1) ≡ (at_place (owners log) place (world_before log place) statement).1
 world_before-more log place statement is =
     let within : place < length log = slice_get_within log place statement is in
@@ -45,12 +45,12 @@ world_before-more log place statement is =
     ∙ ap (λ (at : ℕ). (at_place (owners log) at (world_before log place) statement).1) long
 
 -- a place without a statement is behind the log's end, where nothing changes
-past-end : (log : List Statement) (place : ℕ) → slice_get log place ≡ None → length log ≤ place
+pub past-end : (log : List Statement) (place : ℕ) → slice_get log place ≡ None → length log ≤ place
 past-end [] place is = omega arith
 past-end (statement ∷ log) zero is = cc
 past-end (statement ∷ log) (suc place) is = let rest : length log ≤ place = past-end log place is in omega arith
 
-world_before-past : (log : List Statement) (place : ℕ) → length log ≤ place → world_before log (place + 1) ≡ world_before log place
+pub world_before-past : (log : List Statement) (place : ℕ) → length log ≤ place → world_before log (place + 1) ≡ world_before log place
 world_before-past log place past =
     let next : length log ≤ place + 1 = omega arith in
     ap (world_after (owners log) 0 empty_world) (take_all (place + 1) log next ∙ sym (take_all place log past))

@@ -1,28 +1,22 @@
 -- Versions that tell nothing are swept out, by the notes of the places where a row was absent.
 use Rattle.std.proofs.Common.{◌≡◌, ℕ, ◌+◌, ◌<◌, ◌≤◌, ℤ, Bool, true, false, ◌&&◌, ◌||◌, not, cond, eqb, ltb, Option, Some, None, List, [], ◌∷◌, ◌++◌, filter, fold, map, length, drop, refl, sym, ◌∙◌, ap, subst, arith, is_none}
 use Rattle.std.specs.List.{AllByRecursion, list_all, list_any}
+use Rattle.std.proofs.lemmas.Bool.{or_left, or_right}
 use Rattle.std.proofs.lemmas.Bool.Decides.{nat_tests}
 use Rattle.std.proofs.lemmas.List.{append_assoc}
 use Rattle.std.proofs.lemmas.List.Folds.{list_any-append}
 use Rattle.std.proofs.lemmas.List.Sums.{fold-append}
 use Rattle.model_base.specs.declared.row.Key.{Key}
 use Rattle.body.specs.Room.{same_key}
-use Rattle.body.proofs.Rows.{by_cases, same_key-own}
+use Rattle.body.proofs.Rows.{same_key-own}
 use Rattle.chains.specs.declared.version.Version.{Version}
 use Rattle.chains.specs.declared.writes.Written.{Written}
 use Rattle.chains.specs.Keyed.{without_first}
-use Rattle.chains.specs.Kept.{AreRising, IsKept, is_absent, is_noted, is_write_of, newest_is_noted, replacing_of, written_by, written_to}
-use Rattle.chains.specs.Store.{AreBetween, is_of, is_older, is_spent, newest_or, of_key, swept}
+use Rattle.chains.specs.Kept.{AreWrittenInOrder, IsStoreKept, is_absent, is_noted, is_write_of, newest_is_noted, replacing_of, written_by, written_to}
+use Rattle.chains.specs.Store.{AreBetween, is_version_of, is_older, is_spent, newest_or, of_key, swept}
 use Rattle.chains.proofs.Keyed.{key-is}
 use Rattle.chains.proofs.Trimming.{all-pass, between-rising, of_key-first, of_key-other, length-first, rising-next, rising-to}
-
-or-left : (a b : Bool) → a ≡ true → (a || b) ≡ true
-or-left true b is = refl
-or-left false b is = cc
-
-or-right : (a b : Bool) → b ≡ true → (a || b) ≡ true
-or-right true b is = refl
-or-right false b is = is
+use Rattle.model_base.proofs.Replay.{by_cases}
 
 or-both : (a b : Bool) → (a || b) ≡ true → a ≡ false → b ≡ true
 or-both true b is no_first = cc
@@ -32,8 +26,8 @@ or-both false b is no_first = is
 noted-more : (notes more : List Written) (version : Version) → is_noted notes version ≡ true → is_noted (notes ++ more) version ≡ true
 noted-more notes more version is =
     by_cases (is_none version.row)
-    (λ absent. or-right (not (is_none version.row)) (list_any (is_write_of version) (notes ++ more)) (list_any-append (is_write_of version) notes more ∙ or-left (list_any (is_write_of version) notes) (list_any (is_write_of version) more) (or-both (not (is_none version.row)) (list_any (is_write_of version) notes) is (ap not absent))))
-    (λ present. or-left (not (is_none version.row)) (list_any (is_write_of version) (notes ++ more)) (ap not present))
+    (λ absent. or_right (not (is_none version.row)) (list_any (is_write_of version) (notes ++ more)) (list_any-append (is_write_of version) notes more ∙ or_left (list_any (is_write_of version) notes) (list_any (is_write_of version) more) (or-both (not (is_none version.row)) (list_any (is_write_of version) notes) is (ap not absent))))
+    (λ present. or_left (not (is_none version.row)) (list_any (is_write_of version) (notes ++ more)) (ap not present))
 
 -- the newest is noted by other notes, where each is
 newest-mono : (notes other : List Written) (versions : List Version) → AllByRecursion (λ version. is_noted notes version ≡ true → is_noted other version ≡ true) versions
@@ -59,9 +53,9 @@ own-write version =
     ap (λ b. b && same_key version.key.table version.key.row version.key.table version.key.row) at ∙ same_key-own version.key.table version.key.row
 
 has-write : (version : Version) (before after : List Written) → list_any (is_write_of version) (before ++ written_by version ∷ after) ≡ true
-has-write version [] after = or-left (is_write_of version (written_by version)) (list_any (is_write_of version) after) (own-write version)
+has-write version [] after = or_left (is_write_of version (written_by version)) (list_any (is_write_of version) after) (own-write version)
 has-write version (first ∷ before) after =
-    or-right (is_write_of version first) (list_any (is_write_of version) (before ++ written_by version ∷ after)) (has-write version before after)
+    or_right (is_write_of version first) (list_any (is_write_of version) (before ++ written_by version ∷ after)) (has-write version before after)
 
 -- the versions in which the row is absent are noted by their writes
 all-noted : (before : List Written) (versions : List Version) → AllByRecursion (λ version. is_noted (before ++ map written_by (filter is_absent versions)) version ≡ true) versions
@@ -71,15 +65,15 @@ all-noted before (version ∷ versions) =
     let P : Bool → Type 0 = λ b. AllByRecursion (λ version. is_noted (before ++ map written_by (cond b (version ∷ rest) rest)) version ≡ true) (version ∷ versions) in
     let Q : List Written → Type 0 = λ notes. AllByRecursion (λ version. is_noted notes version ≡ true) versions in
     by_cases (is_absent version)
-    (λ absent. let later : Q (before ++ written_by version ∷ map written_by rest) = subst Q (append_assoc before (written_by version ∷ []) (map written_by rest)) (all-noted (before ++ written_by version ∷ []) versions) in let P' : Bool → Type 0 = λ b. (is_noted (before ++ map written_by (cond b (version ∷ rest) rest)) version ≡ true) × Q (before ++ map written_by (cond b (version ∷ rest) rest)) in subst P' (sym absent) (or-right (not (is_none version.row)) (list_any (is_write_of version) (before ++ written_by version ∷ map written_by rest)) (has-write version before (map written_by rest)), later))
-    (λ present. let P' : Bool → Type 0 = λ b. (is_noted (before ++ map written_by (cond b (version ∷ rest) rest)) version ≡ true) × Q (before ++ map written_by (cond b (version ∷ rest) rest)) in subst P' (sym present) (or-left (not (is_none version.row)) (list_any (is_write_of version) (before ++ map written_by rest)) (ap not present), all-noted before versions))
+    (λ absent. let later : Q (before ++ written_by version ∷ map written_by rest) = subst Q (append_assoc before (written_by version ∷ []) (map written_by rest)) (all-noted (before ++ written_by version ∷ []) versions) in let P' : Bool → Type 0 = λ b. (is_noted (before ++ map written_by (cond b (version ∷ rest) rest)) version ≡ true) × Q (before ++ map written_by (cond b (version ∷ rest) rest)) in subst P' (sym absent) (or_right (not (is_none version.row)) (list_any (is_write_of version) (before ++ written_by version ∷ map written_by rest)) (has-write version before (map written_by rest)), later))
+    (λ present. let P' : Bool → Type 0 = λ b. (is_noted (before ++ map written_by (cond b (version ∷ rest) rest)) version ≡ true) × Q (before ++ map written_by (cond b (version ∷ rest) rest)) in subst P' (sym present) (or_left (not (is_none version.row)) (list_any (is_write_of version) (before ++ map written_by rest)) (ap not present), all-noted before versions))
 
 all-of_key : (P : Version → Type 0) (key : Key) (versions : List Version) → AllByRecursion P versions → AllByRecursion P (of_key key versions)
 all-of_key P key [] each = tt
 all-of_key P key (version ∷ versions) each =
     let rest : AllByRecursion P (of_key key versions) = all-of_key P key versions each.1 in
     let Q : Bool → Type 0 = λ b. AllByRecursion P (cond b (version ∷ of_key key versions) (of_key key versions)) in
-    by_cases (is_of key version) (λ hit. subst Q (sym hit) (each.0, rest)) (λ miss. subst Q (sym miss) rest)
+    by_cases (is_version_of key version) (λ hit. subst Q (sym hit) (each.0, rest)) (λ miss. subst Q (sym miss) rest)
 
 -- the newest of each key is noted, once some versions are put and those in which the row is absent are noted
 pub noted-put : (key : Key) (old cells new : List Version) (notes : List Written) → of_key key new ≡ of_key key old ++ of_key key cells
@@ -119,7 +113,7 @@ all-late mark first end write writes (version ∷ versions) less from between =
     (skipped write writes version (other-place version write before), all-late mark version.place end write writes versions less later between.2)
 
 all-other : (key : Key) (write : Written) (writes : List Written) (versions : List Version) → same_key write.key.table write.key.row key.table key.row ≡ false
-    → AllByRecursion (λ version. is_of key version ≡ true) versions
+    → AllByRecursion (λ version. is_version_of key version ≡ true) versions
     → AllByRecursion (λ version. is_noted (write ∷ writes) version ≡ true → is_noted writes version ≡ true) versions
 all-other key write writes [] differ own = tt
 all-other key write writes (version ∷ versions) differ own =
@@ -129,7 +123,7 @@ all-other key write writes (version ∷ versions) differ own =
 
 -- a note that is taken out leaves the newest noted, where its key isn't spent
 pub noted-next : (mark end : ℕ) (key : Key) (versions : List Version) (write : Written) (writes replacing : List Written) → write.place < mark
-    → AreRising mark end replacing → written_to key replacing ≡ replacing_of (of_key key versions)
+    → AreWrittenInOrder mark end replacing → written_to key replacing ≡ replacing_of (of_key key versions)
     → (same_key write.key.table write.key.row key.table key.row ≡ true → is_spent mark (of_key key versions) ≡ false)
     → newest_is_noted (write ∷ writes) (of_key key versions) ≡ true → newest_is_noted writes (of_key key versions) ≡ true
 noted-next mark end key versions write writes replacing less rising replaced unspent is =
@@ -137,21 +131,21 @@ noted-next mark end key versions write writes replacing less rising replaced uns
     (λ same. by_list (of_key key versions) (replaced_rising) (unspent same) is)
     (λ differ. newest-mono (write ∷ writes) writes (of_key key versions) (all-other key write writes (of_key key versions) differ (all-pass key versions)) true true (λ yes'. yes') is)
   where
-    replaced_rising : AreRising mark end (replacing_of (of_key key versions))
-    replaced_rising = subst (AreRising mark end) replaced (rising-to key mark end replacing rising)
+    replaced_rising : AreWrittenInOrder mark end (replacing_of (of_key key versions))
+    replaced_rising = subst (AreWrittenInOrder mark end) replaced (rising-to key mark end replacing rising)
 
-    by_list : (own : List Version) → AreRising mark end (replacing_of own) → is_spent mark own ≡ false → newest_is_noted (write ∷ writes) own ≡ true → newest_is_noted writes own ≡ true
+    by_list : (own : List Version) → AreWrittenInOrder mark end (replacing_of own) → is_spent mark own ≡ false → newest_is_noted (write ∷ writes) own ≡ true → newest_is_noted writes own ≡ true
     by_list [] late alive is = refl
     by_list (version ∷ []) late alive is =
         by_cases (is_none version.row)
         (λ absent. by_cases (ltb version.place mark) (λ below. let spent : is_spent mark (version ∷ []) ≡ true = rw (below, absent) refl in let no : true ≡ false = sym spent ∙ alive in cc) (λ above. let from : mark ≤ version.place = grind (arith, nat_tests) in let before : write.place < version.place = omega arith in skipped write writes version (other-place version write before) is))
-        (λ present. or-left (not (is_none version.row)) (list_any (is_write_of version) writes) (ap not present))
+        (λ present. or_left (not (is_none version.row)) (list_any (is_write_of version) writes) (ap not present))
     by_list (first ∷ second ∷ more) late alive is =
         let between : AreBetween mark end (second ∷ more) = between-rising mark end (second ∷ more) late in
         newest-mono (write ∷ writes) writes (second ∷ more) (all-late mark mark end write writes (second ∷ more) less (omega arith) between) true true (λ yes'. yes') is
 
 -- no write from the mark on is of a version below it
-none-late : (mark first end : ℕ) (version : Version) (writes : List Written) → AreRising first end writes → mark ≤ first → version.place < mark → list_any (is_write_of version) writes ≡ false
+none-late : (mark first end : ℕ) (version : Version) (writes : List Written) → AreWrittenInOrder first end writes → mark ≤ first → version.place < mark → list_any (is_write_of version) writes ≡ false
 none-late mark first end version [] rising from less = refl
 none-late mark first end version (write ∷ writes) rising from less =
     let later : mark ≤ write.place = omega (arith, rising.0) in
@@ -160,7 +154,7 @@ none-late mark first end version (write ∷ writes) rising from less =
     ap (λ b. b || list_any (is_write_of version) writes) miss ∙ none-late mark write.place end version writes rising.2 later less
 
 -- once the notes are from the mark on, nothing is left to sweep
-pub nothing-spent : (mark end : ℕ) (versions : List Version) (notes : List Written) → AreRising mark end notes → newest_is_noted notes versions ≡ true → swept mark versions ≡ versions
+pub nothing-spent : (mark end : ℕ) (versions : List Version) (notes : List Written) → AreWrittenInOrder mark end notes → newest_is_noted notes versions ≡ true → swept mark versions ≡ versions
 nothing-spent mark end [] notes rising is = refl
 nothing-spent mark end (version ∷ []) notes rising is =
     by_cases (ltb version.place mark && is_none version.row)
@@ -270,7 +264,7 @@ next-length mark versions write new count is counts =
 
 -- all that is kept is kept so, without the note
 pub next-kept : (mark end : ℕ) (versions : List Version) (writes : List Written) (write : Written) (later : List Written) → write.place < mark
-    → IsKept versions writes (write ∷ later) mark end → IsKept (Next mark versions write) writes later mark end
+    → IsStoreKept versions writes (write ∷ later) mark end → IsStoreKept (Next mark versions write) writes later mark end
 next-kept mark end versions writes write later less kept = record {
   within = kept.within;
   ordered = λ key. (step key).ordered;

@@ -4,13 +4,14 @@ use Rattle.std.specs.List.{AllByRecursion}
 use Rattle.std.proofs.lemmas.Bool.Decides.{nat_tests}
 use Rattle.model_base.specs.declared.row.Key.{Key}
 use Rattle.body.specs.Room.{same_key}
-use Rattle.body.proofs.Rows.{by_cases, same_key-own}
+use Rattle.body.proofs.Rows.{same_key-own}
 use Rattle.chains.specs.declared.version.Version.{Version}
 use Rattle.chains.specs.declared.writes.Written.{Written}
 use Rattle.chains.specs.Keyed.{without_first}
-use Rattle.chains.specs.Kept.{AreRising, IsFrom, newest_is_noted, replacing_of, written_by, written_to}
-use Rattle.chains.specs.Store.{AreBetween, is_of, is_older, newest_alone, newest_or, of_key, trimmed}
+use Rattle.chains.specs.Kept.{AreWrittenInOrder, IsFrom, newest_is_noted, replacing_of, written_by, written_to}
+use Rattle.chains.specs.Store.{AreBetween, is_version_of, is_older, newest_alone, newest_or, of_key, trimmed}
 use Rattle.chains.proofs.Keyed.{key-is}
+use Rattle.model_base.proofs.Replay.{by_cases}
 
 -- the newest of some versions isn't the first of two
 newest-next : (first second : Version) (versions : List Version) → newest_alone (first ∷ second ∷ versions) ≡ newest_alone (second ∷ versions)
@@ -55,43 +56,43 @@ trimmed-whole mark end (version ∷ versions) late =
     (λ miss. rw (miss, rest.0, rest.1) refl)
 
 -- writes in order: from an earlier place, those of one key, and the versions that they are of
-pub rising-earlier : (earlier first end : ℕ) (writes : List Written) → earlier ≤ first → AreRising first end writes → AreRising earlier end writes
+pub rising-earlier : (earlier first end : ℕ) (writes : List Written) → earlier ≤ first → AreWrittenInOrder first end writes → AreWrittenInOrder earlier end writes
 rising-earlier earlier first end [] before rising = omega (arith, rising)
 rising-earlier earlier first end (write ∷ writes) before rising =
     let less : earlier ≤ write.place = omega (arith, rising.0) in (less, rising.1, rising.2)
 
-pub rising-next : (first end : ℕ) (write : Written) (writes : List Written) → AreRising first end (write ∷ writes) → AreRising first end writes
+pub rising-next : (first end : ℕ) (write : Written) (writes : List Written) → AreWrittenInOrder first end (write ∷ writes) → AreWrittenInOrder first end writes
 rising-next first end write writes rising = rising-earlier first write.place end writes rising.0 rising.2
 
-pub rising-from : (mark first end : ℕ) (writes : List Written) → IsFrom mark writes → mark ≤ end → AreRising first end writes → AreRising mark end writes
+pub rising-from : (mark first end : ℕ) (writes : List Written) → IsFrom mark writes → mark ≤ end → AreWrittenInOrder first end writes → AreWrittenInOrder mark end writes
 rising-from mark first end [] from within rising = within
 rising-from mark first end (write ∷ writes) from within rising = (from, rising.1, rising.2)
 
-pub rising-to : (key : Key) (first end : ℕ) (writes : List Written) → AreRising first end writes → AreRising first end (written_to key writes)
+pub rising-to : (key : Key) (first end : ℕ) (writes : List Written) → AreWrittenInOrder first end writes → AreWrittenInOrder first end (written_to key writes)
 rising-to key first end [] rising = rising
 rising-to key first end (write ∷ writes) rising =
-    let rest : AreRising write.place end (written_to key writes) = rising-to key write.place end writes rising.2 in
-    let P : Bool → Type 0 = λ b. AreRising first end (cond b (write ∷ written_to key writes) (written_to key writes)) in
+    let rest : AreWrittenInOrder write.place end (written_to key writes) = rising-to key write.place end writes rising.2 in
+    let P : Bool → Type 0 = λ b. AreWrittenInOrder first end (cond b (write ∷ written_to key writes) (written_to key writes)) in
     by_cases (same_key write.key.table write.key.row key.table key.row)
     (λ hit. subst P (sym hit) (rising.0, rising.1, rest))
     (λ miss. subst P (sym miss) (rising-earlier first write.place end (written_to key writes) rising.0 rest))
 
-pub between-rising : (first end : ℕ) (versions : List Version) → AreRising first end (map written_by versions) → AreBetween first end versions
+pub between-rising : (first end : ℕ) (versions : List Version) → AreWrittenInOrder first end (map written_by versions) → AreBetween first end versions
 between-rising first end [] rising = rising
 between-rising first end (version ∷ versions) rising = (rising.0, rising.1, between-rising version.place end versions rising.2)
 
 -- once the writes that replaced a version are from the mark on, nothing is left to trim
-pub nothing-left : (mark end : ℕ) (key : Key) (versions : List Version) (writes : List Written) → AreRising mark end writes
+pub nothing-left : (mark end : ℕ) (key : Key) (versions : List Version) (writes : List Written) → AreWrittenInOrder mark end writes
     → written_to key writes ≡ replacing_of versions → trimmed mark versions ≡ versions
 nothing-left mark end key versions writes rising replacing =
     trimmed-whole mark end versions
-    (λ version later is. between-rising mark end later (subst (AreRising mark end) (replacing ∙ ap replacing_of is) (rising-to key mark end writes rising)))
+    (λ version later is. between-rising mark end later (subst (AreWrittenInOrder mark end) (replacing ∙ ap replacing_of is) (rising-to key mark end writes rising)))
 
 -- without the first version of a key: the key's versions, those of another key, and how many there are
 pub of_key-first : (key : Key) (versions : List Version) → of_key key (without_first key versions) ≡ drop 1 (of_key key versions)
 of_key-first key [] = refl
 of_key-first key (version ∷ versions) =
-    by_cases (is_of key version)
+    by_cases (is_version_of key version)
     (λ hit. rw hit refl)
     (λ miss. let rest = of_key-first key versions in rw miss (rw miss rest))
 
@@ -99,22 +100,22 @@ pub of_key-other : (key other : Key) (versions : List Version) → same_key key.
 of_key-other key other [] differ = refl
 of_key-other key other (version ∷ versions) differ =
     let rest = of_key-other key other versions differ in
-    by_cases (is_of key version)
-    (λ hit. let miss : is_of other version ≡ false = subst (λ (k : Key). same_key k.table k.row other.table other.row ≡ false) (sym (key-is version.key key hit)) differ in ap (λ b. of_key other (cond b versions (version ∷ without_first key versions))) hit ∙ sym (ap (λ b. cond b (version ∷ of_key other versions) (of_key other versions)) miss))
-    (λ miss. ap (λ b. of_key other (cond b versions (version ∷ without_first key versions))) miss ∙ ap (λ vs. cond (is_of other version) (version ∷ vs) vs) rest)
+    by_cases (is_version_of key version)
+    (λ hit. let miss : is_version_of other version ≡ false = subst (λ (k : Key). same_key k.table k.row other.table other.row ≡ false) (sym (key-is version.key key hit)) differ in ap (λ b. of_key other (cond b versions (version ∷ without_first key versions))) hit ∙ sym (ap (λ b. cond b (version ∷ of_key other versions) (of_key other versions)) miss))
+    (λ miss. ap (λ b. of_key other (cond b versions (version ∷ without_first key versions))) miss ∙ ap (λ vs. cond (is_version_of other version) (version ∷ vs) vs) rest)
 
 pub length-first : (key : Key) (versions : List Version) (first : Version) (rest : List Version) → of_key key versions ≡ first ∷ rest → length (without_first key versions) + 1 ≡ length versions
 length-first key [] first rest is = cc
 length-first key (version ∷ versions) first rest is =
-    by_cases (is_of key version)
+    by_cases (is_version_of key version)
     (λ hit. ap (λ b. length (cond b versions (version ∷ without_first key versions)) + 1) hit ∙ omega arith)
     (λ miss. let others = length-first key versions first rest (sym (ap (λ b. cond b (version ∷ of_key key versions) (of_key key versions)) miss) ∙ is) in ap (λ b. length (cond b versions (version ∷ without_first key versions)) + 1) miss ∙ omega (arith, others))
 
-pub all-pass : (key : Key) (versions : List Version) → AllByRecursion (λ version. is_of key version ≡ true) (of_key key versions)
+pub all-pass : (key : Key) (versions : List Version) → AllByRecursion (λ version. is_version_of key version ≡ true) (of_key key versions)
 all-pass key [] = tt
 all-pass key (version ∷ versions) =
-    let P : Bool → Type 0 = λ b. AllByRecursion (λ version. is_of key version ≡ true) (cond b (version ∷ of_key key versions) (of_key key versions)) in
-    by_cases (is_of key version)
+    let P : Bool → Type 0 = λ b. AllByRecursion (λ version. is_version_of key version ≡ true) (cond b (version ∷ of_key key versions) (of_key key versions)) in
+    by_cases (is_version_of key version)
     (λ hit. subst P (sym hit) (hit, all-pass key versions))
     (λ miss. subst P (sym miss) (all-pass key versions))
 
@@ -151,11 +152,11 @@ pub record Dropped (mark end : ℕ) (key : Key) (old new : List Version) (writes
   pub noted : (notes : List Written) → newest_is_noted notes (of_key key old) ≡ true → newest_is_noted notes (of_key key new) ≡ true
 
 -- the oldest but one hides the oldest from the places behind it
-hidden : (place : ℕ) (key : Key) (first second : Version) (more : List Version) → second.place < place → is_of key second ≡ true
+hidden : (place : ℕ) (key : Key) (first second : Version) (more : List Version) → second.place < place → is_version_of key second ≡ true
     → newest_or None (second ∷ more) place key ≡ newest_or None (first ∷ second ∷ more) place key
 hidden place key first second more less own =
     let older : ltb second.place place ≡ true = grind (arith, nat_tests) in
-    let seen : is_older place key second ≡ true = ap (λ b. b && is_of key second) older ∙ own in
+    let seen : is_older place key second ≡ true = ap (λ b. b && is_version_of key second) older ∙ own in
     let hides = λ (row : Option (List ℤ)). newest_or (cond (is_older place key second) second.row row) more place key in
     ap (λ b. newest_or (cond b second.row None) more place key) seen
     ∙ ap (λ b. newest_or (cond b second.row (cond (is_older place key first) first.row None)) more place key) (sym seen)
@@ -174,8 +175,8 @@ dropped mark end versions write writes less ordered replacing key = by_cases (sa
     between : AreBetween 0 end (two.first ∷ two.second ∷ two.more)
     between = subst (AreBetween 0 end) two.is (ordered write.key)
 
-    passes : AllByRecursion (λ version. is_of write.key version ≡ true) (two.first ∷ two.second ∷ two.more)
-    passes = subst (AllByRecursion (λ version. is_of write.key version ≡ true)) two.is (all-pass write.key versions)
+    passes : AllByRecursion (λ version. is_version_of write.key version ≡ true) (two.first ∷ two.second ∷ two.more)
+    passes = subst (AllByRecursion (λ version. is_version_of write.key version ≡ true)) two.is (all-pass write.key versions)
 
     second_below : two.second.place < mark
     second_below = subst (λ (w : Written). w.place < mark) two.written less

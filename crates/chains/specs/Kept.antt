@@ -17,9 +17,9 @@ written_to key writes =
     filter (λ (write : Written). same_key write.key.table write.key.row key.table key.row) writes
 
 -- the writes stand in the order of their places, from the first place to below the end
-abbrev pub AreRising : ℕ → ℕ → List Written → Type 0
-AreRising first end [] = first ≤ end
-AreRising first end (write ∷ writes) = (first ≤ write.place) × (write.place < end) × AreRising write.place end writes
+abbrev pub AreWrittenInOrder : ℕ → ℕ → List Written → Type 0
+AreWrittenInOrder first end [] = first ≤ end
+AreWrittenInOrder first end (write ∷ writes) = (first ≤ write.place) × (write.place < end) × AreWrittenInOrder write.place end writes
 
 -- no write stands first whose place is below the mark
 abbrev pub IsFrom : ℕ → List Written → Type 0
@@ -50,10 +50,10 @@ newest_is_noted notes versions = fold (λ before (version : Version). is_noted n
 -- the mark isn't past the end; the versions of each key stand in the order of their places, below the end; the writes of
 -- those that replaced an older one stand in the order of their places, none of them below the mark; and the notes of versions in
 -- which a row is absent stand so too, among them each that is the newest of its key
-pub record IsKept (versions : List Version) (writes absent : List Written) (mark end : ℕ) : Type 0 where
+pub record IsStoreKept (versions : List Version) (writes absent : List Written) (mark end : ℕ) : Type 0 where
   pub within : mark ≤ end
   pub ordered : (key : Key) → AreBetween 0 end (of_key key versions)
   pub replacing : (key : Key) → written_to key writes ≡ replacing_of (of_key key versions)
-  pub rising : AreRising mark end writes
+  pub rising : AreWrittenInOrder mark end writes
   pub noted : (key : Key) → newest_is_noted absent (of_key key versions) ≡ true
-  pub falling : AreRising 0 end absent
+  pub falling : AreWrittenInOrder 0 end absent

@@ -4,7 +4,7 @@ use Rattle.std.specs.List.{flat_map, list_any}
 use Rattle.model_base.specs.declared.row.Key.{Key}
 use Rattle.chains.specs.declared.chain.Dated.{Dated}
 use Rattle.chains.specs.declared.version.Version.{Version}
-use Rattle.chains.specs.Store.{is_of}
+use Rattle.chains.specs.Store.{is_version_of}
 
 -- a version of the key
 abbrev pub version_at : Key → Dated → Version
@@ -18,13 +18,13 @@ versions_in chains = flat_map (λ (chain : Key × List Dated). map (version_at c
 abbrev pub without_first : Key → List Version → List Version
 without_first key [] = []
 without_first key (version ∷ versions) =
-    if is_of key version then versions else version ∷ without_first key versions
+    if is_version_of key version then versions else version ∷ without_first key versions
 
 -- without the last version of the key
 abbrev pub without_last : Key → List Version → List Version
 without_last key [] = []
 without_last key (version ∷ versions) =
-    if is_of key version && not (list_any (is_of key) versions) then versions else version ∷ without_last key versions
+    if is_version_of key version && not (list_any (is_version_of key) versions) then versions else version ∷ without_last key versions
 
 -- without the last version of the key of each of these, from the last of them to the first
 abbrev pub without_all : List Version → List Version → List Version

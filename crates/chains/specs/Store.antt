@@ -34,12 +34,12 @@ abbrev pub row_in : Store → ℕ → Key → Option (List ℤ)
 row_in store place key = newest_or None store.versions place key
 
 -- whether the version is of the key
-abbrev pub is_of : Key → Version → Bool
-is_of key version = (version.key.table == key.table) && (version.key.row == key.row)
+abbrev pub is_version_of : Key → Version → Bool
+is_version_of key version = (version.key.table == key.table) && (version.key.row == key.row)
 
 -- the versions of the key, in their order
 abbrev pub of_key : Key → List Version → List Version
-of_key key versions = filter (is_of key) versions
+of_key key versions = filter (is_version_of key) versions
 
 -- the newest of the versions, alone
 abbrev pub newest_alone : List Version → List Version

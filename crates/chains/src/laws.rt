@@ -14,10 +14,11 @@ pub fn versions_of_logs_are_in_order()
 
 /// The rows of the versions of a place are its version cells.
 pub fn versions_have_the_cells()
-    ensures { (log : List Statement) (place : ℕ) → map (λ (version : Version). version.row) (versions_at log place) ≡ version_cells log place }
+    ensures { (log : List Statement) (place : ℕ)
+        → map (λ (version : Version). version.row) (versions_at log place) ≡ version_cells log place }
 {}
 
-/// Statements that are put behind a log, each need of which is on one of its own tables, change nothing of the versions that
+/// Statements that are appended to a log, each need of which is on one of its own tables, change nothing of the versions that
 /// its places leave. So a store that is right for the log, and goes no further than it, is right for the longer log.
 pub fn right_stores_stay_right()
     ensures at { (log more : List Statement) (place : ℕ) → NeedsOwnTables log → place < length log

@@ -30,7 +30,7 @@ impl Rows {
     ghost use Rattle.std.specs.Prelude.{◌≡◌, ◌+◌, ◌≤◌, ◌++◌, ◌∷◌, [], List, None, ℕ, if◌then◌else◌, IfOk, OnOk, OnErr, length, map, nat_lt};
     ghost use Rattle.std.specs.VecDeque.{deque_capacity, deque_len};
     ghost use Rattle.model_base.specs.declared.row.Key.{Key as RowKey};
-    ghost use Rattle.chains.specs.Kept.{AreRising, IsKept, replacing_of, written_by, written_to};
+    ghost use Rattle.chains.specs.Kept.{AreWrittenInOrder, IsStoreKept, replacing_of, written_by, written_to};
     ghost use Rattle.chains.specs.Keyed.{without_all, without_first, without_last};
     ghost use Rattle.chains.specs.Store.{is_spent, newest_or, of_key, swept, trimmed};
     ghost use Rattle.chains.specs.declared.writes.Written.{Written as Noted};
@@ -105,8 +105,8 @@ impl Rows {
         ensures added { OnOk result ((key : RowKey) → of_key key self.new ≡ of_key key (self.old ++ versions.now)) }
         ensures replacing { OnOk result ((key : RowKey) → written_to key writes.old.items ≡ replacing_of (of_key key self.old)
             → written_to key writes.new.items ≡ replacing_of (of_key key self.new)) }
-        ensures rising { OnOk result ((first end : ℕ) → AreRising first end (writes.old.items ++ map written_by versions.now)
-            → AreRising first end writes.new.items) }
+        ensures rising { OnOk result ((first end : ℕ) → AreWrittenInOrder first end (writes.old.items ++ map written_by versions.now)
+            → AreWrittenInOrder first end writes.new.items) }
         ensures err { OnErr result (self.new ≡ self.old) }
         ensures writes { OnErr result (writes.new.items ≡ writes.old.items) }
     {
@@ -142,11 +142,11 @@ impl Rows {
     /// Takes out of each key the versions below the mark, but the newest of them, and answers how many they were. The
     /// writes that it goes by are those of the versions that replaced an older one.
     pub(crate) fn trim(&mut self, writes: &mut VecDeque<Written>, mark: Place) -> usize
-        requires { (absent : List Noted) × (first : ℕ) × (end : ℕ) × (mark ≤ end) × IsKept self.old writes.old.items absent first end }
+        requires { (absent : List Noted) × (first : ℕ) × (end : ℕ) × (mark ≤ end) × IsStoreKept self.old writes.old.items absent first end }
         ensures left { (key : RowKey) → of_key key self.new ≡ trimmed mark (of_key key self.old) }
         ensures newest { (place : ℕ) (key : RowKey) → mark ≤ place → newest_or None self.new place key ≡ newest_or None self.old place key }
-        ensures kept { (absent : List Noted) (first end : ℕ) → IsKept self.old writes.old.items absent first end → mark ≤ end
-            → IsKept self.new writes.new.items absent mark end }
+        ensures kept { (absent : List Noted) (first end : ℕ) → IsStoreKept self.old writes.old.items absent first end → mark ≤ end
+            → IsStoreKept self.new writes.new.items absent mark end }
         ensures gone { result + length self.new ≡ length self.old }
     {
         let before = writes.len();
@@ -180,7 +180,8 @@ impl Rows {
 
     /// Takes the version of the written key out, if it is a single one that tells nothing, and answers how many it took.
     fn take_spent(&mut self, mark: Place, write: &Written) -> usize
-        ensures rows { self.new ≡ (if is_spent mark (of_key write.now.key self.old) then without_first write.now.key self.old else self.old) }
+        ensures rows { self.new ≡ (if is_spent mark (of_key write.now.key self.old)
+            then without_first write.now.key self.old else self.old) }
         ensures count { result ≡ (if is_spent mark (of_key write.now.key self.old) then 1 else 0) }
     {
         if !self.is_spent(mark, write.key) {
@@ -193,11 +194,11 @@ impl Rows {
     /// Takes the single versions out that lie below the mark and tell nothing but that the row is absent, and answers how
     /// many they were. The notes that it goes by are those of versions in which a row is absent.
     pub(crate) fn sweep(&mut self, absent: &mut VecDeque<Written>, mark: Place) -> usize
-        requires { (writes : List Noted) × (end : ℕ) × IsKept self.old writes absent.old.items mark end }
+        requires { (writes : List Noted) × (end : ℕ) × IsStoreKept self.old writes absent.old.items mark end }
         ensures left { (key : RowKey) → of_key key self.new ≡ swept mark (of_key key self.old) }
         ensures newest { (place : ℕ) (key : RowKey) → newest_or None self.new place key ≡ newest_or None self.old place key }
-        ensures kept { (writes : List Noted) (end : ℕ) → IsKept self.old writes absent.old.items mark end
-            → IsKept self.new writes absent.new.items mark end }
+        ensures kept { (writes : List Noted) (end : ℕ) → IsStoreKept self.old writes absent.old.items mark end
+            → IsStoreKept self.new writes absent.new.items mark end }
         ensures gone { result + length self.new ≡ length self.old }
     {
         let _waiting = absent.len();

@@ -28,14 +28,14 @@ pub struct Chains {
 }
 
 impl Model for Chains {
-    ghost use Rattle.chains.specs.Kept.{IsKept};
+    ghost use Rattle.chains.specs.Kept.{IsStoreKept};
     ghost use Rattle.chains.specs.Store.{Store};
 
     ghost Value = { Store };
 
     ghost view = { λ chains. record { versions = chains.rows; mark = chains.mark; end = chains.end } };
 
-    ghost invariant = { λ chains. IsKept chains.rows chains.replacing.items chains.absent.items chains.mark chains.end };
+    ghost invariant = { λ chains. IsStoreKept chains.rows chains.replacing.items chains.absent.items chains.mark chains.end };
 }
 
 impl Chains {

@@ -9,7 +9,7 @@ use Rattle.model_base.specs.declared.deed.Cause.TheVariants.{Never, Taken}
 use Rattle.model_base.specs.declared.deed.Deed.{Deed}
 use Rattle.model_base.specs.declared.deed.Need.{Need}
 use Rattle.grants.specs.Loss.{last_end}
-use Rattle.grants.specs.View.{Shows, View, entries, holds_in}
+use Rattle.grants.specs.View.{ShowsDeeds, View, entries, holds_in}
 use Rattle.checker.specs.Admission.{admitted_if, told_if}
 use Rattle.checker.specs.Missing.{Covers, first_lacking, lack_of}
 use Rattle.checker.specs.declared.admission.Admission.{Admission}
@@ -29,7 +29,7 @@ module _ (view : View) (user : ℕ) where
   lacks_none None is = refl
   lacks_none (Some need) is = absurd (cc)
 
-  pub admitted_told : (owners : List ℕ) (deeds : List Deed) → Shows view owners deeds → (needed : List Need) → Covers view needed
+  pub admitted_told : (owners : List ℕ) (deeds : List Deed) → ShowsDeeds view owners deeds → (needed : List Need) → Covers view needed
       → ((need : Need) → IsSome (view.owner need.table) → holds_in view user need ≡ false
       → cause owners deeds user need ≡ option_map_or Taken (last_end (entries view) user need) Never)
       → told_if view user (first_lacking view user needed) ≡ admitted_if owners deeds user (find (λ need. not (holds owners deeds user need)) needed)

@@ -15,7 +15,7 @@ use Rattle.model_base.specs.declared.statement.Access.{Access}
 use Rattle.model_base.specs.Outcomes.{kind_if, need_of, needs_of_access}
 use Rattle.model_base.specs.Privileges.{has_kind, holds}
 use Rattle.model_base.proofs.Replay.{by_cases}
-use Rattle.grants.specs.View.{Shows, View, covers, holds_in}
+use Rattle.grants.specs.View.{ShowsDeeds, View, covers, holds_in}
 use Rattle.grants.proofs.ViewLaws.{held_after}
 use Rattle.checker.specs.Missing.{Covers, first_lack, first_lacking, lack_of, lacks}
 
@@ -107,7 +107,7 @@ module _ (view : View) where
         rw (← here) (lost, some_is (view.owner first.table) (All-head P first needed covered)))
 
     -- the view's first missing need is that after the deeds that it shows
-    pub first_shown : (owners : List ℕ) (deeds : List Deed) → Shows view owners deeds → (needed : List Need) → Covers view needed
+    pub first_shown : (owners : List ℕ) (deeds : List Deed) → ShowsDeeds view owners deeds → (needed : List Need) → Covers view needed
         → first_lacking view user needed ≡ find (λ need. not (holds owners deeds user need)) needed
     first_shown owners deeds shows [] covered = refl
     first_shown owners deeds shows (need ∷ needed) covered =
@@ -120,12 +120,3 @@ pub from_access : (accesses : List Access) (i : ℕ) (access : Access) → i < l
     → drop i accesses ≡ access ∷ drop (i + 1) accesses
 from_access accesses i access within is =
     rw (add-one i) (drop-cons accesses i access within ∙ ap (λ first. first ∷ drop (suc i) accesses) (sym is))
-
--- a found value, or none
-pub is_some_at : {X : Type 0} (o : Option X) → is_some o ≡ true → (x : X) × (o ≡ Some x)
-is_some_at (Some x) is = (x, refl)
-is_some_at None is = absurd (true≢false (sym is))
-
-pub is_none_at : {X : Type 0} (o : Option X) → is_some o ≡ false → o ≡ None
-is_none_at (Some x) is = absurd (true≢false is)
-is_none_at None is = refl

@@ -4,7 +4,7 @@ ghost use Rattle.std.specs.Prelude.{◌≡◌, ℕ, List, All, true};
 ghost use Rattle.model_base.specs.Outcomes.{needs};
 ghost use Rattle.model_base.specs.declared.deed.Deed.{Deed};
 ghost use Rattle.model_base.specs.declared.deed.Need.{Need};
-ghost use Rattle.grants.specs.View.{Shows, holds_in};
+ghost use Rattle.grants.specs.View.{ShowsDeeds, holds_in};
 ghost use Rattle.checker.specs.Admission.{admission, told_if};
 ghost use Rattle.checker.specs.Missing.{Covers, first_lacking};
 ghost use Rattle.checker.specs.declared.admission.Admission.TheVariants.{Admitted};
@@ -32,7 +32,7 @@ pub enum Admission {
 /// table to the user, up to one in force that gives it.
 pub fn admit<V: Records>(statement: &Statement, view: &mut V) -> Admission
     requires covered { Covers (V.shown view.old) (needs statement.now.form) }
-    ensures value { (owners : List ℕ) (deeds : List Deed) → Shows (V.shown view.old) owners deeds
+    ensures value { (owners : List ℕ) (deeds : List Deed) → ShowsDeeds (V.shown view.old) owners deeds
         → result ≡ admission owners deeds statement.now.user statement.now.form }
     ensures told { result ≡ told_if (V.shown view.old) statement.now.user
         (first_lacking (V.shown view.old) statement.now.user (needs statement.now.form)) }

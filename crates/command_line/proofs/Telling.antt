@@ -1,6 +1,6 @@
 -- What an error of the words is told as, and what words that are taken name.
 use Rattle.std.proofs.Common.{◌≡◌, ◌&&◌, Bool, true, false, not, List, Option, Some, None, refl, ap, sym, ◌∙◌, inl, inr}
-use Rattle.std.specs.Prelude.{Box, IfNone, option_map}
+use Rattle.std.specs.Prelude.{Box, option_map}
 use Rattle.std.specs.Box.{box_value}
 use Rattle.clap.specs.Words.{app_of, HasKind, Kinds, Row, Text, kind_of, subcommand_name_of, subcommand_rows, subcommand_rows_of}
 use Rattle.clap.specs.declared.parser.matches.ArgMatches.{ArgMatches}
@@ -11,11 +11,11 @@ use Rattle.clap.specs.declared.builder.command.Command.TheViews.{out-Command}
 use Rattle.clap.specs.declared.error.Error.{Error}
 use Rattle.clap.specs.declared.error.kind.ErrorKind.{ErrorKind}
 use Rattle.command_line.specs.declared.command_words.Usage.{Usage}
-use Rattle.command_line.specs.Words.{Tells, TellsOneOf}
+use Rattle.command_line.specs.Words.{TellsError, TellsOneOf}
 
 -- an error is told as one of the kinds that it may have, or as want of memory
 pub told : (kinds : Kinds) (error : Error) (usage : Usage) → HasKind kinds error
-    → (kind_of error ≡ ErrorKind.OutOfMemory → usage ≡ Usage.NoMemory) → Tells usage (kind_of error) → TellsOneOf kinds usage
+    → (kind_of error ≡ ErrorKind.OutOfMemory → usage ≡ Usage.NoMemory) → TellsError usage (kind_of error) → TellsOneOf kinds usage
 told kinds error usage has memory tells =
     elim has [
       | inl out ↦ inl (memory out)
@@ -38,11 +38,6 @@ both (Some p) name rows n r =
 pub entered : (matches : ArgMatches) (name : Text) (rows : List Row) → Some name ≡ subcommand_name_of matches → Some rows ≡ option_map (λ p. p.1) (subcommand_rows_of matches)
     → subcommand_rows_of matches ≡ Some (name, rows)
 entered matches name rows n r = both (subcommand_rows_of matches) name rows (n ∙ names_same (out-ArgMatches matches).subcommand) r
-
--- what holds whether there is a command or not
-pub outside_if_none : {X : Type 0} (o : Option X) (P : Type 0) → P → IfNone o P
-outside_if_none None P p = p
-outside_if_none (Some x) P p = tt
 
 -- the parts of a test that passes
 first_part : (a b : Bool) → (a && b) ≡ true → a ≡ true

@@ -6,8 +6,10 @@ use Rattle.clap.specs.ValueTests.{is_unsigned_in}
 use Rattle.clap.specs.Walk.{Row, Rule, Text, first_of}
 use Rattle.clap.specs.Simple.{App, new_rule, with_rule}
 use Rattle.clap.specs.declared.builder.value_parser.ValueParser.TheVariants as vp
+use Rattle.model_base.specs.declared.limits.TheConstants.{MOST_BATCH_STATEMENTS, MOST_KEPT_BATCHES, MOST_PARTITIONS, MOST_WORKERS}
 use Rattle.audit_text.specs.declared.question.Question.{Question}
 use Rattle.batched_text.specs.declared.settings.Settings.{Settings}
+use Rattle.command_line.specs.declared.options.TheConstants.{MOST_PLACE}
 
 -- an option whose value is a number within these limits, by default this one
 abbrev pub number_rule : Text → ℕ → ℕ → Text → Rule
@@ -21,10 +23,10 @@ number_rule name least most default = record (new_rule name) {
 -- the command with the options of `run`
 abbrev pub with_options : App → App
 with_options run =
-    let run = with_rule run (number_rule (codes "workers") 1 64 (codes "1")) in
-    let run = with_rule run (number_rule (codes "partitions") 1 64 (codes "1")) in
-    let run = with_rule run (number_rule (codes "batch") 1 65536 (codes "1024")) in
-    with_rule run (number_rule (codes "keep") 0 65535 (codes "1"))
+    let run = with_rule run (number_rule (codes "workers") 1 MOST_WORKERS (codes "4")) in
+    let run = with_rule run (number_rule (codes "partitions") 1 MOST_PARTITIONS (codes "4")) in
+    let run = with_rule run (number_rule (codes "batch") 1 MOST_BATCH_STATEMENTS (codes "1024")) in
+    with_rule run (number_rule (codes "keep") 0 MOST_KEPT_BATCHES (codes "1"))
 
 -- the number that a text tells, if it is one within these limits
 abbrev pub number_within : ℕ → ℕ → Text → Option ℕ
@@ -44,10 +46,10 @@ settings_among rows =
       batch = batch;
       keep = keep;
     })
-    (number_among (codes "keep") 0 65535 rows))
-    (number_among (codes "batch") 1 65536 rows))
-    (number_among (codes "partitions") 1 64 rows))
-    (number_among (codes "workers") 1 64 rows)
+    (number_among (codes "keep") 0 MOST_KEPT_BATCHES rows))
+    (number_among (codes "batch") 1 MOST_BATCH_STATEMENTS rows))
+    (number_among (codes "partitions") 1 MOST_PARTITIONS rows))
+    (number_among (codes "workers") 1 MOST_WORKERS rows)
 
 -- whether the flag of this name is among the words
 abbrev pub has_flag : Text → List Row → Bool
@@ -57,12 +59,12 @@ has_flag name rows = option_map_or (λ text. bytes_eq text (codes "true")) (firs
 abbrev pub question_among : List Row → Option Question
 question_among rows =
     option_map (λ place. record { place = place; is_checked = has_flag (codes "check") rows })
-    (number_among (codes "PLACE") 0 4294967294 rows)
+    (number_among (codes "PLACE") 0 MOST_PLACE rows)
 
 -- the place that a word names, if there is one, and if it is within the limits
 abbrev pub limit_named : Option Text → Option (Option ℕ)
 limit_named None = Some None
-limit_named (Some text) = option_map (λ place. Some place) (number_within 0 4294967294 text)
+limit_named (Some text) = option_map (λ place. Some place) (number_within 0 MOST_PLACE text)
 
 -- the place of `grants`, if it has one
 abbrev pub limit_among : List Row → Option (Option ℕ)

@@ -1,10 +1,11 @@
 -- The program's words, as they are described to `clap`: its subcommands, their arguments and options.
-use Rattle.std.specs.Prelude.{ℕ, List, Some, codes, map, true}
+use Rattle.std.specs.Prelude.{List, Some, codes, map, true}
 use Rattle.clap.specs.Words.{App, Rule, Shape, Text, new_app, new_rule, with_rule, with_subcommand}
 use Rattle.clap.specs.declared.builder.action.ArgAction.TheVariants.{SetTrue}
 use Rattle.clap.specs.declared.builder.value_parser.ValueParser.TheVariants as vp
 use denote.Ref.{Bor}
 use Rattle.command_line.specs.Options.{with_options}
+use Rattle.command_line.specs.declared.options.TheConstants.{MOST_PLACE}
 
 -- a word that has to be there
 abbrev pub required_rule : Text → Rule
@@ -12,7 +13,7 @@ required_rule name = record (new_rule name) { required = true }
 
 -- a word that is a place
 abbrev pub place_rule : Rule → Rule
-place_rule word = record word { parser = Some (vp.Unsigned 0 4294967294) }
+place_rule word = record word { parser = Some (vp.Unsigned 0 MOST_PLACE) }
 
 -- a flag by its name
 abbrev pub flag_rule : Text → Rule

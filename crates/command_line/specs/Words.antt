@@ -15,15 +15,15 @@ use Rattle.command_line.specs.declared.command_words.Verb.{Verb}
 use Rattle.command_line.specs.declared.work.WorkFault.{WorkFault}
 
 -- whether an error of this kind is told so: help and the version as help, any other as a fault of the words
-abbrev pub Tells : Usage → ErrorKind → Type 0
-Tells (Usage.Help text) kind = (kind ≡ ErrorKind.DisplayHelp) ⊎ (kind ≡ ErrorKind.DisplayVersion)
-Tells (Usage.Fault text) kind = (kind ≢ ErrorKind.DisplayHelp) × (kind ≢ ErrorKind.DisplayVersion)
-Tells Usage.OutsideLimits kind = ⊥
-Tells Usage.NoMemory kind = Unit {0}
+abbrev pub TellsError : Usage → ErrorKind → Type 0
+TellsError (Usage.Help text) kind = (kind ≡ ErrorKind.DisplayHelp) ⊎ (kind ≡ ErrorKind.DisplayVersion)
+TellsError (Usage.Fault text) kind = (kind ≢ ErrorKind.DisplayHelp) × (kind ≢ ErrorKind.DisplayVersion)
+TellsError Usage.OutsideLimits kind = ⊥
+TellsError Usage.NoMemory kind = Unit {0}
 
 -- want of memory, or one of these kinds of error, told so
 abbrev pub TellsOneOf : Kinds → Usage → Type 0
-TellsOneOf kinds usage = (usage ≡ Usage.NoMemory) ⊎ ((kind : ErrorKind) × (IsAmong kind kinds × Tells usage kind))
+TellsOneOf kinds usage = (usage ≡ Usage.NoMemory) ⊎ ((kind : ErrorKind) × (IsAmong kind kinds × TellsError usage kind))
 
 -- 0 where help or the version was asked for, 2 for words that are wrong, and 1 for any other fault
 abbrev pub status_of : ProgramFault → ℕ

@@ -4,7 +4,7 @@ ghost use Rattle.std.specs.Prelude.{◌≡◌, ◌⊎◌, [], Err, IfOk, IfErr, 
 ghost use Rattle.std.specs.Option.{option_map};
 ghost use Rattle.clap.specs.Words.{fault_of, found_of, kind_of, rows_of, subcommand_of, subcommand_rows_of};
 ghost use Rattle.command_line.specs.Shapes.{bohm_app, texts_of};
-ghost use Rattle.command_line.specs.Words.{Asks, AsksOutsideLimits, IsWithinLimits, Tells, TellsOneOf, asked, asked_by, asked_in, message_of, path_named, path_of, status_of, verb_named};
+ghost use Rattle.command_line.specs.Words.{Asks, AsksOutsideLimits, IsWithinLimits, TellsError, TellsOneOf, asked, asked_by, asked_in, message_of, path_named, path_of, status_of, verb_named};
 
 use crate::options::{limit_of, question_of, settings_of};
 use crate::subcommands::program;
@@ -75,7 +75,7 @@ pub enum ProgramFault {
 /// The usage fault, or the help, that the words came to.
 fn usage_of(alloc: Global, error: &Error) -> Usage
     ensures memory { kind_of error.now ≡ ErrorKind.OutOfMemory → result ≡ Usage.NoMemory }
-    ensures told { Tells result (kind_of error.now) }
+    ensures told { TellsError result (kind_of error.now) }
 {
     if error.kind() == ErrorKind::OutOfMemory {
         return Usage::NoMemory;

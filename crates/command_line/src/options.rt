@@ -10,7 +10,9 @@ use audit_text::Question;
 use batched_text::Settings;
 use clap::builder::ValueParser;
 use clap::{Arg, ArgMatches, Command};
-use model_base::Place;
+use model_base::{
+    MOST_BATCH_STATEMENTS, MOST_KEPT_BATCHES, MOST_PARTITIONS, MOST_PLACES, MOST_WORKERS, Place,
+};
 use std::alloc::{AllocError, Global};
 
 /// An option whose value is a number.
@@ -26,23 +28,23 @@ struct NumberOption {
 const WORKERS: NumberOption = NumberOption {
     name: "workers",
     least: 1,
-    most: 64,
-    default: "1",
+    most: MOST_WORKERS as u64,
+    default: "4",
     help: "How many workers run a batch, 1 to 64",
 };
 
 const PARTITIONS: NumberOption = NumberOption {
     name: "partitions",
     least: 1,
-    most: 64,
-    default: "1",
+    most: MOST_PARTITIONS as u64,
+    default: "4",
     help: "By how many partitions a batch is placed, 1 to 64",
 };
 
 const BATCH: NumberOption = NumberOption {
     name: "batch",
     least: 1,
-    most: 65_536,
+    most: MOST_BATCH_STATEMENTS,
     default: "1024",
     help: "How many accepted statements a batch has, 1 to 65536",
 };
@@ -50,13 +52,13 @@ const BATCH: NumberOption = NumberOption {
 const KEEP: NumberOption = NumberOption {
     name: "keep",
     least: 0,
-    most: 65_535,
+    most: MOST_KEPT_BATCHES,
     default: "1",
     help: "Before how many of the last batches the rows are kept, 0 to 65535",
 };
 
 /// The greatest place of a log.
-pub(crate) const MOST_PLACE: u64 = 4_294_967_294;
+pub(crate) const MOST_PLACE: u64 = MOST_PLACES - 1;
 
 /// Adds an option to a command's description.
 fn with_number<'a>(
@@ -137,7 +139,7 @@ fn has_flag(found: &ArgMatches<'_>, name: &str) -> bool
 
 /// The place that the words tell, if they tell one and it is within the limits.
 fn place_of(found: &ArgMatches<'_>) -> Option<Place>
-    ensures { result ≡ number_among (codes "PLACE") 0 4294967294 (rows_of (found_of found.now)) }
+    ensures { result ≡ number_among (codes "PLACE") 0 MOST_PLACE (rows_of (found_of found.now)) }
 {
     match found.get_str("PLACE") {
         Some(text) => number_within(text, 0, MOST_PLACE),

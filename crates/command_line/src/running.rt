@@ -1,10 +1,12 @@
 //! Does what a command asks for with its log, and tells how that ended.
 
-ghost use Rattle.std.specs.Prelude.{◌≡◌, ◌↔◌, ℕ, Err, IsErr, IsOk, Option, true};
+ghost use Rattle.std.specs.Prelude.{◌≡◌, ◌↔◌, ℕ, Err, IsErr, IsOk, List, Option, true};
+ghost use Rattle.audit_text.specs.Answer.{IsExplanation};
+ghost use Rattle.audit_text.specs.Picture.{IsPicture};
 ghost use Rattle.audit_text.specs.declared.question.Question.{Question};
 ghost use Rattle.batched_text.specs.Settings.{are_within_limits};
 ghost use Rattle.batched_text.specs.declared.settings.Settings.{Settings};
-ghost use Rattle.command_line.specs.Running.{DoesCommand, EndsAt, EndsBySettings, IsAnswer};
+ghost use Rattle.command_line.specs.Running.{DoesCommand, EndsAt, EndsBySettings, IsWorkAnswer, TellsReports};
 ghost use Rattle.command_line.specs.Words.{IsWithinLimits};
 
 use crate::command_words::{Command, ProgramFault, Source};
@@ -31,7 +33,7 @@ fn work_on<O: Copy, K: Work<O>, T: Threads + Wait + Sync, R: Read + Drop, W: Wri
     told: W,
 ) -> Result<(), ProgramFault>
     requires { K.takes work.now order }
-    ensures { IsAnswer (K.answers work.now order) result }
+    ensures { IsWorkAnswer (K.answers work.now order) result }
 {
     let mut log = Counted::new(log);
     let mut told = Counted::new(told);
@@ -50,7 +52,7 @@ fn work_on_file<O: Copy, K: Work<O>, T: Threads + Wait + Sync, F: Read + Drop, W
 ) -> Result<(), ProgramFault>
     requires { K.takes work.now order }
     ensures unopened { (result ≡ Err ProgramFault.Open) ↔ IsErr opened }
-    ensures opened { IsOk opened → IsAnswer (K.answers work.now order) result }
+    ensures opened { IsOk opened → IsWorkAnswer (K.answers work.now order) result }
 {
     match opened {
         Ok(log) => work_on(rt, alloc, work, order, log, told),
@@ -114,7 +116,7 @@ fn run_by_settings<
 }
 
 /// Does what a command asks for: `run` by the plain run or in batches, as its settings ask, `serial` by the slow run, `explain` by
-/// the answer to its question, and `grants` by the picture of the grants.
+/// the answer to its question, and `grants` by the picture of the grants. It is given works that tell just that.
 pub fn do_command<
     P: Work<()>,
     B: Work<Settings>,
@@ -134,6 +136,13 @@ pub fn do_command<
     requires slow { S.takes works.now.slow tt }
     requires explained { (question : Question) → E.takes works.now.explained question }
     requires pictured { (limit : Option ℕ) → G.takes works.now.pictured limit }
+    requires plain_reports { TellsReports (P.tells works.now.plain tt) }
+    requires batched_reports { (settings : Settings) → TellsReports (B.tells works.now.batched settings) }
+    requires slow_reports { TellsReports (S.tells works.now.slow tt) }
+    requires explains { (question : Question) (input text : List ℕ)
+        → E.tells works.now.explained question input text → IsExplanation input question text }
+    requires pictures { (limit : Option ℕ) (input text : List ℕ)
+        → G.tells works.now.pictured limit input text → IsPicture input limit text }
     ensures { DoesCommand (P.answers works.now.plain tt) (B.answers works.now.batched) (S.answers works.now.slow tt)
         (E.answers works.now.explained) (G.answers works.now.pictured) command.entry result }
 {

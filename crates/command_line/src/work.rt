@@ -7,7 +7,7 @@ ghost use Rattle.audit_text.specs.Answer.{IsExplanation};
 ghost use Rattle.audit_text.specs.Picture.{IsPicture};
 ghost use Rattle.batched_text.specs.Settings.{are_within_limits};
 ghost use Rattle.engine.specs.declared.fault.EngineFault.TheVariants.{BadSettings};
-ghost use Rattle.command_line.specs.Running.{HasBegun, HasTold};
+ghost use Rattle.command_line.specs.Running.{TextHasBegun, HasTold};
 ghost use Rattle.batched_text.specs.Faults.{of_text};
 ghost use Rattle.command_line.specs.Works.{of_audit, of_run};
 ghost use Rattle.command_line.specs.declared.work.WorkFault.{WorkFault};
@@ -57,8 +57,10 @@ pub trait Work<O: Copy> {
         requires shared { IsSync T.row }
         requires takes { takes self.now order }
         ensures answers { answers self.now order result }
-        ensures done { OnOk result (HasTold (tells self.now order) (R.remaining log.old.inner) (W.contents told.old.inner) (W.contents told.new.inner)) }
-        ensures begun { HasBegun (tells self.now order) (R.remaining log.old.inner) (W.contents told.old.inner) (W.contents told.new.inner) }
+        ensures done { OnOk result (HasTold (tells self.now order) (R.remaining log.old.inner)
+            (W.contents told.old.inner) (W.contents told.new.inner)) }
+        ensures begun { TextHasBegun (tells self.now order) (R.remaining log.old.inner)
+            (W.contents told.old.inner) (W.contents told.new.inner) }
         ensures read { result ≡ Err WorkFault.Read → log.old.errors < 2 ^ 64 - 1 → log.old.errors < log.new.errors }
         ensures write { result ≡ Err WorkFault.Write → told.old.errors < 2 ^ 64 - 1 → told.old.errors < told.new.errors }
         ensures whole { OnOk result ((log.new.errors ≡ log.old.errors) × (told.new.errors ≡ told.old.errors)) };

@@ -10,7 +10,7 @@ use Rattle.model_base.specs.declared.outcome.Outcome.{Outcome}
 use Rattle.model_base.specs.declared.statement.Statement.{Statement}
 use Rattle.model_base.specs.Outcomes.{outcome}
 use Rattle.chains.specs.Store.{IsRight, Store}
-use Rattle.grants.specs.Book.{Entries, table_of}
+use Rattle.grants.specs.Book.{Entries, table_of_deed}
 use Rattle.grants.specs.declared.book.Creation.{Creation}
 use Rattle.sequencer.specs.Log.{Accepted, empty_log}
 use Rattle.sequencer.specs.Tail.{Tail}
@@ -18,7 +18,7 @@ use Rattle.standing.specs.Known.{AreKnown}
 use Rattle.standing.specs.Stands.{Stands}
 use Rattle.standing.proofs.Came.{came_at, came_count}
 use Rattle.taking.specs.Span.{AreOutcomes}
-use Rattle.engine.specs.Engine.{AreNamed, IsKept, IsRun, Run, finished}
+use Rattle.engine.specs.Engine.{AreNamed, IsRunKept, IsRun, Run, finished}
 
 ranges : (first count more : ℕ) → range_with_len first (count + more) ≡ range_with_len first count ++ range_with_len (first + count) more
 ranges first zero more =
@@ -105,7 +105,7 @@ run_start log store book outcomes none ends right tables records nothing =
         ends = ends;
         right = right [];
         booked = record {
-          shown = record { more = []; begins = refl; proper = tt; told = All-nil (λ (deed : Deed). table_of deed < 0); same = refl };
+          shown = record { more = []; begins = refl; proper = tt; told = All-nil (λ (deed : Deed). table_of_deed deed < 0); same = refl };
           later = record {
             tables = All-nil (λ (creation : Creation). creation.place < 0);
             grants = All-nil (λ (entry : Record). entry.grant.place < 0);
@@ -124,8 +124,8 @@ run_start log store book outcomes none ends right tables records nothing =
 -- and nothing was dropped
 pub kept_start : (tail : Tail) (store : Store) (book : Entries) (past outcomes : List Outcome) → tail ≡ record { log = empty_log; dropped = 0 } → store.end ≡ 0
     → ((one : List Statement) → IsRight one store) → book.tables ≡ [] → book.records ≡ [] → past ≡ [] → outcomes ≡ []
-    → IsKept (record { log = tail.log; store = store; book = book; outcomes = past ++ outcomes; dropped = tail.dropped }) past
+    → IsRunKept (record { log = tail.log; store = store; book = book; outcomes = past ++ outcomes; dropped = tail.dropped }) past
 kept_start tail store book past outcomes none ends right tables records nothing no_outcomes =
-    let P : Tail → List Outcome → Type 0 = λ t p. IsKept (record { log = t.log; store = store; book = book; outcomes = p ++ outcomes; dropped = t.dropped }) p in
+    let P : Tail → List Outcome → Type 0 = λ t p. IsRunKept (record { log = t.log; store = store; book = book; outcomes = p ++ outcomes; dropped = t.dropped }) p in
     subst (λ (t : Tail). P t past) (sym none) (subst (P (record { log = empty_log; dropped = 0 })) (sym nothing)
     (record { is = run_start empty_log store book outcomes refl ends right tables records no_outcomes; same = refl }))

@@ -1,7 +1,6 @@
--- What stands before a place of a log stands there when more is put behind the log.
+-- What stands before a place of a log stands there when more is appended to the log.
 use Rattle.std.proofs.Common.{◌≡◌, ◌≤◌, ◌+◌, ◌++◌, ℕ, zero, suc, List, [], ◌∷◌, length, map, take, refl, ap, sym, ◌∙◌, subst, arith, append_assoc}
 use Rattle.std.specs.List.{range_with_len}
-use Rattle.std.proofs.lemmas.Grind.{flat_map-append}
 use Rattle.std.proofs.lemmas.List.{length-append}
 use Rattle.model_base.specs.declared.deed.Deed.{Deed}
 use Rattle.model_base.specs.declared.outcome.Outcome.{Outcome}
@@ -13,13 +12,10 @@ use Rattle.model_base.proofs.Owners.{records-owners}
 use Rattle.chains.specs.Store.{Store}
 use Rattle.grants.specs.Book.{Entries, ShowsBook, owners_of}
 use Rattle.model_base.specs.Growing.{NeedsOwnTables}
-use Rattle.model_base.proofs.Growing.{outcome-stands, world-stands}
+use Rattle.model_base.proofs.Growing.{outcome-stands, world-stands, owners-append}
 use Rattle.standing.specs.Known.{AreKnown, AreKnownFrom, IsKnown}
 use Rattle.standing.specs.Stands.{Stands}
 use Rattle.taking.specs.Span.{AreOutcomes}
-
-owners-append : (xs ys : List Statement) → owners (xs ++ ys) ≡ owners xs ++ owners ys
-owners-append xs ys = flat_map-append (λ (s : Statement). creator s.user s.form) xs ys
 
 take-front : {X : Type 0} (n : ℕ) (xs ys : List X) → n ≤ length xs → take n (xs ++ ys) ≡ take n xs
 take-front zero xs ys less = refl

@@ -15,7 +15,7 @@ use Rattle.log_text.specs.declared.statement.RawDeed.{RawDeed}
 use Rattle.log_text.specs.declared.statement.RawForm.{RawForm}
 use Rattle.sequencer.specs.Names.{is_known, with_name}
 use Rattle.sequencer.specs.Catalog.{Names, numbered, numbered_deed, numbered_form}
-use Rattle.sequencer.specs.Refusal.{accesses_refusal, create_refusal, deed_refusal, form_refusal, name_refusal, refusal, steps_refusal, table_refusal, unless}
+use Rattle.sequencer.specs.Refusal.{accesses_refusal, create_refusal, deed_refusal, form_refusal, name_refusal, refusal, steps_refusal, table_refusal, refuse_unless}
 use Rattle.sequencer.specs.declared.refused.Refused.{Refused}
 use Rattle.sequencer.proofs.Passed.{both_none, known-table, passes}
 use Rattle.grants.specs.declared.book.Creation.{Creation}
@@ -28,7 +28,7 @@ not_true false is = refl
 
 room : (names : Names) (table : List ℕ) (columns : ℕ) → create_refusal names table columns ≡ None → name_refusal names.tables table ≡ None → length names.tables < 65536
 room names table columns new few =
-    let unknown = not_true (is_known names.tables table) (passes (not (is_known names.tables table)) Refused.TableExists (both_none (unless (not (is_known names.tables table)) Refused.TableExists) _ new).0) in
+    let unknown = not_true (is_known names.tables table) (passes (not (is_known names.tables table)) Refused.TableExists (both_none (refuse_unless (not (is_known names.tables table)) Refused.TableExists) _ new).0) in
     elim (or_cases (nat_lt (length names.tables) 65536) (is_known names.tables table) (passes (nat_lt (length names.tables) 65536 || is_known names.tables table) Refused.TooManyNames few)) [
       | inl less ↦ ltb-true (length names.tables) 65536 less
       | inr known ↦ absurd (true≢false (sym known ∙ unknown))

@@ -14,7 +14,7 @@ use Rattle.sequencer.specs.Tail.{Tail}
 use Rattle.sequencer.specs.Taken.{IsWhole}
 use Rattle.sequencer.specs.declared.refused.Refused.{Refused}
 use Rattle.standing.specs.Known.{IsKnown}
-use Rattle.engine.specs.Engine.{IsKept, IsRun, Run}
+use Rattle.engine.specs.Engine.{IsRunKept, IsRun, Run}
 use Rattle.model_base.specs.Growing.{NeedsOwnTables, NeedsWithin}
 use Rattle.engine.proofs.Grown.{known_grown, outcomes_grown, stands_grown}
 use Rattle.engine.proofs.Named.{known_new, named_grown}
@@ -43,8 +43,8 @@ module _ (tail : Tail) (store : Store) (book : Entries) (outcomes : List Outcome
   -- so it is with the answer that takes it, or refuses it
   pub pushed : (past : List Outcome) → length past ≡ tail.dropped → (sentence : Sentence) (after : Tail) (result : Result ℕ Refused)
       → OnOk result (after ≡ record tail { log = with_accepted tail.log sentence }) → OnOk result (refusal tail.log.names sentence ≡ None) → OnErr result (after ≡ tail)
-      → IsKept (run_of store book outcomes after.dropped after.log) past
+      → IsRunKept (run_of store book outcomes after.dropped after.log) past
   pushed past same sentence after (Ok place) accepted passes err =
-      subst (λ (t : Tail). IsKept (run_of store book outcomes t.dropped t.log) past) (sym accepted) (record { is = one-more sentence passes; same = same })
+      subst (λ (t : Tail). IsRunKept (run_of store book outcomes t.dropped t.log) past) (sym accepted) (record { is = one-more sentence passes; same = same })
   pushed past same sentence after (Err refused) accepted passes err =
-      subst (λ (t : Tail). IsKept (run_of store book outcomes t.dropped t.log) past) (sym err) (record { is = run; same = same })
+      subst (λ (t : Tail). IsRunKept (run_of store book outcomes t.dropped t.log) past) (sym err) (record { is = run; same = same })

@@ -3,6 +3,7 @@
 -- Concurrency Control", PVLDB 8, 2015, section 3). That each place is counted as finished with its whole batch is this project's
 -- own.
 use Rattle.std.specs.Prelude.{◌≡◌, ◌==◌, ◌&&◌, ◌≤◌, ◌+◌, ◌-◌, ℕ, Bool, List, [], ◌∷◌, length, nat_le, nat_lt}
+use Rattle.model_base.specs.declared.limits.TheConstants.{MOST_BATCH_STATEMENTS, MOST_PARTITIONS, MOST_WORKERS}
 use Rattle.model_base.specs.declared.outcome.Outcome.{Outcome}
 use Rattle.model_base.specs.declared.statement.Statement.{Statement}
 use Rattle.model_base.specs.Growing.{NeedsWithin}
@@ -48,15 +49,16 @@ pub record IsRun (run : Run) : Type 0 where
   pub dropped : run.dropped ≤ finished run
 
 -- so it is, and as many outcomes were dropped as statements
-pub record IsKept (run : Run) (past : List Outcome) : Type 0 where
+pub record IsRunKept (run : Run) (past : List Outcome) : Type 0 where
   pub is : IsRun run
   pub same : length past ≡ run.dropped
 
 -- whether the range may be run as the next batch, by so many workers and placers: it begins where the finished places end, lies
--- in the log, and has 1 to 65,536 places; and there are 1 to 64 workers and 1 to 64 partitions
+-- in the log, and has 1 to `MOST_BATCH_STATEMENTS` places; and there are 1 to `MOST_WORKERS` workers and 1 to `MOST_PARTITIONS`
+-- partitions
 abbrev pub may_run : Run → ℕ → ℕ → Crew → Bool
 may_run run first end crew =
     (first == finished run)
-    && (nat_lt first end && nat_le end (length run.log.statements) && nat_le (end - first) 65536)
-    && (nat_le 1 crew.workers && nat_le crew.workers 64)
-    && (nat_le 1 crew.partitions && nat_le crew.partitions 64)
+    && (nat_lt first end && nat_le end (length run.log.statements) && nat_le (end - first) MOST_BATCH_STATEMENTS)
+    && (nat_le 1 crew.workers && nat_le crew.workers MOST_WORKERS)
+    && (nat_le 1 crew.partitions && nat_le crew.partitions MOST_PARTITIONS)

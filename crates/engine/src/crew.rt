@@ -3,8 +3,8 @@
 /// By how many workers a batch is run, and by how many placers it is placed.
 #[derive(Clone, Copy, PartialEq, Eq, Debug)]
 pub struct Crew {
-    /// How many workers run its places: 1 to 64. The caller's thread is the first, each other has a thread of its own.
+    /// How many workers run its places: 1 to `MOST_WORKERS`. The caller's thread is the first, each other has a thread of its own.
     pub workers: usize,
-    /// By how many partitions it is placed, each by a placer of its own: 1 to 64.
+    /// By how many partitions it is placed, each by a placer of its own: 1 to `MOST_PARTITIONS`.
     pub partitions: usize,
 }

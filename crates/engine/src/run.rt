@@ -12,7 +12,7 @@ use executing::execute;
 use grants::Book;
 use log_batch::LogBatch;
 use log_text::RawStatement;
-use model_base::{Key, Outcome, Place, Row};
+use model_base::{Key, MOST_BATCH_STATEMENTS, MOST_PARTITIONS, MOST_WORKERS, Outcome, Place, Row};
 use past::{Past, forget_first};
 use placers::references_of;
 use sequencer::{LogTail, Refused};
@@ -24,12 +24,6 @@ use std::sync::Wait;
 use std::thread::Threads;
 use taking::{Taken, take};
 use workers::Gate;
-
-/// How many places a batch has at most.
-const MOST_PLACES: u64 = 65_536;
-
-/// By how many workers a batch is run at most, and by how many partitions it is placed.
-const MOST_THREADS: usize = 64;
 
 /// A log, the outcomes of its finished places, and what stands behind these: the versions of rows and the book of grants. What
 /// was finished may be forgotten, statements and outcomes both; rows and book stay.
@@ -44,7 +38,7 @@ pub struct Engine {
 
 impl Model for Engine {
     ghost use Rattle.std.specs.Prelude.{◌++◌};
-    ghost use Rattle.engine.specs.Engine.{IsKept, Run};
+    ghost use Rattle.engine.specs.Engine.{IsRunKept, Run};
 
     ghost Value = { Run };
 
@@ -56,7 +50,7 @@ impl Model for Engine {
       dropped = engine.log.dropped;
     } };
 
-    ghost invariant = { λ engine. IsKept (record {
+    ghost invariant = { λ engine. IsRunKept (record {
       log = engine.log.log;
       store = engine.chains;
       book = engine.book;
@@ -82,7 +76,8 @@ fn ran<T: Threads + Wait + Sync, G: Gate + Sync>(
     requires order { range.start ≤ range.end }
     requires within { range.end ≤ length log.now.log.statements }
     requires stands { Stands log.now.log.statements range.start chains.now book.now }
-    ensures outcomes { IfOk result (λ taken. AreOutcomes log.now.log.statements range.start (range.end - range.start) taken.outcomes.items) }
+    ensures outcomes { IfOk result (λ taken. AreOutcomes log.now.log.statements range.start
+        (range.end - range.start) taken.outcomes.items) }
     ensures versions { IfOk result (λ taken. taken.versions.items ≡ versions_between log.now.log.statements range.start range.end) }
 {
     let (start, end) = (range.start, range.end);
@@ -140,7 +135,8 @@ impl Engine {
     /// The book of grants: it shows the deeds before the first place that isn't finished.
     pub fn book(&self) -> &Book
         ensures value { result.now ≡ self.now.book }
-        ensures shows { ShowsBook self.now.book (owners self.now.log.statements) (deeds_before self.now.log.statements (finished self.now)) }
+        ensures shows { ShowsBook self.now.book (owners self.now.log.statements)
+            (deeds_before self.now.log.statements (finished self.now)) }
     {
         &self.book
     }
@@ -233,16 +229,16 @@ impl Engine {
     }
 
     /// Whether the range may be run as the next batch, by so many workers and placers: it begins at `finished`, lies in the log and
-    /// has 1 to 65,536 places, and there are 1 to 64 workers and 1 to 64 partitions.
+    /// has 1 to `MOST_BATCH_STATEMENTS` places, and there are 1 to `MOST_WORKERS` workers and 1 to `MOST_PARTITIONS` partitions.
     pub fn may_run(&self, range: &Range<Place>, crew: Crew) -> bool
         ensures { result ≡ may_run self.now range.now.start range.now.end crew }
     {
         let (start, end) = (range.start, range.end);
         let len = self.log.len();
         start == self.log.dropped() + self.outcomes.len() as u64
-            && (start < end && end <= len && end - start <= MOST_PLACES)
-            && (1 <= crew.workers && crew.workers <= MOST_THREADS)
-            && (1 <= crew.partitions && crew.partitions <= MOST_THREADS)
+            && (start < end && end <= len && end - start <= MOST_BATCH_STATEMENTS)
+            && (1 <= crew.workers && crew.workers <= MOST_WORKERS)
+            && (1 <= crew.partitions && crew.partitions <= MOST_PARTITIONS)
     }
 
     /// Runs the range as the next batch, by so many workers and placers, which tell the gate as `run_to` says. Then its places are finished: their outcomes are the log's,

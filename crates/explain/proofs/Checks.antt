@@ -11,7 +11,7 @@ use Rattle.model_base.specs.declared.statement.Statement.{Statement}
 use Rattle.model_base.specs.Outcomes.{deeds_before, needs, owners}
 use Rattle.grant_paths.specs.declared.line.Line.{Line}
 use Rattle.grant_paths.specs.Lines.{IsSound}
-use Rattle.explain_base.specs.Explained.{AreSound, asked}
+use Rattle.explain_base.specs.Explained.{AreSound, needs_asked}
 use Rattle.explain_base.proofs.Passing.{short_fails}
 use Rattle.explain.specs.Explained.{IsExplainedBy}
 use Rattle.explain.proofs.Lines.{sound_later}
@@ -32,7 +32,7 @@ module _ (owners : List ℕ) (deeds : List Deed) (place user : ℕ) where
       → Sound (drop i needs) (drop i lines) → ⊥
   long_fails needs lines i line none one sound =
       let left : drop i needs ≡ [] = drop_of_length-le needs (ends_before needs i none) in
-      let nothing = ap (map (λ (line : Line). line.need)) (sym one) ∙ sound.of ∙ ap (asked owners deeds place user) left in
+      let nothing = ap (map (λ (line : Line). line.need)) (sym one) ∙ sound.of ∙ ap (needs_asked owners deeds place user) left in
       absurd (cc)
 
   -- once all lines are passed, no need may be left

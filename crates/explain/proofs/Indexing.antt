@@ -1,7 +1,7 @@
 -- Items of lists by their indices.
 use Rattle.std.proofs.Common.{◌≡◌, ◌<◌, ◌≤◌, ◌+◌, ◌∷◌, ◌++◌, ℕ, zero, suc, List, [], Some, None, Result, Ok, Err, add-one, drop, drop-cons, get_or, length, length-append, sym, ◌∙◌, ap, arith}
 use Rattle.std.specs.Prelude.{slice_get}
-use Rattle.explain.specs.Indexed.{IsAt}
+use Rattle.explain.specs.Indexed.{IsItemAt}
 
 get_here : {X : Type 0} (xs ys : List X) (index : ℕ) (x : X) → slice_get xs index ≡ Some x → slice_get (xs ++ ys) index ≡ Some x
 get_here [] ys index x is = absurd (cc)
@@ -13,11 +13,11 @@ get_behind [] ys left = let same : 0 + left ≡ left = omega arith in ap (slice_
 get_behind (first ∷ xs) ys left = let more : suc (length xs) + left ≡ suc (length xs + left) = omega arith in rw more (get_behind xs ys left)
 
 -- what is in the first list is in both
-pub at_here : {X : Type 0} (xs ys : List X) (index : ℕ) (x : X) → IsAt xs index (Ok x) → IsAt (xs ++ ys) index (Ok x)
+pub at_here : {X : Type 0} (xs ys : List X) (index : ℕ) (x : X) → IsItemAt xs index (Ok x) → IsItemAt (xs ++ ys) index (Ok x)
 at_here xs ys index x is = get_here xs ys index x is
 
 -- what lies past the first list is in the second, or past that too
-pub at_behind : {X : Type 0} (xs ys : List X) (index left : ℕ) (result : Result X ℕ) → IsAt xs index (Err left) → IsAt ys left result → IsAt (xs ++ ys) index result
+pub at_behind : {X : Type 0} (xs ys : List X) (index left : ℕ) (result : Result X ℕ) → IsItemAt xs index (Err left) → IsItemAt ys left result → IsItemAt (xs ++ ys) index result
 at_behind xs ys index left (Ok x) past is = ap (slice_get (xs ++ ys)) past ∙ get_behind xs ys left ∙ is
 at_behind xs ys index left (Err more) past is = omega (arith, past, is, length-append xs ys)
 

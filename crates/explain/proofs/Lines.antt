@@ -17,10 +17,10 @@ use Rattle.grant_paths.specs.declared.line.Line.{Line}
 use Rattle.grant_paths.specs.Lines.{holds_before}
 use Rattle.sequencer.specs.Log.{Accepted}
 use Rattle.sequencer.specs.Taken.{IsTaken, IsWhole}
-use Rattle.explain_base.specs.Explained.{AreSound, asked, line_of, lines_of}
+use Rattle.explain_base.specs.Explained.{AreSound, needs_asked, line_of, explaining_lines}
 use Rattle.explain_base.proofs.Asked.{lines-sound}
 use Rattle.explain_base.proofs.Below.{are_sound-below, lines-below}
-use Rattle.explain.specs.Explained.{AreNamed, IsExplainedBy, explained, lines_for}
+use Rattle.explain.specs.Explained.{LinesAreNamed, IsExplainedBy, explained, lines_for}
 use Rattle.explain.proofs.Indexing.{from_item}
 
 -- one more need
@@ -40,16 +40,16 @@ needs_end all found so_far past =
 
 module _ (log : List Statement) (place end user : ℕ) (less : place ≤ end) where
   -- the deeds before a later place explain what those before this one do
-  pub lines_later : (asked : List Need) → lines_of (owners log) (deeds_before log end) place user asked ≡ lines_of (owners log) (deeds_before log place) place user asked
-  lines_later asked =
-      sym (lines-below (owners log) (deeds_before log end) place user asked)
-      ∙ ap (λ (deeds : List Deed). lines_of (owners log) deeds place user asked) (deeds_before-below log place end less)
+  pub lines_later : (needs_asked : List Need) → explaining_lines (owners log) (deeds_before log end) place user needs_asked ≡ explaining_lines (owners log) (deeds_before log place) place user needs_asked
+  lines_later needs_asked =
+      sym (lines-below (owners log) (deeds_before log end) place user needs_asked)
+      ∙ ap (λ (deeds : List Deed). explaining_lines (owners log) deeds place user needs_asked) (deeds_before-below log place end less)
 
-  pub sound_later : (asked : List Need) (lines : List Line)
-      → AreSound (owners log) (deeds_before log place) place user asked lines ↔ AreSound (owners log) (deeds_before log end) place user asked lines
-  sound_later asked lines =
-      subst (λ (deeds : List Deed). AreSound (owners log) deeds place user asked lines ↔ AreSound (owners log) (deeds_before log end) place user asked lines)
-      (deeds_before-below log place end less) (are_sound-below (owners log) (deeds_before log end) place user asked lines)
+  pub sound_later : (needs_asked : List Need) (lines : List Line)
+      → AreSound (owners log) (deeds_before log place) place user needs_asked lines ↔ AreSound (owners log) (deeds_before log end) place user needs_asked lines
+  sound_later needs_asked lines =
+      subst (λ (deeds : List Deed). AreSound (owners log) deeds place user needs_asked lines ↔ AreSound (owners log) (deeds_before log end) place user needs_asked lines)
+      (deeds_before-below log place end less) (are_sound-below (owners log) (deeds_before log end) place user needs_asked lines)
 
 -- the lines of a place
 pub explained-at : (log : List Statement) (place : ℕ) (statement : Statement) → slice_get log place ≡ Some statement → explained log place ≡ Some (lines_for log place statement)
@@ -61,25 +61,25 @@ module _ (tables : ℕ) (owners : List ℕ) (deeds : List Deed) (place user : �
   IsBelow need = need.table < tables
 
   asked-held : (need : Need) (all : List Need) → holds_before owners deeds place user need ≡ true
-      → asked owners deeds place user (need ∷ all) ≡ need ∷ asked owners deeds place user all
+      → needs_asked owners deeds place user (need ∷ all) ≡ need ∷ needs_asked owners deeds place user all
   asked-held need all held = rw held refl
 
-  asked-missing : (need : Need) (all : List Need) → holds_before owners deeds place user need ≡ false → asked owners deeds place user (need ∷ all) ≡ need ∷ []
+  asked-missing : (need : Need) (all : List Need) → holds_before owners deeds place user need ≡ false → needs_asked owners deeds place user (need ∷ all) ≡ need ∷ []
   asked-missing need all missing = rw missing refl
 
-  asked-named : (all : List Need) → All IsBelow all → All IsBelow (asked owners deeds place user all)
+  asked-named : (all : List Need) → All IsBelow all → All IsBelow (needs_asked owners deeds place user all)
   asked-named [] named = All-nil IsBelow
   asked-named (need ∷ all) named =
       let here = All-head IsBelow need all named in
       by_cases (holds_before owners deeds place user need)
       (λ held.
       subst (All IsBelow) (sym (asked-held need all held))
-      (All-cons IsBelow need (asked owners deeds place user all) here (asked-named all (All-tail IsBelow need all named))))
+      (All-cons IsBelow need (needs_asked owners deeds place user all) here (asked-named all (All-tail IsBelow need all named))))
       (λ missing. subst (All IsBelow) (sym (asked-missing need all missing)) (All-cons IsBelow need [] here (All-nil IsBelow)))
 
-  pub lines-named : (all : List Need) → All IsBelow all → AreNamed tables (lines_of owners deeds place user all)
+  pub lines-named : (all : List Need) → All IsBelow all → LinesAreNamed tables (explaining_lines owners deeds place user all)
   lines-named all named =
-      All-map (λ (line : Line). line.need.table < tables) (line_of owners deeds place user) (asked owners deeds place user all) (asked-named all named)
+      All-map (λ (line : Line). line.need.table < tables) (line_of owners deeds place user) (needs_asked owners deeds place user all) (asked-named all named)
 
 -- a statement of the log needs what is on tables of the log
 pub needs_named : (log : Accepted) → IsWhole log → (place : ℕ) (statement : Statement) → slice_get log.statements place ≡ Some statement
@@ -108,16 +108,16 @@ explained-sound log place lines is = by_statement (slice_get log place) refl is
 -- what the lines by a later book are
 module _ (place user : ℕ) (all : List Need) (lines : List Line) where
   pub lines_told : (log : List Statement) (end : ℕ) (statement : Statement) → place ≤ end → slice_get log place ≡ Some statement → user ≡ statement.user → all ≡ needs statement.form
-      → lines ≡ lines_of (owners log) (deeds_before log end) place user all → explained log place ≡ Some lines
+      → lines ≡ explaining_lines (owners log) (deeds_before log end) place user all → explained log place ≡ Some lines
   lines_told log end statement less there who same told =
-      let at : lines_of (owners log) (deeds_before log place) place user all ≡ lines_for log place statement =
-      ap (λ (u : ℕ). lines_of (owners log) (deeds_before log place) place u all) who
-      ∙ ap (λ (ns : List Need). lines_of (owners log) (deeds_before log place) place statement.user ns) same in
+      let at : explaining_lines (owners log) (deeds_before log place) place user all ≡ lines_for log place statement =
+      ap (λ (u : ℕ). explaining_lines (owners log) (deeds_before log place) place u all) who
+      ∙ ap (λ (ns : List Need). explaining_lines (owners log) (deeds_before log place) place statement.user ns) same in
       explained-at log place statement there ∙ ap (λ (ls : List Line). Some ls) (sym (told ∙ lines_later log place end user less all ∙ at))
 
   pub named_told : (log : Accepted) (statement : Statement) (owned : List ℕ) (deeds : List Deed) → IsWhole log → slice_get log.statements place ≡ Some statement → all ≡ needs statement.form
-      → lines ≡ lines_of owned deeds place user all → AreNamed (length log.names.tables) lines
+      → lines ≡ explaining_lines owned deeds place user all → LinesAreNamed (length log.names.tables) lines
   named_told log statement owned deeds whole there same told =
-      subst (AreNamed (length log.names.tables)) (sym told)
+      subst (LinesAreNamed (length log.names.tables)) (sym told)
       (lines-named (length log.names.tables) owned deeds place user all
       (subst (λ (ns : List Need). All (λ (need : Need). need.table < length log.names.tables) ns) (sym same) (needs_named log whole place statement there)))

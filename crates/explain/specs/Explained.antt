@@ -6,11 +6,11 @@ use Rattle.std.specs.Option.{option_map}
 use Rattle.model_base.specs.declared.statement.Statement.{Statement}
 use Rattle.model_base.specs.Outcomes.{deeds_before, needs, owners}
 use Rattle.grant_paths.specs.declared.line.Line.{Line}
-use Rattle.explain_base.specs.Explained.{AreSound, lines_of}
+use Rattle.explain_base.specs.Explained.{AreSound, explaining_lines}
 
 -- the lines that explain a statement at a place of the log
 abbrev pub lines_for : List Statement → ℕ → Statement → List Line
-lines_for log place statement = lines_of (owners log) (deeds_before log place) place statement.user (needs statement.form)
+lines_for log place statement = explaining_lines (owners log) (deeds_before log place) place statement.user (needs statement.form)
 
 -- the lines that explain a place of the log, if it has the place
 abbrev pub explained : List Statement → ℕ → Option (List Line)
@@ -23,5 +23,5 @@ pub record IsExplainedBy (log : List Statement) (place : ℕ) (lines : List Line
   pub sound : AreSound (owners log) (deeds_before log place) place statement.user (needs statement.form) lines
 
 -- the lines name no table but the first so many
-abbrev pub AreNamed : ℕ → List Line → Type 0
-AreNamed tables lines = All (λ (line : Line). line.need.table < tables) lines
+abbrev pub LinesAreNamed : ℕ → List Line → Type 0
+LinesAreNamed tables lines = All (λ (line : Line). line.need.table < tables) lines

@@ -3,7 +3,7 @@
 ghost use Rattle.std.specs.Prelude.{◌≡◌, ◌<◌, ◌≤◌, ◌↔◌, Err, Some, IfOk, length};
 ghost use Rattle.model_base.specs.Outcomes.{needs};
 ghost use Rattle.engine.specs.Engine.{finished};
-ghost use Rattle.explain.specs.Explained.{AreNamed, explained};
+ghost use Rattle.explain.specs.Explained.{LinesAreNamed, explained};
 
 use crate::explanation::Explanation;
 use crate::fault::ExplainFault;
@@ -30,7 +30,7 @@ fn lines_at(alloc: Global, engine: &Engine, place: Place) -> Result<Vec<Line>, A
     requires kept { engine.now.dropped ≤ place }
     requires finished { place < finished engine.now }
     ensures lines { IfOk result (λ lines. explained engine.now.log.statements place ≡ Some lines.items) }
-    ensures named { IfOk result (λ lines. AreNamed (length engine.now.log.names.tables) lines.items) }
+    ensures named { IfOk result (λ lines. LinesAreNamed (length engine.now.log.names.tables) lines.items) }
 {
     let _finished = engine.finished();
     let statement = engine.log().statement(place);
@@ -45,10 +45,11 @@ fn lines_at(alloc: Global, engine: &Engine, place: Place) -> Result<Vec<Line>, A
 pub fn explain(alloc: Global, engine: &Engine, place: Place) -> Result<Explanation, ExplainFault>
     ensures place { IfOk result (λ found. found.place ≡ place) }
     ensures lines { IfOk result (λ found. explained engine.now.log.statements place ≡ Some found.lines.items) }
-    ensures named { IfOk result (λ found. AreNamed (length engine.now.log.names.tables) found.lines.items) }
+    ensures named { IfOk result (λ found. LinesAreNamed (length engine.now.log.names.tables) found.lines.items) }
 
     ensures none { (result ≡ Err ExplainFault.NoSuchPlace) ↔ (length engine.now.log.statements ≤ place) }
-    ensures unfinished { (result ≡ Err ExplainFault.NotFinished) ↔ ((finished engine.now ≤ place) × (place < length engine.now.log.statements)) }
+    ensures unfinished { (result ≡ Err ExplainFault.NotFinished) ↔ ((finished engine.now ≤ place)
+        × (place < length engine.now.log.statements)) }
     ensures forgotten { (result ≡ Err ExplainFault.Forgotten) ↔ (place < engine.now.dropped) }
 {
     let log = engine.log();

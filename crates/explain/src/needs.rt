@@ -3,7 +3,7 @@
 ghost use Rattle.std.specs.Prelude.{◌≡◌, ◌+◌, MatchOption, slice_get, if◌then◌else◌, true};
 ghost use Rattle.std.specs.List.{flat_map};
 ghost use Rattle.model_base.specs.Outcomes.{kinds_in, needs, needs_of_access, needs_of_deed};
-ghost use Rattle.explain.specs.Indexed.{IsAt};
+ghost use Rattle.explain.specs.Indexed.{IsItemAt};
 
 use model_base::{Access, DeedForm, Form, Kind, Kinds, Need};
 
@@ -20,7 +20,7 @@ fn behind(there: bool, index: usize) -> Option<usize>
 
 /// The kind of an index among some kinds in order; an error is by how much the index lies past their end.
 fn kind_at(kinds: &Kinds, index: usize) -> Result<Kind, usize>
-    ensures { IsAt (kinds_in kinds.now) index result }
+    ensures { IsItemAt (kinds_in kinds.now) index result }
 {
     let Some(later) = behind(kinds.read, index) else {
         return Ok(Kind::Read);
@@ -39,7 +39,7 @@ fn kind_at(kinds: &Kinds, index: usize) -> Result<Kind, usize>
 
 /// The need of an index among those of an access, or by how much the index lies past their end.
 fn need_of_access(access: &Access, index: usize) -> Result<Need, usize>
-    ensures { IsAt (needs_of_access access.now) index result }
+    ensures { IsItemAt (needs_of_access access.now) index result }
 {
     match kind_at(&access.kinds, index) {
         Ok(kind) => Ok(Need {
@@ -53,7 +53,7 @@ fn need_of_access(access: &Access, index: usize) -> Result<Need, usize>
 
 /// The need of an index among those of some accesses, or by how much the index lies past their end.
 fn need_of_accesses(accesses: &[Access], index: usize) -> Result<Need, usize>
-    ensures { IsAt (flat_map needs_of_access accesses.now) index result }
+    ensures { IsItemAt (flat_map needs_of_access accesses.now) index result }
 {
     let mut left = index;
     for access in accesses {

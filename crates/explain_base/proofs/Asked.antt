@@ -12,7 +12,7 @@ use Rattle.grant_paths.specs.declared.line.Line.{Line}
 use Rattle.grant_paths.specs.declared.line.Shown.{Shown}
 use Rattle.grant_paths.specs.Lines.{IsSound, cause_before, holds_before, shown_lost, shown_of}
 use Rattle.grant_paths.proofs.Showing.{shown-sound}
-use Rattle.explain_base.specs.Explained.{AreSound, asked, line_of, lines_of, tells_held}
+use Rattle.explain_base.specs.Explained.{AreSound, needs_asked, line_of, explaining_lines, tells_held}
 
 module _ (owners : List ℕ) (deeds : List Deed) (place user : ℕ) where
   pub owner-holds : (need : Need) → owns owners user need.table ≡ true → holds_before owners deeds place user need ≡ true
@@ -34,16 +34,16 @@ module _ (owners : List ℕ) (deeds : List Deed) (place user : ℕ) where
 
   -- the lines of a need that is held, and of those behind it
   pub lines-held : (need : Need) (needs : List Need) → holds_before owners deeds place user need ≡ true
-      → lines_of owners deeds place user (need ∷ needs) ≡ line_of owners deeds place user need ∷ lines_of owners deeds place user needs
+      → explaining_lines owners deeds place user (need ∷ needs) ≡ line_of owners deeds place user need ∷ explaining_lines owners deeds place user needs
   lines-held need needs held = rw held refl
 
   pub lines-missing : (need : Need) (needs : List Need) → holds_before owners deeds place user need ≡ false
-      → lines_of owners deeds place user (need ∷ needs) ≡ line_of owners deeds place user need ∷ []
+      → explaining_lines owners deeds place user (need ∷ needs) ≡ line_of owners deeds place user need ∷ []
   lines-missing need needs missing = rw missing refl
 
   -- what explains needs is sound
-  pub lines-sound : IsProper owners deeds → (needs : List Need) → AreSound owners deeds place user needs (lines_of owners deeds place user needs)
-  lines-sound proper needs = record { of = same (asked owners deeds place user needs); so = sound (asked owners deeds place user needs) }
+  pub lines-sound : IsProper owners deeds → (needs : List Need) → AreSound owners deeds place user needs (explaining_lines owners deeds place user needs)
+  lines-sound proper needs = record { of = same (needs_asked owners deeds place user needs); so = sound (needs_asked owners deeds place user needs) }
     where
       same : (all : List Need) → map (λ (line : Line). line.need) (map (line_of owners deeds place user) all) ≡ all
       same [] = refl
@@ -70,27 +70,27 @@ module _ (owners : List ℕ) (deeds : List Deed) (place user : ℕ) where
   -- one more line of a held need goes on
   pub lines_go_on : (needs : List Need) (i : ℕ) (need : Need) (shown : Shown) (lines more : List Line) → i < length needs → need ≡ get_or needs i need
       → shown ≡ shown_of owners deeds place user need → holds_before owners deeds place user need ≡ true
-      → lines ++ lines_of owners deeds place user (drop i needs) ≡ lines_of owners deeds place user needs
+      → lines ++ explaining_lines owners deeds place user (drop i needs) ≡ explaining_lines owners deeds place user needs
       → more ≡ lines ++ record { need = need; shown = shown } ∷ []
-      → more ++ lines_of owners deeds place user (drop (i + 1) needs) ≡ lines_of owners deeds place user needs
+      → more ++ explaining_lines owners deeds place user (drop (i + 1) needs) ≡ explaining_lines owners deeds place user needs
   lines_go_on needs i need shown lines more within is told held so_far pushed =
-      let rest = lines_of owners deeds place user (drop (i + 1) needs) in
+      let rest = explaining_lines owners deeds place user (drop (i + 1) needs) in
       ap (λ (all : List Line). all ++ rest) pushed
       ∙ append_assoc lines (record { need = need; shown = shown } ∷ []) rest
       ∙ ap (λ (line : Line). lines ++ line ∷ rest) (line_same need shown told)
       ∙ ap (λ (all : List Line). lines ++ all) (sym (lines-held need (drop (i + 1) needs) held))
-      ∙ ap (λ (left : List Need). lines ++ lines_of owners deeds place user left) (sym (needs_from needs i need within is))
+      ∙ ap (λ (left : List Need). lines ++ explaining_lines owners deeds place user left) (sym (needs_from needs i need within is))
       ∙ so_far
 
   -- that of a missing one is the last
   pub lines_end : (needs : List Need) (i : ℕ) (need : Need) (shown : Shown) (lines more : List Line) → i < length needs → need ≡ get_or needs i need
       → shown ≡ shown_of owners deeds place user need → holds_before owners deeds place user need ≡ false
-      → lines ++ lines_of owners deeds place user (drop i needs) ≡ lines_of owners deeds place user needs
+      → lines ++ explaining_lines owners deeds place user (drop i needs) ≡ explaining_lines owners deeds place user needs
       → more ≡ lines ++ record { need = need; shown = shown } ∷ []
-      → more ≡ lines_of owners deeds place user needs
+      → more ≡ explaining_lines owners deeds place user needs
   lines_end needs i need shown lines more within is told missing so_far pushed =
       pushed
       ∙ ap (λ (line : Line). lines ++ line ∷ []) (line_same need shown told)
       ∙ ap (λ (all : List Line). lines ++ all) (sym (lines-missing need (drop (i + 1) needs) missing))
-      ∙ ap (λ (left : List Need). lines ++ lines_of owners deeds place user left) (sym (needs_from needs i need within is))
+      ∙ ap (λ (left : List Need). lines ++ explaining_lines owners deeds place user left) (sym (needs_from needs i need within is))
       ∙ so_far

@@ -18,8 +18,8 @@ use Rattle.model_base.proofs.Cuts.{deeds_below-all, deeds_below-whole}
 use Rattle.model_base.proofs.Replay.{by_cases}
 use Rattle.grant_paths.specs.declared.line.Line.{Line}
 use Rattle.grant_paths.specs.declared.line.Shown.{Shown}
-use Rattle.grant_paths.specs.Lines.{IsChain, IsSound, cause_before, holds_before, kept_before, places_of, shown_lost, shown_of}
-use Rattle.explain_base.specs.Explained.{AreSound, asked, line_of, lines_of}
+use Rattle.grant_paths.specs.Lines.{IsChain, IsSound, cause_before, holds_before, kept_before, made_places, shown_lost, shown_of}
+use Rattle.explain_base.specs.Explained.{AreSound, needs_asked, line_of, explaining_lines}
 
 -- of the deeds below a place, those below an earlier one are those of all
 below-earlier : (low high : ℕ) (deeds : List Deed) → low ≤ high → deeds_below low (deeds_below high deeds) ≡ deeds_below low deeds
@@ -61,7 +61,7 @@ module _ (owners : List ℕ) (deeds : List Deed) (place user : ℕ) where
   lost-below need Never is = refl
   lost-below need (Taken lost) is =
       let less : lost ≤ place = omega (arith, taken-below need lost is) in
-      ap (λ (grants : List Grant). Shown.Taken lost (places_of (path owners grants user need))) (kept-below lost less)
+      ap (λ (grants : List Grant). Shown.Taken lost (made_places (path owners grants user need))) (kept-below lost less)
 
   shown-below : (need : Need) → shown_of owners below place user need ≡ shown_of owners deeds place user need
   shown-below need =
@@ -71,7 +71,7 @@ module _ (owners : List ℕ) (deeds : List Deed) (place user : ℕ) where
       (λ held. rw (other, same, held) refl)
       (λ missing. rw (other, same, missing) (lost-below need (cause_before owners deeds place user need) refl)))
 
-  asked-below : (needs : List Need) → asked owners below place user needs ≡ asked owners deeds place user needs
+  asked-below : (needs : List Need) → needs_asked owners below place user needs ≡ needs_asked owners deeds place user needs
   asked-below [] = refl
   asked-below (need ∷ needs) = rw (holds-below need, asked-below needs) refl
 
@@ -82,8 +82,8 @@ module _ (owners : List ℕ) (deeds : List Deed) (place user : ℕ) where
       ap (λ (shown : Shown). let line : Line = record { need = need; shown = shown } in line ∷ map (line_of owners below place user) needs) (shown-below need)
       ∙ ap (λ (lines : List Line). line_of owners deeds place user need ∷ lines) (lines-all needs)
 
-  pub lines-below : (needs : List Need) → lines_of owners below place user needs ≡ lines_of owners deeds place user needs
-  lines-below needs = ap (map (line_of owners below place user)) (asked-below needs) ∙ lines-all (asked owners deeds place user needs)
+  pub lines-below : (needs : List Need) → explaining_lines owners below place user needs ≡ explaining_lines owners deeds place user needs
+  lines-below needs = ap (map (line_of owners below place user)) (asked-below needs) ∙ lines-all (needs_asked owners deeds place user needs)
 
   chain-below : (lost : ℕ) (need : Need) (places : List ℕ) → lost ≤ place
       → IsChain owners (kept_before owners below lost) user need places ↔ IsChain owners (kept_before owners deeds lost) user need places

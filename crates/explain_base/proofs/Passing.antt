@@ -12,8 +12,8 @@ use Rattle.model_base.specs.Paths.{LeadsFrom, LeadsTo}
 use Rattle.model_base.specs.Privileges.{gives, has, owns}
 use Rattle.grant_paths.specs.declared.line.Line.{Line}
 use Rattle.grant_paths.specs.declared.line.Shown.{Shown}
-use Rattle.grant_paths.specs.Lines.{IsChain, IsSound, holds_before, kept_before, places_of}
-use Rattle.explain_base.specs.Explained.{AreSound, Explains, asked, tells_held}
+use Rattle.grant_paths.specs.Lines.{IsChain, IsSound, holds_before, kept_before, made_places}
+use Rattle.explain_base.specs.Explained.{AreSound, Explains, needs_asked, tells_held}
 use Rattle.explain_base.proofs.Asked.{owner-holds}
 
 any_contains : (test : Grant → Bool) (grants : List Grant) (grant : Grant) → Contains grants grant → test grant ≡ true → list_any test grants ≡ true
@@ -38,7 +38,7 @@ had_by owners grants user need given = or_right (owns owners user need.table) (l
 chain_has : (owners : List ℕ) (grants : List Grant) (user : ℕ) (need : Need) (places : List ℕ) → IsChain owners grants user need places → has owners grants user need ≡ true
 chain_has owners grants user need places is = by_chain is.chain is.told is.among is.leads is.some
   where
-    by_chain : (chain : List Grant) → places_of chain ≡ places → All (Contains grants) chain → LeadsTo owners chain user need → 0 < length places → has owners grants user need ≡ true
+    by_chain : (chain : List Grant) → made_places chain ≡ places → All (Contains grants) chain → LeadsTo owners chain user need → 0 < length places → has owners grants user need ≡ true
     by_chain [] told among leads some = let none : 0 ≡ length places = ap length told in absurd (omega arith)
     by_chain (first ∷ chain) told among leads some =
         had_by owners grants user need
@@ -72,7 +72,7 @@ module _ (owners : List ℕ) (deeds : List Deed) (place user : ℕ) where
       let needs : List Need = first ∷ later in
       let one = drop-cons needs i first less in
       let none = drop_of_length-le lines over in
-      let nothing = ap needs_of (sym none) ∙ sound.of ∙ ap (asked owners deeds place user) one in
+      let nothing = ap needs_of (sym none) ∙ sound.of ∙ ap (needs_asked owners deeds place user) one in
       absurd (cc)
 
   first_line : (need : Need) (needs : List Need) (line : Line) (lines : List Line) → Sound (need ∷ needs) (line ∷ lines) → Explains owners deeds place user need line
@@ -88,10 +88,10 @@ module _ (owners : List ℕ) (deeds : List Deed) (place user : ℕ) where
       first_line need (drop (i + 1) needs) line (drop (i + 1) lines) (rw (item_at needs i need less is, item_at lines i line within at) at sound)
 
   asked-held : (need : Need) (needs : List Need) → holds_before owners deeds place user need ≡ true
-      → asked owners deeds place user (need ∷ needs) ≡ need ∷ asked owners deeds place user needs
+      → needs_asked owners deeds place user (need ∷ needs) ≡ need ∷ needs_asked owners deeds place user needs
   asked-held need needs held = rw held refl
 
-  asked-missing : (need : Need) (needs : List Need) → holds_before owners deeds place user need ≡ false → asked owners deeds place user (need ∷ needs) ≡ need ∷ []
+  asked-missing : (need : Need) (needs : List Need) → holds_before owners deeds place user need ≡ false → needs_asked owners deeds place user (need ∷ needs) ≡ need ∷ []
   asked-missing need needs missing = rw missing refl
 
   so_line : (need : Need) (line : Line) → Explains owners deeds place user need line → IsSo line
@@ -114,7 +114,7 @@ module _ (owners : List ℕ) (deeds : List Deed) (place user : ℕ) where
   held_less need needs line lines explains tells sound =
       let held = sym (held_sound need line.shown explains.1) ∙ tells in
       let all = sound.of ∙ asked-held need needs held in
-      let rest : needs_of lines ≡ asked owners deeds place user needs = cc in
+      let rest : needs_of lines ≡ needs_asked owners deeds place user needs = cc in
       record { of = rest; so = All-tail IsSo line lines sound.so }
 
   no_lines : (lines : List Line) → needs_of lines ≡ [] → lines ≡ []
@@ -189,6 +189,6 @@ module _ (owners : List ℕ) (deeds : List Deed) (place user : ℕ) where
       whole : Sound needs lines → (length lines == length needs) ≡ true
       whole sound =
           let rest = back sound in
-          let none = no_lines (drop i lines) (rest.of ∙ ap (asked owners deeds place user) left) in
+          let none = no_lines (drop i lines) (rest.of ∙ ap (needs_asked owners deeds place user) left) in
           let short : length lines - i ≡ 0 = sym (length-drop i lines) ∙ ap length none in
           eq-eqb (length lines) (length needs) (omega arith)

@@ -9,22 +9,22 @@ use Rattle.grant_paths.specs.declared.line.Shown.{Shown}
 use Rattle.grant_paths.specs.Lines.{IsSound, holds_before, shown_of}
 
 -- the needs that are asked for in order: all if all are held, else up to and with the first that isn't
-abbrev pub asked : List ℕ → List Deed → ℕ → ℕ → List Need → List Need
-asked owners deeds place user [] = []
-asked owners deeds place user (need ∷ needs) =
-    need ∷ (if holds_before owners deeds place user need then asked owners deeds place user needs else [])
+abbrev pub needs_asked : List ℕ → List Deed → ℕ → ℕ → List Need → List Need
+needs_asked owners deeds place user [] = []
+needs_asked owners deeds place user (need ∷ needs) =
+    need ∷ (if holds_before owners deeds place user need then needs_asked owners deeds place user needs else [])
 
 -- a need with what there is to show of it
 abbrev pub line_of : List ℕ → List Deed → ℕ → ℕ → Need → Line
 line_of owners deeds place user need = record { need = need; shown = shown_of owners deeds place user need }
 
 -- the lines that explain the needs
-abbrev pub lines_of : List ℕ → List Deed → ℕ → ℕ → List Need → List Line
-lines_of owners deeds place user needs = map (line_of owners deeds place user) (asked owners deeds place user needs)
+abbrev pub explaining_lines : List ℕ → List Deed → ℕ → ℕ → List Need → List Line
+explaining_lines owners deeds place user needs = map (line_of owners deeds place user) (needs_asked owners deeds place user needs)
 
 -- the lines are of the needs that are asked for, and what each shows is so
 pub record AreSound (owners : List ℕ) (deeds : List Deed) (place user : ℕ) (needs : List Need) (lines : List Line) : Type 0 where
-  pub of : map (λ (line : Line). line.need) lines ≡ asked owners deeds place user needs
+  pub of : map (λ (line : Line). line.need) lines ≡ needs_asked owners deeds place user needs
   pub so : All (λ (line : Line). IsSound owners deeds place user line.need line.shown) lines
 
 -- the line is of the need, and what it shows is so

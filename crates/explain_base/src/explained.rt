@@ -4,7 +4,7 @@ ghost use Rattle.std.specs.Prelude.{◌≡◌, ◌<◌, ℕ, All, IfOk, List, le
 ghost use Rattle.model_base.specs.declared.deed.Deed.{Deed};
 ghost use Rattle.model_base.specs.declared.deed.Need.{Need};
 ghost use Rattle.grants.specs.Book.{ShowsBook};
-ghost use Rattle.explain_base.specs.Explained.{lines_of, tells_held};
+ghost use Rattle.explain_base.specs.Explained.{explaining_lines, tells_held};
 
 use grant_paths::{Line, Shown, explain_need};
 use grants::Book;
@@ -32,7 +32,7 @@ pub fn explain_needs(
 ) -> Result<Vec<Line>, AllocError>
     requires covered { All (λ (need : Need). need.table < length book.now.tables) needs.now }
     ensures { IfOk result (λ lines. (owners : List ℕ) (deeds : List Deed) → ShowsBook book.now owners deeds
-        → lines.items ≡ lines_of owners deeds place user needs.now) }
+        → lines.items ≡ explaining_lines owners deeds place user needs.now) }
 {
     let mut lines = Vec::new(alloc);
     for need in needs {

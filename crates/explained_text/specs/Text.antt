@@ -18,9 +18,9 @@ shown_text Shown.Never = cause_text Never
 shown_text (Shown.Taken lost places) = cause_text (Taken lost) ++ grants_text places
 
 -- a need and what is shown of it; `tables` has the names of the tables by number
-abbrev pub line_text : List (List ℕ) → Line → List ℕ
-line_text tables line = codes "need " ++ need_text tables line.need ++ shown_text line.shown ++ codes "\n"
+abbrev pub need_line_text : List (List ℕ) → Line → List ℕ
+need_line_text tables line = codes "need " ++ need_text tables line.need ++ shown_text line.shown ++ codes "\n"
 
 -- the lines of an explanation
 abbrev pub explanation_text : List (List ℕ) → List Line → List ℕ
-explanation_text tables lines = flat_map (line_text tables) lines
+explanation_text tables lines = flat_map (need_line_text tables) lines

@@ -1,8 +1,8 @@
 //! An explanation as text.
 
 ghost use Rattle.std.specs.Prelude.{◌≡◌, ◌<◌, ◌++◌, OnOk, length};
-ghost use Rattle.explain.specs.Explained.{AreNamed};
-ghost use Rattle.explained_text.specs.Text.{explanation_text, grants_text, line_text, shown_text};
+ghost use Rattle.explain.specs.Explained.{LinesAreNamed};
+ghost use Rattle.explained_text.specs.Text.{explanation_text, grants_text, need_line_text, shown_text};
 
 use explain::Explanation;
 use grant_paths::{Line, Shown};
@@ -37,7 +37,7 @@ fn put_shown(text: &mut Vec<u8>, shown: &Shown) -> Result<(), AllocError>
 /// Puts a need and what is shown of it.
 fn put_line(text: &mut Vec<u8>, tables: &NameTable, line: &Line) -> Result<(), AllocError>
     requires { line.now.need.table < length tables.now }
-    ensures { OnOk result (text.new.items ≡ text.old.items ++ line_text tables.now line.now) }
+    ensures { OnOk result (text.new.items ≡ text.old.items ++ need_line_text tables.now line.now) }
 {
     text.extend_from_slice(b"need ")?;
     put_need(text, tables, &line.need)?;
@@ -53,7 +53,7 @@ pub fn put_explanation(
     tables: &NameTable,
     explanation: &Explanation,
 ) -> Result<(), AllocError>
-    requires { AreNamed (length tables.now) explanation.now.lines.items }
+    requires { LinesAreNamed (length tables.now) explanation.now.lines.items }
     ensures { OnOk result (text.new.items ≡ text.old.items ++ explanation_text tables.now explanation.now.lines.items) }
 {
     for line in &explanation.lines {

@@ -1,9 +1,8 @@
 -- What own words tell of a body.
-use Rattle.std.proofs.Common.{◌≡◌, ◌<◌, ◌+◌, ◌==◌, ◌-◌, ◌^◌, ℕ, suc, min, Bool, true, false, Option, Some, List, [], refl, sym, ap, ◌∙◌, add-one, get_or, subst}
+use Rattle.std.proofs.Common.{◌≡◌, ◌<◌, ◌+◌, ◌==◌, ◌-◌, ◌^◌, ℕ, min, Bool, true, false, Option, Some, List, [], refl, sym, ap, ◌∙◌, add-one}
 use Rattle.std.specs.Prelude.{◌&&◌, not, slice_get, if◌then◌else◌}
 use Rattle.std.specs.Option.{option_map_or}
 use Rattle.model_base.specs.declared.outcome.Outcome.{Outcome}
-use Rattle.model_base.specs.declared.statement.Form.{Form}
 use Rattle.model_base.specs.declared.statement.Statement.{Statement}
 use Rattle.model_base.specs.Outcomes.{at_place, owners, world_before}
 use Rattle.own_words.specs.Places.{own_words}

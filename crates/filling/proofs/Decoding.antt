@@ -1,6 +1,6 @@
 -- The outcome that own words tell.
-use Rattle.std.proofs.Common.{◌≡◌, ◌<◌, ◌+◌, ◌^◌, ◌==◌, ℕ, Some, None, List, Result, Ok, Err, length, get_or, min, refl, sym, ap, ◌∙◌, arith}
-use Rattle.std.specs.Prelude.{All, OnErr, slice_get, slice_index}
+use Rattle.std.proofs.Common.{◌≡◌, ◌<◌, ◌+◌, ◌^◌, ◌==◌, ℕ, Some, None, List, length, get_or, min, refl, sym, ap, ◌∙◌, arith}
+use Rattle.std.specs.Prelude.{All, slice_get, slice_index}
 use Rattle.std.proofs.lemmas.Bool.{eq-eqb, eqb-true}
 use Rattle.model_base.specs.declared.deed.Deed.TheVariants.{Revoking}
 use Rattle.model_base.specs.declared.deed.Revocation.{Revocation}
@@ -66,7 +66,3 @@ told-outcome ranged is index within statement at taken small law own ended same 
     (λ one revocation deed.
     right found there (eq-eqb (get_or (serial_words (batch_in ranged) index) 0 0) 1 (ap (λ (list : List ℕ). get_or list 0 0) (sym same) ∙ one)) (revocation, rw at deed)) in
     there ∙ ap Some (sym (any ∙ ap (λ (list : List ℕ). outcome_from statement.form list (ended_in found)) words ∙ told))
-
-pub on-err : {A E : Type 0} (result : Result A E) (P : Type 0) → P → OnErr result P
-on-err (Ok value) P holds = tt
-on-err (Err error) P holds = holds

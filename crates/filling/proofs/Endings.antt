@@ -14,7 +14,7 @@ use Rattle.model_base.specs.declared.statement.Form.{Form}
 use Rattle.model_base.specs.declared.statement.Statement.{Statement}
 use Rattle.model_base.specs.Body.{Ending, aborted, completed, undeclared}
 use Rattle.model_base.specs.Laws.{IsPart, left_out, none, stays}
-use Rattle.model_base.specs.Outcomes.{World, at_place, body, deed_of, deeds_before, ended, judged, missing, owners, step_form, world_before as log_before}
+use Rattle.model_base.specs.Outcomes.{World, at_place, body, deed_of, deeds_before, ended, judged, missing, owners, step_form, world_before}
 use Rattle.model_base.specs.Privileges.{is_among, kept, lost, place_of}
 use Rattle.model_base.specs.Records.{grants_of}
 use Rattle.model_base.proofs.Growth.{deeds_before-stands}
@@ -25,9 +25,9 @@ use Rattle.model_base.proofs.Replay.{by_cases}
 use Rattle.own_words.specs.Places.{own_words}
 use Rattle.own_words.specs.Words.{ended_in, outcome_word}
 use Rattle.answering.specs.Answering.{ended_by_deed}
-use Rattle.bohm_core_base.specs.Batch.{Batch, IsSound, place_at, slots_of, was_done}
+use Rattle.bohm_core_base.specs.Batch.{Batch, IsSoundBatch, place_at, batch_slots, was_done}
 use Rattle.bohm_core_base.specs.Deeds.{is_made, made_before, named_before}
-use Rattle.bohm_core_base.specs.Serial.{serial_ends, serial_words, world_before}
+use Rattle.bohm_core_base.specs.Serial.{serial_ends, serial_words, batch_world_before}
 use Rattle.bohm_core_base.proofs.Slots.{made-named, made-split}
 use Rattle.bohm_core_base.proofs.Whole.{deeds-made, part-grants_filter, serial-placed, serial_deeds}
 use Rattle.log_batch.specs.Laws.{IsOfLog}
@@ -38,7 +38,7 @@ use Rattle.reading.proofs.Comes.{ends-told}
 use Rattle.reading.proofs.Rising.{ended-rises}
 use Rattle.words.specs.Layout.{IsListed}
 use Rattle.words.specs.Views.{In}
-use Rattle.filling.specs.Outcomes.{ended_at, outcome_in}
+use Rattle.filling.specs.Outcomes.{ended_places_at, outcome_in}
 use Rattle.filling.proofs.Lists.{Above, Rises, above-at, any-in, in-any, in-at, rises-by, same-members}
 use Rattle.filling.proofs.Numbered.{grant-there}
 
@@ -50,16 +50,16 @@ module _ (b : Batch) (index : ℕ) where
   comes-later : (slot : ℕ) (slots : List ℕ) (x : ℕ) → Comes slots x → Comes (slot ∷ slots) x
   comes-later slot slots x comes = (comes.0, inr comes.1, comes.2, comes.3)
 
-  ended-comes : (slots : List ℕ) (x : ℕ) → In x (ended_at b slots index) → Comes slots x
+  ended-comes : (slots : List ℕ) (x : ℕ) → In x (ended_places_at b slots index) → Comes slots x
   ended-comes [] x has = absurd has
   ended-comes (slot ∷ slots) x has =
       by_cases (serial_ends b index slot)
       (λ ends.
-      let split : (x ≡ place_at b slot) ⊎ In x (ended_at b slots index) = rw ends at has in
+      let split : (x ≡ place_at b slot) ⊎ In x (ended_places_at b slots index) = rw ends at has in
       ⊎_elim (λ is. (slot, inl refl, ends, sym is)) (λ more. comes-later slot slots x (ended-comes slots x more)) split)
       (λ stays. comes-later slot slots x (ended-comes slots x (rw stays at has)))
 
-  comes-ended : (slots : List ℕ) (slot : ℕ) → In slot slots → serial_ends b index slot ≡ true → In (place_at b slot) (ended_at b slots index)
+  comes-ended : (slots : List ℕ) (slot : ℕ) → In slot slots → serial_ends b index slot ≡ true → In (place_at b slot) (ended_places_at b slots index)
   comes-ended [] slot has ends = absurd has
   comes-ended (one ∷ slots) slot has ends =
       ⊎_elim
@@ -71,7 +71,7 @@ module _ (b : Batch) (index : ℕ) where
       has
 
   -- the places of slots that rise do so too
-  above-ended : (p : ℕ) (slots : List ℕ) → ((slot : ℕ) → In slot slots → p < place_at b slot) → Above p (ended_at b slots index)
+  above-ended : (p : ℕ) (slots : List ℕ) → ((slot : ℕ) → In slot slots → p < place_at b slot) → Above p (ended_places_at b slots index)
   above-ended p [] all = tt
   above-ended p (slot ∷ slots) all =
       let rest = above-ended p slots (λ one has. all one (inr has)) in
@@ -79,7 +79,7 @@ module _ (b : Batch) (index : ℕ) where
       (λ ends. rw ends (all slot (inl refl), rest))
       (λ stays. rw stays rest)
 
-  ended-rise : (slots : List ℕ) → Rises slots → ((slot later : ℕ) → In slot slots → In later slots → slot < later → place_at b slot < place_at b later) → Rises (ended_at b slots index)
+  ended-rise : (slots : List ℕ) → Rises slots → ((slot later : ℕ) → In slot slots → In later slots → slot < later → place_at b slot < place_at b later) → Rises (ended_places_at b slots index)
   ended-rise [] rise order = tt
   ended-rise (slot ∷ slots) rise order =
       let rest = ended-rise slots rise.1 (λ one later has has' less. order one later (inr has) (inr has') less) in
@@ -88,18 +88,18 @@ module _ (b : Batch) (index : ℕ) where
       (λ stays. rw stays rest)
 
   -- the next slot
-  pub ended-more : (slots before after whole : List ℕ) (k : ℕ) → k < length slots → after ≡ before ++ ended_at b (get_or slots k 0 ∷ []) index
-      → before ++ ended_at b (drop k slots) index ≡ whole → after ++ ended_at b (drop (k + 1) slots) index ≡ whole
+  pub ended-more : (slots before after whole : List ℕ) (k : ℕ) → k < length slots → after ≡ before ++ ended_places_at b (get_or slots k 0 ∷ []) index
+      → before ++ ended_places_at b (drop k slots) index ≡ whole → after ++ ended_places_at b (drop (k + 1) slots) index ≡ whole
   ended-more slots before after whole k within is all =
       let one = get_or slots k 0 in
       let split : drop k slots ≡ one ∷ drop (suc k) slots = drop-cons slots k 0 within in
       let next : drop (k + 1) slots ≡ drop (suc k) slots = ap (λ n. drop n slots) (add-one k) in
-      let both : ended_at b (one ∷ []) index ++ ended_at b (drop (suc k) slots) index ≡ ended_at b (one ∷ drop (suc k) slots) index =
+      let both : ended_places_at b (one ∷ []) index ++ ended_places_at b (drop (suc k) slots) index ≡ ended_places_at b (one ∷ drop (suc k) slots) index =
       by_cases (serial_ends b index one) (λ ends. rw ends refl) (λ stays. rw stays refl) in
-      ap (λ rest. after ++ ended_at b rest index) next
-      ∙ ap (λ front. front ++ ended_at b (drop (suc k) slots) index) is
-      ∙ append_assoc before (ended_at b (one ∷ []) index) (ended_at b (drop (suc k) slots) index)
-      ∙ ap (λ rest. before ++ rest) (both ∙ ap (λ rest. ended_at b rest index) (sym split))
+      ap (λ rest. after ++ ended_places_at b rest index) next
+      ∙ ap (λ front. front ++ ended_places_at b (drop (suc k) slots) index) is
+      ∙ append_assoc before (ended_places_at b (one ∷ []) index) (ended_places_at b (drop (suc k) slots) index)
+      ∙ ap (λ rest. before ++ rest) (both ∙ ap (λ rest. ended_places_at b rest index) (sym split))
       ∙ all
 
 -- a lost grant's place is that of one of the grants
@@ -118,8 +118,8 @@ part-in (left_out p) x has = inr (part-in p x has)
 part-in (stays p) x has = ⊎_elim (λ is. inl is) (λ more. inr (part-in p x more)) has
 
 -- the grants of the deeds before an index have slots
-granted-slots : (b : Batch) → IsSound b → (n : ℕ) → n ≤ b.size → IsPart (grants_of (world_before b n).deeds) (slots_of b)
-unfolding slots_of
+granted-slots : (b : Batch) → IsSoundBatch b → (n : ℕ) → n ≤ b.size → IsPart (grants_of (batch_world_before b n).deeds) (batch_slots b)
+unfolding batch_slots
 granted-slots b sound n within =
     let d = serial_deeds b in
     let placed = serial-placed b sound in
@@ -164,38 +164,38 @@ module _ (ranged : Ranged) (is : IsOfLog (range_of ranged)) (index : ℕ) (withi
   log = ranged.log.statements
 
   abbrev pub comes : Outcome
-  comes = (at_place (owners log) place (log_before log place) statement).0
+  comes = (at_place (owners log) place (world_before log place) statement).0
 
   -- a place of the log has an outcome
   pub outcome-there : outcome_in ranged index ≡ Some comes
-  outcome-there = ap (option_map (λ (s : Statement). (at_place (owners log) place (log_before log place) s).0)) at
+  outcome-there = ap (option_map (λ (s : Statement). (at_place (owners log) place (world_before log place) s).0)) at
 
   -- the serial run says that the place is done if its outcome does
   done-told : was_done (serial_words (batch_in ranged) index) ≡ (outcome_word comes == 1)
   unfolding was_done
   done-told =
       let words : Option Statement → List ℕ =
-      λ one. option_map_or (λ (s : Statement). own_words (range_of ranged).columns s.form (at_place (owners log) place (log_before log place) s)) one [] in
+      λ one. option_map_or (λ (s : Statement). own_words (range_of ranged).columns s.form (at_place (owners log) place (world_before log place) s)) one [] in
       ap was_done (serial_words_are (range_of ranged) is index statement at) ∙ ap (λ (one : Option Statement). was_done (words one)) at
 
   -- what a deed ends was granted
-  ended-granted : (deed : Option Deed) (x : ℕ) → In x (ended_by_deed (owners log) (deeds_before log place) deed) → In x (map (λ (grant : Grant). grant.place) (slots_of (batch_in ranged)))
+  ended-granted : (deed : Option Deed) (x : ℕ) → In x (ended_by_deed (owners log) (deeds_before log place) deed) → In x (map (λ (grant : Grant). grant.place) (batch_slots (batch_in ranged)))
   ended-granted None x has = absurd has
   ended-granted (Some (Granting grant)) x has = absurd has
   ended-granted (Some (Revoking revocation)) x has =
       let b = batch_in ranged in
       let before = deeds_before log place in
-      let same : (world_before b index).deeds ≡ before = (serial_runs_agree (range_of ranged) is index).deeds in
+      let same : (batch_world_before b index).deeds ≡ before = (serial_runs_agree (range_of ranged) is index).deeds in
       let first = part-kept_grants (owners log) before in
-      let second = subst (λ (deeds : List Deed). IsPart (grants_of deeds) (slots_of b)) same (granted-slots b (batches_are_sound (range_of ranged) is) index (omega arith)) in
+      let second = subst (λ (deeds : List Deed). IsPart (grants_of deeds) (batch_slots b)) same (granted-slots b (batches_are_sound (range_of ranged) is) index (omega arith)) in
       part-in (part-part first second) x (lost-in x (kept (owners log) before) (kept (owners log) (before ++ Revoking revocation ∷ [])) has)
 
   -- so the listed ends that name the place are those of the grants that its outcome says that it ended
   pub endings-told : (listed : List ℕ) → IsStrictlyIncreasing listed → IsListed (batch_in ranged) listed
-      → ((slot other : ℕ) (grant later : Grant) → slot < other → slice_get (slots_of (batch_in ranged)) slot ≡ Some grant
-      → slice_get (slots_of (batch_in ranged)) other ≡ Some later → grant.place < later.place)
+      → ((slot other : ℕ) (grant later : Grant) → slot < other → slice_get (batch_slots (batch_in ranged)) slot ≡ Some grant
+      → slice_get (batch_slots (batch_in ranged)) other ≡ Some later → grant.place < later.place)
       → was_done (serial_words (batch_in ranged) index) ≡ true → (found : Outcome) → outcome_in ranged index ≡ Some found
-      → ended_at (batch_in ranged) listed index ≡ ended_in found
+      → ended_places_at (batch_in ranged) listed index ≡ ended_in found
   endings-told listed rise right order done found told =
       let b = batch_in ranged in
       let deed = deed_of place statement.user statement.form in
@@ -204,37 +204,37 @@ module _ (ranged : Ranged) (is : IsOfLog (range_of ranged)) (index : ℕ) (withi
       let both : Some found ≡ Some comes = sym told ∙ outcome-there in
       let same : found ≡ comes = cc in
       let proper = (deeds_before-stands log place).proper in
-      let there : (x : ℕ) → In x (ended_at b listed index) → In x ends =
+      let there : (x : ℕ) → In x (ended_places_at b listed index) → In x ends =
       λ x has.
       (let ender = ended-comes b index listed x has in
       let slot = in-at ender.0 listed ender.1 in
-      let low : ender.0 < length (slots_of b) = subst (λ s. s < length (slots_of b)) slot.2 (right.within slot.0 slot.1) in
+      let low : ender.0 < length (batch_slots b) = subst (λ s. s < length (batch_slots b)) slot.2 (right.within slot.0 slot.1) in
       let grant = grant-there b ender.0 low in
       let listed-there = any-in grant.0.place ends (ends-told ranged is index within statement at done ender.0 grant.0 grant.1 ∙ ender.2) in
       subst (λ p. In p ends) (sym grant.2 ∙ ender.3) listed-there) in
-      let back : (x : ℕ) → In x ends → In x (ended_at b listed index) =
+      let back : (x : ℕ) → In x ends → In x (ended_places_at b listed index) =
       λ x has.
-      (let slot = in-at x (map (λ (grant : Grant). grant.place) (slots_of b)) (ended-granted deed x has) in
-      let count = length-map (slots_of b) (λ (grant : Grant). grant.place) in
-      let low : slot.0 < length (slots_of b) = (let below = slot.1 in omega arith) in
+      (let slot = in-at x (map (λ (grant : Grant). grant.place) (batch_slots b)) (ended-granted deed x has) in
+      let count = length-map (batch_slots b) (λ (grant : Grant). grant.place) in
+      let low : slot.0 < length (batch_slots b) = (let below = slot.1 in omega arith) in
       let grant = grant-there b slot.0 low in
       let is-place : place_at b slot.0 ≡ x = slot.2 in
       let ends-it = sym (ends-told ranged is index within statement at done slot.0 grant.0 grant.1)
       ∙ in-any grant.0.place ends (subst (λ p. In p ends) (sym is-place ∙ grant.2) has) in
-      subst (λ p. In p (ended_at b listed index)) is-place (comes-ended b index listed slot.0 (right.every index slot.0 low ends-it) ends-it)) in
-      let up : Rises (ended_at b listed index) =
+      subst (λ p. In p (ended_places_at b listed index)) is-place (comes-ended b index listed slot.0 (right.every index slot.0 low ends-it) ends-it)) in
+      let up : Rises (ended_places_at b listed index) =
       ended-rise b index listed (rises-by listed rise)
       (λ s t has has' less.
       let first = in-at s listed has in
       let second = in-at t listed has' in
-      let low : s < length (slots_of b) = subst (λ n. n < length (slots_of b)) first.2 (right.within first.0 first.1) in
-      let high : t < length (slots_of b) = subst (λ n. n < length (slots_of b)) second.2 (right.within second.0 second.1) in
+      let low : s < length (batch_slots b) = subst (λ n. n < length (batch_slots b)) first.2 (right.within first.0 first.1) in
+      let high : t < length (batch_slots b) = subst (λ n. n < length (batch_slots b)) second.2 (right.within second.0 second.1) in
       let mine = grant-there b s low in
       let theirs = grant-there b t high in
       let below = order s t mine.0 theirs.0 less mine.1 theirs.1 in
       let mine-is = mine.2 in
       let theirs-is = theirs.2 in
       omega arith) in
-      same-members (ended_at b listed index) ends up (rises-by ends (ended-rises (owners log) (deeds_before log place) deed proper)) there back
-      ∙ sym (ended-form (owners log) place (log_before log place) statement statement.form one)
+      same-members (ended_places_at b listed index) ends up (rises-by ends (ended-rises (owners log) (deeds_before log place) deed proper)) there back
+      ∙ sym (ended-form (owners log) place (world_before log place) statement statement.form one)
       ∙ ap ended_in (sym same)

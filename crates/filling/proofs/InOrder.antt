@@ -7,8 +7,8 @@ use Rattle.std.specs.List.Sorted.{IsStrictlyIncreasing}
 use Rattle.std.proofs.lemmas.Bool.{cases_lt}
 use Rattle.std.proofs.lemmas.List.{get_or_append_left, get_or_push, length_push}
 use Rattle.model_base.proofs.Replay.{by_cases}
-use Rattle.bohm_core_base.specs.Batch.{Batch, slots_of}
-use Rattle.words.specs.Layout.{slot_at}
+use Rattle.bohm_core_base.specs.Batch.{Batch, batch_slots}
+use Rattle.words.specs.Layout.{listed_slot_at}
 use Rattle.words.specs.Views.{In}
 use Rattle.log_words.specs.Listing.{is_reached, listed_below, listed_slots}
 use Rattle.filling.proofs.Lists.{in-at, rises-more}
@@ -37,13 +37,13 @@ module _ (b : Batch) where
       (λ fails. rw fails (listed-rise n))
 
   pub slots-rise : IsStrictlyIncreasing (listed_slots b)
-  slots-rise = listed-rise (length (slots_of b))
+  slots-rise = listed-rise (length (batch_slots b))
 
 -- what a search by halving tells
 pub found-number : (slots : List ℕ) (slot : ℕ) (found : Result ℕ ℕ)
     → MatchResult found (λ i. (i < length slots) × (get_or slots i 0 ≡ slot))
     (λ i. (i ≤ length slots) × ((k : ℕ) → k < i → get_or slots k 0 < slot) × ((k : ℕ) → i ≤ k → k < length slots → slot < get_or slots k 0))
-    → MatchOption (result_ok found) (¬ (In slot slots)) (λ number. (number < length slots) × (slot_at slots number ≡ slot))
+    → MatchOption (result_ok found) (¬ (In slot slots)) (λ number. (number < length slots) × (listed_slot_at slots number ≡ slot))
 found-number slots slot (Ok i) told = told
 found-number slots slot (Err i) told =
     λ has.

@@ -7,7 +7,7 @@ use Rattle.filling_base.specs.declared.run.Tried.{Tried}
 use Rattle.filling_base.specs.declared.run.Tried.TheVariants.{Done, Busy, NoMemory}
 use Rattle.filling_base.specs.Counting.{CountsBodies}
 use Rattle.filling_base.specs.Goings.{NoPlace, OnlyLearns}
-use Rattle.filling_base.specs.Tries.{IsToldDone, Tells}
+use Rattle.filling_base.specs.Tries.{IsToldDone, TriedTells}
 use Rattle.filling_base.proofs.Counting.{counts-starved, counts-then}
 use Rattle.filling_base.proofs.Going.{goes-then}
 use Rattle.log_batch.specs.Supplied.{Ranged, batch_in}
@@ -16,7 +16,7 @@ use Rattle.filling.specs.declared.running.Ran.TheVariants as ran
 use Rattle.filling.specs.Runs.{DoneTells, RanTells}
 
 -- what is told of it stands
-pub done-learnt : (b : Batch) (index : ℕ) (v u w : View) → Tells b index v Done u → OnlyLearns u w → Tells b index v Done w
+pub done-learnt : (b : Batch) (index : ℕ) (v u w : View) → TriedTells b index v Done u → OnlyLearns u w → TriedTells b index v Done w
 done-learnt b index v u w tells learns =
     (goes-then NoPlace v u w tells.0 learns.goes, learns.sightings ∙ tells.1, learns.goes.knows index tells.2)
 
@@ -25,13 +25,13 @@ pub counts-learnt : (runs : ℕ → ℕ) (p q r : Passing) → CountsBodies runs
 counts-learnt runs p q r counts learns bodies = counts-then runs p q r counts (counts-starved runs q r learns bodies)
 
 -- what a place that was run came to
-pub ran-done : (ranged : Ranged) (index : ℕ) (v u w : View) (answer : Tried) (found : Ran) → answer ≡ Done → Tells (batch_in ranged) index v answer u
+pub ran-done : (ranged : Ranged) (index : ℕ) (v u w : View) (answer : Tried) (found : Ran) → answer ≡ Done → TriedTells (batch_in ranged) index v answer u
     → DoneTells ranged index u found w → RanTells ranged index v found w
 ran-done ranged index v u w answer (ran.Done outcome) is tells told =
-    (done-learnt (batch_in ranged) index v u w (subst (λ (t : Tried). Tells (batch_in ranged) index v t u) is tells) told.0, told.1)
+    (done-learnt (batch_in ranged) index v u w (subst (λ (t : Tried). TriedTells (batch_in ranged) index v t u) is tells) told.0, told.1)
 ran-done ranged index v u w answer (ran.Busy place) is tells told = absurd told
 ran-done ranged index v u w answer ran.NoMemory is tells told =
-    inr (done-learnt (batch_in ranged) index v u w (subst (λ (t : Tried). Tells (batch_in ranged) index v t u) is tells) told.0, told.1)
+    inr (done-learnt (batch_in ranged) index v u w (subst (λ (t : Tried). TriedTells (batch_in ranged) index v t u) is tells) told.0, told.1)
 
 done-busy : (other : ℕ) → Done ≡ Busy other → ⊥
 done-busy other is = cc
@@ -40,14 +40,14 @@ done-lacking : Done ≡ NoMemory → ⊥
 done-lacking is = cc
 
 pub ran-busy : (ranged : Ranged) (index other place : ℕ) (v w : View) (answer : Tried) → answer ≡ Busy other → (IsToldDone (batch_in ranged) v index → answer ≡ Done)
-    → Tells (batch_in ranged) index v answer w → place ≡ ranged.first + other → RanTells ranged index v (ran.Busy place) w
+    → TriedTells (batch_in ranged) index v answer w → place ≡ ranged.first + other → RanTells ranged index v (ran.Busy place) w
 ran-busy ranged index other place v w answer is told tells there =
-    (other, there, ((λ known. done-busy other (sym (told known) ∙ is)), subst (λ (t : Tried). Tells (batch_in ranged) index v t w) is tells))
+    (other, there, ((λ known. done-busy other (sym (told known) ∙ is)), subst (λ (t : Tried). TriedTells (batch_in ranged) index v t w) is tells))
 
 pub ran-lacking : (ranged : Ranged) (index : ℕ) (v w : View) (answer : Tried) → answer ≡ NoMemory → (IsToldDone (batch_in ranged) v index → answer ≡ Done)
-    → Tells (batch_in ranged) index v answer w → RanTells ranged index v ran.NoMemory w
+    → TriedTells (batch_in ranged) index v answer w → RanTells ranged index v ran.NoMemory w
 ran-lacking ranged index v w answer is told tells =
-    inl ((λ known. done-lacking (sym (told known) ∙ is)), subst (λ (t : Tried). Tells (batch_in ranged) index v t w) is tells)
+    inl ((λ known. done-lacking (sym (told known) ∙ is)), subst (λ (t : Tried). TriedTells (batch_in ranged) index v t w) is tells)
 
 pub only-learnt : (ranged : Ranged) (index : ℕ) (v w : View) (found : Ran) → DoneTells ranged index v found w → OnlyLearns v w
 only-learnt ranged index v w (ran.Done outcome) told = told.0

@@ -11,9 +11,9 @@ use Rattle.std.proofs.lemmas.Option.{slice_get-get_or, slice_get_within}
 use Rattle.model_base.specs.declared.deed.Grant.{Grant}
 use Rattle.model_base.specs.declared.deed.Kind.TheVariants.{Read}
 use Rattle.model_base.proofs.Replay.{by_cases}
-use Rattle.bohm_core_base.specs.Batch.{Batch, place_at, slots_of}
+use Rattle.bohm_core_base.specs.Batch.{Batch, place_at, batch_slots}
 use Rattle.bohm_core_base.specs.Serial.{serial_ends}
-use Rattle.words.specs.Layout.{IsListed, slot_at}
+use Rattle.words.specs.Layout.{IsListed, listed_slot_at}
 use Rattle.words.specs.Views.{In}
 use Rattle.filling_base.specs.Storing.{IsEnding, slot_of}
 use Rattle.filling.specs.Numbers.{number_at, numbers_at}
@@ -24,30 +24,30 @@ abbrev no_grant : Grant
 no_grant = record { place = 0; grantor = 0; grantee = 0; kind = Read; table = 0; option = false }
 
 -- the grant of a slot, with its place
-pub grant-there : (b : Batch) (slot : ℕ) → slot < length (slots_of b) → (grant : Grant) × (slice_get (slots_of b) slot ≡ Some grant) × (place_at b slot ≡ grant.place)
+pub grant-there : (b : Batch) (slot : ℕ) → slot < length (batch_slots b) → (grant : Grant) × (slice_get (batch_slots b) slot ≡ Some grant) × (place_at b slot ≡ grant.place)
 grant-there b slot within =
-    (get_or (slots_of b) slot no_grant, slice_get-get_or (slots_of b) slot no_grant within, get_or-map (λ (grant : Grant). grant.place) (slots_of b) slot no_grant 0 within)
+    (get_or (batch_slots b) slot no_grant, slice_get-get_or (batch_slots b) slot no_grant within, get_or-map (λ (grant : Grant). grant.place) (batch_slots b) slot no_grant 0 within)
 
 -- the place of a slot whose grant is given
-pub grant-place : (b : Batch) (slot : ℕ) (grant : Grant) → slice_get (slots_of b) slot ≡ Some grant → place_at b slot ≡ grant.place
+pub grant-place : (b : Batch) (slot : ℕ) (grant : Grant) → slice_get (batch_slots b) slot ≡ Some grant → place_at b slot ≡ grant.place
 grant-place b slot grant at =
-    let there = grant-there b slot (slice_get_within (slots_of b) slot grant at) in
+    let there = grant-there b slot (slice_get_within (batch_slots b) slot grant at) in
     let both : Some there.0 ≡ Some grant = sym there.1 ∙ at in
     let same : there.0 ≡ grant = cc in
     there.2 ∙ ap (λ (one : Grant). one.place) same
 
 module _ (b : Batch) (listed : List ℕ) (place : ℕ) where
-  at-fails : (n : ℕ) → place_at b (slot_at listed n) ≢ place → (place_at b (get_or listed n 0) == place) ≡ false
+  at-fails : (n : ℕ) → place_at b (listed_slot_at listed n) ≢ place → (place_at b (get_or listed n 0) == place) ≡ false
   at-fails n other = by_cases (place_at b (get_or listed n 0) == place) (λ is. absurd (other (eqb-true (place_at b (get_or listed n 0)) place is))) (λ is. is)
 
   -- no listed end is of the place
-  pub number-none : ((n : ℕ) → n < length listed → place_at b (slot_at listed n) ≢ place) → None ≡ number_at b listed place
+  pub number-none : ((n : ℕ) → n < length listed → place_at b (listed_slot_at listed n) ≢ place) → None ≡ number_at b listed place
   number-none none =
       let last = position_or_len_is (λ slot. place_at b slot == place) listed (length listed) 0 (omega arith) (λ k low. at-fails k (none k low)) (λ low. absurd (omega arith)) in
       sym (ap (λ n. cond (nat_lt n (length listed)) (Some n) None) last ∙ ap (λ test. cond test (Some (length listed)) None) (le-ltb (length listed) (length listed) (omega arith)))
 
   -- just one is
-  pub number-some : (m : ℕ) → m < length listed → place_at b (slot_at listed m) ≡ place → ((n : ℕ) → n < length listed → place_at b (slot_at listed n) ≡ place → n ≡ m)
+  pub number-some : (m : ℕ) → m < length listed → place_at b (listed_slot_at listed m) ≡ place → ((n : ℕ) → n < length listed → place_at b (listed_slot_at listed n) ≡ place → n ≡ m)
       → Some m ≡ number_at b listed place
   number-some m within is only =
       let here = position_or_len_is (λ slot. place_at b slot == place) listed m 0 (omega arith)
@@ -56,13 +56,13 @@ module _ (b : Batch) (listed : List ℕ) (place : ℕ) where
       sym (ap (λ n. cond (nat_lt n (length listed)) (Some n) None) here ∙ ap (λ test. cond test (Some m) None) (lt-ltb m (length listed) within))
 
   -- what a number found tells
-  pub number-right : (m : ℕ) → number_at b listed place ≡ Some m → (m < length listed) × (place_at b (slot_at listed m) ≡ place)
+  pub number-right : (m : ℕ) → number_at b listed place ≡ Some m → (m < length listed) × (place_at b (listed_slot_at listed m) ≡ place)
   number-right m found =
       let told = position-Some (λ slot. place_at b slot == place) listed m 0 found in
       (told.0, eqb-true (place_at b (get_or listed m 0)) place told.1)
 
   -- a listed end of the place has a number
-  pub number-there : (n : ℕ) → n < length listed → place_at b (slot_at listed n) ≡ place → (m : ℕ) × (number_at b listed place ≡ Some m)
+  pub number-there : (n : ℕ) → n < length listed → place_at b (listed_slot_at listed n) ≡ place → (m : ℕ) × (number_at b listed place ≡ Some m)
   number-there n within is =
       elim (cases_lt (position_or_len (λ slot. place_at b slot == place) listed) (length listed)) [
         | inl less ↦ (position_or_len (λ slot. place_at b slot == place) listed, ap (λ test. cond test (Some (position_or_len (λ slot. place_at b slot == place) listed)) None) (lt-ltb (position_or_len (λ slot. place_at b slot == place) listed) (length listed) less))
@@ -71,42 +71,42 @@ module _ (b : Batch) (listed : List ℕ) (place : ℕ) where
 
   -- the number, by the slot of the place's grant and its number in the list
   module _ (right : IsListed b listed) (found : Option ℕ)
-      (tells : MatchOption found ((slot : ℕ) (grant : Grant) → slice_get (slots_of b) slot ≡ Some grant → grant.place ≢ place)
-      (λ slot. (grant : Grant) × (slice_get (slots_of b) slot ≡ Some grant) × (grant.place ≡ place)))
-      (only : (slot : ℕ) (grant : Grant) → slice_get (slots_of b) slot ≡ Some grant → grant.place ≡ place → found ≡ Some slot) where
-    listed-only : (n : ℕ) → n < length listed → place_at b (slot_at listed n) ≡ place → found ≡ Some (slot_at listed n)
+      (tells : MatchOption found ((slot : ℕ) (grant : Grant) → slice_get (batch_slots b) slot ≡ Some grant → grant.place ≢ place)
+      (λ slot. (grant : Grant) × (slice_get (batch_slots b) slot ≡ Some grant) × (grant.place ≡ place)))
+      (only : (slot : ℕ) (grant : Grant) → slice_get (batch_slots b) slot ≡ Some grant → grant.place ≡ place → found ≡ Some slot) where
+    listed-only : (n : ℕ) → n < length listed → place_at b (listed_slot_at listed n) ≡ place → found ≡ Some (listed_slot_at listed n)
     listed-only n within is =
-        let there = grant-there b (slot_at listed n) (right.within n within) in
-        only (slot_at listed n) there.0 there.1 (sym there.2 ∙ is)
+        let there = grant-there b (listed_slot_at listed n) (right.within n within) in
+        only (listed_slot_at listed n) there.0 there.1 (sym there.2 ∙ is)
 
     pub number-unslotted : found ≡ None → None ≡ number_at b listed place
-    number-unslotted is = number-none (λ n within at. let both : Some (slot_at listed n) ≡ None = sym (listed-only n within at) ∙ is in cc)
+    number-unslotted is = number-none (λ n within at. let both : Some (listed_slot_at listed n) ≡ None = sym (listed-only n within at) ∙ is in cc)
 
     pub number-unlisted : (slot : ℕ) → found ≡ Some slot → ¬ (In slot listed) → None ≡ number_at b listed place
     number-unlisted slot is out =
         number-none (λ n within at.
-        let both : Some (slot_at listed n) ≡ Some slot = sym (listed-only n within at) ∙ is in
-        let same : slot_at listed n ≡ slot = cc in
+        let both : Some (listed_slot_at listed n) ≡ Some slot = sym (listed-only n within at) ∙ is in
+        let same : listed_slot_at listed n ≡ slot = cc in
         out (subst (λ s. In s listed) same (at-in listed n within)))
 
-    pub number-listed : (slot m : ℕ) → found ≡ Some slot → m < length listed → slot_at listed m ≡ slot → Some m ≡ number_at b listed place
+    pub number-listed : (slot m : ℕ) → found ≡ Some slot → m < length listed → listed_slot_at listed m ≡ slot → Some m ≡ number_at b listed place
     number-listed slot m is within at =
         let here = rw is at tells in
         number-some m within (ap (place_at b) at ∙ grant-place b slot here.0 here.1 ∙ here.2)
         (λ n low also.
-        let both : Some (slot_at listed n) ≡ Some slot = sym (listed-only n low also) ∙ is in
-        let same : slot_at listed n ≡ slot = cc in
+        let both : Some (listed_slot_at listed n) ≡ Some slot = sym (listed-only n low also) ∙ is in
+        let same : listed_slot_at listed n ≡ slot = cc in
         right.apart n m low within (same ∙ sym at))
 
     -- so it is what a search for the slot gives
     pub number-searched : (slot : ℕ) (number : Option ℕ) → found ≡ Some slot
-        → MatchOption number (¬ (In slot listed)) (λ m. (m < length listed) × (slot_at listed m ≡ slot)) → number ≡ number_at b listed place
+        → MatchOption number (¬ (In slot listed)) (λ m. (m < length listed) × (listed_slot_at listed m ≡ slot)) → number ≡ number_at b listed place
     number-searched slot None is out = number-unlisted slot is out
     number-searched slot (Some m) is at = number-listed slot m is at.0 at.1
 
 -- the places of numbered ends
 abbrev end_place : Batch → List ℕ → ℕ → ℕ
-end_place b listed number = place_at b (slot_at listed number)
+end_place b listed number = place_at b (listed_slot_at listed number)
 
 module _ (b : Batch) (listed : List ℕ) where
   -- the first of a list, and the others, of an option before a list
@@ -203,14 +203,14 @@ module _ (b : Batch) (listed : List ℕ) where
 
 -- the numbers of the places of the grants that a place ends are those of the ends that it sets
 pub ends-of_places : (b : Batch) (listed places : List ℕ) (index : ℕ) → IsListed b listed → Rises places
-    → ((slot : ℕ) (grant : Grant) → slice_get (slots_of b) slot ≡ Some grant → list_any (λ place. place == grant.place) places ≡ serial_ends b index slot)
-    → ((slot other : ℕ) (grant later : Grant) → slot < other → slice_get (slots_of b) slot ≡ Some grant → slice_get (slots_of b) other ≡ Some later → grant.place < later.place)
+    → ((slot : ℕ) (grant : Grant) → slice_get (batch_slots b) slot ≡ Some grant → list_any (λ place. place == grant.place) places ≡ serial_ends b index slot)
+    → ((slot other : ℕ) (grant later : Grant) → slot < other → slice_get (batch_slots b) slot ≡ Some grant → slice_get (batch_slots b) other ≡ Some later → grant.place < later.place)
     → IsEnding b listed index (numbers_at b listed places)
 ends-of_places b listed places index right rise ends order = record {
   within = λ k low. (each-one b listed places k low).within;
   right = λ k low.
       let one = each-one b listed places k low in
-      let slot = slot_at listed (get_or (numbers_at b listed places) k 0) in
+      let slot = listed_slot_at listed (get_or (numbers_at b listed places) k 0) in
       let there = grant-there b slot (right.within (get_or (numbers_at b listed places) k 0) one.within) in
       sym (ends slot there.0 there.1) ∙ in-any there.0.place places (subst (λ p. In p places) there.2 one.here);
   once = λ k j less low same.
@@ -221,16 +221,16 @@ ends-of_places b listed places index right rise ends order = record {
       let there = grant-there b slot within in
       let has = any-in there.0.place places (ends slot there.0 there.1 ∙ sets) in
       let at = in-at slot listed (right.every index slot within sets) in
-      let place : place_at b (slot_at listed at.0) ≡ there.0.place = ap (place_at b) at.2 ∙ there.2 in
+      let place : place_at b (listed_slot_at listed at.0) ≡ there.0.place = ap (place_at b) at.2 ∙ there.2 in
       let number = number-there b listed there.0.place at.0 at.1 place in
       let among = number-among b listed places there.0.place number.0 has number.1 in
       let told = number-right b listed there.0.place number.0 number.1 in
-      let found : slot_of listed (numbers_at b listed places) among.0 ≡ slot_at listed number.0 = ap (slot_at listed) among.2 in
-      (among.0, among.1, found ∙ same-slot (slot_at listed number.0) slot (right.within number.0 told.0) within (told.1 ∙ sym there.2));
+      let found : slot_of listed (numbers_at b listed places) among.0 ≡ listed_slot_at listed number.0 = ap (listed_slot_at listed) among.2 in
+      (among.0, among.1, found ∙ same-slot (listed_slot_at listed number.0) slot (right.within number.0 told.0) within (told.1 ∙ sym there.2));
 }
   where
     -- no two slots have one place
-    same-slot : (s t : ℕ) → s < length (slots_of b) → t < length (slots_of b) → place_at b s ≡ place_at b t → s ≡ t
+    same-slot : (s t : ℕ) → s < length (batch_slots b) → t < length (batch_slots b) → place_at b s ≡ place_at b t → s ≡ t
     same-slot s t low high same =
         let one = grant-there b s low in
         let two = grant-there b t high in
@@ -243,7 +243,7 @@ ends-of_places b listed places index right rise ends order = record {
         ]
 
 -- a place that wasn't done, or has no revocation, sets none
-pub ends-none : (b : Batch) (listed : List ℕ) (index : ℕ) → ((slot : ℕ) → slot < length (slots_of b) → serial_ends b index slot ≡ true → ⊥) → IsEnding b listed index []
+pub ends-none : (b : Batch) (listed : List ℕ) (index : ℕ) → ((slot : ℕ) → slot < length (batch_slots b) → serial_ends b index slot ≡ true → ⊥) → IsEnding b listed index []
 ends-none b listed index none = record {
   within = λ k low. absurd (omega arith);
   right = λ k low. absurd (omega arith);

@@ -4,7 +4,7 @@ use Rattle.std.proofs.lemmas.List.{get_or-map}
 use Rattle.model_base.specs.declared.reference.Reference.{Reference}
 use Rattle.model_base.specs.declared.reference.Reference.TheVariants.{Base}
 use Rattle.model_base.specs.References.{references}
-use Rattle.bohm_core_base.specs.Batch.{references as reference_words}
+use Rattle.bohm_core_base.specs.Batch.{reference_words}
 use Rattle.log_batch.specs.Laws.{word_of}
 use Rattle.log_batch.specs.Supplied.{Ranged, batch_in, range_of}
 use Rattle.log_batch.proofs.Counted.{references_counted}

@@ -3,7 +3,7 @@ use Rattle.std.proofs.Common.{◌≡◌, ◌<◌, ◌+◌, ℕ, false, Option, S
 use Rattle.std.proofs.lemmas.List.{append-nil}
 use Rattle.model_base.specs.Records.{end_below}
 use Rattle.model_base.proofs.Replay.{by_cases}
-use Rattle.bohm_core_base.specs.Batch.{Batch, references, slots_of}
+use Rattle.bohm_core_base.specs.Batch.{Batch, reference_words, batch_slots}
 use Rattle.bohm_core_base.specs.Machine.{end_of, start}
 use Rattle.bohm_core_base.specs.Serial.{is_end, serial_ends, whole_end}
 use Rattle.bohm_core_base.proofs.Whole.{is_end-some}
@@ -11,17 +11,17 @@ use Rattle.log_words.specs.Keys.{Key}
 use Rattle.reading.specs.Told.{IsDeedBefore, IsReferred, Work}
 use Rattle.words.specs.declared.view.View.{View}
 use Rattle.words.specs.Layout.{IsListed, end_told}
-use Rattle.words.specs.Passes.{IsPassOf, Passing, Words, goes_on}
+use Rattle.words.specs.Passes.{IsPassOf, Passing, Words, gone_on}
 use Rattle.words.specs.Tells.{EndTells, FoundHeld}
 use Rattle.words.specs.Views.{HoldsNone, In, IsSettled, KnowsReferences, with_known, with_sighting}
 use Rattle.filling_base.specs.Goings.{IsSamePass, OnlyLearns}
-use Rattle.filling.specs.Readings.{IsEndBelow, IsReading, KeepsKnown, work_of}
+use Rattle.filling.specs.Readings.{IsEndBelow, IsReadingPass, KeepsKnown, work_of}
 use Rattle.filling.proofs.Lists.{at-in, in-back, in-front}
 
 -- what a place is referred to is known done
 pub referred-known : (b : Batch) (v : View) (i other : ℕ) → KnowsReferences b v i → IsReferred (record { batch = b; index = i }) other → In other v.known
 referred-known b v i other knows is =
-    knows other (subst (λ word. In word (references b i)) is.here (at-in (references b i) is.number is.within))
+    knows other (subst (λ word. In word (reference_words b i)) is.here (at-in (reference_words b i) is.number is.within))
 
 -- an earlier place with a deed on a table of the place is settled
 pub deed-settled : (b : Batch) (v : View) (i other : ℕ) → i < b.size → KnowsReferences b v i → IsDeedBefore (record { batch = b; index = i }) other → IsSettled b v other
@@ -37,7 +37,7 @@ end-word b v slot at word end same tells is =
     (λ index within knows listed. ap (end_below (b.first + index)) is ∙ tells.below index within knows listed)
 
 -- a slot without a word has the end that it has before the batch
-pub end-unlisted : (b : Batch) (listed : List ℕ) (slot : ℕ) → IsListed b listed → slot < length (slots_of b)
+pub end-unlisted : (b : Batch) (listed : List ℕ) (slot : ℕ) → IsListed b listed → slot < length (batch_slots b)
     → (((index : ℕ) → serial_ends b index slot ≡ false) → whole_end b slot ≡ end_of (start b) slot)
     → ¬ (In slot listed) → whole_end b slot ≡ end_of (start b) slot
 end-unlisted b listed slot right within keeps out =
@@ -45,10 +45,10 @@ end-unlisted b listed slot right within keeps out =
 
 -- a reading goes on where the pass only finds a place done, and where it stays
 pub reading-found : (words : Words Key) (key : Key) (pass after : Passing) (index other : ℕ) (named : Option (Words Key)) (known : List ℕ)
-    → after ≡ goes_on pass (with_known pass.view other)
-    → IsReading words key pass index named known → IsReading words key after index named known
+    → after ≡ gone_on pass (with_known pass.view other)
+    → IsReadingPass words key pass index named known → IsReadingPass words key after index named known
 reading-found words key pass after index other named known is reading =
-    subst (λ p. IsReading words key p index named known) (sym is)
+    subst (λ p. IsReadingPass words key p index named known) (sym is)
     (record {
       ours = reading.ours;
       key = reading.key;
@@ -104,20 +104,16 @@ record-ended b v slot word index end tells known is =
     (λ some. ap (is_end place) (is ∙ ap end_told some.1) ∙ ap (is_end place) (sym some.2))
     tells.none_or
 
--- a pass that goes on to another view is the same
-pub same-goes : (pass after : Passing) (view : View) → after ≡ goes_on pass view → IsSamePass pass after
-same-goes pass after view is = subst (λ p. IsSamePass pass p) (sym is) (record { table = refl; number = refl; bodies = omega arith })
-
 -- and where it finds a place done it only learns that
-pub found-learns : (pass after : Passing) (index : ℕ) → after ≡ goes_on pass (with_known pass.view index) → OnlyLearns pass.view after.view × In index after.view.known
+pub found-learns : (pass after : Passing) (index : ℕ) → after ≡ gone_on pass (with_known pass.view index) → OnlyLearns pass.view after.view × In index after.view.known
 found-learns pass after index is =
     subst (λ (p : Passing). OnlyLearns pass.view p.view × In index p.view.known) (sym is)
-    (only-learns pass (goes_on pass (with_known pass.view index)) (λ one has. in-front one pass.view.known (index ∷ []) has) refl, in-back index pass.view.known)
+    (only-learns pass (gone_on pass (with_known pass.view index)) (λ one has. in-front one pass.view.known (index ∷ []) has) refl, in-back index pass.view.known)
 
 -- a pass that holds no place finds one held by another
 pub found-held : (v w : View) (index : ℕ) → HoldsNone v → FoundHeld index v w → w ≡ with_sighting v index
 found-held v w index idle found = ⊎_elim (λ mine. absurd (idle index mine.1.0 mine.1.1 mine.1.2)) (λ other. other.0) found
 
 -- through the steps of a look
-pub looked : (pass begun seen after : Passing) (view : View) → begun ≡ pass → seen ≡ goes_on begun seen.view → seen.view ≡ view → after ≡ seen → after ≡ goes_on pass view
-looked pass begun seen after view first goes is last = last ∙ goes ∙ ap (λ p. goes_on p seen.view) first ∙ ap (goes_on pass) is
+pub looked : (pass begun seen after : Passing) (view : View) → begun ≡ pass → seen ≡ gone_on begun seen.view → seen.view ≡ view → after ≡ seen → after ≡ gone_on pass view
+looked pass begun seen after view first goes is last = last ∙ goes ∙ ap (λ p. gone_on p seen.view) first ∙ ap (gone_on pass) is

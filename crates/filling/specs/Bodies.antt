@@ -34,7 +34,8 @@ runs_for form outcome = if has_body form && not (is_denied outcome) then 1 else 
 -- how many are run for a place of a log, by its serial run
 abbrev pub runs_in : List Statement → ℕ → ℕ
 runs_in log place =
-    option_map_or (λ (statement : Statement). runs_for statement.form (at_place (owners log) place (world_before log place) statement).0) (slice_get log place) 0
+    option_map_or (λ (statement : Statement). runs_for statement.form
+    (at_place (owners log) place (world_before log place) statement).0) (slice_get log place) 0
 
 -- and for an index of a range of a log
 abbrev pub runs_at : Ranged → ℕ → ℕ

@@ -13,10 +13,10 @@ use Rattle.filling_base.specs.References.{IsRevocation}
 use Rattle.filling_base.specs.Tries.{IsToldDone}
 
 -- of the grants of these slots, the places of those whose records the place ends
-abbrev pub ended_at : Batch → List ℕ → ℕ → List ℕ
-ended_at batch [] index = []
-ended_at batch (slot ∷ slots) index =
-    if serial_ends batch index slot then place_at batch slot ∷ ended_at batch slots index else ended_at batch slots index
+abbrev pub ended_places_at : Batch → List ℕ → ℕ → List ℕ
+ended_places_at batch [] index = []
+ended_places_at batch (slot ∷ slots) index =
+    if serial_ends batch index slot then place_at batch slot ∷ ended_places_at batch slots index else ended_places_at batch slots index
 
 -- the outcome of an index of the range in its log
 abbrev pub outcome_in : Ranged → ℕ → Option Outcome

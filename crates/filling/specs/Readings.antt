@@ -23,14 +23,14 @@ work_of pass = record {
 }
 
 -- a place of a log's range, by its index, and what the pass did that reads for it
-pub record Reading : Type 0 where
+pub record PlaceReading : Type 0 where
   pub ranged : Ranged
   pub index : ℕ
   pub work : Work
 
 -- the place, as a reader
-abbrev pub reader_of : Reading → Reader
-reader_of reading = record { batch = batch_in reading.ranged; index = reading.index }
+abbrev pub reader_in : PlaceReading → Reader
+reader_in reading = record { batch = batch_in reading.ranged; index = reading.index }
 
 -- for each place of which it is known that all its references are done, and on one of whose tables the slot's grant is, this end
 -- tells below the place what that of the serial run does
@@ -45,7 +45,8 @@ KeepsKnown known after = (index : ℕ) → In index known → In index after
 
 -- the pass is one of the words, which are those of the key, and knows done all that the place is referred to. The words are
 -- those that were named before it began, and all is known that was known then
-pub record IsReading (words : Words Key) (mine : Key) (pass : Passing) (at : ℕ) (first : Option (Words Key)) (old : List ℕ) : Type 0 where
+pub record IsReadingPass (words : Words Key) (mine : Key) (pass : Passing) (at : ℕ) (first : Option (Words Key))
+    (old : List ℕ) : Type 0 where
   pub ours : IsPassOf words pass
   pub key : words.key ≡ mine
   pub within : at < mine.batch.size

@@ -5,7 +5,7 @@ ghost use Rattle.std.specs.List.{list_any};
 ghost use Rattle.std.specs.List.Sorted.{IsStrictlyIncreasing};
 ghost use Rattle.std.specs.Option.{option_to_list};
 ghost use Rattle.model_base.specs.declared.deed.Grant.{Grant};
-ghost use Rattle.bohm_core_base.specs.Batch.{slots_of, was_done};
+ghost use Rattle.bohm_core_base.specs.Batch.{batch_slots, was_done};
 ghost use Rattle.bohm_core_base.specs.Serial.{serial_ends, serial_words};
 ghost use Rattle.log_batch.specs.Supplied.{batch_in};
 ghost use Rattle.words.specs.Passes.{IsPassOf};
@@ -110,7 +110,7 @@ fn judge_places<'b, 'a, N: Named>(
     requires named { Some words.now ≡ N.words }
     requires knows { KeepsKnown N.known holding.view.known }
     requires done { was_done (serial_words (batch_in key.now.batch) index) ≡ true }
-    ensures ends { IfOk result.0 (λ places. (slot : ℕ) (grant : Grant) → slice_get (slots_of (batch_in key.now.batch)) slot ≡ Some grant
+    ensures ends { IfOk result.0 (λ places. (slot : ℕ) (grant : Grant) → slice_get (batch_slots (batch_in key.now.batch)) slot ≡ Some grant
         → list_any (λ place. place == grant.place) places.items ≡ serial_ends (batch_in key.now.batch) index slot) }
     ensures order { IfOk result.0 (λ places. IsStrictlyIncreasing places.items) }
     ensures ours { IsPassOf words.now result.1 }
@@ -148,7 +148,7 @@ pub(crate) fn places_told<'b, 'a>(
     requires within { index < key.now.batch.size }
     requires ready { KnowsReferences (batch_in key.now.batch) holding.view index }
     requires done { was_done (serial_words (batch_in key.now.batch) index) ≡ true }
-    ensures ends { IfOk result.0 (λ places. (slot : ℕ) (grant : Grant) → slice_get (slots_of (batch_in key.now.batch)) slot ≡ Some grant
+    ensures ends { IfOk result.0 (λ places. (slot : ℕ) (grant : Grant) → slice_get (batch_slots (batch_in key.now.batch)) slot ≡ Some grant
         → list_any (λ place. place == grant.place) places.items ≡ serial_ends (batch_in key.now.batch) index slot) }
     ensures order { IfOk result.0 (λ places. IsStrictlyIncreasing places.items) }
     ensures same { IsSamePass holding result.1 }
@@ -165,7 +165,7 @@ fn ends_numbered(
     places: &[Place],
 ) -> Result<Vec<usize>, AllocError>
     requires order { IsStrictlyIncreasing places.now }
-    requires ends { (slot : ℕ) (grant : Grant) → slice_get (slots_of (batch_in key.now.batch)) slot ≡ Some grant
+    requires ends { (slot : ℕ) (grant : Grant) → slice_get (batch_slots (batch_in key.now.batch)) slot ≡ Some grant
         → list_any (λ place. place == grant.place) places.now ≡ serial_ends (batch_in key.now.batch) index slot }
     ensures { IfOk result (λ ends. IsEnding (batch_in key.now.batch) key.now.slots index ends.items) }
 {

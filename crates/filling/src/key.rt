@@ -3,7 +3,7 @@
 ghost use Rattle.std.specs.Prelude.{◌≡◌, ◌<◌, IfOk, length};
 ghost use Rattle.std.specs.List.Sorted.{IsStrictlyIncreasing};
 ghost use Rattle.std.specs.Option.{MatchOption};
-ghost use Rattle.words.specs.Layout.{slot_at};
+ghost use Rattle.words.specs.Layout.{listed_slot_at};
 ghost use Rattle.words.specs.Views.{In};
 ghost use Rattle.log_batch.specs.Supplied.{batch_in};
 ghost use Rattle.log_words.specs.Listing.{listed_slots};
@@ -72,7 +72,7 @@ impl<'a> RangeKey<'a> {
     // length of the list.
     pub(crate) fn number_of(&self, slot: usize) -> Option<usize>
         ensures { MatchOption result (¬ (In slot self.now.slots))
-            (λ number. (number < length self.now.slots) × (slot_at self.now.slots number ≡ slot)) }
+            (λ number. (number < length self.now.slots) × (listed_slot_at self.now.slots number ≡ slot)) }
     {
         self.slots().binary_search(&slot).ok()
     }

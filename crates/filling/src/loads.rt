@@ -1,13 +1,13 @@
 //! What a pass loads of others for a place of which it knows all references done.
 
 ghost use Rattle.std.specs.Prelude.{◌≡◌, ◌<◌, ℕ, None, length};
-ghost use Rattle.bohm_core_base.specs.Batch.{slots_of, was_done};
+ghost use Rattle.bohm_core_base.specs.Batch.{batch_slots, was_done};
 ghost use Rattle.bohm_core_base.specs.Machine.{end_of, start};
 ghost use Rattle.bohm_core_base.specs.Serial.{serial_words};
 ghost use Rattle.log_batch.specs.Supplied.{batch_in};
 ghost use Rattle.reading.specs.Told.{IsDeedBefore};
-ghost use Rattle.words.specs.Layout.{end_told, slot_at};
-ghost use Rattle.words.specs.Passes.{IsPassOf, goes_on};
+ghost use Rattle.words.specs.Layout.{end_told, listed_slot_at};
+ghost use Rattle.words.specs.Passes.{IsPassOf, gone_on};
 ghost use Rattle.words.specs.Tells.{EndTells};
 ghost use Rattle.words.specs.Views.{KnowsReferences, with_known};
 ghost use Rattle.filling.specs.Readings.{IsEndBelow};
@@ -31,7 +31,7 @@ pub(crate) fn deed_was_done<K: Placed>(
     requires within { reader < (K.batch words.now.key).size }
     requires ready { KnowsReferences (K.batch words.now.key) holding.old.view reader }
     requires deed { IsDeedBefore (record { batch = K.batch words.now.key; index = reader }) index }
-    ensures same { holding.new ≡ goes_on holding.old (with_known holding.old.view index) }
+    ensures same { holding.new ≡ gone_on holding.old (with_known holding.old.view index) }
     ensures value { result ≡ was_done (serial_words (K.batch words.now.key) index) }
 {
     passes_keep_what_they_know();
@@ -49,7 +49,7 @@ pub(crate) fn end_loaded<K: Placed>(
     requires ours { IsPassOf words.now holding.old }
     requires listed { end < length (K.listed words.now.key) }
     ensures same { holding.new ≡ holding.old }
-    ensures told { (word : ℕ) × EndTells (K.batch words.now.key) (slot_at (K.listed words.now.key) end) holding.old.view word
+    ensures told { (word : ℕ) × EndTells (K.batch words.now.key) (listed_slot_at (K.listed words.now.key) end) holding.old.view word
         × (result ≡ end_told word) }
 {
     match words.end(holding, end) {
@@ -69,7 +69,7 @@ fn end_by_word<'a>(
 ) -> Option<Place>
     requires ours { IsPassOf words.now holding.old }
     requires key { words.now.key ≡ key.now }
-    requires slot { slot < length (slots_of (batch_in key.now.batch)) }
+    requires slot { slot < length (batch_slots (batch_in key.now.batch)) }
     requires open { end_of (start (batch_in key.now.batch)) slot ≡ None }
     ensures same { holding.new ≡ holding.old }
     ensures told { IsEndBelow (batch_in key.now.batch) holding.old.view slot result }
@@ -92,7 +92,7 @@ pub(crate) fn end_at<'a>(
 ) -> Option<Place>
     requires ours { IsPassOf words.now holding.old }
     requires key { words.now.key ≡ key.now }
-    requires slot { slot < length (slots_of (batch_in key.now.batch)) }
+    requires slot { slot < length (batch_slots (batch_in key.now.batch)) }
     ensures same { holding.new ≡ holding.old }
     ensures told { IsEndBelow (batch_in key.now.batch) holding.old.view slot result }
 {

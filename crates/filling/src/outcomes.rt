@@ -4,12 +4,12 @@ ghost use Rattle.std.specs.Prelude.{◌≡◌, ◌<◌, ◌≤◌, ◌++◌, ◌
 ghost use Rattle.bohm_core_base.specs.Batch.{words_length};
 ghost use Rattle.bohm_core_base.specs.Serial.{serial_ends, serial_words};
 ghost use Rattle.log_batch.specs.Supplied.{batch_in};
-ghost use Rattle.words.specs.Layout.{slot_at};
+ghost use Rattle.words.specs.Layout.{listed_slot_at};
 ghost use Rattle.words.specs.Passes.{IsPassOf};
 ghost use Rattle.words.specs.Views.{In};
 ghost use Rattle.filling_base.specs.Goings.{IsSamePass};
 ghost use Rattle.filling_base.specs.References.{IsRevocation};
-ghost use Rattle.filling.specs.Outcomes.{IsEndedList, OutcomeTells, ended_at, outcome_in};
+ghost use Rattle.filling.specs.Outcomes.{IsEndedList, OutcomeTells, ended_places_at, outcome_in};
 
 use crate::ends::has_revocation;
 use crate::key::RangeKey;
@@ -18,7 +18,7 @@ use answering::words_tell_outcomes;
 use bohm_core_base::slots_stand_in_order;
 use filling_base::Batch;
 use model_base::{Items, Outcome, Place};
-use own_words::decoded;
+use own_words::{MOST_OWN_WORDS, decoded};
 use reading::words_length;
 use std::alloc::AllocError;
 use words::{BatchWords, Holding, Pass, Placed, Seen};
@@ -30,18 +30,18 @@ fn load_own<K: Placed>(
     holding: &mut Holding,
     index: usize,
     count: usize,
-) -> [u64; 156]
+) -> [u64; MOST_OWN_WORDS]
     requires ours { IsPassOf words.now holding.old }
     requires key { words.now.key ≡ key.now }
     requires within { index < (K.batch words.now.key).size }
     requires known { In index holding.old.view.known }
     requires count { count ≡ words_length (K.batch words.now.key) index }
-    requires few { count ≤ 156 }
+    requires few { count ≤ MOST_OWN_WORDS }
     ensures same { holding.new ≡ holding.old }
     ensures value { take count result ≡ serial_words (K.batch words.now.key) index }
 {
     let _places = key.places();
-    let mut own = [0u64; 156];
+    let mut own = [0u64; MOST_OWN_WORDS];
     for number in 0..count {
         own[number] = words.own(holding, index, number);
     }
@@ -62,7 +62,7 @@ fn ended_record<'a>(
     requires known { In index holding.old.view.known }
     requires listed { number < length key.now.slots }
     ensures same { holding.new ≡ holding.old }
-    ensures value { result ≡ serial_ends (batch_in key.now.batch) index (slot_at key.now.slots number) }
+    ensures value { result ≡ serial_ends (batch_in key.now.batch) index (listed_slot_at key.now.slots number) }
 {
     let place = key.batch().first_place() + index as u64;
     match end_loaded(words, holding, number) {
@@ -87,7 +87,7 @@ fn put_ended<'a>(
     requires listed { number < length key.now.slots }
     ensures same { holding.new ≡ holding.old }
     ensures put { OnOk result
-        (places.new.items ≡ places.old.items ++ ended_at (batch_in key.now.batch) (slot_at key.now.slots number ∷ []) index) }
+        (places.new.items ≡ places.old.items ++ ended_places_at (batch_in key.now.batch) (listed_slot_at key.now.slots number ∷ []) index) }
 {
     let _ends = key.ends();
     if !ended_record(key, words, holding, index, number) {
@@ -110,7 +110,7 @@ fn ended_places<'a>(
     requires within { index < key.now.batch.size }
     requires known { In index holding.old.view.known }
     ensures same { holding.new ≡ holding.old }
-    ensures value { IfOk result (λ places. places.items ≡ ended_at (batch_in key.now.batch) key.now.slots index) }
+    ensures value { IfOk result (λ places. places.items ≡ ended_places_at (batch_in key.now.batch) key.now.slots index) }
 {
     let _ends = key.ends();
     let mut places = Vec::new(key.batch().alloc());

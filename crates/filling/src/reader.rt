@@ -34,21 +34,21 @@ pub(crate) struct PassReader<'b, 'a, N: Named> {
 }
 
 impl<'b, 'a, N: Named> Model for PassReader<'b, 'a, N> {
-    ghost use Rattle.filling.specs.Readings.{IsReading, Reading, work_of};
+    ghost use Rattle.filling.specs.Readings.{IsReadingPass, PlaceReading, work_of};
 
-    ghost Value = { Reading };
+    ghost Value = { PlaceReading };
 
     ghost view = { λ reader. record { ranged = reader.key.now.batch; index = reader.index; work = work_of reader.holding } };
 
-    ghost invariant = { λ reader. IsReading reader.words.now reader.key.now reader.holding reader.index N.words N.known };
+    ghost invariant = { λ reader. IsReadingPass reader.words.now reader.key.now reader.holding reader.index N.words N.known };
 }
 
 impl<N: Named> Told for PassReader<'_, '_, N> {
-    ghost use Rattle.filling.specs.Readings.{Reading, reader_of};
+    ghost use Rattle.filling.specs.Readings.{PlaceReading, reader_in};
 
-    ghost told = { reader_of };
+    ghost told = { reader_in };
 
-    ghost kept = { λ (reading : Reading). reading.work };
+    ghost kept = { λ (reading : PlaceReading). reading.work };
 
     fn reader(&self) -> usize {
         let _places = self.key.places();

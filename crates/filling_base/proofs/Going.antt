@@ -4,7 +4,7 @@ use Rattle.bohm_core_base.specs.declared.event.Event.{Event}
 use Rattle.bohm_core_base.specs.declared.event.Event.TheVariants.{Claim, Fill, End, Finish, GiveBack}
 use Rattle.bohm_core_base.specs.Batch.{Batch}
 use Rattle.words.specs.declared.view.View.{View}
-use Rattle.words.specs.Passes.{Passing, goes_on}
+use Rattle.words.specs.Passes.{Passing, gone_on}
 use Rattle.words.specs.Views.{In, KnowsReferences, with_event, with_known, with_sighting}
 use Rattle.filling_base.specs.Goings.{Goes, IsSamePass, NoPlace, OnlyLearns}
 use Rattle.filling_base.specs.Tries.{HasToWait, IsToldDone}
@@ -13,11 +13,8 @@ use Rattle.filling_base.proofs.Members.{in_back, in_cases, in_front, in_one}
 pub same-self : (p : Passing) → IsSamePass p p
 same-self p = record { table = refl; number = refl; bodies = omega arith }
 
-pub same-on : (p q : Passing) (v : View) → q ≡ goes_on p v → IsSamePass p q
+pub same-on : (p q : Passing) (v : View) → q ≡ gone_on p v → IsSamePass p q
 same-on p q v is = subst (λ (x : Passing). IsSamePass p x) (sym is) (record { table = refl; number = refl; bodies = omega arith })
-
-pub same-is : (p q : Passing) → q ≡ p → IsSamePass p q
-same-is p q is = subst (λ (x : Passing). IsSamePass p x) (sym is) (same-self p)
 
 pub same-then : (p q r : Passing) → IsSamePass p q → IsSamePass q r → IsSamePass p r
 same-then p q r a b = record {

@@ -1,36 +1,23 @@
 -- Which places a pass holds.
-use Rattle.std.proofs.Common.{◌≡◌, ◌≢◌, ◌↔◌, ℕ, suc, List, [], ◌∷◌, ◌++◌, false, refl, sym, ap, ◌∙◌, subst, inl, inr, ⊎_elim, eq-eqb}
-use Rattle.std.specs.Prelude.{if◌then◌else◌, Some, None}
+use Rattle.std.proofs.Common.{◌≡◌, ◌≢◌, ◌↔◌, ℕ, List, [], ◌∷◌, ◌++◌, false, refl, sym, ap, ◌∙◌, subst, inl, inr, ⊎_elim, eq-eqb}
+use Rattle.std.specs.Prelude.{Some, None}
 use Rattle.std.proofs.lemmas.Bool.{cases_eq, ne_eqb}
 use Rattle.bohm_core_base.specs.declared.event.Event.{Event}
 use Rattle.bohm_core_base.specs.declared.event.Event.TheVariants.{Claim, End, Fill, Finish, GiveBack}
 use Rattle.words.specs.declared.view.View.{View}
 use Rattle.words.specs.Tells.{FoundHeld}
-use Rattle.words.specs.Views.{Holds, HoldsNone, In, Stored, is_about, one_end, one_more, track, turn, with_event, with_known, with_sighting}
+use Rattle.words.specs.Views.{Holds, HoldsNone, In, Stored, is_event_at, track, with_event, with_known, with_sighting}
 use Rattle.filling_base.specs.Goings.{HoldsJust, HoldsOthers}
-
--- one more event
-track-snoc : (i : ℕ) (t : Stored) (l : List Event) (e : Event) → track i t (l ++ e ∷ []) ≡ (if is_about i e then turn (track i t l) e else track i t l)
-track-snoc i t [] e = refl
-track-snoc i t (f ∷ l) e = track-snoc i (if is_about i f then turn t f else t) l e
+use Rattle.words.proofs.Taking.{track-snoc, claimed-holds}
 
 some-none : (m : ℕ) (js : List ℕ) (t : Stored) → t ≡ None → t ≡ Some (m, js) → ⊥
 some-none m js t nothing some = let both : None ≡ Some (m, js) = sym nothing ∙ some in absurd (cc)
 
 -- an event about another place changes nothing of this one
-pub elsewhere : (v : View) (e : Event) (i m : ℕ) (js : List ℕ) → is_about i e ≡ false → Holds v i m js ↔ Holds (with_event v e) i m js
+pub elsewhere : (v : View) (e : Event) (i m : ℕ) (js : List ℕ) → is_event_at i e ≡ false → Holds v i m js ↔ Holds (with_event v e) i m js
 elsewhere v e i m js other =
     let is : track i None (v.events ++ e ∷ []) ≡ track i None v.events = track-snoc i None v.events e ∙ rw other refl in
     ((λ holds. is ∙ holds), (λ holds. sym is ∙ holds))
-
-pub claimed-holds : (v : View) (a i : ℕ) → Holds (with_event v (Claim a i)) i 0 []
-claimed-holds v a i = track-snoc i None v.events (Claim a i) ∙ rw (eq-eqb i i refl) refl
-
-pub filled-holds : (v : View) (a i m : ℕ) (js : List ℕ) → Holds v i m js → Holds (with_event v (Fill a i)) i (suc m) js
-filled-holds v a i m js holds = track-snoc i None v.events (Fill a i) ∙ rw (eq-eqb i i refl) (ap one_more holds)
-
-pub ended-holds : (v : View) (a i slot m : ℕ) (js : List ℕ) → Holds v i m js → Holds (with_event v (End a i slot)) i m (js ++ slot ∷ [])
-ended-holds v a i slot m js holds = track-snoc i None v.events (End a i slot) ∙ rw (eq-eqb i i refl) (ap (one_end slot) holds)
 
 pub finished-free : (v : View) (a i m : ℕ) (js : List ℕ) → ¬ (Holds (with_event v (Finish a i)) i m js)
 finished-free v a i m js holds =
@@ -64,9 +51,6 @@ others-back v a i other m js differ = elsewhere v (GiveBack a i) other m js (ne_
 
 pub holds-nothing : (v : View) → HoldsNone v → HoldsJust v []
 holds-nothing v none = record { these = λ i has. absurd has; only = λ i m js holds. none i m js holds }
-
-pub held-nothing : (v w : View) → w ≡ v → HoldsJust v [] → HoldsNone w
-held-nothing v w is held i m js holds = held.only i m js (subst (λ (u : View). Holds u i m js) is holds)
 
 pub same-events : (v w : View) (xs : List ℕ) → w.events ≡ v.events → HoldsJust v xs → HoldsJust w xs
 same-events v w xs is held = record {

@@ -4,7 +4,7 @@ use Rattle.std.specs.Prelude.{None}
 use Rattle.bohm_core_base.specs.declared.event.Event.{Event}
 use Rattle.words.specs.declared.view.View.{View}
 use Rattle.words.specs.Views.{Holds, In, track, with_known}
-use Rattle.filling_base.specs.Counting.{finished}
+use Rattle.filling_base.specs.Counting.{finished_places}
 use Rattle.filling_base.specs.Goings.{Finishes, HoldsOthers, NoPlace, OnlyLearns}
 use Rattle.filling_base.proofs.Going.{goes-then, learns-known, nothing-more}
 use Rattle.filling_base.proofs.Holding.{others-then}
@@ -29,7 +29,7 @@ others v w i learns other m js differ =
 pub finishes : (u v w : View) (i : ℕ) → OnlyLearns u v → Finishes i v w → Finishes i u w
 finishes u v w i learns done = record {
   goes = goes-then NoPlace u v w learns.goes done.goes;
-  finishes = done.finishes ∙ ap (λ (l : List Event). finished l ++ i ∷ []) learns.events;
+  finishes = done.finishes ∙ ap (λ (l : List Event). finished_places l ++ i ∷ []) learns.events;
   sightings = done.sightings ∙ learns.sightings;
   known = done.known;
   others = others-then i u v w (others u v i learns) done.others;

@@ -5,12 +5,13 @@ use Rattle.words.specs.declared.view.View.{View}
 use Rattle.words.specs.Views.{Holds, In, with_event, with_known}
 use Rattle.filling_base.specs.Goings.{Finishes, NoPlace}
 use Rattle.filling_base.specs.Storing.{Stores, ended_below, slot_of}
-use Rattle.filling_base.specs.Counting.{finished}
+use Rattle.filling_base.specs.Counting.{finished_places}
 use Rattle.filling_base.proofs.Counting.{finished-one}
 use Rattle.filling_base.proofs.Going.{goes-end, goes-fill, goes-finish, goes-known, goes-same, goes-then, now-known}
-use Rattle.filling_base.proofs.Holding.{ended-holds, filled-holds, finished-free, others-end, others-fill, others-finish, others-same, others-then}
+use Rattle.filling_base.proofs.Holding.{finished-free, others-end, others-fill, others-finish, others-same, others-then}
 use Rattle.filling_base.proofs.Members.{in_back, in_cases, in_front, in_one}
 use Rattle.filling_base.proofs.Paths.{below-suc}
+use Rattle.words.proofs.Taking.{ended-holds, filled-holds}
 
 pub begun-storing : (i : ℕ) (v : View) (m : ℕ) (js : List ℕ) → Holds v i m js → Stores i v v m js
 begun-storing i v m js holds = record { goes = goes-same NoPlace v v refl; finishes = refl; sightings = refl; others = others-same i v; holds = holds }
@@ -19,7 +20,7 @@ pub filled-more : (i a m n : ℕ) (v u w : View) (js : List ℕ) → Stores i v 
 filled-more i a m n v u w js stores is next =
     subst (λ (k : ℕ). Stores i v w k js) (sym next) (subst (λ (x : View). Stores i v x (suc m) js) (sym is) (record {
       goes = goes-then NoPlace v u (with_event u (Fill a i)) stores.goes (goes-fill u (with_event u (Fill a i)) a i refl);
-      finishes = finished-one u (Fill a i) ∙ append-nil (finished u.events) ∙ stores.finishes;
+      finishes = finished-one u (Fill a i) ∙ append-nil (finished_places u.events) ∙ stores.finishes;
       sightings = stores.sightings;
       others = others-then i v u (with_event u (Fill a i)) stores.others (others-fill u a i);
       holds = filled-holds u a i m js stores.holds;
@@ -31,7 +32,7 @@ ended-more i a m n k v u w listed ends stores is next =
     let slot = slot_of listed ends n in
     subst (λ (x : ℕ). Stores i v w m (ended_below listed ends x)) (sym next) (subst (λ (x : View). Stores i v x m (ended_below listed ends (suc n))) (sym is) (record {
       goes = goes-then NoPlace v u (with_event u (End a i slot)) stores.goes (goes-end u (with_event u (End a i slot)) a i slot refl);
-      finishes = finished-one u (End a i slot) ∙ append-nil (finished u.events) ∙ stores.finishes;
+      finishes = finished-one u (End a i slot) ∙ append-nil (finished_places u.events) ∙ stores.finishes;
       sightings = stores.sightings;
       others = others-then i v u (with_event u (End a i slot)) stores.others (others-end u a i slot);
       holds = ended-holds u a i slot m (ended_below listed ends n) stores.holds;

@@ -1,6 +1,6 @@
 -- The places that wait for one another.
 use Rattle.std.proofs.Common.{◌≡◌, ◌⊎◌, ℕ, zero, suc, ◌<◌, ◌≤◌, List, [], ◌∷◌, ◌++◌, length, get_or, refl, sym, ap, ◌∙◌, subst, inl, inr, ⊎_elim, arith}
-use Rattle.bohm_core_base.specs.Batch.{Batch, references}
+use Rattle.bohm_core_base.specs.Batch.{Batch, reference_words}
 use Rattle.words.specs.declared.view.View.{View}
 use Rattle.words.specs.Views.{In, KnowsReferences}
 use Rattle.filling_base.specs.declared.walk.Frame.{Frame}
@@ -14,8 +14,8 @@ every [] known all other has = absurd has
 every (x ∷ l) known all other has =
     ⊎_elim (λ is. all 0 other (omega arith) (sym is)) (λ more. every l known (λ m r below is. all (suc m) r (omega arith) is) other more) has
 
-pub knows-all : (b : Batch) (v : View) (i n : ℕ) → length (references b i) ≤ n → KnownTo b v.known i n → KnowsReferences b v i
-knows-all b v i n all ready = every (references b i) v.known (λ m other below is. ready m other (omega arith) is)
+pub knows-all : (b : Batch) (v : View) (i n : ℕ) → length (reference_words b i) ≤ n → KnownTo b v.known i n → KnowsReferences b v i
+knows-all b v i n all ready = every (reference_words b i) v.known (λ m other below is. ready m other (omega arith) is)
 
 pub below-suc : (m n : ℕ) → m < suc n → (m ≡ n) ⊎ (m < n)
 below-suc zero zero h = inl refl
@@ -73,7 +73,7 @@ module _ (b : Batch) (known : List ℕ) where
       ⊎_elim (λ is. omega arith) (λ more. path-over fs at path.1 i more) has
 
   -- what the place at hand is referred to lies below each place that is held
-  pub under : (fs : List Frame) (at n r : ℕ) → IsPath b known fs at → n < length (references b at) → reference b at n ≡ suc r → (i : ℕ) → In i (at ∷ waiting fs) → r < i
+  pub under : (fs : List Frame) (at n r : ℕ) → IsPath b known fs at → n < length (reference_words b at) → reference b at n ≡ suc r → (i : ℕ) → In i (at ∷ waiting fs) → r < i
   under fs at n r path short names i has =
       let below = falls-at b at n r short names in
       ⊎_elim (λ is. omega arith) (λ more. let over = path-over fs at path i more in omega arith) has

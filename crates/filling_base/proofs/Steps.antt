@@ -1,6 +1,6 @@
 -- What each step of a walk does.
 use Rattle.std.proofs.Common.{◌≡◌, ◌≢◌, ℕ, suc, ◌<◌, List, [], ◌∷◌, ◌++◌, length, refl, sym, ap, ◌∙◌, subst, inl, inr, ⊎_elim, arith}
-use Rattle.bohm_core_base.specs.Batch.{Batch, references}
+use Rattle.bohm_core_base.specs.Batch.{Batch, reference_words}
 use Rattle.bohm_core_base.specs.declared.event.Event.TheVariants.{Claim}
 use Rattle.words.specs.declared.view.View.{View}
 use Rattle.words.specs.Tells.{FoundHeld}
@@ -21,7 +21,7 @@ at-spot v at n fs = record { view = v; at = at; next = n; frames = fs }
 
 module _ (b : Batch) where
   -- one more reference is known to need nothing
-  pub went-on : (v w : View) (at n m : ℕ) (fs : List Frame) → IsWalk b (at-spot v at n fs) → n < length (references b at) → OnlyLearns v w
+  pub went-on : (v w : View) (at n m : ℕ) (fs : List Frame) → IsWalk b (at-spot v at n fs) → n < length (reference_words b at) → OnlyLearns v w
       → ((other : ℕ) → reference b at n ≡ suc other → In other w.known) → m ≡ suc n → Onward b (at-spot v at n fs) (at-spot w at m fs)
   went-on v w at n m fs h short learns here is =
       let g = learns.goes in
@@ -41,13 +41,13 @@ module _ (b : Batch) where
       }
 
   -- the reference names what stood before the batch
-  pub went-base : (v : View) (at n m : ℕ) (fs : List Frame) → IsWalk b (at-spot v at n fs) → n < length (references b at) → reference b at n ≡ 0
+  pub went-base : (v : View) (at n m : ℕ) (fs : List Frame) → IsWalk b (at-spot v at n fs) → n < length (reference_words b at) → reference b at n ≡ 0
       → m ≡ suc n → Onward b (at-spot v at n fs) (at-spot v at m fs)
   went-base v at n m fs h short base is =
       went-on v v at n m fs h short (learns-nothing v) (λ other names. absurd (let both : 0 ≡ suc other = sym base ∙ names in omega arith)) is
 
   -- the place that it names is done
-  pub went-next : (v w : View) (at n m r : ℕ) (fs : List Frame) → IsWalk b (at-spot v at n fs) → n < length (references b at) → reference b at n ≡ suc r
+  pub went-next : (v w : View) (at n m r : ℕ) (fs : List Frame) → IsWalk b (at-spot v at n fs) → n < length (reference_words b at) → reference b at n ≡ suc r
       → w ≡ with_known v r → m ≡ suc n → Onward b (at-spot v at n fs) (at-spot w at m fs)
   went-next v w at n m r fs h short names is next =
       went-on v w at n m fs h short (learns-known v w r is)
@@ -55,10 +55,10 @@ module _ (b : Batch) where
       subst (λ (x : ℕ). In x w.known) same (now-known v w r is))) next
 
   -- a place one of whose references isn't known done has to wait
-  has-to-wait : (v : View) (at n r : ℕ) → n < length (references b at) → reference b at n ≡ suc r → ¬ (IsToldDone b v r) → HasToWait b v at
+  has-to-wait : (v : View) (at n r : ℕ) → n < length (reference_words b at) → reference b at n ≡ suc r → ¬ (IsToldDone b v r) → HasToWait b v at
   has-to-wait v at n r short names untold = λ knows. untold (inl (knows r (named b at n r short names)))
 
-  in-at : (v w : View) (a r n : ℕ) (fs : List Frame) (f : Frame) → bottom fs f.index < b.size → IsWalk b (at-spot v f.index n fs) → n < length (references b f.index)
+  in-at : (v w : View) (a r n : ℕ) (fs : List Frame) (f : Frame) → bottom fs f.index < b.size → IsWalk b (at-spot v f.index n fs) → n < length (reference_words b f.index)
       → reference b f.index n ≡ suc r → f.next ≡ suc n → ¬ (IsToldDone b v r) → w ≡ with_event v (Claim a r)
       → Onward b (at-spot v f.index n fs) (at-spot w r 0 (fs ++ f ∷ []))
   in-at v w a r n fs f within h short names next untold is =
@@ -89,7 +89,7 @@ module _ (b : Batch) where
       }
 
   -- it was claimed
-  pub went-in : (v w : View) (a at r n m : ℕ) (fs gs : List Frame) → bottom fs at < b.size → IsWalk b (at-spot v at n fs) → n < length (references b at)
+  pub went-in : (v w : View) (a at r n m : ℕ) (fs gs : List Frame) → bottom fs at < b.size → IsWalk b (at-spot v at n fs) → n < length (reference_words b at)
       → reference b at n ≡ suc r → m ≡ suc n → ¬ (IsToldDone b v r) → w ≡ with_event v (Claim a r) → gs ≡ fs ++ record { index = at; next = m } ∷ []
       → Onward b (at-spot v at n fs) (at-spot w r 0 gs)
   went-in v w a at r n m fs gs within h short names next untold is more =
@@ -113,7 +113,7 @@ module _ (b : Batch) where
         frames = refl;
       })
 
-  pub met-other : (v w : View) (at n r : ℕ) (fs gs : List Frame) → IsWalk b (at-spot v at n fs) → n < length (references b at) → reference b at n ≡ suc r
+  pub met-other : (v w : View) (at n r : ℕ) (fs gs : List Frame) → IsWalk b (at-spot v at n fs) → n < length (reference_words b at) → reference b at n ≡ suc r
       → ¬ (IsToldDone b v r) → FoundHeld r v w → gs ≡ fs → Met r b (at-spot v at n fs) (at-spot w at n gs)
   met-other v w at n r fs gs h short names untold found back =
       let out : ¬ (In r (at ∷ waiting fs)) = λ has. (let low = under b v.known fs at n r h.path short names r has in absurd (omega arith)) in
@@ -130,7 +130,7 @@ module _ (b : Batch) where
       }
 
   -- there was no memory to wait in
-  pub no-room : (v : View) (at n r : ℕ) (fs gs : List Frame) → IsWalk b (at-spot v at n fs) → n < length (references b at) → reference b at n ≡ suc r
+  pub no-room : (v : View) (at n r : ℕ) (fs gs : List Frame) → IsWalk b (at-spot v at n fs) → n < length (reference_words b at) → reference b at n ≡ suc r
       → ¬ (IsToldDone b v r) → gs ≡ fs → Lacked b (at-spot v at n fs) (at-spot v at n gs)
   no-room v at n r fs gs h short names untold back = record {
     stays = stays v v at n fs gs h (λ x has. has) refl refl refl back;

@@ -10,24 +10,24 @@ use Rattle.filling_base.specs.declared.run.Tried.TheVariants.{Done, Busy, NoMemo
 use Rattle.filling_base.specs.declared.walk.Frame.{Frame}
 use Rattle.filling_base.specs.Goings.{Goes, HoldsJust, NoPlace}
 use Rattle.filling_base.specs.References.{IsRevocation}
-use Rattle.filling_base.specs.Tries.{HasToWait, IsToldDone, MayLackMemory, Tells}
-use Rattle.filling_base.specs.Walks.{Ended, IsWalk, Lacked, Met, Onward, Released, Spot, asked, bottom, held, waiting}
+use Rattle.filling_base.specs.Tries.{HasToWait, IsToldDone, MayLackMemory, TriedTells}
+use Rattle.filling_base.specs.Walks.{Ended, IsWalk, Lacked, Met, Onward, Released, Spot, asked_place, bottom, held, waiting}
 use Rattle.filling_base.proofs.Going.{goes-claim, goes-known, goes-longer, goes-none, goes-same, goes-sighting, goes-then, goes-wider, now-known, refers-later, told-later, waited-before}
 use Rattle.filling_base.proofs.Holding.{met, takes}
 
 -- the call began with what v knows, and is at s; each place that waits had to as it began
 pub record Running (b : Batch) (index : ℕ) (v : View) (s : Spot) : Type 0 where
   pub walks : IsWalk b s
-  pub for : asked s ≡ index
+  pub for : asked_place s ≡ index
   pub goes : Goes NoPlace v s.view
   pub sightings : s.view.sightings ≡ v.sightings
   pub waits : (i : ℕ) → In i (waiting s.frames) → HasToWait b v i
 
 module _ (b : Batch) (index : ℕ) where
-  pub found-done : (v w : View) → w ≡ with_known v index → Tells b index v Done w
+  pub found-done : (v w : View) → w ≡ with_known v index → TriedTells b index v Done w
   found-done v w is = (goes-known NoPlace v w index is, ap (λ (u : View). u.sightings) is, now-known v w index is)
 
-  pub found-held : (v w : View) → HoldsJust v [] → ¬ (IsToldDone b v index) → FoundHeld index v w → Tells b index v (Busy index) w
+  pub found-held : (v w : View) → HoldsJust v [] → ¬ (IsToldDone b v index) → FoundHeld index v w → TriedTells b index v (Busy index) w
   found-held v w holds untold found =
       let m = met v w index [] holds (λ none. none) found in
       let g = goes-sighting (HasToWait b v) v w index m.0 in
@@ -48,7 +48,7 @@ module _ (b : Batch) (index : ℕ) where
   claimed v w a holds is = takes v w a index [] holds (λ i has. absurd has) is
 
   -- the run of a place that was claimed is that of the call
-  pub ran-from : (v w u : View) (a : ℕ) (answer : Tried) → w ≡ with_event v (Claim a index) → Tells b index w answer u → Tells b index v answer u
+  pub ran-from : (v w u : View) (a : ℕ) (answer : Tried) → w ≡ with_event v (Claim a index) → TriedTells b index w answer u → TriedTells b index v answer u
   ran-from v w u a Done is tells =
       (goes-then NoPlace v w u (goes-claim v w a index is) tells.0, tells.1 ∙ ap (λ (x : View). x.sightings) is, tells.2)
   ran-from v w u a (Busy other) is tells =
@@ -98,7 +98,7 @@ module _ (b : Batch) (index : ℕ) where
     waits = λ i has. ⊎_elim (λ old. r.waits i old) (λ new. waited-before b v s.view i r.goes.knows new) (o.waits i has);
   }
 
-  pub over : (v : View) (s t : Spot) → Running b index v s → Ended s t → Tells b index v Done t.view
+  pub over : (v : View) (s t : Spot) → Running b index v s → Ended s t → TriedTells b index v Done t.view
   over v s t r e =
       (goes-then NoPlace v s.view t.view r.goes e.goes, e.sightings ∙ r.sightings, subst (λ (i : ℕ). In i t.view.known) r.for e.known)
 
@@ -109,7 +109,7 @@ module _ (b : Batch) (index : ℕ) where
       ⊎_elim (λ is. subst P (sym (is ∙ at)) here)
       (λ old. waits i (r.waits i (subst (λ (fs : List Frame). In i (waiting fs)) frames old))) has
 
-  pub busy : (other : ℕ) (v w : View) (s t : Spot) → Running b index v s → Met other b s t → Released (held t) t.view w → Tells b index v (Busy other) w
+  pub busy : (other : ℕ) (v w : View) (s t : Spot) → Running b index v s → Met other b s t → Released (held t) t.view w → TriedTells b index v (Busy other) w
   busy other v w s t r m l =
       let P = HasToWait b v in
       let to-t = goes-then NoPlace v s.view t.view r.goes m.stays.goes in
@@ -139,14 +139,14 @@ module _ (b : Batch) (index : ℕ) where
 
   revoking : (v : View) (s : Spot) → Running b index v s → MayLackMemory b s.view s.at → KnowsReferences b v index → IsRevocation b index
   revoking v s r lacks knows =
-      let there : KnowsReferences b v (asked s) = subst (λ (i : ℕ). KnowsReferences b v i) (sym r.for) knows in
-      let is : asked s ≡ s.at = alone v s.frames s.at r.waits there in
+      let there : KnowsReferences b v (asked_place s) = subst (λ (i : ℕ). KnowsReferences b v i) (sym r.for) knows in
+      let is : asked_place s ≡ s.at = alone v s.frames s.at r.waits there in
       let here : index ≡ s.at = sym r.for ∙ is in
       ⊎_elim
       (λ waits. absurd (waits (refers-later b v s.view s.at r.goes.knows (subst (λ (i : ℕ). KnowsReferences b v i) here knows))))
       (λ revokes. subst (λ (i : ℕ). IsRevocation b i) (sym here) revokes) lacks
 
-  pub out-of-memory : (v w : View) (s t : Spot) → Running b index v s → Lacked b s t → Released (held t) t.view w → Tells b index v NoMemory w
+  pub out-of-memory : (v w : View) (s t : Spot) → Running b index v s → Lacked b s t → Released (held t) t.view w → TriedTells b index v NoMemory w
   out-of-memory v w s t r m l =
       let P = MayLackMemory b v in
       let to-t = goes-then NoPlace v s.view t.view r.goes m.stays.goes in

@@ -16,9 +16,9 @@ finish_of (Finish actor index) = index ∷ []
 finish_of (GiveBack actor index) = []
 
 -- the places that these events finish, in their order
-abbrev pub finished : List Event → List ℕ
-finished [] = []
-finished (event ∷ events) = finish_of event ++ finished events
+abbrev pub finished_places : List Event → List ℕ
+finished_places [] = []
+finished_places (event ∷ events) = finish_of event ++ finished_places events
 
 -- the count after so many more bodies: it stops at the greatest number, as where each is counted by itself
 abbrev pub counted_more : ℕ → ℕ → ℕ
@@ -28,7 +28,7 @@ counted_more bodies (suc more) = min (bodies + suc more) (2 ^ 64 - 1)
 -- the pass has finished these places meanwhile, and has counted so many bodies for each of them, and none besides
 pub record CountsBodies (runs : ℕ → ℕ) (pass after : Passing) : Type 0 where
   pub places : List ℕ
-  pub finishes : finished after.view.events ≡ finished pass.view.events ++ places
+  pub finishes : finished_places after.view.events ≡ finished_places pass.view.events ++ places
   pub bodies : after.bodies ≡ counted_more pass.bodies (sum_by runs places)
 
 -- who filled a place that so many bodies are run for has counted them; where memory was wanting, none was counted

@@ -5,7 +5,7 @@ use Rattle.bohm_core_base.specs.declared.event.Event.TheVariants.{GiveBack}
 use Rattle.words.specs.declared.view.View.{View}
 use Rattle.words.specs.Passes.{Passing}
 use Rattle.words.specs.Views.{Holds, In}
-use Rattle.filling_base.specs.Counting.{finished}
+use Rattle.filling_base.specs.Counting.{finished_places}
 
 -- the same pass, through which no fewer bodies were run
 pub record IsSamePass (pass after : Passing) : Type 0 where
@@ -45,7 +45,7 @@ pub record OnlyLearns (view after : View) : Type 0 where
 -- it finished the place and no other, knows it done, and doesn't hold it any more; of the others it holds the same
 pub record Finishes (index : ℕ) (view after : View) : Type 0 where
   pub goes : Goes NoPlace view after
-  pub finishes : finished after.events ≡ finished view.events ++ index ∷ []
+  pub finishes : finished_places after.events ≡ finished_places view.events ++ index ∷ []
   pub sightings : after.sightings ≡ view.sightings
   pub known : In index after.known
   pub others : HoldsOthers index view after

@@ -34,11 +34,12 @@ pub record MeetsHeld (batch : Batch) (index other : ℕ) (view after : View) : T
 -- what came of a place that was asked for. It is known done, and none was given back; or another was held, and what was given
 -- back had to wait; or memory was wanting, which it isn't where the place has no revocation and all its references were known
 -- done, and what was given back had to wait or may revoke
-abbrev pub Tells : Batch → ℕ → View → Tried → View → Type 0
-Tells batch index view Done after = Goes NoPlace view after × (after.sightings ≡ view.sightings) × In index after.known
-Tells batch index view (Busy other) after = Goes (HasToWait batch view) view after × MeetsHeld batch index other view after
-Tells batch index view NoMemory after =
-    Goes (MayLackMemory batch view) view after × (after.sightings ≡ view.sightings) × (KnowsReferences batch view index → IsRevocation batch index)
+abbrev pub TriedTells : Batch → ℕ → View → Tried → View → Type 0
+TriedTells batch index view Done after = Goes NoPlace view after × (after.sightings ≡ view.sightings) × In index after.known
+TriedTells batch index view (Busy other) after = Goes (HasToWait batch view) view after × MeetsHeld batch index other view after
+TriedTells batch index view NoMemory after =
+    Goes (MayLackMemory batch view) view after × (after.sightings ≡ view.sightings)
+    × (KnowsReferences batch view index → IsRevocation batch index)
 
 -- what came of filling a place: it is finished; or memory was wanting, which only a revocation's may be, and nothing was stored
 abbrev pub FillTells : {A E : Type 0} → Batch → ℕ → View → Result A E → View → Type 0

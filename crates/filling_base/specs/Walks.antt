@@ -1,6 +1,6 @@
 -- What a call holds, and what a step of it does.
 use Rattle.std.specs.Prelude.{◌≡◌, ◌⊎◌, ℕ, zero, suc, ◌+◌, ◌*◌, ◌-◌, ◌^◌, ◌<◌, ◌≤◌, List, [], ◌∷◌, ◌++◌, length, false}
-use Rattle.bohm_core_base.specs.Batch.{Batch, references}
+use Rattle.bohm_core_base.specs.Batch.{Batch, reference_words}
 use Rattle.words.specs.declared.view.View.{View}
 use Rattle.words.specs.Views.{In}
 use Rattle.filling_base.specs.declared.walk.Frame.{Frame}
@@ -25,7 +25,7 @@ KnownTo batch known index count =
 pub record WaitsFor (batch : Batch) (known : List ℕ) (frame : Frame) (other : ℕ) : Type 0 where
   pub number : ℕ
   pub next : frame.next ≡ suc number
-  pub short : number < length (references batch frame.index)
+  pub short : number < length (reference_words batch frame.index)
   pub ready : KnownTo batch known frame.index number
   pub names : reference batch frame.index number ≡ suc other
 
@@ -50,8 +50,8 @@ abbrev pub spot : Walk → Spot
 spot walk = record { view = walk.holding.view; at = walk.at; next = walk.next; frames = walk.stack.items }
 
 -- the place that the call was asked for
-abbrev pub asked : Spot → ℕ
-asked spot = bottom spot.frames spot.at
+abbrev pub asked_place : Spot → ℕ
+asked_place spot = bottom spot.frames spot.at
 
 -- the places that the call holds
 abbrev pub held : Spot → List ℕ
@@ -60,17 +60,17 @@ held spot = spot.at ∷ waiting spot.frames
 pub record IsWalk (batch : Batch) (spot : Spot) : Type 0 where
   pub path : IsPath batch spot.view.known spot.frames spot.at
   pub ready : KnownTo batch spot.view.known spot.at spot.next
-  pub short : spot.next ≤ length (references batch spot.at)
+  pub short : spot.next ≤ length (reference_words batch spot.at)
   pub holds : HoldsJust spot.view (held spot)
 
 -- more than two for each place, and more than the references of each
 abbrev pub widest_below : Batch → ℕ → ℕ
 widest_below batch zero = 2
-widest_below batch (suc index) = length (references batch index) + widest_below batch index
+widest_below batch (suc index) = length (reference_words batch index) + widest_below batch index
 
 -- no fewer than the steps for a place, with so many of its references known done
 unfoldable pub cost : Batch → ℕ → ℕ → ℕ
-cost batch index count = (suc (length (references batch index)) - count) * widest_below batch batch.size ^ index
+cost batch index count = (suc (length (reference_words batch index)) - count) * widest_below batch batch.size ^ index
 
 abbrev pub costs : Batch → List Frame → ℕ
 costs batch [] = 0
@@ -85,7 +85,7 @@ pub record Onward (batch : Batch) (spot next : Spot) : Type 0 where
   pub walks : IsWalk batch next
   pub goes : Goes NoPlace spot.view next.view
   pub sightings : next.view.sightings ≡ spot.view.sightings
-  pub for : asked next ≡ asked spot
+  pub for : asked_place next ≡ asked_place spot
   pub less : left batch next < left batch spot
   pub waits : (index : ℕ) → In index (waiting next.frames) → In index (waiting spot.frames) ⊎ HasToWait batch spot.view index
 
@@ -93,7 +93,7 @@ pub record Onward (batch : Batch) (spot next : Spot) : Type 0 where
 pub record Ended (spot next : Spot) : Type 0 where
   pub goes : Goes NoPlace spot.view next.view
   pub sightings : next.view.sightings ≡ spot.view.sightings
-  pub known : In (asked spot) next.view.known
+  pub known : In (asked_place spot) next.view.known
   pub holds : HoldsJust next.view []
 
 -- the place at hand and those that wait are the same, and nothing was claimed, given back or stored
@@ -108,7 +108,7 @@ pub record Stays (batch : Batch) (spot next : Spot) : Type 0 where
 pub record Met (other : ℕ) (batch : Batch) (spot next : Spot) : Type 0 where
   pub stays : Stays batch spot next
   pub sightings : next.view.sightings ≡ spot.view.sightings ++ (other, length spot.view.events) ∷ []
-  pub most : other ≤ asked spot
+  pub most : other ≤ asked_place spot
   pub shared : spot.view.sole ≡ false
   pub untold : ¬ (IsToldDone batch spot.view other)
   pub waits : HasToWait batch spot.view spot.at

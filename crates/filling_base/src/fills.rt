@@ -1,7 +1,7 @@
 //! What one place is referred to, and how it is filled.
 
 ghost use Rattle.std.specs.Prelude.{◌≡◌, ◌<◌, ℕ, [], length};
-ghost use Rattle.bohm_core_base.specs.Batch.{references};
+ghost use Rattle.bohm_core_base.specs.Batch.{reference_words};
 ghost use Rattle.words.specs.Passes.{IsPassOf};
 ghost use Rattle.words.specs.Views.{Holds, KnowsReferences};
 ghost use Rattle.filling_base.specs.Counting.{FillCounts};
@@ -19,12 +19,12 @@ pub trait Fills: Placed {
     /// How many references a place has.
     fn references_length(&self, index: usize) -> usize
         requires { index < (Self.batch self.now).size }
-        ensures { result ≡ length (references (Self.batch self.now) index) };
+        ensures { result ≡ length (reference_words (Self.batch self.now) index) };
 
     /// The place that a reference of a place names, or none for what stood before the batch.
     fn reference(&self, index: usize, number: usize) -> Option<usize>
         requires within { index < (Self.batch self.now).size }
-        requires number { number < length (references (Self.batch self.now) index) }
+        requires number { number < length (reference_words (Self.batch self.now) index) }
         ensures { reference_word result ≡ reference (Self.batch self.now) index number };
 
     /// Stores all that a place has to store, and finishes it: the pass holds it, with nothing stored, and knows done all that it

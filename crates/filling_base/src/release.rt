@@ -4,7 +4,7 @@ ghost use Rattle.std.specs.Prelude.{◌<◌};
 ghost use Rattle.words.specs.Passes.{IsPassOf};
 ghost use Rattle.filling_base.specs.Counting.{CountsBodies};
 ghost use Rattle.filling_base.specs.Goings.{IsSamePass};
-ghost use Rattle.filling_base.specs.Walks.{IsWalk, Released, asked, held, spot};
+ghost use Rattle.filling_base.specs.Walks.{IsWalk, Released, asked_place, held, spot};
 
 use crate::batch::Batch;
 use crate::fills::Fills;
@@ -15,7 +15,7 @@ impl<K: Fills> Batch<K> {
     // Gives back all that a call holds, from the place at hand to the one asked for.
     pub(crate) fn release(&self, walk: Walk) -> Pass
         requires ours { IsPassOf self.now walk.holding }
-        requires within { asked (spot walk) < (K.batch self.now.key).size }
+        requires within { asked_place (spot walk) < (K.batch self.now.key).size }
         requires walks { IsWalk (K.batch self.now.key) (spot walk) }
         ensures same { IsSamePass walk.holding result }
         ensures released { Released (held (spot walk)) walk.holding.view result.view }

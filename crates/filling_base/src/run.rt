@@ -4,7 +4,7 @@ ghost use Rattle.std.specs.Prelude.{◌≡◌, ◌<◌, [], ◌∷◌};
 ghost use Rattle.words.specs.Passes.{IsPassOf};
 ghost use Rattle.filling_base.specs.Counting.{CountsBodies};
 ghost use Rattle.filling_base.specs.Goings.{HoldsJust, IsSamePass};
-ghost use Rattle.filling_base.specs.Tries.{IsToldDone, Tells};
+ghost use Rattle.filling_base.specs.Tries.{IsToldDone, TriedTells};
 
 use crate::batch::Batch;
 use crate::fills::Fills;
@@ -29,7 +29,7 @@ impl<K: Fills> Batch<K> {
         requires within { index < (K.batch self.now.key).size }
         requires held { HoldsJust holding.view (index ∷ []) }
         ensures same { IsSamePass holding result.0 }
-        ensures tells { Tells (K.batch self.now.key) index holding.view result.1 result.0.view }
+        ensures tells { TriedTells (K.batch self.now.key) index holding.view result.1 result.0.view }
         ensures bodies { CountsBodies (K.runs self.now.key) holding result.0 }
     {
         let mut walk = Walk {
@@ -66,7 +66,7 @@ impl<K: Fills> Batch<K> {
         requires ours { IsPassOf self.now pass }
         requires within { index < (K.batch self.now.key).size }
         ensures same { IsSamePass pass result.0 }
-        ensures tells { Tells (K.batch self.now.key) index pass.view result.1 result.0.view }
+        ensures tells { TriedTells (K.batch self.now.key) index pass.view result.1 result.0.view }
         ensures bodies { CountsBodies (K.runs self.now.key) pass result.0 }
         // What the pass knows done is answered so, and what is settled by that.
         ensures told { IsToldDone (K.batch self.now.key) pass.view index → result.1 ≡ Tried.Done }

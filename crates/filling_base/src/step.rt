@@ -1,13 +1,13 @@
 //! One step of a walk.
 
 ghost use Rattle.std.specs.Prelude.{◌≡◌, ◌<◌, ◌≤◌, suc, length};
-ghost use Rattle.bohm_core_base.specs.Batch.{references};
+ghost use Rattle.bohm_core_base.specs.Batch.{reference_words};
 ghost use Rattle.words.specs.Passes.{IsPassOf};
 ghost use Rattle.filling_base.specs.Counting.{CountsBodies};
 ghost use Rattle.filling_base.specs.Goings.{IsSamePass};
 ghost use Rattle.filling_base.specs.References.{reference};
 ghost use Rattle.filling_base.specs.Tries.{IsToldDone};
-ghost use Rattle.filling_base.specs.Walks.{IsWalk, Stepped, asked, spot};
+ghost use Rattle.filling_base.specs.Walks.{IsWalk, Stepped, asked_place, spot};
 
 use crate::batch::Batch;
 use crate::fills::Fills;
@@ -18,9 +18,9 @@ impl<K: Fills> Batch<K> {
     // Goes on with a place that the one at hand is referred to, if it can be claimed. Room to wait for it is made first.
     fn enter(&self, mut walk: Walk, index: usize, next: usize) -> (Walk, Step)
         requires ours { IsPassOf self.now walk.holding }
-        requires within { asked (spot walk) < (K.batch self.now.key).size }
+        requires within { asked_place (spot walk) < (K.batch self.now.key).size }
         requires walks { IsWalk (K.batch self.now.key) (spot walk) }
-        requires short { walk.next < length (references (K.batch self.now.key) walk.at) }
+        requires short { walk.next < length (reference_words (K.batch self.now.key) walk.at) }
         requires next { next ≡ suc walk.next }
         requires names { reference (K.batch self.now.key) walk.at walk.next ≡ suc index }
         requires untold { ¬ (IsToldDone (K.batch self.now.key) walk.holding.view index) }
@@ -56,9 +56,9 @@ impl<K: Fills> Batch<K> {
     // Fills the place at hand, and goes back to the one that waits for it.
     fn leave(&self, mut walk: Walk) -> (Walk, Step)
         requires ours { IsPassOf self.now walk.holding }
-        requires within { asked (spot walk) < (K.batch self.now.key).size }
+        requires within { asked_place (spot walk) < (K.batch self.now.key).size }
         requires walks { IsWalk (K.batch self.now.key) (spot walk) }
-        requires all { length (references (K.batch self.now.key) walk.at) ≤ walk.next }
+        requires all { length (reference_words (K.batch self.now.key) walk.at) ≤ walk.next }
         ensures same { IsSamePass walk.holding result.0.holding }
         ensures stepped { Stepped (K.batch self.now.key) (spot walk) result.1 (spot result.0) }
         ensures bodies { CountsBodies (K.runs self.now.key) walk.holding result.0.holding }
@@ -81,7 +81,7 @@ impl<K: Fills> Batch<K> {
     // Looks at the next reference of the place at hand, or fills the place.
     pub(crate) fn step(&self, mut walk: Walk) -> (Walk, Step)
         requires ours { IsPassOf self.now walk.holding }
-        requires within { asked (spot walk) < (K.batch self.now.key).size }
+        requires within { asked_place (spot walk) < (K.batch self.now.key).size }
         requires walks { IsWalk (K.batch self.now.key) (spot walk) }
         ensures same { IsSamePass walk.holding result.0.holding }
         ensures stepped { Stepped (K.batch self.now.key) (spot walk) result.1 (spot result.0) }

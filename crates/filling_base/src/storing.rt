@@ -45,7 +45,8 @@ fn store_ends<K: Placed>(
     requires ends { IsEnding (K.batch words.now.key) (K.listed words.now.key) index ends.now }
     ensures same { IsSamePass holding.old holding.new }
     ensures bodies { holding.new.bodies ≡ holding.old.bodies }
-    ensures stores { Stores index holding.old.view holding.new.view (words_length (K.batch words.now.key) index) (ended_below (K.listed words.now.key) ends.now (length ends.now)) }
+    ensures stores { Stores index holding.old.view holding.new.view (words_length (K.batch words.now.key) index)
+        (ended_below (K.listed words.now.key) ends.now (length ends.now)) }
 {
     for number in 0..ends.len() {
         words.set_end(holding, index, ends[number], place);

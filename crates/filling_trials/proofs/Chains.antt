@@ -4,7 +4,7 @@ use Rattle.std.proofs.lemmas.List.Elements.{All-nil}
 use Rattle.model_base.specs.declared.deed.Deed.{Deed}
 use Rattle.model_base.specs.Privileges.{place_of}
 use Rattle.model_base.specs.Records.{grants_of}
-use Rattle.bohm_core_base.specs.Batch.{IsSound, deeds_of, references, slots_of, words_by, words_length}
+use Rattle.bohm_core_base.specs.Batch.{IsSoundBatch, deeds_of, reference_words, batch_slots, words_by, words_length}
 use Rattle.bohm_core_base.specs.Deeds.{named_before}
 use Rattle.bohm_core_base.specs.Serial.{serial_words}
 use Rattle.words.specs.Layout.{IsListed}
@@ -12,12 +12,12 @@ use Rattle.filling_base.specs.References.{reference}
 use Rattle.filling_base.specs.Storing.{IsEnding}
 use Rattle.filling_trials.specs.Chained.{chain}
 
-chain_references : (size index : ℕ) → references (chain size) index ≡ index ∷ []
-unfolding references
+chain_references : (size index : ℕ) → reference_words (chain size) index ≡ index ∷ []
+unfolding reference_words
 chain_references size zero = refl
 chain_references size (suc index) = refl
 
-pub chain_sound : (size : ℕ) → IsSound (chain size)
+pub chain_sound : (size : ℕ) → IsSoundBatch (chain size)
 chain_sound size = record {
   header = λ index rows entries. refl;
   outcome = λ index. omega arith;
@@ -42,7 +42,7 @@ pub chain_length : (size index : ℕ) → words_length (chain size) index ≡ 3
 unfolding words_length
 chain_length size index = refl
 
-pub chain_one : (size index : ℕ) → length (references (chain size) index) ≡ 1
+pub chain_one : (size index : ℕ) → length (reference_words (chain size) index) ≡ 1
 chain_one size index = ap length (chain_references size index)
 
 pub chain_reference : (size index number : ℕ) → number < 1 → reference (chain size) index number ≡ index
@@ -57,8 +57,8 @@ none-named : (size index : ℕ) → named_before (deeds_of (chain size) (λ _. f
 none-named size zero = refl
 none-named size (suc index) = ap (λ (l : List Deed). l ++ []) (none-named size index)
 
-chain_slots : (size : ℕ) → slots_of (chain size) ≡ []
-unfolding slots_of
+chain_slots : (size : ℕ) → batch_slots (chain size) ≡ []
+unfolding batch_slots
 chain_slots size = ap grants_of (none-named size size)
 
 pub chain_listed : (size : ℕ) → IsListed (chain size) []

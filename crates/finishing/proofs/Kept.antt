@@ -7,11 +7,11 @@ use Rattle.std.proofs.lemmas.List.Folds.{list_any-append}
 use Rattle.model_base.proofs.Replay.{by_cases}
 use Rattle.bohm_core_base.specs.Batch.{Batch}
 use Rattle.bohm_core_base.specs.Serial.{serial_ends, whole_end}
-use Rattle.words.specs.Closing.{IsSettledBy, Standing, end_in}
-use Rattle.words.specs.Layout.{IsListed, slot_at}
+use Rattle.words.specs.Closing.{IsSettledBy, ClosedLayout, end_word_in}
+use Rattle.words.specs.Layout.{IsListed, listed_slot_at}
 use Rattle.words.specs.Views.{In}
 use Rattle.finishing.specs.declared.ends.Ends.{Ends}
-use Rattle.finishing.specs.Ends.{AreTold, IsTaken, told_end}
+use Rattle.finishing.specs.Ends.{AreTold, TellsWord, told_end}
 use Rattle.finishing.specs.Standing.{HasDone, TellsDone}
 use Rattle.finishing.proofs.Telling.{Takes, taken-word}
 
@@ -40,35 +40,35 @@ pub in-at : (slot : ℕ) (listed : List ℕ) → In slot listed → (k : ℕ) ×
 in-at slot [] has = absurd has
 in-at slot (first ∷ listed) has = elim has [ inl is ↦ (0, omega arith, sym is) | inr more ↦ (let at = in-at slot listed more in (suc at.0, (let low = at.1 in omega arith), at.2)) ]
 
-module _ (b : Batch) (listed : List ℕ) (closed : Standing) (settled : IsSettledBy b listed closed) where
+module _ (b : Batch) (listed : List ℕ) (closed : ClosedLayout) (settled : IsSettledBy b listed closed) where
   -- a closed batch has what is done in it
   pub settled-done : HasDone b closed
   settled-done = record { begins = settled.begins; claims = settled.claims; owns = settled.owns; own = settled.own }
 
   module _ (right : IsListed b listed) where
     -- a word of the ends tells the end of the serial run
-    word-whole : (n word : ℕ) → n < length listed → word ≡ end_in closed n → (end : ℕ) → word ≡ suc end → whole_end b (slot_at listed n) ≡ Some end
+    word-whole : (n word : ℕ) → n < length listed → word ≡ end_word_in closed n → (end : ℕ) → word ≡ suc end → whole_end b (listed_slot_at listed n) ≡ Some end
     word-whole n word within is end one =
         elim (settled.end n within) [
           | inl none ↦ absurd (omega (arith, none, is, one))
-          | inr some ↦ (let same : some.0 ≡ end = (let set = some.1 in omega (arith, set, is, one)) in subst (λ place. whole_end b (slot_at listed n) ≡ Some place) same some.2)
+          | inr some ↦ (let same : some.0 ≡ end = (let set = some.1 in omega (arith, set, is, one)) in subst (λ place. whole_end b (listed_slot_at listed n) ≡ Some place) same some.2)
         ]
 
     -- the ends of so many words are told
     pub record Told (count : ℕ) (ends : Ends) : Type 0 where
       pub told : AreTold b ends
-      pub taken : (end place : ℕ) → end < count → end_in closed end ≡ suc place → told_end ends (slot_at listed end) ≡ Some place
+      pub taken : (end place : ℕ) → end < count → end_word_in closed end ≡ suc place → told_end ends (listed_slot_at listed end) ≡ Some place
 
-    pub told-next : (n word : ℕ) (old new : Ends) → n < length listed → word ≡ end_in closed n → Told n old → IsTaken (slot_at listed n) word old new → Told (n + 1) new
+    pub told-next : (n word : ℕ) (old new : Ends) → n < length listed → word ≡ end_word_in closed n → Told n old → TellsWord (listed_slot_at listed n) word old new → Told (n + 1) new
     told-next n word old new within is before takes =
-        let next : Takes b (slot_at listed n) word old new =
-        taken-word b old new (slot_at listed n) word before.told (right.within n within) (word-whole n word within is) takes in
+        let next : Takes b (listed_slot_at listed n) word old new =
+        taken-word b old new (listed_slot_at listed n) word before.told (right.within n within) (word-whole n word within is) takes in
         record {
           told = next.told;
           taken = λ end place less set. elim (cases_lt end n) [
-            | inl low ↦ next.keeps (slot_at listed end) place (before.taken end place low set)
+            | inl low ↦ next.keeps (listed_slot_at listed end) place (before.taken end place low set)
             | inr last ↦ (let same : n ≡ end = omega arith in
-                subst (λ k. told_end new (slot_at listed k) ≡ Some place) same (next.here place (is ∙ ap (end_in closed) same ∙ set)))
+                subst (λ k. told_end new (listed_slot_at listed k) ≡ Some place) same (next.here place (is ∙ ap (end_word_in closed) same ∙ set)))
           ];
         }
 

@@ -1,7 +1,7 @@
 -- Lists that lie in one.
-use Rattle.std.proofs.Common.{◌≡◌, ◌<◌, ◌≤◌, ◌+◌, ◌++◌, ℕ, List, [], ◌∷◌, get_or, length, take, drop, refl, ap, ◌∙◌, arith}
-use Rattle.std.proofs.lemmas.List.{drop-append-le, drop_at, get_or-map, get_or_past, length-append, length-drop, length-map, map_push, take-append-le, take_all}
-use Rattle.std.proofs.lemmas.List.Elements.{All-head, All-push, All-tail, All-weaker}
+use Rattle.std.proofs.Common.{◌≡◌, ◌≤◌, ◌+◌, ◌++◌, ℕ, List, [], ◌∷◌, length, take, drop, refl, ap, ◌∙◌, arith}
+use Rattle.std.proofs.lemmas.List.{drop-append-le, drop_at, length-drop, map_push, take-append-le, take_all}
+use Rattle.std.proofs.lemmas.List.Elements.{All-head, All-tail}
 use Rattle.finishing.specs.declared.lists.Part.{Part}
 use Rattle.finishing.specs.Lists.{AreWithin, list_in, lists_in}
 
@@ -37,25 +37,6 @@ lists-pushed numbers more parts within =
     map_push (list_in (numbers ++ more)) parts (last numbers more)
     ∙ ap (λ others. others ++ list_in (numbers ++ more) (last numbers more) ∷ []) (lists-kept numbers more parts within)
     ∙ ap (λ one. lists_in numbers parts ++ one ∷ []) (last-in numbers more)
-
-pub within-more : (numbers more : List ℕ) (parts : List Part) → AreWithin numbers parts → AreWithin (numbers ++ more) parts
-within-more numbers more parts within =
-    All-weaker (IsWithin numbers) (IsWithin (numbers ++ more)) (λ part low. let both = length-append numbers more in omega arith) parts within
-
-pub within-pushed : (numbers more : List ℕ) (parts : List Part) → AreWithin numbers parts
-    → AreWithin (numbers ++ more) (parts ++ last numbers more ∷ [])
-within-pushed numbers more parts within =
-    All-push (IsWithin (numbers ++ more)) parts (last numbers more) (within-more numbers more parts within)
-    (let both = length-append numbers more in omega arith)
-
--- the list of an index
-pub list-at : (numbers : List ℕ) (parts : List Part) (i : ℕ) (d : Part) → i < length parts
-    → get_or (lists_in numbers parts) i [] ≡ list_in numbers (get_or parts i d)
-list-at numbers parts i d within = get_or-map (list_in numbers) parts i d [] within
-
-pub list-past : (numbers : List ℕ) (parts : List Part) (i : ℕ) → length parts ≤ i → get_or (lists_in numbers parts) i [] ≡ []
-list-past numbers parts i past =
-    get_or_past (lists_in numbers parts) i [] (let same = length-map parts (list_in numbers) in omega arith)
 
 -- numbers and a part for them behind the others
 pub lists-more : (numbers more numbers' : List ℕ) (parts parts' : List Part) (begin count : ℕ) → AreWithin numbers parts → numbers' ≡ numbers ++ more

@@ -12,7 +12,7 @@ use Rattle.std.proofs.lemmas.Bool.Decides.{nat_tests}
 use Rattle.std.proofs.lemmas.List.{get_or-map}
 use Rattle.model_base.specs.declared.deed.Grant.{Grant}
 use Rattle.model_base.proofs.Replay.{by_cases}
-use Rattle.bohm_core_base.specs.Batch.{Batch, place_at, slots_of}
+use Rattle.bohm_core_base.specs.Batch.{Batch, place_at, batch_slots}
 use Rattle.bohm_core_base.specs.Serial.{is_end, serial_ends}
 use Rattle.bohm_core_base.proofs.Whole.{is_end-some, no_grant, serial-ends-from}
 use Rattle.log_batch.specs.Laws.{places_that}
@@ -135,18 +135,18 @@ module _ (b : Batch) (n : ℕ) (ends : Ends) (told : AreTold b ends) (all : Tell
   abbrev place : ℕ
   place = b.first + n
 
-  tells-slot : (k : ℕ) → k < length (slots_of b) → is_end place (told_end ends k) ≡ serial_ends b n k
+  tells-slot : (k : ℕ) → k < length (batch_slots b) → is_end place (told_end ends k) ≡ serial_ends b n k
   tells-slot k slot =
       same_test (is_end place (told_end ends k)) (serial_ends b n k)
       (λ here. serial-ends-from b n k place (told.whole k place (is_end-some place (told_end ends k) here)) refl)
       (λ set. ap (is_end place) (all k slot set) ∙ (let same : (place == place) ≡ true = grind (arith, nat_tests) in same))
 
   -- of the place all are told that it ends
-  pub ended-right : IsOrdered nat_cmp ends.places → ((i slot end : ℕ) → slice_get ends.places.entries i ≡ Some (slot, end) → slot < length (slots_of b))
-      → ended_among b place ends.places.entries ≡ places_that (serial_ends b n) 0 (slots_of b)
+  pub ended-right : IsOrdered nat_cmp ends.places → ((i slot end : ℕ) → slice_get ends.places.entries i ≡ Some (slot, end) → slot < length (batch_slots b))
+      → ended_among b place ends.places.entries ≡ places_that (serial_ends b n) 0 (batch_slots b)
   ended-right ordered slots =
-      among b place (serial_ends b n) (slots_of b) 0 ends.places.entries
-      (λ k slot. ap (place_at b) (zero-add k) ∙ get_or-map (λ (grant : Grant). grant.place) (slots_of b) k no_grant 0 slot)
+      among b place (serial_ends b n) (batch_slots b) 0 ends.places.entries
+      (λ k slot. ap (place_at b) (zero-add k) ∙ get_or-map (λ (grant : Grant). grant.place) (batch_slots b) k no_grant 0 slot)
       (rises 0 ends.places.entries (above-none ends.places.entries) ordered)
-      (subst (λ high. Below high ends.places.entries) (sym (zero-add (length (slots_of b)))) (below-all (length (slots_of b)) ends.places.entries slots))
+      (subst (λ high. Below high ends.places.entries) (sym (zero-add (length (batch_slots b)))) (below-all (length (batch_slots b)) ends.places.entries slots))
       (λ k slot. ap (λ at. is_end place (told_end ends at)) (zero-add k) ∙ tells-slot k slot ∙ ap (serial_ends b n) (sym (zero-add k)))

@@ -5,27 +5,27 @@ use Rattle.std.proofs.lemmas.Bool.{cases_lt, eq-eqb, eqb-true}
 use Rattle.std.proofs.lemmas.Bool.Decides.{nat_tests}
 use Rattle.model_base.specs.Records.{end_below}
 use Rattle.model_base.proofs.Replay.{by_cases}
-use Rattle.bohm_core_base.specs.Batch.{Batch, IsSound, slots_of}
+use Rattle.bohm_core_base.specs.Batch.{Batch, IsSoundBatch, batch_slots}
 use Rattle.bohm_core_base.specs.Machine.{end_of, start}
 use Rattle.bohm_core_base.specs.Serial.{serial_ends, whole_end}
 use Rattle.bohm_core_base.proofs.Reach.{ends-right, unended-stays}
 use Rattle.bohm_core_base.proofs.Whole.{ends-whole, serial-ends-from}
 use Rattle.finishing.specs.declared.ends.Ends.{Ends}
-use Rattle.finishing.specs.Ends.{AreTold, IsTaken, Keeps, Tells, TellsOf, told_end}
+use Rattle.finishing.specs.Ends.{AreTold, TellsWord, KeepsTold, TellsOneMore, TellsOf, told_end}
 
 -- one more end that is the serial run's
-module _ (b : Batch) (old new : Ends) (slot end : ℕ) (told : AreTold b old) (within : slot < length (slots_of b)) (whole : whole_end b slot ≡ Some end) (changes : Tells slot end old new) where
+module _ (b : Batch) (old new : Ends) (slot end : ℕ) (told : AreTold b old) (within : slot < length (batch_slots b)) (whole : whole_end b slot ≡ Some end) (changes : TellsOneMore slot end old new) where
   pub told-here : told_end new slot ≡ Some end
   told-here = let same : (slot == slot) ≡ true = eq-eqb slot slot refl in changes slot ∙ rw same refl
 
-  told-at : (other place : ℕ) → told_end new other ≡ Some place → (other < length (slots_of b)) × (whole_end b other ≡ Some place)
+  told-at : (other place : ℕ) → told_end new other ≡ Some place → (other < length (batch_slots b)) × (whole_end b other ≡ Some place)
   told-at other place is =
       by_cases (slot == other)
       (λ same.
       let is-slot : slot ≡ other = eqb-true slot other same in
       let now : told_end new other ≡ Some end = changes other ∙ rw same refl in
       let both : Some end ≡ Some place = sym now ∙ is in
-      (subst (λ k. k < length (slots_of b)) is-slot within, subst (λ k. whole_end b k ≡ Some place) is-slot (whole ∙ both)))
+      (subst (λ k. k < length (batch_slots b)) is-slot within, subst (λ k. whole_end b k ≡ Some place) is-slot (whole ∙ both)))
       (λ differs.
       let now : told_end new other ≡ told_end old other = changes other ∙ rw differs refl in
       let before : told_end old other ≡ Some place = sym now ∙ is in
@@ -34,7 +34,7 @@ module _ (b : Batch) (old new : Ends) (slot end : ℕ) (told : AreTold b old) (w
   pub told-more : AreTold b new
   told-more = record { slots = λ other place is. (told-at other place is).0; whole = λ other place is. (told-at other place is).1 }
 
-  pub told-keeps : Keeps old new
+  pub told-keeps : KeepsTold old new
   told-keeps other place is =
       by_cases (slot == other)
       (λ same.
@@ -48,11 +48,11 @@ module _ (b : Batch) (old new : Ends) (slot end : ℕ) (told : AreTold b old) (w
 -- what a word says
 pub record Takes (b : Batch) (slot word : ℕ) (old new : Ends) : Type 0 where
   pub told : AreTold b new
-  pub keeps : Keeps old new
+  pub keeps : KeepsTold old new
   pub here : (end : ℕ) → word ≡ suc end → told_end new slot ≡ Some end
 
-pub taken-word : (b : Batch) (old new : Ends) (slot word : ℕ) → AreTold b old → slot < length (slots_of b)
-    → ((end : ℕ) → word ≡ suc end → whole_end b slot ≡ Some end) → IsTaken slot word old new → Takes b slot word old new
+pub taken-word : (b : Batch) (old new : Ends) (slot word : ℕ) → AreTold b old → slot < length (batch_slots b)
+    → ((end : ℕ) → word ≡ suc end → whole_end b slot ≡ Some end) → TellsWord slot word old new → Takes b slot word old new
 taken-word b old new slot zero told within whole is =
     record {
       told = record {
@@ -70,11 +70,11 @@ taken-word b old new slot (suc word) told within whole is =
     }
 
 -- what was told of a place is told still
-pub tells-kept : (b : Batch) (index : ℕ) (old new : Ends) → Keeps old new → TellsOf b index old → TellsOf b index new
+pub tells-kept : (b : Batch) (index : ℕ) (old new : Ends) → KeepsTold old new → TellsOf b index old → TellsOf b index new
 tells-kept b index old new keeps tells slot within ends = keeps slot (b.first + index) (tells slot within ends)
 
 -- where no end is told of a slot, that before the batch is that of the serial run below a place of which all below it is told
-module _ (b : Batch) (sound : IsSound b) (index : ℕ) (ends : Ends) (all : (earlier : ℕ) → earlier < index → TellsOf b earlier ends) (slot : ℕ) (within : slot < length (slots_of b)) (none : told_end ends slot ≡ None) where
+module _ (b : Batch) (sound : IsSoundBatch b) (index : ℕ) (ends : Ends) (all : (earlier : ℕ) → earlier < index → TellsOf b earlier ends) (slot : ℕ) (within : slot < length (batch_slots b)) (none : told_end ends slot ≡ None) where
   abbrev place : ℕ
   place = b.first + index
 
@@ -123,6 +123,6 @@ pub told-below : (b : Batch) (place : ℕ) (ends : Ends) (slot end : ℕ) → Ar
 told-below b place ends slot end told is = ap (end_below place) (sym (told.whole slot end is))
 
 -- a word that isn't 0 tells the place that is one less
-pub taken-some : (slot word : ℕ) (old new : Ends) → word ≢ 0 → Tells slot (word - 1) old new → IsTaken slot word old new
+pub taken-some : (slot word : ℕ) (old new : Ends) → word ≢ 0 → TellsOneMore slot (word - 1) old new → TellsWord slot word old new
 taken-some slot zero old new some tells = absurd (some refl)
-taken-some slot (suc word) old new some tells = (let one : suc word - 1 ≡ word = omega arith in subst (λ end. Tells slot end old new) one tells)
+taken-some slot (suc word) old new some tells = (let one : suc word - 1 ≡ word = omega arith in subst (λ end. TellsOneMore slot end old new) one tells)

@@ -5,40 +5,40 @@ use Rattle.std.specs.BTreeMap.{get}
 use Rattle.std.specs.Ordering.{nat_cmp}
 use Rattle.std.specs.declared.vec.Vec.{Vec}
 use Rattle.std.specs.declared.alloc.Global.{Global}
-use Rattle.bohm_core_base.specs.Batch.{Batch, place_at, slots_of}
+use Rattle.bohm_core_base.specs.Batch.{Batch, place_at, batch_slots}
 use Rattle.bohm_core_base.specs.Serial.{serial_ends, whole_end}
 use Rattle.finishing.specs.declared.ends.Ends.{Ends}
 
 -- the lists that these vectors have
-abbrev pub lists_of : List (Vec ℕ Global) → List (List ℕ)
-lists_of lists = map (λ (list : Vec ℕ Global). list.items) lists
+abbrev pub ended_lists : List (Vec ℕ Global) → List (List ℕ)
+ended_lists lists = map (λ (list : Vec ℕ Global). list.items) lists
 
 -- the end that is told of the record of a slot
 abbrev pub told_end : Ends → ℕ → Option ℕ
 told_end ends slot = get nat_cmp ends.places slot
 
 -- what was told still is
-abbrev pub Keeps : Ends → Ends → Type 0
-Keeps old new = (slot end : ℕ) → told_end old slot ≡ Some end → told_end new slot ≡ Some end
+abbrev pub KeepsTold : Ends → Ends → Type 0
+KeepsTold old new = (slot end : ℕ) → told_end old slot ≡ Some end → told_end new slot ≡ Some end
 
 -- one more is told
-abbrev pub Tells : ℕ → ℕ → Ends → Ends → Type 0
-Tells slot end old new = (other : ℕ) → told_end new other ≡ (if slot == other then Some end else told_end old other)
+abbrev pub TellsOneMore : ℕ → ℕ → Ends → Ends → Type 0
+TellsOneMore slot end old new = (other : ℕ) → told_end new other ≡ (if slot == other then Some end else told_end old other)
 
 -- what a word says of a slot is told: of 0 nothing, and else that the record ended at the place that is one less
-abbrev pub IsTaken : ℕ → ℕ → Ends → Ends → Type 0
-IsTaken slot zero old new = (other : ℕ) → told_end new other ≡ told_end old other
-IsTaken slot (suc end) old new = Tells slot end old new
+abbrev pub TellsWord : ℕ → ℕ → Ends → Ends → Type 0
+TellsWord slot zero old new = (other : ℕ) → told_end new other ≡ told_end old other
+TellsWord slot (suc end) old new = TellsOneMore slot end old new
 
 -- each end that is told is that of the serial run of the whole batch
 pub record AreTold (batch : Batch) (ends : Ends) : Type 0 where
-  pub slots : (slot end : ℕ) → told_end ends slot ≡ Some end → slot < length (slots_of batch)
+  pub slots : (slot end : ℕ) → told_end ends slot ≡ Some end → slot < length (batch_slots batch)
   pub whole : (slot end : ℕ) → told_end ends slot ≡ Some end → whole_end batch slot ≡ Some end
 
 -- all that a place of the batch ends by the serial run are told
 abbrev pub TellsOf : Batch → ℕ → Ends → Type 0
 TellsOf batch index ends =
-    (slot : ℕ) → slot < length (slots_of batch) → serial_ends batch index slot ≡ true → told_end ends slot ≡ Some (batch.first + index)
+    (slot : ℕ) → slot < length (batch_slots batch) → serial_ends batch index slot ≡ true → told_end ends slot ≡ Some (batch.first + index)
 
 -- of slots with their ends, the places of the grants whose records ended at a place, in order
 abbrev pub ended_among : Batch → ℕ → List (ℕ × ℕ) → List ℕ

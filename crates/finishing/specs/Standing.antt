@@ -4,7 +4,7 @@
 use Rattle.std.specs.Prelude.{◌≡◌, ◌<◌, ◌+◌, ℕ, suc, [], length, slice_index, slice_index_or}
 use Rattle.bohm_core_base.specs.Batch.{Batch, words_length}
 use Rattle.bohm_core_base.specs.Serial.{serial_words}
-use Rattle.words.specs.Closing.{Standing as Closing, claim_in, own_in}
+use Rattle.words.specs.Closing.{ClosedLayout, claim_in, own_in}
 use Rattle.finishing.specs.declared.ends.Ends.{Ends}
 use Rattle.finishing.specs.declared.standing.Standing.{Standing}
 use Rattle.finishing.specs.Ends.{AreTold, TellsOf}
@@ -17,7 +17,7 @@ pub record StandTo (batch : Batch) (count : ℕ) (standing : Standing) : Type 0 
   pub told : AreTold batch standing.ends
 
 -- a closed batch has the own words of each place that is done in it
-pub record HasDone (batch : Batch) (closed : Closing) : Type 0 where
+pub record HasDone (batch : Batch) (closed : ClosedLayout) : Type 0 where
   pub begins : (index : ℕ) → index < batch.size → index < length closed.begins
   pub claims : (index : ℕ) → index < batch.size → slice_index closed.begins index < length closed.words
   pub owns : (index number : ℕ) → index < batch.size → number < words_length batch index
@@ -26,5 +26,5 @@ pub record HasDone (batch : Batch) (closed : Closing) : Type 0 where
       → own_in closed index number ≡ slice_index_or (serial_words batch index) number 0
 
 -- the ends that these places set are told
-abbrev pub TellsDone : Batch → Closing → Ends → Type 0
+abbrev pub TellsDone : Batch → ClosedLayout → Ends → Type 0
 TellsDone batch closed ends = (index : ℕ) → index < batch.size → claim_in closed index ≡ 2 → TellsOf batch index ends

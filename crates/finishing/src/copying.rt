@@ -1,15 +1,15 @@
 //! What a closed batch has of the places that are done.
 
 ghost use Rattle.std.specs.Prelude.{◌≡◌, ◌<◌, ℕ, None, suc, IfOk, OnOk, length};
-ghost use Rattle.bohm_core_base.specs.Batch.{slots_of};
+ghost use Rattle.bohm_core_base.specs.Batch.{batch_slots};
 ghost use Rattle.bohm_core_base.specs.Serial.{serial_words};
 ghost use Rattle.log_batch.specs.Supplied.{batch_in};
 ghost use Rattle.words.specs.Closing.{IsSettledBy, claim_in};
-ghost use Rattle.finishing.specs.Ends.{AreTold, IsTaken, told_end};
+ghost use Rattle.finishing.specs.Ends.{AreTold, TellsWord, told_end};
 ghost use Rattle.finishing.specs.Standing.{HasDone, StandTo, TellsDone};
 
 use crate::ends::Ends;
-use crate::judging::judge;
+use crate::places::judge;
 use crate::standing::Standing;
 use log_batch::LogBatch;
 use log_words::LogKey;
@@ -23,7 +23,7 @@ const DONE: u64 = 2;
 
 /// Tells the end of a slot's record that a word says: 0 for none, or one more than the place that ended it.
 fn take_end(slot: usize, word: u64, ends: &mut Ends) -> Result<(), AllocError>
-    ensures { OnOk result (IsTaken slot word ends.old ends.new) }
+    ensures { OnOk result (TellsWord slot word ends.old ends.new) }
 {
     if word != 0 {
         ends.tell(slot, word - 1)?;

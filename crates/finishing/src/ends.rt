@@ -1,7 +1,7 @@
 //! Which records of grants a batch has ended so far, and at which of its places.
 
 ghost use Rattle.std.specs.Prelude.{◌≡◌, ◌==◌, ◌<◌, ◌+◌, ◌++◌, ◌∷◌, [], ℕ, IfOk, None, OnOk, Some, length, slice_index_or, if◌then◌else◌};
-ghost use Rattle.bohm_core_base.specs.Batch.{place_at, slots_of};
+ghost use Rattle.bohm_core_base.specs.Batch.{place_at, batch_slots};
 ghost use Rattle.bohm_core_base.specs.Serial.{serial_ends};
 ghost use Rattle.log_batch.specs.Laws.{places_that};
 ghost use Rattle.log_batch.specs.Supplied.{batch_in};
@@ -20,11 +20,11 @@ pub(crate) struct Groups {
 
 impl Model for Groups {
     ghost use Rattle.std.specs.Prelude.{List, ℕ};
-    ghost use Rattle.finishing.specs.Ends.{lists_of};
+    ghost use Rattle.finishing.specs.Ends.{ended_lists};
 
     ghost Value = { List (List ℕ) };
 
-    ghost view = { λ groups. lists_of groups.lists.items };
+    ghost view = { λ groups. ended_lists groups.lists.items };
 }
 
 impl Groups {
@@ -77,7 +77,7 @@ fn put_ended(
     end: Place,
     groups: &mut Groups,
 ) -> Result<(), AllocError>
-    requires { slot < length (slots_of (batch_in batch.now)) }
+    requires { slot < length (batch_slots (batch_in batch.now)) }
     ensures put { OnOk result ((index : ℕ) → index < length groups.old
         → slice_index_or groups.new index [] ≡ slice_index_or groups.old index []
         ++ (if end == batch.now.first + index then place_at (batch_in batch.now) slot ∷ [] else [])) }
@@ -91,7 +91,7 @@ fn put_ended(
 }
 
 impl Ends {
-    ghost use Rattle.finishing.specs.Ends.{AreTold, Tells, TellsOf, told_end};
+    ghost use Rattle.finishing.specs.Ends.{AreTold, TellsOneMore, TellsOf, told_end};
 
     /// None. It takes no memory.
     pub(crate) fn new(alloc: Global) -> Self
@@ -111,7 +111,7 @@ impl Ends {
 
     /// Tells the end of a slot's record. On `Err` memory was refused.
     pub(crate) fn tell(&mut self, slot: usize, end: Place) -> Result<(), AllocError>
-        ensures { OnOk result (Tells slot end self.old self.new) }
+        ensures { OnOk result (TellsOneMore slot end self.old self.new) }
     {
         self.places.insert(slot, end)?;
         Ok(())
@@ -123,7 +123,7 @@ impl Ends {
         requires told { AreTold (batch_in batch.now) self.now }
         requires all { (index : ℕ) → index < batch.now.size → TellsOf (batch_in batch.now) index self.now }
         ensures { IfOk result (λ groups. (index : ℕ) → index < batch.now.size
-            → slice_index_or groups index [] ≡ places_that (serial_ends (batch_in batch.now) index) 0 (slots_of (batch_in batch.now))) }
+            → slice_index_or groups index [] ≡ places_that (serial_ends (batch_in batch.now) index) 0 (batch_slots (batch_in batch.now))) }
     {
         let mut groups = Groups::new(alloc, batch.size())?;
         for (slot, end) in self.places.iter() {

@@ -10,8 +10,8 @@ mod below;
 mod copying;
 mod ends;
 mod finished;
-mod judging;
 mod lists;
+mod places;
 mod running;
 mod standing;
 

@@ -7,7 +7,7 @@ ghost use Rattle.finishing.specs.Standing.{HasDone, StandTo, TellsDone};
 
 use crate::copying::{complete, take_ends};
 use crate::finished::Finished;
-use crate::judging::judge;
+use crate::places::judge;
 use crate::standing::Standing;
 use log_batch::LogBatch;
 use log_words::LogKey;

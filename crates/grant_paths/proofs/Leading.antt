@@ -10,14 +10,14 @@ use Rattle.model_base.specs.Laws.{IsRising}
 use Rattle.model_base.specs.Paths.{LeadsFrom, LeadsTo}
 use Rattle.model_base.specs.Privileges.{gives, option_of, owns}
 use Rattle.grants.proofs.Passing.{given, owns_owner}
-use Rattle.grant_paths.specs.Lines.{IsChain, places_of}
-use Rattle.grant_paths.specs.Steps.{bears, goes_on, grant_at, leads_on}
+use Rattle.grant_paths.specs.Lines.{IsChain, made_places}
+use Rattle.grant_paths.specs.Steps.{bears_path, leads_to_next, grant_at, leads_on}
 use Rattle.grant_paths.proofs.Standing.{grant_at-among, grant_at-rising}
 
 module _ (grants : List Grant) (user : ℕ) (need : Need) where
   -- a place whose grant goes on is passed
   pub leads-next : (grant next : Grant) (places : List ℕ) (i made : ℕ) → i < length places → made ≡ get_or places i made → grant_at made grants ≡ Some next
-      → goes_on grant next ≡ true
+      → leads_to_next grant next ≡ true
       → leads_on grants next (drop (i + 1) places) user need ≡ leads_on grants grant (drop i places) user need
   leads-next grant next places i made within is found on =
       sym (ap (λ left. leads_on grants grant left user need) (drop_at places i made within is) ∙ rw (found, on) refl)
@@ -27,7 +27,7 @@ module _ (grants : List Grant) (user : ℕ) (need : Need) where
 
   -- one that doesn't isn't
   pub leads-stops : (grant : Grant) (places : List ℕ) (i made : ℕ) → i < length places → made ≡ get_or places i made
-      → ((next : Grant) → grant_at made grants ≡ Some next → goes_on grant next ≡ false)
+      → ((next : Grant) → grant_at made grants ≡ Some next → leads_to_next grant next ≡ false)
       → leads_on grants grant (drop i places) user need ≡ false
   leads-stops grant places i made within is stops =
       ap (λ left. leads_on grants grant left user need) (drop_at places i made within is)
@@ -37,14 +37,14 @@ module _ (grants : List Grant) (user : ℕ) (need : Need) where
       drop_at all j first less at = drop-cons all j first less ∙ ap (λ x. x ∷ drop (suc j) all) (sym at)
 
       by_found : (found : Option Grant) → grant_at made grants ≡ found
-          → option_map_or (λ next. goes_on grant next && leads_on grants next (drop (suc i) places) user need) (grant_at made grants) false ≡ false
+          → option_map_or (λ next. leads_to_next grant next && leads_on grants next (drop (suc i) places) user need) (grant_at made grants) false ≡ false
       by_found None at = rw at refl
       by_found (Some next) at = rw (at, stops next at) refl
 
   -- grants that lead on from one, with rising places, all of them among the grants
   pub record LeadOn (grant : Grant) (places : List ℕ) : Type 0 where
     pub chain : List Grant
-    pub told : places_of chain ≡ places
+    pub told : made_places chain ≡ places
     pub rising : IsRising (grant ∷ chain)
     pub among : All (Contains grants) chain
     pub leads : LeadsFrom grant chain user need
@@ -70,15 +70,15 @@ module _ (grants : List Grant) (user : ℕ) (need : Need) where
           → ((next : Grant) → leads_on grants next places user need ≡ true → LeadOn next places) → LeadOn grant (place ∷ places)
       by_found None at again = absurd (true≢false (sym (rw at at is)))
       by_found (Some next) at again =
-          let both : (goes_on grant next && leads_on grants next places user need) ≡ true = rw at at is in
-          let parts = and_parts (goes_on grant next) (leads_on grants next places user need) both in
+          let both : (leads_to_next grant next && leads_on grants next places user need) ≡ true = rw at at is in
+          let parts = and_parts (leads_to_next grant next) (leads_on grants next places user need) both in
           let on = and_parts (nat_lt grant.place next.place) (gives grant next.grantor (option_of next)) parts.0 in
           let less : grant.place < next.place = ltb-true grant.place next.place on.0 in
           let there = grant_at-among place grants next at in
           let rest = again next parts.1 in
           record {
             chain = next ∷ rest.chain;
-            told = ap (λ first. first ∷ places_of rest.chain) there.1 ∙ ap (λ later. place ∷ later) rest.told;
+            told = ap (λ first. first ∷ made_places rest.chain) there.1 ∙ ap (λ later. place ∷ later) rest.told;
             rising = (after_all grant next rest.chain less rest.rising.0, rest.rising);
             among = All-cons (Contains grants) next rest.chain there.0 rest.among;
             leads = (on.1, rest.leads);
@@ -86,12 +86,12 @@ module _ (grants : List Grant) (user : ℕ) (need : Need) where
 
   -- and what it doesn't miss
   pub leads-all : IsRising grants → (grant : Grant) (chain : List Grant) → IsRising (grant ∷ chain) → All (Contains grants) chain → LeadsFrom grant chain user need
-      → leads_on grants grant (places_of chain) user need ≡ true
+      → leads_on grants grant (made_places chain) user need ≡ true
   leads-all rise grant [] rising among leads = leads
   leads-all rise grant (next ∷ chain) rising among leads =
       let less : grant.place < next.place = All-head (λ (later : Grant). grant.place < later.place) next chain rising.0 in
       let found = grant_at-rising grants next rise (All-head (Contains grants) next chain among) in
-      let on : goes_on grant next ≡ true = rw (lt-ltb grant.place next.place less) leads.0 in
+      let on : leads_to_next grant next ≡ true = rw (lt-ltb grant.place next.place less) leads.0 in
       rw (found, on) (leads-all rise next chain rising.1 (All-tail (Contains grants) next chain among) leads.1)
 
   -- all grants that lead to a need are on its table
@@ -99,20 +99,16 @@ module _ (grants : List Grant) (user : ℕ) (need : Need) where
   leads-table grant [] leads = (given grant user need leads).table
   leads-table grant (next ∷ chain) leads = (given grant next.grantor (option_of next) leads.0).table ∙ leads-table next chain leads.1
 
--- no places are none
-pub none_borne : (owners : List ℕ) (grants : List Grant) (user : ℕ) (need : Need) (places : List ℕ) → length places ≡ 0 → Decides false (IsChain owners grants user need places)
-none_borne owners grants user need places none = (λ is. absurd (true≢false (sym is)), λ chain. let some = chain.some in absurd (omega arith))
-
 -- the test of the first grant, and of those behind it, decides it
 pub chain_decided : (owners : List ℕ) (grants : List Grant) (user owner : ℕ) (need : Need) (made : ℕ) (later : List ℕ)
     → slice_get owners need.table ≡ Some owner → IsRising grants
-    → Decides (bears grants owner user need later (grant_at made grants)) (IsChain owners grants user need (made ∷ later))
+    → Decides (bears_path grants owner user need later (grant_at made grants)) (IsChain owners grants user need (made ∷ later))
 chain_decided owners grants user owner need made later owned rise = (λ is. by_found (grant_at made grants) refl is, λ is. by_chain is.chain is.told is.rising is.among is.leads)
   where
-    by_found : (found : Option Grant) → grant_at made grants ≡ found → bears grants owner user need later (grant_at made grants) ≡ true → IsChain owners grants user need (made ∷ later)
+    by_found : (found : Option Grant) → grant_at made grants ≡ found → bears_path grants owner user need later (grant_at made grants) ≡ true → IsChain owners grants user need (made ∷ later)
     by_found None at is = absurd (true≢false (sym (rw at at is)))
     by_found (Some first) at is =
-        let all : bears grants owner user need later (Some first) ≡ true = rw at at is in
+        let all : bears_path grants owner user need later (Some first) ≡ true = rw at at is in
         let one = and_parts (first.table == need.table) ((first.grantor == owner) && leads_on grants first later user need) all in
         let two = and_parts (first.grantor == owner) (leads_on grants first later user need) one.1 in
         let there = grant_at-among made grants first at in
@@ -123,19 +119,19 @@ chain_decided owners grants user owner need made later owned rise = (λ is. by_f
         owns_owner owners first.grantor first.table owner (ap (slice_get owners) table ∙ owned) ∙ eq-eqb owner first.grantor (sym by) in
         record {
           chain = first ∷ rest.chain;
-          told = ap (λ place. place ∷ places_of rest.chain) there.1 ∙ ap (λ places. made ∷ places) rest.told;
+          told = ap (λ place. place ∷ made_places rest.chain) there.1 ∙ ap (λ places. made ∷ places) rest.told;
           some = omega arith;
           rising = rest.rising;
           among = All-cons (Contains grants) first rest.chain there.0 rest.among;
           leads = (owned_by, rest.leads);
         }
 
-    by_chain : (chain : List Grant) → places_of chain ≡ made ∷ later → IsRising chain → All (Contains grants) chain → LeadsTo owners chain user need
-        → bears grants owner user need later (grant_at made grants) ≡ true
+    by_chain : (chain : List Grant) → made_places chain ≡ made ∷ later → IsRising chain → All (Contains grants) chain → LeadsTo owners chain user need
+        → bears_path grants owner user need later (grant_at made grants) ≡ true
     by_chain [] told rising among leads = absurd (cc)
     by_chain (first ∷ chain) told rising among leads =
         let at : first.place ≡ made = cc in
-        let rest : places_of chain ≡ later = cc in
+        let rest : made_places chain ≡ later = cc in
         let found : grant_at made grants ≡ Some first =
         ap (λ place. grant_at place grants) (sym at) ∙ grant_at-rising grants first rise (All-head (Contains grants) first chain among) in
         let table = leads-table grants user need first chain leads.1 in

@@ -1,24 +1,22 @@
 -- What the first grants of a view give, and the path by them.
-use Rattle.std.proofs.Common.{◌≡◌, ℕ, zero, suc, ◌<◌, ◌≤◌, ◌&&◌, true, false, List, [], ◌∷◌, ◌++◌, Option, Some, None, is_none, length, take, refl, sym, ◌∙◌, ap, append_assoc, arith, inl, inr}
-use Rattle.std.specs.Prelude.{IfSome, reverse, slice_get}
+use Rattle.std.proofs.Common.{◌≡◌, ℕ, zero, suc, ◌<◌, ◌≤◌, ◌&&◌, true, false, List, [], ◌∷◌, ◌++◌, Option, Some, None, is_none, take, refl, sym, ◌∙◌, ap, arith, inl, inr}
+use Rattle.std.specs.Prelude.{IfSome, slice_get}
 use Rattle.std.specs.List.{flat_map, list_any}
 use Rattle.std.specs.Option.{option_to_list}
 use Rattle.std.proofs.lemmas.Bool.{and_parts, cases_lt}
-use Rattle.std.proofs.lemmas.List.{map-append, take_all}
 use Rattle.model_base.specs.declared.deed.Grant.{Grant}
 use Rattle.model_base.specs.declared.deed.Need.{Need}
 use Rattle.model_base.specs.declared.deed.Record.{Record}
 use Rattle.model_base.specs.Paths.{path}
 use Rattle.model_base.specs.Privileges.{gives, has, owns}
 use Rattle.model_base.specs.Records.{in_force}
-use Rattle.model_base.proofs.Paths.{path-earliest, path-none, reverse-snoc}
+use Rattle.model_base.proofs.Paths.{path-earliest, path-none}
 use Rattle.model_base.proofs.Replay.{by_cases}
 use Rattle.grants.specs.Index.{AreAsked, IsNext, is_to}
-use Rattle.grants.specs.View.{View, entries, flatten, slot_at, slot_gives}
+use Rattle.grants.specs.View.{View, flatten, slot_at, slot_gives}
 use Rattle.grants.proofs.Found.{idle}
 use Rattle.grants.proofs.Passing.{given}
 use Rattle.grant_paths.specs.declared.paths.Giving.{Giving}
-use Rattle.grant_paths.specs.Lines.{places_of}
 use Rattle.grant_paths.specs.Steps.{IsFirstGiving, IsLastOfPath, giving_in, stood}
 
 -- a slot whose grant isn't found gives nothing
@@ -123,16 +121,3 @@ module _ (user : ℕ) (need : Need) where
   first_below view end None first = tt
   first_below view end (Some found) first =
       (first.0, (given found.grant user need (is_given (slot_at view found.slot) user need found.grant first.1).given).table)
-
--- all slots are all entries
-pub stood-all : (view : View) → stood view (length view.slots) ≡ in_force (entries view)
-stood-all view = ap (λ slots. in_force (flat_map option_to_list slots)) (take_all (length view.slots) view.slots (omega arith))
-
--- one more place found, last first, is the path of what is left and then it, and those found before
-pub path_step : (whole : List ℕ) (old rest : List Grant) (grant : Grant) (found : List ℕ) → whole ≡ places_of old ++ reverse found → old ≡ rest ++ grant ∷ []
-    → whole ≡ places_of rest ++ reverse (found ++ grant.place ∷ [])
-path_step whole old rest grant found is last =
-    is ∙ ap (λ grants. places_of grants ++ reverse found) last
-    ∙ ap (λ places. places ++ reverse found) (map-append (λ (g : Grant). g.place) rest (grant ∷ []))
-    ∙ append_assoc (places_of rest) (grant.place ∷ []) (reverse found)
-    ∙ ap (λ places. places_of rest ++ places) (sym (reverse-snoc found grant.place))

@@ -29,8 +29,8 @@ use Rattle.grants.specs.declared.book.Creation.{Creation}
 use Rattle.grants.proofs.BookLaws.{get_more}
 use Rattle.grants.proofs.Passing.{owns_owner}
 use Rattle.grants.proofs.SeenLaws.{entries-view}
-use Rattle.grant_paths.specs.Lines.{IsChain, IsSound, cause_before, holds_before, kept_before, path_before, places_of, shown_lost, shown_of}
-use Rattle.grant_paths.specs.Steps.{bears, grant_at, in_force_at}
+use Rattle.grant_paths.specs.Lines.{IsChain, IsSound, cause_before, holds_before, kept_before, path_before, made_places, shown_lost, shown_of}
+use Rattle.grant_paths.specs.Steps.{bears_path, grant_at, in_force_at}
 use Rattle.grant_paths.proofs.Leading.{chain_decided}
 
 -- the grants in force before a place are those of the records, cut there
@@ -62,14 +62,14 @@ owns_at book owners deeds user table owner shows less is = owns_owner owners use
 
 -- the path by a view of the book is that before its place
 pub path_shown : (book : Entries) (owners : List ℕ) (deeds : List Deed) (place user : ℕ) (need : Need) → ShowsBook book owners deeds
-    → places_of (path owners (in_force (entries (view_of book place))) user need) ≡ path_before owners deeds place user need
+    → made_places (path owners (in_force (entries (view_of book place))) user need) ≡ path_before owners deeds place user need
 path_shown book owners deeds place user need shows =
-    ap (λ (grants : List Grant). places_of (path owners grants user need)) (ap in_force (entries-view book place) ∙ kept_at book owners deeds place shows)
+    ap (λ (grants : List Grant). made_places (path owners grants user need)) (ap in_force (entries-view book place) ∙ kept_at book owners deeds place shows)
 
 -- the test of a chain decides whether it is one before a place
 pub chain_at : (book : Entries) (owners : List ℕ) (deeds : List Deed) (place user owner : ℕ) (need : Need) (made : ℕ) (later : List ℕ) → ShowsBook book owners deeds
     → need.table < length book.tables → slice_get (owners_of book.tables) need.table ≡ Some owner
-    → Decides (bears (in_force_at place book.records) owner user need later (grant_at made (in_force_at place book.records)))
+    → Decides (bears_path (in_force_at place book.records) owner user need later (grant_at made (in_force_at place book.records)))
     (IsChain owners (kept_before owners deeds place) user need (made ∷ later))
 chain_at book owners deeds place user owner need made later shows less is =
     let same = kept_at book owners deeds place shows in
@@ -79,7 +79,7 @@ chain_at book owners deeds place user owner need made later shows less is =
 pub chain_told : (book : Entries) (owners : List ℕ) (deeds : List Deed) (place user owner : ℕ) (need : Need) (made : ℕ) (later places : List ℕ) (all : List Record) (test : Bool)
     → ShowsBook book owners deeds → need.table < length book.tables → slice_get (owners_of book.tables) need.table ≡ Some owner
     → places ≡ made ∷ later → all ≡ book.records
-    → test ≡ bears (in_force_at place all) owner user need later (grant_at made (in_force_at place all))
+    → test ≡ bears_path (in_force_at place all) owner user need later (grant_at made (in_force_at place all))
     → Decides test (IsChain owners (kept_before owners deeds place) user need places)
 chain_told book owners deeds place user owner need made later places all test shows less is split same told =
     rw (split, told, same) (chain_at book owners deeds place user owner need made later shows less is)
@@ -101,7 +101,7 @@ path-chain owners deeds place user need proper other held =
       leads = leads;
     }
   where
-    some : (chain : List Grant) → LeadsTo owners chain user need → 0 < length (places_of chain)
+    some : (chain : List Grant) → LeadsTo owners chain user need → 0 < length (made_places chain)
     some [] leads = absurd (true≢false (sym leads ∙ other))
     some (first ∷ chain) leads = omega arith
 

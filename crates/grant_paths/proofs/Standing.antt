@@ -7,10 +7,10 @@ use Rattle.std.proofs.lemmas.Option.{slice_get_within}
 use Rattle.model_base.specs.declared.deed.Grant.{Grant}
 use Rattle.model_base.specs.declared.deed.Record.{Record}
 use Rattle.model_base.specs.Laws.{IsRising}
-use Rattle.model_base.specs.Records.{end_below, recorded}
+use Rattle.model_base.specs.Records.{end_below, is_in_force_at, recorded}
 use Rattle.model_base.proofs.Replay.{by_cases}
 use Rattle.grants.proofs.Lookups.{rise_at}
-use Rattle.grant_paths.specs.Steps.{grant_at, in_force_at, is_in_force_at}
+use Rattle.grant_paths.specs.Steps.{grant_at, in_force_at}
 
 -- a record in force comes first among those that are
 in_force-first : (place : ℕ) (entry : Record) (entries : List Record) → is_in_force_at place entry ≡ true

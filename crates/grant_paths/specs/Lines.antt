@@ -16,8 +16,8 @@ use Rattle.model_base.specs.Records.{deeds_below}
 use Rattle.grant_paths.specs.declared.line.Shown.{Shown}
 
 -- the places at which the grants were made
-abbrev pub places_of : List Grant → List ℕ
-places_of grants = map (λ (grant : Grant). grant.place) grants
+abbrev pub made_places : List Grant → List ℕ
+made_places grants = map (λ (grant : Grant). grant.place) grants
 
 -- the grants in force before a place
 abbrev pub kept_before : List ℕ → List Deed → ℕ → List Grant
@@ -34,13 +34,13 @@ cause_before owners deeds place user need = cause owners (deeds_below place deed
 -- the places on the path of the need by the grants in force before a place: the earliest that gives it, and before that the
 -- path of its grantor's option
 abbrev pub path_before : List ℕ → List Deed → ℕ → ℕ → Need → List ℕ
-path_before owners deeds place user need = places_of (path owners (kept_before owners deeds place) user need)
+path_before owners deeds place user need = made_places (path owners (kept_before owners deeds place) user need)
 
 -- the places are those of a chain of some of the grants that bears the need: it isn't empty, its places rise, the owner of the
 -- table made the first, each gives the grantor of the next the option, and the last gives the user what is needed
 pub record IsChain (owners : List ℕ) (grants : List Grant) (user : ℕ) (need : Need) (places : List ℕ) : Type 0 where
   pub chain : List Grant
-  pub told : places_of chain ≡ places
+  pub told : made_places chain ≡ places
   pub some : 0 < length places
   pub rising : IsRising chain
   pub among : All (Contains grants) chain

@@ -7,7 +7,7 @@ use Rattle.model_base.specs.declared.deed.Need.{Need}
 use Rattle.model_base.specs.declared.deed.Record.{Record}
 use Rattle.model_base.specs.Paths.{path}
 use Rattle.model_base.specs.Privileges.{gives, option_of}
-use Rattle.model_base.specs.Records.{cut, end_below, in_force}
+use Rattle.model_base.specs.Records.{cut, in_force}
 use Rattle.grants.specs.View.{View, slot_at, slot_gives}
 use Rattle.grant_paths.specs.declared.paths.Giving.{Giving}
 
@@ -38,26 +38,22 @@ IsLastOfPath view owners user need end (Some found) =
 abbrev pub in_force_at : ℕ → List Record → List Grant
 in_force_at place entries = in_force (cut place entries)
 
--- whether the grant of the record is in force at a place
-abbrev pub is_in_force_at : ℕ → Record → Bool
-is_in_force_at place entry = nat_lt entry.grant.place place && is_none (end_below place entry.end)
-
 -- the grant of this place among the grants, if there is one
 abbrev pub grant_at : ℕ → List Grant → Option Grant
 grant_at place grants = find (λ grant. grant.place == place) grants
 
 -- whether the next grant goes on from this one: it is later, and by who has the option from this one
-abbrev pub goes_on : Grant → Grant → Bool
-goes_on grant next = nat_lt grant.place next.place && gives grant next.grantor (option_of next)
+abbrev pub leads_to_next : Grant → Grant → Bool
+leads_to_next grant next = nat_lt grant.place next.place && gives grant next.grantor (option_of next)
 
 -- whether the grants of these places, among some grants, lead on from a grant to the need
 abbrev pub leads_on : List Grant → Grant → List ℕ → ℕ → Need → Bool
 leads_on grants grant [] user need = gives grant user need
 leads_on grants grant (place ∷ places) user need =
-    option_map_or (λ next. goes_on grant next && leads_on grants next places user need) (grant_at place grants) false
+    option_map_or (λ next. leads_to_next grant next && leads_on grants next places user need) (grant_at place grants) false
 
 -- whether the grant of the first place, once it is looked up, is one by the owner from which the later ones lead on to the need
-abbrev pub bears : List Grant → ℕ → ℕ → Need → List ℕ → Option Grant → Bool
-bears grants owner user need later None = false
-bears grants owner user need later (Some first) =
+abbrev pub bears_path : List Grant → ℕ → ℕ → Need → List ℕ → Option Grant → Bool
+bears_path grants owner user need later None = false
+bears_path grants owner user need later (Some first) =
     (first.table == need.table) && ((first.grantor == owner) && leads_on grants first later user need)

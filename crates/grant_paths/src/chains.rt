@@ -3,11 +3,11 @@
 
 ghost use Rattle.std.specs.Prelude.{◌≡◌, ◌<◌, ℕ, Decides, List, Some, length, slice_get};
 ghost use Rattle.model_base.specs.Laws.{IsRising};
-ghost use Rattle.model_base.specs.Records.{recorded};
+ghost use Rattle.model_base.specs.Records.{is_in_force_at, recorded};
 ghost use Rattle.model_base.specs.declared.deed.Deed.{Deed};
 ghost use Rattle.grants.specs.Book.{ShowsBook, owners_of};
 ghost use Rattle.grant_paths.specs.Lines.{IsChain, kept_before};
-ghost use Rattle.grant_paths.specs.Steps.{bears, goes_on, grant_at, in_force_at, is_in_force_at, leads_on};
+ghost use Rattle.grant_paths.specs.Steps.{bears_path, leads_to_next, grant_at, in_force_at, leads_on};
 
 use crate::paths::option_of;
 use grants::Book;
@@ -38,7 +38,7 @@ fn grant_at(records: &[Record], made: Place, place: Place) -> Option<Grant>
 
 /// Whether the next grant goes on from this one: it is later, and by who has the option from this one.
 fn goes_on(grant: &Grant, next: &Grant) -> bool
-    ensures { result ≡ goes_on grant.now next.now }
+    ensures { result ≡ leads_to_next grant.now next.now }
 {
     grant.place < next.place && grant.gives(next.grantor, &option_of(next))
 }
@@ -76,7 +76,8 @@ fn bears(
     later: &[Place],
 ) -> bool
     requires { IsRising (recorded records.now) }
-    ensures { result ≡ bears (in_force_at place records.now) owner user need.now later.now (grant_at made (in_force_at place records.now)) }
+    ensures { result ≡ bears_path (in_force_at place records.now) owner user need.now later.now
+        (grant_at made (in_force_at place records.now)) }
 {
     match grant_at(records, made, place) {
         Some(first) => {

@@ -7,7 +7,7 @@ ghost use Rattle.model_base.specs.Records.{in_force};
 ghost use Rattle.model_base.specs.declared.deed.Deed.{Deed};
 ghost use Rattle.grants.specs.Book.{ShowsBook};
 ghost use Rattle.grants.specs.View.{entries, slot_at};
-ghost use Rattle.grant_paths.specs.Lines.{path_before, places_of};
+ghost use Rattle.grant_paths.specs.Lines.{path_before, made_places};
 ghost use Rattle.grant_paths.specs.Steps.{IsFirstGiving, IsLastOfPath, giving_in};
 ghost use Rattle.grant_paths.specs.declared.paths.Giving.{Giving};
 
@@ -100,7 +100,7 @@ fn path_in<V: Records>(
 ) -> Result<Items<Place>, AllocError>
     requires covered { IsSome ((V.shown view.old).owner need.now.table) }
     ensures value { IfOk result (λ places. (owners : List ℕ) → slice_get owners need.now.table ≡ (V.shown view.old).owner need.now.table
-        → places ≡ places_of (path owners (in_force (entries (V.shown view.old))) user need.now)) }
+        → places ≡ made_places (path owners (in_force (entries (V.shown view.old))) user need.now)) }
 {
     let owner = view.owner(need.table);
     let mut places = Vec::new(alloc);

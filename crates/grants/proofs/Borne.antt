@@ -15,7 +15,7 @@ use Rattle.model_base.specs.Privileges.{concerns, erased, gives, has, kept, opti
 use Rattle.model_base.specs.Records.{covered, in_force, records}
 use Rattle.model_base.proofs.Replay.{by_cases}
 use Rattle.model_base.proofs.Records.{in_force-records}
-use Rattle.grants.specs.View.{View, Shows, covers, entries, flatten}
+use Rattle.grants.specs.View.{View, ShowsDeeds, covers, entries, flatten}
 use Rattle.grants.specs.Pass.{concerned}
 use Rattle.grants.specs.Work.{AreBorne, bears}
 use Rattle.grants.proofs.Passing.{IsBorne, given, owns_owner, replayed_borne, same_kind-same, same_need}
@@ -195,7 +195,7 @@ any_taken p (slot ∷ slots) (suc j) is =
     ]
 
 -- what a view shows is borne
-pub shows_borne : (view : View) (owners : List ℕ) (deeds : List Deed) (revocation : Revocation) (owner : ℕ) → Shows view owners deeds
+pub shows_borne : (view : View) (owners : List ℕ) (deeds : List Deed) (revocation : Revocation) (owner : ℕ) → ShowsDeeds view owners deeds
     → view.owner revocation.table ≡ Some owner → AreBorne owner revocation view
 shows_borne view owners deeds revocation owner shows owned = record {
   each = λ j grant is.

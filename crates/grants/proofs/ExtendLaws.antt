@@ -9,18 +9,18 @@ use Rattle.model_base.specs.declared.deed.Deed.{Deed}
 use Rattle.model_base.specs.Records.{grants_of, records}
 use Rattle.model_base.proofs.Owners.{records-owners}
 use Rattle.model_base.proofs.MoreOwners.{all_same-fewer, all_same-more}
-use Rattle.grants.specs.Book.{Continues, Entries, ShowsBook, end_slots, extended, owners_of, table_of, unended}
+use Rattle.grants.specs.Book.{Continues, Entries, ShowsBook, end_slots, extended, owners_of, table_of_deed, unended}
 use Rattle.grants.specs.declared.book.Creation.{Creation}
 use Rattle.grants.specs.declared.book.End.{End}
 use Rattle.grants.proofs.CutLaws.{grants_on}
 
 -- the records of deeds on some tables are the same by all owners that begin with those of the tables
-pub records-begin : (tables : List Creation) (first second : List ℕ) (deeds : List Deed) → All (λ deed. table_of deed < length tables) deeds
+pub records-begin : (tables : List Creation) (first second : List ℕ) (deeds : List Deed) → All (λ deed. table_of_deed deed < length tables) deeds
     → records (owners_of tables ++ first) deeds ≡ records (owners_of tables ++ second) deeds
 records-begin tables first second deeds told =
     let base = owners_of tables in
     let owner : Creation → ℕ = λ (c : Creation). c.owner in
-    let on = grants_on base deeds (All-weaker (λ deed. table_of deed < length tables) (λ deed. table_of deed < length base) (λ deed less. omega (arith, length-map tables owner)) deeds told) in
+    let on = grants_on base deeds (All-weaker (λ deed. table_of_deed deed < length tables) (λ deed. table_of_deed deed < length base) (λ deed less. omega (arith, length-map tables owner)) deeds told) in
     records-owners (base ++ first) base deeds (all_same-more base first (grants_of deeds) on)
     ∙ records-owners base (base ++ second) deeds (all_same-fewer base second (grants_of deeds) on)
 
@@ -28,7 +28,7 @@ pub shows_extended : (book : Entries) (tables : List Creation) (grants : List Gr
     → ShowsBook book owners deeds → Continues others deeds more (book.tables ++ tables) grants ends
     → ShowsBook (extended book tables grants ends) others (deeds ++ more)
 shows_extended book tables grants ends owners others deeds more shows continues =
-    let On : List Creation → Deed → Type 0 = λ tables deed. table_of deed < length tables in
+    let On : List Creation → Deed → Type 0 = λ tables deed. table_of_deed deed < length tables in
     let owner : Creation → ℕ = λ (c : Creation). c.owner in
     let later = owners_of tables ++ continues.later in
     let begins : others ≡ owners_of book.tables ++ later =

@@ -68,4 +68,5 @@ slots_from passes slot (grant ∷ grants) =
 -- under each user, kind and table the index has the slots of the records whose grants pass for these, in order
 abbrev pub Indexes : (ℕ → Kind → ℕ → Grant → Bool) → Index → List Record → Type 0
 Indexes passes index entries =
-    (user : ℕ) (kind : Kind) (table : ℕ) → slots_under index (side_of user kind table) ≡ slots_from (passes user kind table) 0 (recorded entries)
+    (user : ℕ) (kind : Kind) (table : ℕ)
+    → slots_under index (side_of user kind table) ≡ slots_from (passes user kind table) 0 (recorded entries)

@@ -14,7 +14,7 @@ use crate::ended::Ended;
 use crate::entries::{append_tables, lies_below, records_below, tables_below};
 use crate::indexed::IndexedRecords;
 use crate::records::Records;
-use model_base::{Grant, Kind, Place, Record, Revocation, Table, User};
+use model_base::{Grant, Kind, MOST_NAMES, Place, Record, Revocation, Table, User};
 use std::alloc::{AllocError, Global};
 use std::marker::Model;
 
@@ -43,18 +43,18 @@ pub struct Book {
 }
 
 impl Model for Book {
-    ghost use Rattle.grants.specs.Book.{Entries, IsSound};
+    ghost use Rattle.grants.specs.Book.{Entries, IsSoundBook};
 
     ghost Value = { Entries };
 
     ghost view = { λ book. record { tables = book.tables.items; records = book.records } };
 
-    ghost invariant = { λ book. IsSound (record { tables = book.tables.items; records = book.records }) };
+    ghost invariant = { λ book. IsSoundBook (record { tables = book.tables.items; records = book.records }) };
 }
 
 impl Book {
-    ghost use Rattle.grants.specs.Book.{Continues, IsLater, IsSound, ShowsBook, cut_book, end_slots, extended, owners_of, table_of, view_of, with_ends, with_grant, with_table};
-    ghost use Rattle.grants.specs.View.{Shows, holds_in};
+    ghost use Rattle.grants.specs.Book.{Continues, IsLater, IsSoundBook, ShowsBook, cut_book, end_slots, extended, owners_of, table_of_deed, view_of, with_ends, with_grant, with_table};
+    ghost use Rattle.grants.specs.View.{ShowsDeeds, holds_in};
 
     /// A book without tables and grants. It takes no memory.
     #[tactic(auto, using(crate::proofs::BookLaws::sound_empty))]
@@ -71,7 +71,7 @@ impl Book {
     /// The tables, each with its owner and the place of its creation.
     pub fn tables(&self) -> &[Creation]
         ensures tables { result.now ≡ self.now.tables }
-        ensures sound { IsSound self.now }
+        ensures sound { IsSoundBook self.now }
     {
         &self.tables
     }
@@ -79,7 +79,7 @@ impl Book {
     /// The grants that were made, each with its end, in the order of their places.
     pub fn records(&self) -> &[Record]
         ensures records { result.now ≡ self.now.records }
-        ensures sound { IsSound self.now }
+        ensures sound { IsSoundBook self.now }
     {
         self.records.as_slice()
     }
@@ -88,7 +88,7 @@ impl Book {
     /// `Err` memory was refused, and the book is as it was.
     #[tactic(auto, using(crate::proofs::BookLaws::sound_table, crate::proofs::LaterLaws::later_table))]
     pub fn add_table(&mut self, owner: User, place: Place) -> Result<Table, AllocError>
-        requires room { length self.old.tables < 65536 }
+        requires room { length self.old.tables < MOST_NAMES }
         requires later { IsLater self.old place }
         ensures number { IfOk result (λ table. table ≡ length self.old.tables) }
         ensures ok { OnOk result (self.new ≡ with_table self.old (record { owner = owner; place = place })) }
@@ -127,7 +127,7 @@ impl Book {
         ensures book { result.book.now ≡ self.now }
         ensures place { result.place ≡ place }
         ensures shows { (owners : List ℕ) (deeds : List Deed) → ShowsBook self.now owners deeds
-            → Shows (view_of self.now place) owners (deeds_below place deeds) }
+            → ShowsDeeds (view_of self.now place) owners (deeds_below place deeds) }
     {
         BookView { book: self, place }
     }
@@ -153,7 +153,8 @@ impl Book {
         ensures ended { IfOk result (λ ended. (owners : List ℕ) (deeds : List Deed) → ShowsBook self.now owners deeds
             → All (λ deed. place_of deed < revocation.now.place) deeds → ended.places ≡ ended_by owners deeds revocation.now) }
         ensures slots { IfOk result (λ ended. All (λ (end : End). end.slot < length self.now.records) ended.ends) }
-        ensures value { IfOk result (λ ended. end_slots self.now.records ended.ends ≡ map (ended_at revocation.now.place ended.places) self.now.records) }
+        ensures value { IfOk result (λ ended. end_slots self.now.records ended.ends
+            ≡ map (ended_at revocation.now.place ended.places) self.now.records) }
     {
         // A book is sound, as its accessors say, and so each place has one record.
         let _tables = self.tables();
@@ -177,7 +178,8 @@ impl Book {
             → All (λ deed. place_of deed < revocation.now.place) deeds → ends.items ≡ ended_by owners deeds revocation.now) }
         ensures ok { IfOk result (λ ends. self.new ≡ with_ends self.old revocation.now.place ends.items) }
         ensures after { OnOk result ((owners : List ℕ) (deeds : List Deed) → ShowsBook self.old owners deeds
-            → All (λ deed. place_of deed < revocation.now.place) deeds → ShowsBook self.new owners (deeds ++ Revoking revocation.now ∷ [])) }
+            → All (λ deed. place_of deed < revocation.now.place) deeds
+            → ShowsBook self.new owners (deeds ++ Revoking revocation.now ∷ [])) }
         ensures later { OnOk result ((next : ℕ) → revocation.now.place < next → IsLater self.new next) }
         ensures err { OnErr result (self.new ≡ self.old) }
     {
@@ -212,7 +214,7 @@ impl Book {
         ends: &[End],
     ) -> Result<(), AllocError>
         requires slots { All (λ (end : End). end.slot < length self.old.records + length grants.now) ends.now }
-        requires sound { IsSound (extended self.old tables.now grants.now ends.now) }
+        requires sound { IsSoundBook (extended self.old tables.now grants.now ends.now) }
         ensures ok { OnOk result (self.new ≡ extended self.old tables.now grants.now ends.now) }
         ensures shows { OnOk result ((owners others : List ℕ) (deeds more : List Deed) → ShowsBook self.old owners deeds
             → Continues others deeds more (self.old.tables ++ tables.now) grants.now ends.now → ShowsBook self.new others (deeds ++ more)) }
@@ -229,7 +231,7 @@ impl Book {
     pub fn cut(&mut self, place: Place)
         ensures cut { self.new ≡ cut_book place self.old }
         ensures after { (owners others more : List ℕ) (deeds : List Deed) → ShowsBook self.old owners deeds
-            → All (λ deed. table_of deed < length self.new.tables) (deeds_below place deeds)
+            → All (λ deed. table_of_deed deed < length self.new.tables) (deeds_below place deeds)
             → others ≡ owners_of self.new.tables ++ more → ShowsBook self.new others (deeds_below place deeds) }
     {
         let tables = tables_below(&self.tables, place);

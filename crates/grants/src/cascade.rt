@@ -9,7 +9,7 @@ ghost use Rattle.model_base.specs.declared.deed.Deed.{Deed};
 ghost use Rattle.model_base.specs.declared.deed.Grant.{Grant};
 ghost use Rattle.grants.specs.Pass.{cascade, concerned, concerned_grants, is_one_of, outlasts};
 ghost use Rattle.grants.specs.Work.{AllPassed, AreDue, AreEnds, ArePassed, AreWalked, HaveSameKeys, bears, keepers, slots_of};
-ghost use Rattle.grants.specs.View.{Shows, slot_at};
+ghost use Rattle.grants.specs.View.{ShowsDeeds, slot_at};
 
 use crate::ended::Ended;
 use crate::records::Records;
@@ -71,7 +71,8 @@ fn first_bearer<V: Records>(
     requires within { below ≤ length (V.shown view.old).slots }
     requires passed { ArePassed revocation.now (V.shown view.old) (slots_of ended.now.ends) user start }
     ensures passed { ArePassed revocation.now (V.shown view.old) (slots_of ended.now.ends) user result }
-    ensures found { result < below → (bears revocation.now user (slot_at (V.shown view.old) result) && not (is_one_of (slots_of ended.now.ends) result)) ≡ true }
+    ensures found { result < below → (bears revocation.now user (slot_at (V.shown view.old) result)
+        && not (is_one_of (slots_of ended.now.ends) result)) ≡ true }
     ensures same { V.shown view.new ≡ V.shown view.old }
 {
     let mut from = start;
@@ -98,7 +99,10 @@ fn passed_by(asked: &BTreeMap<User, usize>, user: User) -> usize
 
 /// Keeps that slot, if the user is one of those that are asked about.
 fn pass(asked: &mut BTreeMap<User, usize>, user: User, slot: usize)
-    ensures { (other : ℕ) → get nat_cmp asked.new other ≡ (if (user == other) && is_some (get nat_cmp asked.old user) then Some slot else get nat_cmp asked.old other) }
+    ensures { (other : ℕ) → get nat_cmp asked.new other
+        ≡ (if (user == other) && is_some (get nat_cmp asked.old user)
+        then Some slot
+        else get nat_cmp asked.old other) }
 {
     if let Some(passed) = asked.get_mut(&user) {
         *passed = slot;
@@ -141,7 +145,8 @@ fn stays<V: Records>(
 ) -> bool
     requires within { slot ≤ length (V.shown view.old).slots }
     requires passed { AllPassed revocation.now (V.shown view.old) (slots_of ended.now.ends) asked.old }
-    ensures value { result ≡ outlasts owner (keepers revocation.now (V.shown view.old) (slots_of ended.now.ends) slot) revocation.now grant.now }
+    ensures value { result ≡ outlasts owner
+        (keepers revocation.now (V.shown view.old) (slots_of ended.now.ends) slot) revocation.now grant.now }
     ensures passed { AllPassed revocation.now (V.shown view.old) (slots_of ended.now.ends) asked.new }
     ensures users { HaveSameKeys asked.old asked.new }
     ensures same { V.shown view.new ≡ V.shown view.old }
@@ -203,7 +208,8 @@ fn add_grants_by<V: Records>(
     ensures found { OnOk result ((j : ℕ) (grant : Grant) → start ≤ j → concerned (slot_at (V.shown view.old) j) revocation.now ≡ Some grant
         → grant.grantor ≡ user → is_one_of due.new.keys j ≡ true) }
     ensures kept { OnOk result ((j : ℕ) → is_one_of due.old.keys j ≡ true → is_one_of due.new.keys j ≡ true) }
-    ensures within { OnOk result ((j : ℕ) → is_one_of due.new.keys j ≡ true → (is_one_of due.old.keys j ≡ true) ⊎ ((start ≤ j) × (j < length (V.shown view.old).slots))) }
+    ensures within { OnOk result ((j : ℕ) → is_one_of due.new.keys j ≡ true
+        → (is_one_of due.old.keys j ≡ true) ⊎ ((start ≤ j) × (j < length (V.shown view.old).slots))) }
     ensures same { V.shown view.new ≡ V.shown view.old }
 {
     let end = view.slots();
@@ -234,7 +240,8 @@ fn lose<V: Records>(
     ensures found { OnOk result ((j : ℕ) (grant : Grant) → start ≤ j → concerned (slot_at (V.shown view.old) j) revocation.now ≡ Some grant
         → grant.grantor ≡ user → is_one_of due.new.keys j ≡ true) }
     ensures kept { OnOk result ((j : ℕ) → is_one_of due.old.keys j ≡ true → is_one_of due.new.keys j ≡ true) }
-    ensures within { OnOk result ((j : ℕ) → is_one_of due.new.keys j ≡ true → (is_one_of due.old.keys j ≡ true) ⊎ ((start ≤ j) × (j < length (V.shown view.old).slots))) }
+    ensures within { OnOk result ((j : ℕ) → is_one_of due.new.keys j ≡ true
+        → (is_one_of due.old.keys j ≡ true) ⊎ ((start ≤ j) × (j < length (V.shown view.old).slots))) }
     ensures walked { OnOk result (AreWalked revocation.now (V.shown view.old) due.new.keys asked.new start) }
     ensures passed { OnOk result ((ended : List ℕ) → AllPassed revocation.now (V.shown view.old) ended asked.old
         → AllPassed revocation.now (V.shown view.old) ended asked.new) }
@@ -277,9 +284,13 @@ fn judge<V: Records>(
     ensures due { OnOk result (AreDue revocation.now (V.shown view.old) work.new.due.keys (slots_of work.new.ended.ends) next) }
     ensures walked { OnOk result (AreWalked revocation.now (V.shown view.old) work.new.due.keys work.new.asked next) }
     ensures passed { OnOk result (AllPassed revocation.now (V.shown view.old) (slots_of work.new.ended.ends) work.new.asked) }
-    ensures whole { OnOk result (work.new.ended.places ++ cascade owner revocation.now (keepers revocation.now (V.shown view.old) (slots_of work.new.ended.ends) next)
+    ensures whole { OnOk result (work.new.ended.places
+        ++ cascade owner revocation.now
+        (keepers revocation.now (V.shown view.old) (slots_of work.new.ended.ends) next)
         (concerned_grants revocation.now (drop next (V.shown view.old).slots))
-        ≡ work.old.ended.places ++ cascade owner revocation.now (keepers revocation.now (V.shown view.old) (slots_of work.old.ended.ends) slot)
+        ≡ work.old.ended.places
+        ++ cascade owner revocation.now
+        (keepers revocation.now (V.shown view.old) (slots_of work.old.ended.ends) slot)
         (concerned_grants revocation.now (drop slot (V.shown view.old).slots))) }
     ensures ends { OnOk result (AreEnds revocation.now (V.shown view.old) work.new.ended.ends work.new.ended.places) }
     ensures same { V.shown view.new ≡ V.shown view.old }
@@ -320,7 +331,7 @@ pub(crate) fn cascade<V: Records>(
 ) -> Result<Ended, AllocError>
     requires covered { IsSome ((V.shown view.old).owner revocation.now.table) }
     requires now { revocation.now.place ≡ (V.shown view.old).place }
-    ensures ended { IfOk result (λ ended. (owners : List ℕ) (deeds : List Deed) → Shows (V.shown view.old) owners deeds
+    ensures ended { IfOk result (λ ended. (owners : List ℕ) (deeds : List Deed) → ShowsDeeds (V.shown view.old) owners deeds
         → ended.places ≡ ended_by owners deeds revocation.now) }
     ensures ends { IfOk result (λ ended. AreEnds revocation.now (V.shown view.old) ended.ends ended.places) }
     ensures same { V.shown view.new ≡ V.shown view.old }
@@ -348,8 +359,8 @@ pub(crate) fn cascade<V: Records>(
 /// grant that stays. So a cycle of grants doesn't bear itself, and a grant that an earlier way bears stays. Of this kind and
 /// table it goes through the grants to the revocation's grantee, and once through those by each user whose option ends; the
 /// grants to that user it goes through once as well, each of those by the user being judged from where the last one was. The
-/// slots to be judged are kept in a set, in a time that grows with the logarithm of their number. Besides that it takes memory for its answer.
-/// On `Err` memory was refused. What the view shows stays in any case.
+/// slots to be judged are kept in a set, in a time that grows with the logarithm of their number. Besides that it takes memory
+/// for its answer. On `Err` memory was refused. What the view shows stays in any case.
 pub fn to_end<V: Records>(
     alloc: Global,
     view: &mut V,
@@ -357,7 +368,7 @@ pub fn to_end<V: Records>(
 ) -> Result<Vec<Place>, AllocError>
     requires covered { IsSome ((V.shown view.old).owner revocation.now.table) }
     requires now { revocation.now.place ≡ (V.shown view.old).place }
-    ensures ended { IfOk result (λ ends. (owners : List ℕ) (deeds : List Deed) → Shows (V.shown view.old) owners deeds
+    ensures ended { IfOk result (λ ends. (owners : List ℕ) (deeds : List Deed) → ShowsDeeds (V.shown view.old) owners deeds
         → ends.items ≡ ended_by owners deeds revocation.now) }
     ensures same { V.shown view.new ≡ V.shown view.old }
 {

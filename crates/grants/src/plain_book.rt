@@ -16,7 +16,7 @@ use crate::book::{Creation, End};
 use crate::cascade::to_end;
 use crate::entries::{append_tables, lies_below, reopened, set_ends};
 use crate::records::{Records, is_by, is_to};
-use model_base::{Grant, Kind, Place, Record, Revocation, Table, User};
+use model_base::{Grant, Kind, MOST_NAMES, Place, Record, Revocation, Table, User};
 use std::alloc::{AllocError, Global};
 use std::collections::BTreeSet;
 use std::marker::Model;
@@ -30,18 +30,18 @@ pub struct PlainBook {
 }
 
 impl Model for PlainBook {
-    ghost use Rattle.grants.specs.Book.{Entries, IsSound};
+    ghost use Rattle.grants.specs.Book.{Entries, IsSoundBook};
 
     ghost Value = { Entries };
 
     ghost view = { λ book. record { tables = book.tables.items; records = book.records.items } };
 
-    ghost invariant = { λ book. IsSound (record { tables = book.tables.items; records = book.records.items }) };
+    ghost invariant = { λ book. IsSoundBook (record { tables = book.tables.items; records = book.records.items }) };
 }
 
 impl PlainBook {
-    ghost use Rattle.grants.specs.Book.{Continues, IsLater, IsSound, ShowsBook, cut_book, extended, owners_of, table_of, view_of, with_ends, with_grant, with_table};
-    ghost use Rattle.grants.specs.View.{Shows, holds_in};
+    ghost use Rattle.grants.specs.Book.{Continues, IsLater, IsSoundBook, ShowsBook, cut_book, extended, owners_of, table_of_deed, view_of, with_ends, with_grant, with_table};
+    ghost use Rattle.grants.specs.View.{ShowsDeeds, holds_in};
 
     /// A book without tables and grants. It takes no memory.
     #[tactic(auto, using(crate::proofs::BookLaws::sound_empty))]
@@ -58,7 +58,7 @@ impl PlainBook {
     /// The tables, each with its owner and the place of its creation.
     pub fn tables(&self) -> &[Creation]
         ensures tables { result.now ≡ self.now.tables }
-        ensures sound { IsSound self.now }
+        ensures sound { IsSoundBook self.now }
     {
         &self.tables
     }
@@ -66,7 +66,7 @@ impl PlainBook {
     /// The grants that were made, each with its end, in the order of their places.
     pub fn records(&self) -> &[Record]
         ensures records { result.now ≡ self.now.records }
-        ensures sound { IsSound self.now }
+        ensures sound { IsSoundBook self.now }
     {
         &self.records
     }
@@ -75,7 +75,7 @@ impl PlainBook {
     /// `Err` memory was refused, and the book is as it was.
     #[tactic(auto, using(crate::proofs::BookLaws::sound_table, crate::proofs::LaterLaws::later_table))]
     pub fn add_table(&mut self, owner: User, place: Place) -> Result<Table, AllocError>
-        requires room { length self.old.tables < 65536 }
+        requires room { length self.old.tables < MOST_NAMES }
         requires later { IsLater self.old place }
         ensures number { IfOk result (λ table. table ≡ length self.old.tables) }
         ensures ok { OnOk result (self.new ≡ with_table self.old (record { owner = owner; place = place })) }
@@ -114,7 +114,7 @@ impl PlainBook {
         ensures book { result.book.now ≡ self.now }
         ensures place { result.place ≡ place }
         ensures shows { (owners : List ℕ) (deeds : List Deed) → ShowsBook self.now owners deeds
-            → Shows (view_of self.now place) owners (deeds_below place deeds) }
+            → ShowsDeeds (view_of self.now place) owners (deeds_below place deeds) }
     {
         PlainView { book: self, place }
     }
@@ -145,7 +145,8 @@ impl PlainBook {
             → All (λ deed. place_of deed < revocation.now.place) deeds → ends.items ≡ ended_by owners deeds revocation.now) }
         ensures ok { IfOk result (λ ends. self.new ≡ with_ends self.old revocation.now.place ends.items) }
         ensures after { OnOk result ((owners : List ℕ) (deeds : List Deed) → ShowsBook self.old owners deeds
-            → All (λ deed. place_of deed < revocation.now.place) deeds → ShowsBook self.new owners (deeds ++ Revoking revocation.now ∷ [])) }
+            → All (λ deed. place_of deed < revocation.now.place) deeds
+            → ShowsBook self.new owners (deeds ++ Revoking revocation.now ∷ [])) }
         ensures later { OnOk result ((next : ℕ) → revocation.now.place < next → IsLater self.new next) }
         ensures err { OnErr result (self.new ≡ self.old) }
     {
@@ -177,7 +178,7 @@ impl PlainBook {
         ends: &[End],
     ) -> Result<(), AllocError>
         requires slots { All (λ (end : End). end.slot < length self.old.records + length grants.now) ends.now }
-        requires sound { IsSound (extended self.old tables.now grants.now ends.now) }
+        requires sound { IsSoundBook (extended self.old tables.now grants.now ends.now) }
         ensures ok { OnOk result (self.new ≡ extended self.old tables.now grants.now ends.now) }
         ensures shows { OnOk result ((owners others : List ℕ) (deeds more : List Deed) → ShowsBook self.old owners deeds
             → Continues others deeds more (self.old.tables ++ tables.now) grants.now ends.now → ShowsBook self.new others (deeds ++ more)) }
@@ -195,7 +196,7 @@ impl PlainBook {
     pub fn cut(&mut self, place: Place)
         ensures cut { self.new ≡ cut_book place self.old }
         ensures after { (owners others more : List ℕ) (deeds : List Deed) → ShowsBook self.old owners deeds
-            → All (λ deed. table_of deed < length self.new.tables) (deeds_below place deeds)
+            → All (λ deed. table_of_deed deed < length self.new.tables) (deeds_below place deeds)
             → others ≡ owners_of self.new.tables ++ more → ShowsBook self.new others (deeds_below place deeds) }
     {
         retain_tables(&mut self.tables, place);

@@ -1,7 +1,7 @@
 -- The deeds below a place, and what the records as they stood there say of the grants in force.
-use Rattle.std.proofs.Common.{◌≡◌, ℕ, zero, suc, ◌<◌, ◌≤◌, Bool, true, false, List, [], ◌∷◌, ◌++◌, is_none, refl, ap, arith, inl, inr}
+use Rattle.std.proofs.Common.{◌≡◌, ℕ, zero, suc, ◌<◌, ◌≤◌, List, [], ◌∷◌, ◌++◌, is_none, refl, ap, arith, inl, inr}
 use Rattle.std.specs.Prelude.{All, Contains, nat_lt}
-use Rattle.std.proofs.lemmas.Bool.{cases_Bool, cases_lt, le-ltb, lt-ltb}
+use Rattle.std.proofs.lemmas.Bool.{cases_lt, le-ltb, lt-ltb}
 use Rattle.std.proofs.lemmas.List.Elements.{All-cons, All-contains, All-head, All-nil, All-tail, All-weaker, Contains-append_left, Contains-push}
 use Rattle.model_base.specs.declared.deed.Record.{Record}
 use Rattle.model_base.specs.declared.deed.Deed.{Deed}
@@ -9,9 +9,7 @@ use Rattle.model_base.specs.declared.deed.Deed.TheVariants.{Granting, Revoking}
 use Rattle.model_base.specs.Privileges.{IsProper, IsProperAfter, MayFollow, place_of}
 use Rattle.model_base.specs.Records.{cut, deeds_below, end_below, in_force, recorded}
 use Rattle.grants_graph.specs.Drawn.{drawn}
-
-pub by_cases : {G : Type 0} (test : Bool) → (test ≡ true → G) → (test ≡ false → G) → G
-by_cases test passes fails = elim (cases_Bool test) [ inl e ↦ passes e | inr e ↦ fails e ]
+use Rattle.model_base.proofs.Replay.{by_cases}
 
 -- the drawn grants are those that the records, as they stood at the place, have in force
 pub drawn-cut : (place : ℕ) (entries : List Record) → recorded (drawn place entries) ≡ in_force (cut place entries)

@@ -10,9 +10,9 @@ use Rattle.model_base.specs.declared.deed.Revocation.{Revocation}
 use Rattle.model_base.specs.declared.deed.Deed.{Deed}
 use Rattle.model_base.specs.declared.deed.Deed.TheVariants.{Revoking}
 use Rattle.model_base.specs.Privileges.{ended_by, is_among, kept, lost}
-use Rattle.model_base.specs.Records.{end_after, grants_of, record_of, recorded, records}
-use Rattle.grants_graph.specs.Drawn.{drawn, fallen, fell_at, is_in_force_at}
-use Rattle.grants_graph.proofs.Below.{by_cases}
+use Rattle.model_base.specs.Records.{end_after, grants_of, is_in_force_at, record_of, recorded, records}
+use Rattle.grants_graph.specs.Drawn.{drawn, fallen, fell_at}
+use Rattle.model_base.proofs.Replay.{by_cases}
 
 -- a grant fell at a place exactly if its end is the place
 end-is : (place : ℕ) (end : Option ℕ) → option_map_or (λ e. e == place) end false ≡ true → end ≡ Some place

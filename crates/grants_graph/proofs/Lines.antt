@@ -7,7 +7,7 @@ use Rattle.std.proofs.lemmas.List.Elements.{filter-append}
 use Rattle.std.specs.Prelude.{nat_lt}
 use Rattle.grants.specs.declared.book.Creation.{Creation}
 use Rattle.grants_graph.specs.Drawn.{is_created_below, tables_drawn}
-use Rattle.grants_graph.proofs.Below.{by_cases}
+use Rattle.model_base.proofs.Replay.{by_cases}
 
 -- an item is spelled if it passes
 spelled-one : {X : Type 0} (spell : X → List ℕ) (test : X → Bool) (item : X)

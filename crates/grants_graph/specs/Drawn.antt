@@ -1,14 +1,10 @@
 -- Which grants of a book a picture of a place shows.
-use Rattle.std.specs.Prelude.{◌==◌, ◌&&◌, ℕ, Bool, false, List, filter, is_none, map, nat_lt}
+use Rattle.std.specs.Prelude.{◌==◌, ℕ, Bool, false, List, filter, map, nat_lt}
 use Rattle.std.specs.List.{enumerate_from}
 use Rattle.std.specs.Option.{option_map_or}
 use Rattle.model_base.specs.declared.deed.Record.{Record}
-use Rattle.model_base.specs.Records.{end_below}
+use Rattle.model_base.specs.Records.{is_in_force_at}
 use Rattle.grants.specs.declared.book.Creation.{Creation}
-
--- whether the grant was made below the place and was in force there: it has no end that lies below
-abbrev pub is_in_force_at : ℕ → Record → Bool
-is_in_force_at place entry = nat_lt entry.grant.place place && is_none (end_below place entry.end)
 
 -- whether the grant fell at the place
 abbrev pub fell_at : ℕ → Record → Bool

@@ -30,26 +30,26 @@ owner_text users tables numbered =
     box_text users numbered.1.owner ++ codes " // owns " ++ table_name tables numbered.0 ++ codes "\n"
 
 -- what the grant gives: its kind on its table, and whether with the option
-abbrev pub need_of : Grant → Need
-need_of grant = record { table = grant.table; kind = grant.kind; option = grant.option }
+abbrev pub given_need : Grant → Need
+given_need grant = record { table = grant.table; kind = grant.kind; option = grant.option }
 
 -- the label of a grant: its place and what it gives
 abbrev pub label_text : List (List ℕ) → Grant → List ℕ
-label_text tables grant = decimal grant.place ++ codes " " ++ need_text tables (need_of grant)
+label_text tables grant = decimal grant.place ++ codes " " ++ need_text tables (given_need grant)
 
 -- how the edge of a grant ends that fell at the place: it is dashed
 abbrev pub fallen_text : ℕ → List ℕ
 fallen_text place = cause_text (Taken place) ++ codes "\", style=dashed];\n"
 
 -- how the edge of a grant ends
-abbrev pub ending_text : ℕ → Record → List ℕ
-ending_text place entry = if fell_at place entry then fallen_text place else codes "\"];\n"
+abbrev pub edge_ending_text : ℕ → Record → List ℕ
+edge_ending_text place entry = if fell_at place entry then fallen_text place else codes "\"];\n"
 
 -- the line of a grant: an edge from its grantor to its grantee
 abbrev pub edge_text : List (List ℕ) → List (List ℕ) → ℕ → Record → List ℕ
 edge_text users tables place entry =
     codes "  " ++ user_text users entry.grant.grantor ++ codes " -> " ++ user_text users entry.grant.grantee
-    ++ codes " [label=\"" ++ label_text tables entry.grant ++ ending_text place entry
+    ++ codes " [label=\"" ++ label_text tables entry.grant ++ edge_ending_text place entry
 
 -- the digraph: a line for each table that was created below the place, and then one for each grant in force there;
 -- `users` and `tables` have the names by number

@@ -4,8 +4,9 @@ ghost use Rattle.std.specs.Prelude.{◌≡◌, ◌++◌, [], OnOk, codes, if◌t
 ghost use Rattle.std.specs.Fmt.{decimal};
 ghost use Rattle.std.specs.List.{flat_map};
 ghost use Rattle.report.specs.Text.{table_name};
-ghost use Rattle.grants_graph.specs.Drawn.{drawn, fell_at, is_in_force_at, tables_drawn};
-ghost use Rattle.grants_graph.specs.Graph.{box_text, edge_text, ending_text, fallen_text, graph_text, label_text, owner_text, user_text};
+ghost use Rattle.grants_graph.specs.Drawn.{drawn, fell_at, tables_drawn};
+ghost use Rattle.grants_graph.specs.Graph.{box_text, edge_text, edge_ending_text, fallen_text, graph_text, label_text, owner_text, user_text};
+ghost use Rattle.model_base.specs.Records.{is_in_force_at};
 
 use grants::{Book, Creation};
 use itoa::Buffer;
@@ -143,7 +144,7 @@ fn put_fallen(text: &mut Vec<u8>, place: Place) -> Result<(), AllocError>
 
 /// Puts how the edge of a grant ends.
 fn put_ending(text: &mut Vec<u8>, place: Place, entry: &Record) -> Result<(), AllocError>
-    ensures { OnOk result (text.new.items ≡ text.old.items ++ ending_text place entry.now) }
+    ensures { OnOk result (text.new.items ≡ text.old.items ++ edge_ending_text place entry.now) }
 {
     if fell_at(place, entry) {
         put_fallen(text, place)

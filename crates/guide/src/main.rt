@@ -2,14 +2,14 @@
 //! whether its report is as told.
 #![tactic(auto)]
 
+mod compared;
 mod examples;
 mod fault;
-mod judging;
 
 use bohm_base::arguments;
+use compared::is_as_told;
 use examples::{Example, examples};
 use fault::GuideFault;
-use judging::is_as_told;
 use std::alloc::Global;
 use std::fs;
 use std::io::Read;

@@ -9,17 +9,17 @@ use Rattle.model_base.specs.Privileges.{MayFollow, has, names, owns, place_of}
 use Rattle.model_base.specs.Records.{end_below}
 use Rattle.model_base.proofs.Replay.{by_cases}
 use Rattle.bohm_core_base.specs.Deeds.{is_made}
-use Rattle.bohm_core_base.specs.Batch.{IsSound, cell, deed_ends, deeds_of, is_listed, records_shown, references, slots_of, was_done, words_by, words_length}
-use Rattle.bohm_core_base.specs.Machine.{State, end_of, must_end, next_word, own_of, placed_references, records_seen, references_of, rows_by, rows_seen, start, stored, words_seen}
-use Rattle.layer_trials.specs.Countdown.{countdown, is_open, number_by, number_in, number_of, old_grant, revocation_of, word_at}
+use Rattle.bohm_core_base.specs.Batch.{IsSoundBatch, cell, deed_ends, deeds_of, is_listed, records_shown, reference_words, batch_slots, was_done, words_by, words_length}
+use Rattle.bohm_core_base.specs.Machine.{State, end_of, must_end, next_word, own_of, placed_references, records_seen, stored_references_of, rows_by, rows_seen, start, stored, words_seen}
+use Rattle.layer_trials.specs.Countdown.{countdown, is_record_open, number_by, number_in, told_number, old_grant, revocation_of, word_at}
 
 -- different numbers fail the test whether they are the same
 never : (a b : ℕ) → a ≢ b → (a == b) ≡ false
 never a b different = by_cases (a == b) (λ same. absurd (different (eqb-true a b same))) (λ other. other)
 
 -- a place refers to the one before it, for its row and for its table
-pub references_told : (index : ℕ) → references countdown index ≡ index ∷ index ∷ []
-unfolding references
+pub references_told : (index : ℕ) → reference_words countdown index ≡ index ∷ index ∷ []
+unfolding reference_words
 references_told zero = refl
 references_told (suc index) = refl
 
@@ -34,7 +34,7 @@ unfolding words_length
 length_told index = refl
 
 -- the number in a version cell
-pub cell_told : (index : ℕ) (own : List ℕ) → number_in (cell countdown index own (record { table = 0; row = 7 }) ∷ []) ≡ number_of own
+pub cell_told : (index : ℕ) (own : List ℕ) → number_in (cell countdown index own (record { table = 0; row = 7 }) ∷ []) ≡ told_number own
 unfolding cell
 cell_told index [] = refl
 cell_told index (_ ∷ []) = refl
@@ -43,9 +43,9 @@ cell_told index (_ ∷ suc _ ∷ []) = refl
 cell_told index (_ ∷ suc _ ∷ number ∷ _) = refl
 
 -- the number that a place is shown
-pub number_told : (state : State) (index : ℕ) → number_in (rows_seen countdown state index) ≡ number_by state (references_of state index)
+pub number_told : (state : State) (index : ℕ) → number_in (rows_seen countdown state index) ≡ number_by state (stored_references_of state index)
 unfolding rows_seen
-number_told state index = by_references (references_of state index)
+number_told state index = by_references (stored_references_of state index)
   where
     by_references : (found : List ℕ) → number_in (rows_by countdown state (countdown.accesses index) found) ≡ number_by state found
     by_references [] = refl
@@ -54,7 +54,7 @@ number_told state index = by_references (references_of state index)
 
 -- a place stores next the word of this position
 pub word_told : (state : State) (index : ℕ)
-    → next_word countdown state index ≡ word_at (length (own_of state index)) (number_by state (references_of state index))
+    → next_word countdown state index ≡ word_at (length (own_of state index)) (number_by state (stored_references_of state index))
 word_told state index = rw (words_told state index, number_told state index) (by_position (length (own_of state index)) _)
   where
     by_position : (position number : ℕ) → get_or (1 ∷ 1 ∷ (number - 1) ∷ []) position 0 ≡ word_at position number
@@ -82,8 +82,8 @@ shown_ends index place made (end ∷ ends) told =
 
 -- a place must end the record of the grant, unless it is ended below it
 pub end_told : (state : State) (index slot : ℕ)
-    → must_end countdown state index slot ≡ (was_done (own_of state index) && (is_open state index && (slot == 0)))
-unfolding must_end records_seen slots_of is_made
+    → must_end countdown state index slot ≡ (was_done (own_of state index) && (is_record_open state index && (slot == 0)))
+unfolding must_end records_seen batch_slots is_made
 end_told state index zero =
     ap (λ ends. was_done (own_of state index) && ends)
     (shown_ends index 2 (is_made (deeds_of countdown (λ other. was_done (own_of state other)))) state.ends refl)
@@ -94,7 +94,7 @@ end_told state index (suc slot) =
 
 -- no record has an end before the batch
 pub ends_told : (slot : ℕ) → end_of (start countdown) slot ≡ None
-unfolding slots_of
+unfolding batch_slots
 ends_told zero = refl
 ends_told (suc slot) = refl
 
@@ -109,8 +109,8 @@ set_told (suc (suc partition)) index (x ∷ y ∷ _) = rw (never 0 (suc (suc par
 
 -- the same of a partition's next place
 pub stored_told : (state : State) (partition index : ℕ)
-    → placed_references countdown state partition index ≡ set (take 2 (references_of state index)) partition index
-stored_told state partition index = rw (references_told index) (set_told partition index (references_of state index))
+    → placed_references countdown state partition index ≡ set (take 2 (stored_references_of state index)) partition index
+stored_told state partition index = rw (references_told index) (set_told partition index (stored_references_of state index))
 
 -- each of its deeds is a revocation at its place
 deed_is : (index : ℕ) (deed : Deed) → Some (revocation_of index) ≡ Some deed → revocation_of index ≡ deed
@@ -127,8 +127,8 @@ partition_told (suc zero) low = omega arith
 partition_told (suc (suc reference)) low = absurd (omega arith)
 
 -- the small batch is one that the law speaks of
-pub countdown_sound : IsSound countdown
-unfolding references has owns
+pub countdown_sound : IsSoundBatch countdown
+unfolding reference_words has owns
 countdown_sound = record {
   header = λ index rows entries. refl;
   outcome = λ index. omega arith;

@@ -43,13 +43,13 @@ countdown =
     }
 
 -- the number that the own words of a place tell
-abbrev pub number_of : List ℕ → ℕ
-number_of (_ ∷ suc _ ∷ number ∷ _) = number
-number_of _ = 0
+abbrev pub told_number : List ℕ → ℕ
+told_number (_ ∷ suc _ ∷ number ∷ _) = number
+told_number _ = 0
 
 -- the number that the first of some references shows
 abbrev pub number_by : State → List ℕ → ℕ
-number_by state (suc index ∷ _) = number_of (own_of state index)
+number_by state (suc index ∷ _) = told_number (own_of state index)
 number_by state _ = 9
 
 -- the own word of this position, where this number is shown
@@ -60,5 +60,5 @@ word_at (suc (suc zero)) number = number - 1
 word_at (suc (suc (suc _))) number = 0
 
 -- whether there is a first record, and it has no end below the place
-abbrev pub is_open : State → ℕ → Bool
-is_open state index = nat_lt 0 (length state.ends) && is_none (end_below (3 + index) (end_of state 0))
+abbrev pub is_record_open : State → ℕ → Bool
+is_record_open state index = nat_lt 0 (length state.ends) && is_none (end_below (3 + index) (end_of state 0))

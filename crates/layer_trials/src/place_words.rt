@@ -16,8 +16,8 @@ ghost use Rattle.model_base.specs.Outcomes.{needs_of_access};
 ghost use Rattle.model_base.specs.declared.deed.Need.{Need};
 ghost use Rattle.body.specs.Laws.{AreApart};
 ghost use Rattle.model_base.specs.Versions.{accesses_of};
-ghost use Rattle.body.specs.Premises.{IsNarrow, outputs_of};
-ghost use Rattle.body.specs.Shape.{FitsColumns, HasColumns};
+ghost use Rattle.body.specs.Premises.{IsNarrow, outputs_of_step};
+ghost use Rattle.body.specs.Shape.{StepFits, HasColumns};
 ghost use Rattle.answering.specs.Answering.{IsShaped, columns_in};
 ghost use Rattle.layer_trials.specs.Examples.{IsExample};
 
@@ -114,8 +114,8 @@ fn accesses(alloc: Global) -> Result<Items<Access>, AllocError>
 /// A body over these rows.
 fn run(alloc: Global, user: User, steps: Vec<Step>) -> Result<Statement, AllocError>
     requires narrow { All IsNarrow steps.items }
-    requires outputs { sum_by outputs_of steps.items ≤ 8 }
-    requires fits { All (FitsColumns (columns_in (2 ∷ []))) steps.items }
+    requires outputs { sum_by outputs_of_step steps.items ≤ 8 }
+    requires fits { All (StepFits (columns_in (2 ∷ []))) steps.items }
     ensures { IfOk result IsExample }
 {
     Ok(Statement {

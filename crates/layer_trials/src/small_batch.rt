@@ -3,8 +3,8 @@
 ghost use Rattle.std.specs.Prelude.{◌≡◌, ◌+◌, ◌&&◌, ℕ, is_none};
 ghost use Rattle.model_base.specs.Records.{end_below};
 ghost use Rattle.bohm_core_base.specs.Batch.{was_done};
-ghost use Rattle.bohm_core_base.specs.Machine.{references_of};
-ghost use Rattle.layer_trials.specs.Countdown.{countdown, is_open, number_by, number_of, word_at};
+ghost use Rattle.bohm_core_base.specs.Machine.{stored_references_of};
+ghost use Rattle.layer_trials.specs.Countdown.{countdown, is_record_open, number_by, told_number, word_at};
 
 use crate::fault::TrialFault;
 use crate::telling::tell;
@@ -20,7 +20,7 @@ struct Countdown {
 
 /// The number that own words tell.
 fn number_told(own: &[u64]) -> u64
-    ensures { result ≡ number_of own.now }
+    ensures { result ≡ told_number own.now }
 {
     match own {
         [_, 0, ..] => 0,
@@ -31,7 +31,7 @@ fn number_told(own: &[u64]) -> u64
 
 /// The number that a place is shown.
 fn number_shown(state: &State, index: usize) -> u64
-    ensures { result ≡ number_by state.now (references_of state.now index) }
+    ensures { result ≡ number_by state.now (stored_references_of state.now index) }
 {
     match state.references(index) {
         [] | [0, ..] => 9,
@@ -62,7 +62,7 @@ fn lies_open(end: Option<Place>, index: usize) -> bool
 
 /// Whether there is a record, and its end doesn't lie below the place.
 fn is_open_at(state: &State, index: usize) -> bool
-    ensures { result ≡ is_open state.now index }
+    ensures { result ≡ is_record_open state.now index }
 {
     state.slots() > 0 && lies_open(state.end(0), index)
 }
@@ -101,7 +101,7 @@ impl Statements for Countdown {
         3
     }
 
-    #[tactic(auto, unfolding(bohm_core_base::specs::Batch::slots_of))]
+    #[tactic(auto, unfolding(bohm_core_base::specs::Batch::batch_slots))]
     fn slots(&self) -> usize {
         1
     }

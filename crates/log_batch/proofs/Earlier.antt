@@ -5,7 +5,7 @@ use Rattle.model_base.specs.declared.deed.Record.{Record}
 use Rattle.model_base.specs.Outcomes.{deeds_before, owners}
 use Rattle.model_base.specs.Records.{grants_of, recorded, records}
 use Rattle.model_base.proofs.Recorded.{recorded-records}
-use Rattle.bohm_core_base.specs.Batch.{slots_of}
+use Rattle.bohm_core_base.specs.Batch.{batch_slots}
 use Rattle.grants.specs.Book.{Entries}
 use Rattle.log_batch.specs.LogBatch.{Range, batch_of}
 use Rattle.log_batch.specs.Earlier.{earlier_count, earlier_grants, own_grants}
@@ -32,7 +32,7 @@ module _ (range : Range) where
     pub book-earlier : recorded entries.records ≡ earlier_grants (batch_of range)
     book-earlier = ap recorded same ∙ recorded-records (owners range.log) (deeds_before range.log range.first) ∙ sym earlier-before
 
-    pub book-behind : (named : List Grant) → recorded entries.records ++ named ≡ slots_of (batch_of range) → named ≡ own_grants (batch_of range)
+    pub book-behind : (named : List Grant) → recorded entries.records ++ named ≡ batch_slots (batch_of range) → named ≡ own_grants (batch_of range)
     book-behind named slots =
         let are = ap recorded same ∙ recorded-records (owners range.log) (deeds_before range.log range.first) in
         sym (drop-first before named) ∙ ap (λ (l : List Grant). drop (length before) l) (ap (λ (l : List Grant). l ++ named) (sym are) ∙ slots)
@@ -44,7 +44,7 @@ module _ (range : Range) where
         long [] = refl
         long (entry ∷ l) = ap suc (long l)
 
-  pub count-within : earlier_count (batch_of range) ≤ length (slots_of (batch_of range))
+  pub count-within : earlier_count (batch_of range) ≤ length (batch_slots (batch_of range))
   count-within =
       let split = ap (λ (l : List Grant). length l) (slots-split range) in
       let both = length-append before (grants_named range.log range.first range.size) in

@@ -1,5 +1,5 @@
 -- What a revocation of a log ended is told by the ends of the serial run.
-use Rattle.std.proofs.Common.{◌≡◌, ◌==◌, ◌<◌, ◌≤◌, ◌+◌, ℕ, suc, Bool, true, false, Option, Some, None, List, [], ◌∷◌, filter, get_or, length, map, refl, sym, ap, ◌∙◌, subst, arith, zero-add}
+use Rattle.std.proofs.Common.{◌≡◌, ◌==◌, ◌<◌, ◌+◌, ℕ, suc, Bool, true, false, Option, Some, None, List, [], ◌∷◌, filter, get_or, length, map, refl, sym, ap, ◌∙◌, subst, arith, zero-add}
 use Rattle.std.specs.Prelude.{slice_get}
 use Rattle.std.specs.Option.{option_map, option_map_or}
 use Rattle.std.proofs.lemmas.Bool.{true≢false}
@@ -10,14 +10,14 @@ use Rattle.model_base.specs.declared.deed.Grant.{Grant}
 use Rattle.model_base.specs.declared.deed.Revocation.{Revocation}
 use Rattle.model_base.specs.declared.outcome.Outcome.{Outcome}
 use Rattle.model_base.specs.declared.statement.Statement.{Statement}
-use Rattle.model_base.specs.Outcomes.{at_place, deed_of, outcome, owners, world_before as log_before}
+use Rattle.model_base.specs.Outcomes.{at_place, deed_of, outcome, owners, world_before}
 use Rattle.model_base.specs.Privileges.{ended_by}
 use Rattle.model_base.proofs.Ends.{is_ended}
 use Rattle.model_base.proofs.Replay.{by_cases}
 use Rattle.own_words.specs.Places.{own_words}
 use Rattle.own_words.specs.Words.{ended_in, outcome_word}
-use Rattle.bohm_core_base.specs.Batch.{Batch, IsSound, place_at, slots_of, was_done}
-use Rattle.bohm_core_base.specs.Serial.{serial_ends, serial_words, world_before}
+use Rattle.bohm_core_base.specs.Batch.{Batch, IsSoundBatch, place_at, batch_slots, was_done}
+use Rattle.bohm_core_base.specs.Serial.{serial_ends, serial_words, batch_world_before}
 use Rattle.bohm_core_base.proofs.Whole.{IsEnder, no_grant, serial-at, serial-only}
 use Rattle.log_batch.specs.Laws.{IsOfLog, places_that}
 use Rattle.log_batch.specs.LogBatch.{Range, batch_of}
@@ -52,29 +52,29 @@ that-none by slot (grant ∷ grants) none =
     (that-none by (suc slot) grants
     (λ k less. let next : suc slot + k ≡ slot + suc k = omega arith in ap by next ∙ none (suc k) (omega arith)))
 
-module _ (b : Batch) (sound : IsSound b) (n : ℕ) where
+module _ (b : Batch) (sound : IsSoundBatch b) (n : ℕ) where
   -- where the serial run ends none at the place, none is told
-  none-ended : ((k : ℕ) → IsEnder b sound n k → ⊥) → places_that (serial_ends b n) 0 (slots_of b) ≡ []
+  none-ended : ((k : ℕ) → IsEnder b sound n k → ⊥) → places_that (serial_ends b n) 0 (batch_slots b) ≡ []
   none-ended none =
-      that-none (serial_ends b n) 0 (slots_of b)
+      that-none (serial_ends b n) 0 (batch_slots b)
       (λ k slot. ap (serial_ends b n) (zero-add k) ∙ by_cases (serial_ends b n k)
       (λ ends. absurd (none k (serial-only b sound n k slot ends)))
       (λ stays. stays))
 
   -- at a place that makes its revocation those end that the revocation takes out of force
   revoked-ended : (revocation : Revocation) → n < b.size → was_done (serial_words b n) ≡ true → b.deed n ≡ Some (Revoking revocation)
-      → places_that (serial_ends b n) 0 (slots_of b) ≡ ended_by b.owners (world_before b n).deeds revocation
+      → places_that (serial_ends b n) 0 (batch_slots b) ≡ ended_by b.owners (batch_world_before b n).deeds revocation
   revoked-ended revocation within made is =
-      that-filter (serial_ends b n) (λ grant. is_ended b.owners (world_before b n).deeds (Revoking revocation) grant.place) 0 (slots_of b) each
+      that-filter (serial_ends b n) (λ grant. is_ended b.owners (batch_world_before b n).deeds (Revoking revocation) grant.place) 0 (batch_slots b) each
       ∙ slots-lost b sound n revocation (omega arith)
     where
-      each : (k : ℕ) → k < length (slots_of b)
-          → serial_ends b n (0 + k) ≡ is_ended b.owners (world_before b n).deeds (Revoking revocation) (get_or (slots_of b) k no_grant).place
+      each : (k : ℕ) → k < length (batch_slots b)
+          → serial_ends b n (0 + k) ≡ is_ended b.owners (batch_world_before b n).deeds (Revoking revocation) (get_or (batch_slots b) k no_grant).place
       each k slot =
-          let deeds = (world_before b n).deeds in
-          let at : place_at b k ≡ (get_or (slots_of b) k no_grant).place = get_or-map (λ (grant : Grant). grant.place) (slots_of b) k no_grant 0 slot in
+          let deeds = (batch_world_before b n).deeds in
+          let at : place_at b k ≡ (get_or (batch_slots b) k no_grant).place = get_or-map (λ (grant : Grant). grant.place) (batch_slots b) k no_grant 0 slot in
           ap (serial_ends b n) (zero-add k)
-          ∙ same_test (serial_ends b n k) (is_ended b.owners deeds (Revoking revocation) (get_or (slots_of b) k no_grant).place)
+          ∙ same_test (serial_ends b n k) (is_ended b.owners deeds (Revoking revocation) (get_or (batch_slots b) k no_grant).place)
           (λ ends.
           let ender = serial-only b sound n k slot ends in
           let same : ender.revocation ≡ revocation = revoking-same ender.revocation (sym ender.deed ∙ is) in
@@ -92,11 +92,11 @@ module _ (range : Range) (is : IsOfLog range) (index : ℕ) (within : index < ra
   place = range.first + index
 
   abbrev seen : List ℕ
-  seen = places_that (serial_ends (batch_of range) index) 0 (slots_of (batch_of range))
+  seen = places_that (serial_ends (batch_of range) index) 0 (batch_slots (batch_of range))
 
   module _ (statement : Statement) (at : slice_get range.log place ≡ Some statement) where
     abbrev found : Outcome
-    found = (at_place (owners range.log) place (log_before range.log place) statement).0
+    found = (at_place (owners range.log) place (world_before range.log place) statement).0
 
     abbrev made : Option Deed
     made = deed_of place statement.user statement.form
@@ -106,7 +106,7 @@ module _ (range : Range) (is : IsOfLog range) (index : ℕ) (within : index < ra
     unfolding was_done
     done-told =
         let words : Option Statement → List ℕ =
-        λ one. option_map_or (λ (s : Statement). own_words range.columns s.form (at_place (owners range.log) place (log_before range.log place) s)) one [] in
+        λ one. option_map_or (λ (s : Statement). own_words range.columns s.form (at_place (owners range.log) place (world_before range.log place) s)) one [] in
         ap was_done (serial_words_are range is index statement at) ∙ ap (λ (one : Option Statement). was_done (words one)) at
 
     -- its deed is the statement's
@@ -115,7 +115,7 @@ module _ (range : Range) (is : IsOfLog range) (index : ℕ) (within : index < ra
 
     -- the ends are those of its deed
     by_deed : (deed : Option Deed) → made ≡ deed → (outcome_word found == 1) ≡ true
-        → seen ≡ ended_of (owners range.log) (log_before range.log place).deeds deed
+        → seen ≡ ended_of (owners range.log) (world_before range.log place).deeds deed
     by_deed None same counts =
         none-ended (batch_of range) (batches_are_sound range is) index
         (λ k ender. let no : None ≡ Some (Revoking ender.revocation) = sym (deed-told ∙ same) ∙ ender.deed in absurd (cc))
@@ -128,7 +128,7 @@ module _ (range : Range) (is : IsOfLog range) (index : ℕ) (within : index < ra
 
     ends_tell : seen ≡ ended_in found
     ends_tell =
-        let told = ended-form (owners range.log) place (log_before range.log place) statement statement.form in
+        let told = ended-form (owners range.log) place (world_before range.log place) statement statement.form in
         by_cases (outcome_word found == 1)
         (λ counts. by_deed made refl counts ∙ sym (told ∙ rw counts refl))
         (λ not_done.
@@ -142,9 +142,9 @@ module _ (range : Range) (is : IsOfLog range) (index : ℕ) (within : index < ra
     where
       by_statement : (one : Option Statement) → slice_get range.log place ≡ one → seen ≡ ended_in comes
       by_statement None at =
-          let no : None ≡ Some comes = sym (ap (option_map (λ (s : Statement). (at_place (owners range.log) place (log_before range.log place) s).0)) at) ∙ is_outcome in absurd (cc)
+          let no : None ≡ Some comes = sym (ap (option_map (λ (s : Statement). (at_place (owners range.log) place (world_before range.log place) s).0)) at) ∙ is_outcome in absurd (cc)
       by_statement (Some statement) at =
           let all : Some (found statement at) ≡ Some comes =
-          sym (ap (option_map (λ (s : Statement). (at_place (owners range.log) place (log_before range.log place) s).0)) at) ∙ is_outcome in
+          sym (ap (option_map (λ (s : Statement). (at_place (owners range.log) place (world_before range.log place) s).0)) at) ∙ is_outcome in
           let same : found statement at ≡ comes = cc in
           ends_tell statement at ∙ ap ended_in same

@@ -2,7 +2,7 @@
 use Rattle.std.specs.Prelude.{ℕ, List, drop, length, take}
 use Rattle.model_base.specs.declared.deed.Grant.{Grant}
 use Rattle.model_base.specs.Records.{grants_of}
-use Rattle.bohm_core_base.specs.Batch.{Batch, slots_of}
+use Rattle.bohm_core_base.specs.Batch.{Batch, batch_slots}
 
 -- how many there are: they stand before the slots of the grants that the batch may make
 abbrev pub earlier_count : Batch → ℕ
@@ -10,8 +10,8 @@ earlier_count batch = length (grants_of batch.before)
 
 -- their grants
 abbrev pub earlier_grants : Batch → List Grant
-earlier_grants batch = take (earlier_count batch) (slots_of batch)
+earlier_grants batch = take (earlier_count batch) (batch_slots batch)
 
 -- and the grants that the batch may make itself
 abbrev pub own_grants : Batch → List Grant
-own_grants batch = drop (earlier_count batch) (slots_of batch)
+own_grants batch = drop (earlier_count batch) (batch_slots batch)

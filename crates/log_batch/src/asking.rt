@@ -4,7 +4,7 @@ ghost use Rattle.std.specs.Prelude.{◌≡◌, ◌≢◌, ◌<◌, ◌≤◌, �
 ghost use Rattle.std.specs.Option.{MatchOption};
 ghost use Rattle.model_base.specs.declared.deed.Grant.{Grant};
 ghost use Rattle.grants.specs.Index.{IsNext, is_by, is_to};
-ghost use Rattle.bohm_core_base.specs.Batch.{slots_of};
+ghost use Rattle.bohm_core_base.specs.Batch.{batch_slots};
 ghost use Rattle.log_batch.specs.Supplied.{batch_in};
 
 use crate::batch::LogBatch;
@@ -15,8 +15,10 @@ impl LogBatch<'_> {
     /// The first slot whose grant doesn't lie below the place. It takes no memory, and a time that grows with the logarithm of
     /// the number of slots.
     fn slot_from(&self, place: Place) -> usize
-        ensures below { (slot : ℕ) (grant : Grant) → slot < result → slice_get (slots_of (batch_in self.now)) slot ≡ Some grant → grant.place < place }
-        ensures from { (slot : ℕ) (grant : Grant) → result ≤ slot → slice_get (slots_of (batch_in self.now)) slot ≡ Some grant → place ≤ grant.place }
+        ensures below { (slot : ℕ) (grant : Grant)
+            → slot < result → slice_get (batch_slots (batch_in self.now)) slot ≡ Some grant → grant.place < place }
+        ensures from { (slot : ℕ) (grant : Grant)
+            → result ≤ slot → slice_get (batch_slots (batch_in self.now)) slot ≡ Some grant → place ≤ grant.place }
     {
         slots_stand_in_order();
         let _log = self.log();
@@ -36,9 +38,12 @@ impl LogBatch<'_> {
     /// The slot of the grant of a place, if there is one. It takes no memory, and a time that grows with the logarithm of the
     /// number of slots.
     pub fn slot_of(&self, place: Place) -> Option<usize>
-        ensures found { MatchOption result ((slot : ℕ) (grant : Grant) → slice_get (slots_of (batch_in self.now)) slot ≡ Some grant → grant.place ≢ place)
-            (λ slot. (grant : Grant) × (slice_get (slots_of (batch_in self.now)) slot ≡ Some grant) × (grant.place ≡ place)) }
-        ensures only { (slot : ℕ) (grant : Grant) → slice_get (slots_of (batch_in self.now)) slot ≡ Some grant → grant.place ≡ place → result ≡ Some slot }
+        ensures found { MatchOption result
+            ((slot : ℕ) (grant : Grant) → slice_get (batch_slots (batch_in self.now)) slot ≡ Some grant → grant.place ≢ place)
+            (λ slot. (grant : Grant) × (slice_get (batch_slots (batch_in self.now)) slot ≡ Some grant) × (grant.place ≡ place)) }
+        ensures only { (slot : ℕ) (grant : Grant)
+            → slice_get (batch_slots (batch_in self.now)) slot ≡ Some grant
+            → grant.place ≡ place → result ≡ Some slot }
     {
         slots_stand_in_order();
         let _log = self.log();
@@ -53,7 +58,7 @@ impl LogBatch<'_> {
     /// The least slot at or above this one whose grant, made or not, is to this user, of this kind on this table, in force or
     /// not. It takes no memory, and a time that grows with the logarithm of the number of such grants.
     pub fn next_to(&self, user: User, kind: Kind, table: Table, from: usize) -> Option<usize>
-        ensures { IsNext (is_to user kind table) (slots_of (batch_in self.now)) from result }
+        ensures { IsNext (is_to user kind table) (batch_slots (batch_in self.now)) from result }
     {
         if let Some(slot) = self.earlier_to(user, kind, table, from) {
             return Some(slot);
@@ -68,7 +73,7 @@ impl LogBatch<'_> {
     /// The least slot at or above this one whose grant, made or not, is by this user, of this kind on this table, in force or
     /// not. It takes no memory, and a time that grows with the logarithm of the number of such grants.
     pub fn next_by(&self, user: User, kind: Kind, table: Table, from: usize) -> Option<usize>
-        ensures { IsNext (is_by user kind table) (slots_of (batch_in self.now)) from result }
+        ensures { IsNext (is_by user kind table) (batch_slots (batch_in self.now)) from result }
     {
         if let Some(slot) = self.earlier_by(user, kind, table, from) {
             return Some(slot);

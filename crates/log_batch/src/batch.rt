@@ -9,7 +9,7 @@ ghost use Rattle.grants.specs.Book.{ShowsBook};
 ghost use Rattle.grants.specs.Index.{IsNext, is_by, is_to};
 ghost use Rattle.chains.specs.Store.{IsRight};
 ghost use Rattle.sequencer.specs.Taken.{IsTaken, IsWhole};
-ghost use Rattle.bohm_core_base.specs.Batch.{slots_of};
+ghost use Rattle.bohm_core_base.specs.Batch.{batch_slots};
 ghost use Rattle.bohm_core_base.specs.Machine.{end_of, start};
 ghost use Rattle.log_batch.specs.Laws.{IsOfLog};
 ghost use Rattle.log_batch.specs.Earlier.{earlier_count, earlier_grants, own_grants};
@@ -17,7 +17,9 @@ ghost use Rattle.log_batch.specs.Named.{grants_named};
 
 use chains::Chains;
 use grants::{Book, IndexedGrants, Records};
-use model_base::{Deed, Grant, Key, Kind, Place, Reference, Row, Statement, Table, User};
+use model_base::{
+    Deed, Grant, Key, Kind, MOST_PLACES, Place, Reference, Row, Statement, Table, User,
+};
 use placing::Refs;
 use sequencer::LogTail;
 use std::alloc::{AllocError, Global};
@@ -46,7 +48,8 @@ impl<'a> Model for LogBatch<'a> {
 
     ghost view = { λ batch. record { log = batch.log.now.log; first = batch.first; size = batch.size; partitions = batch.partitions } };
 
-    ghost invariant = { λ batch. IsSupplied (record { log = batch.log.now.log; first = batch.first; size = batch.size; partitions = batch.partitions })
+    ghost invariant = { λ batch. IsSupplied
+        (record { log = batch.log.now.log; first = batch.first; size = batch.size; partitions = batch.partitions })
         batch.log.now.dropped batch.chains.now batch.book.now batch.references batch.named };
 }
 
@@ -101,7 +104,8 @@ impl<'a> LogBatch<'a> {
         requires right { IsRight log.now.log.statements chains.now }
         requires book { ShowsBook book.now (owners log.now.log.statements) (deeds_before log.now.log.statements range.start) }
         requires references { references ≡ batch_references log.now.log.statements range.start range.end }
-        ensures { IfOk result (λ batch. batch ≡ record { log = log.now.log; first = range.start; size = range.end - range.start; partitions = partitions }) }
+        ensures { IfOk result (λ batch. batch
+            ≡ record { log = log.now.log; first = range.start; size = range.end - range.start; partitions = partitions }) }
     {
         let _dropped = log.dropped();
         let _len = log.len();
@@ -148,7 +152,7 @@ impl<'a> LogBatch<'a> {
     /// The first place.
     pub fn first_place(&self) -> Place
         ensures value { result ≡ self.now.first }
-        ensures small { self.now.first + self.now.size ≤ 4294967295 }
+        ensures small { self.now.first + self.now.size ≤ MOST_PLACES }
     {
         self.first
     }
@@ -171,7 +175,8 @@ impl<'a> LogBatch<'a> {
     /// The statement of an index, also past the batch, if the log has one there.
     pub fn find(&self, index: usize) -> Option<&Statement>
         ensures { MatchOption result (slice_get self.now.log.statements (self.now.first + index) ≡ None)
-            (λ found. (slice_get self.now.log.statements (self.now.first + index) ≡ Some found.now) × IsTaken self.now.log.names found.now) }
+            (λ found. (slice_get self.now.log.statements (self.now.first + index) ≡ Some found.now)
+            × IsTaken self.now.log.names found.now) }
     {
         let behind = self.log.len() - self.first;
         if (index as u64) < behind {
@@ -201,15 +206,15 @@ impl<'a> LogBatch<'a> {
 
     /// How many slots there are: one for each grant that was made before the batch, and then for each that it may make.
     pub fn slot_count(&self) -> usize
-        ensures { result ≡ length (slots_of (batch_in self.now)) }
+        ensures { result ≡ length (batch_slots (batch_in self.now)) }
     {
         self.book.records().len() + self.named.len()
     }
 
     /// The grant of a slot.
     pub fn grant(&self, slot: usize) -> Grant
-        requires { slot < length (slots_of (batch_in self.now)) }
-        ensures { slice_get (slots_of (batch_in self.now)) slot ≡ Some result }
+        requires { slot < length (batch_slots (batch_in self.now)) }
+        ensures { slice_get (batch_slots (batch_in self.now)) slot ≡ Some result }
     {
         let records = self.book.records();
         if slot < records.len() {
@@ -221,7 +226,7 @@ impl<'a> LogBatch<'a> {
 
     /// The end before the batch of the record of a slot, if it has one.
     pub fn end_at_first(&self, slot: usize) -> Option<Place>
-        requires { slot < length (slots_of (batch_in self.now)) }
+        requires { slot < length (batch_slots (batch_in self.now)) }
         ensures { result ≡ end_of (start (batch_in self.now)) slot }
     {
         let records = self.book.records();
@@ -235,7 +240,7 @@ impl<'a> LogBatch<'a> {
     /// How many slots there are of grants that were made before the batch. They come first.
     pub fn earlier_count(&self) -> usize
         ensures value { result ≡ earlier_count (batch_in self.now) }
-        ensures within { result ≤ length (slots_of (batch_in self.now)) }
+        ensures within { result ≤ length (batch_slots (batch_in self.now)) }
     {
         self.book.records().len()
     }

@@ -15,7 +15,7 @@ use Rattle.answering.proofs.Fitting.{words_tell}
 use Rattle.sequencer.specs.Taken.{IsTaken, columns_by}
 use Rattle.bohm_core_base.specs.declared.hold.Hold.{Hold}
 use Rattle.bohm_core_base.specs.declared.hold.Hold.TheVariants.{Done, Free}
-use Rattle.bohm_core_base.specs.Batch.{slots_of}
+use Rattle.bohm_core_base.specs.Batch.{batch_slots}
 use Rattle.bohm_core_base.specs.Machine.{State, hold_of, own_of, reach}
 use Rattle.bohm_core_base.specs.Serial.{is_end}
 use Rattle.bohm_core_base.proofs.Reach.{done-right, has-references}
@@ -44,10 +44,10 @@ module _ (ranged : Ranged) (is : IsOfLog (range_of ranged)) (within : ranged.fir
 
   -- the places of slots whose records ended at it are those that its revocation ended
   pub ends-done : (index : ℕ) (found : Outcome) → hold_of state index ≡ Done → outcome ranged.log.statements (ranged.first + index) ≡ Some found
-      → ended_places (slots_of (batch_in ranged)) state.ends (ranged.first + index) ≡ ended_in found
+      → ended_places (batch_slots (batch_in ranged)) state.ends (ranged.first + index) ≡ ended_in found
   ends-done index found done comes =
       let there : hold_of (reach (batch_in ranged) reached.events) index ≡ Done = subst (λ s. hold_of s index ≡ Done) reached.reached done in
-      ap (λ (s : State). ended_places (slots_of (batch_in ranged)) s.ends (ranged.first + index)) reached.reached
+      ap (λ (s : State). ended_places (batch_slots (batch_in ranged)) s.ends (ranged.first + index)) reached.reached
       ∙ ended_tells (range_of ranged) is reached.events index there found comes
 
   -- its own words are those of its place in the log
@@ -84,7 +84,7 @@ module _ (ranged : Ranged) (is : IsOfLog (range_of ranged)) (within : ranged.fir
       )
 
   -- where some slot's record ended at it, its revocation ended some
-  pub ended-done : (index : ℕ) → hold_of state index ≡ Done → ended_places (slots_of (batch_in ranged)) state.ends (ranged.first + index) ≢ []
+  pub ended-done : (index : ℕ) → hold_of state index ≡ Done → ended_places (batch_slots (batch_in ranged)) state.ends (ranged.first + index) ≢ []
       → (found : Outcome) × (outcome ranged.log.statements (ranged.first + index) ≡ Some found) × (ended_in found ≢ [])
   ended-done index done some =
       let there = outcome-there index done in

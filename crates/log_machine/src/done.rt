@@ -7,7 +7,7 @@ ghost use Rattle.model_base.specs.declared.outcome.Outcome.{Outcome};
 ghost use Rattle.own_words.specs.Places.{words_at};
 ghost use Rattle.own_words.specs.Words.{ended_in};
 ghost use Rattle.sequencer.specs.Taken.{columns_by};
-ghost use Rattle.bohm_core_base.specs.Batch.{slots_of};
+ghost use Rattle.bohm_core_base.specs.Batch.{batch_slots};
 ghost use Rattle.bohm_core_base.specs.Machine.{hold_of};
 ghost use Rattle.bohm_core_base.specs.declared.hold.Hold.TheVariants.{Done};
 ghost use Rattle.log_batch.specs.Laws.{ended_places};
@@ -23,7 +23,8 @@ use std::alloc::{AllocError, Global};
 /// The own words of a place that is done, whatever the events were: those of its outcome in the log, and its version cells.
 pub fn done_words<'a>(machine: &'a Machine<OfLog<'_>>, index: usize) -> Option<&'a [u64]>
     ensures { MatchOption result (hold_of machine.now.state index ≢ Done) (λ words.
-        words.now ≡ words_at (columns_by machine.now.statements.log.names) machine.now.statements.log.statements (machine.now.statements.first + index)) }
+        words.now ≡ words_at (columns_by machine.now.statements.log.names) machine.now.statements.log.statements
+        (machine.now.statements.first + index)) }
 {
     let _log = machine.statements().batch().log();
     let state = machine.state();
@@ -52,8 +53,8 @@ fn ended_at(
     state: &State,
     place: Place,
 ) -> Result<Vec<Place>, AllocError>
-    ensures value { IfOk result (λ places. places.items ≡ ended_places (slots_of (batch_in batch.now)) state.now.ends place) }
-    ensures memory { OnErr result (ended_places (slots_of (batch_in batch.now)) state.now.ends place ≢ []) }
+    ensures value { IfOk result (λ places. places.items ≡ ended_places (batch_slots (batch_in batch.now)) state.now.ends place) }
+    ensures memory { OnErr result (ended_places (batch_slots (batch_in batch.now)) state.now.ends place ≢ []) }
 {
     let mut places = Vec::new(alloc);
     for slot in 0..batch.slot_count().min(state.slots()) {
@@ -74,7 +75,8 @@ pub fn done_ends(
     index: usize,
 ) -> Result<Option<Vec<Place>>, AllocError>
     ensures told { IfOk result (λ told. MatchOption told (hold_of machine.now.state index ≢ Done) (λ places. (found : Outcome)
-        → outcome machine.now.statements.log.statements (machine.now.statements.first + index) ≡ Some found → places.items ≡ ended_in found)) }
+        → outcome machine.now.statements.log.statements (machine.now.statements.first + index) ≡ Some found
+        → places.items ≡ ended_in found)) }
     ensures done { IfOk result (λ told. IfSome told (λ _. hold_of machine.now.state index ≡ Done)) }
     ensures memory { OnErr result ((found : Outcome)
         × (outcome machine.now.statements.log.statements (machine.now.statements.first + index) ≡ Some found) × (ended_in found ≢ [])) }

@@ -8,8 +8,8 @@
 mod answers;
 mod by_state;
 mod done;
+mod log_statements;
 mod of_log;
-mod statements;
 mod stored;
 
 pub use done::{done_ends, done_outcome, done_words};

@@ -32,7 +32,8 @@ fn push_key_partitions(
     partitions: usize,
 ) -> Result<(), AllocError>
     requires { 0 < partitions }
-    ensures { OnOk result (found.new.items ≡ found.old.items ++ map (λ (access : Access). key_partition partitions access.key.table access.key.row) accesses.now) }
+    ensures { OnOk result (found.new.items ≡ found.old.items
+        ++ map (λ (access : Access). key_partition partitions access.key.table access.key.row) accesses.now) }
 {
     for access in accesses {
         found.push(partition_of(access.key, partitions))?;
@@ -110,7 +111,8 @@ pub(crate) fn stored_references(
     partition: usize,
 ) -> Result<Vec<usize>, AllocError>
     requires { front_of state.now partition < batch.now.size }
-    ensures { IfOk result (λ references. references.items ≡ placed_references (batch_in batch.now) state.now partition (front_of state.now partition)) }
+    ensures { IfOk result (λ references. references.items
+        ≡ placed_references (batch_in batch.now) state.now partition (front_of state.now partition)) }
 {
     let index = state.front(partition);
     let partitions = partitions_at(alloc, batch, index)?;

@@ -1,5 +1,5 @@
 -- Access words fit, and each is the word of one access.
-use Rattle.std.proofs.Common.{◌≡◌, ℕ, ◌+◌, ◌<◌, ◌^◌, Bool, true, false, not, eqb, leb, ◌&&◌, List, [], ◌∷◌, ◌++◌, length, take, drop, Some, None, refl, ap, sym, ◌∙◌, arith, append_assoc}
+use Rattle.std.proofs.Common.{◌≡◌, ℕ, ◌+◌, ◌<◌, ◌^◌, Bool, true, false, not, eqb, ltb, ◌&&◌, List, [], ◌∷◌, ◌++◌, length, take, drop, Some, None, refl, ap, sym, ◌∙◌, arith, append_assoc}
 use Rattle.std.specs.Prelude.{codes, decimal}
 use Rattle.std.specs.List.{position_or_len, list_all, list_any}
 use Rattle.std.specs.Str.Parse.{AllDigits}
@@ -47,7 +47,7 @@ name_bytes (b ∷ bs) e =
 name_no_colon : (w : List ℕ) → is_name w ≡ true → list_all (λ b. not (eqb b 58)) w ≡ true
 name_no_colon [] e = refl
 name_no_colon (b ∷ bs) e =
-    let p = and_parts (is_letter b && list_all is_name_byte bs) (leb (length bs) 31) e in
+    let p = and_parts (is_letter b && list_all is_name_byte bs) (ltb (length bs) 32) e in
     let q = and_parts (is_letter b) (list_all is_name_byte bs) p.0 in
     and_from (not (eqb b 58)) (list_all (λ b. not (eqb b 58)) bs) (letter b q.0) (name_bytes bs q.1)
 

@@ -1,5 +1,5 @@
 -- Words that are no bars, and words that are not each other.
-use Rattle.std.proofs.Common.{◌≡◌, ℕ, ◌<◌, ◌≤◌, ◌^◌, true, false, leb, ◌&&◌, List, [], ◌∷◌, ◌++◌, length, get_or, ap, sym, arith}
+use Rattle.std.proofs.Common.{◌≡◌, ℕ, ◌<◌, ◌≤◌, ◌^◌, true, false, leb, ltb, ◌&&◌, List, [], ◌∷◌, ◌++◌, length, get_or, ap, sym, arith}
 use Rattle.std.specs.Prelude.{decimal, codes}
 use Rattle.std.proofs.lemmas.Str.Parse.{digit_at}
 use Rattle.std.specs.List.{list_all}
@@ -12,7 +12,7 @@ use Rattle.log_text.specs.Access.{access_word, IsAccess, letters}
 use Rattle.log_text.specs.declared.access.RawAccess.{RawAccess}
 use Rattle.model_base.specs.declared.statement.RowName.{RowName}
 use Rattle.model_base.specs.declared.statement.RowName.TheVariants.{Number, Held}
-use Rattle.log_text.specs.Statement.{row_word, IsRow}
+use Rattle.log_text.specs.Statement.{row_word, IsRowNumber}
 
 -- the first byte of a number is a digit
 pub first_of_decimal : (n : ℕ) → n < 2 ^ 64 → (48 ≤ get_or (decimal n) 0 0) × (get_or (decimal n) 0 0 ≤ 57)
@@ -22,7 +22,7 @@ first_of_decimal n low = let p = (decimal_is_IsNumeral n low).0 in digit_at (dec
 pub first_of_name : (w : List ℕ) → is_name w ≡ true → (97 ≤ get_or w 0 0) × (get_or w 0 0 ≤ 122)
 first_of_name [] e = cc
 first_of_name (b ∷ bs) e =
-    let p = and_parts (is_letter b && list_all is_name_byte bs) (leb (length bs) 31) e in
+    let p = and_parts (is_letter b && list_all is_name_byte bs) (ltb (length bs) 32) e in
     let q = and_parts (is_letter b) (list_all is_name_byte bs) p.0 in
     let r = and_parts (leb 97 b) (leb b 122) q.0 in
     (leb-true 97 b r.0, leb-true b 122 r.1)
@@ -44,7 +44,7 @@ access_ne_bar a h e =
     g e
 
 -- rows have words of their own
-pub one_row : (r s : RowName) → IsRow r → IsRow s → row_word r ≡ row_word s → r ≡ s
+pub one_row : (r s : RowName) → IsRowNumber r → IsRowNumber s → row_word r ≡ row_word s → r ≡ s
 one_row (Number m) (Number n) h k e = ap Number (decimal_injective m n (omega (arith, h)) (omega (arith, k)) e)
 one_row (Number m) (Held n) h k e = let f = first_of_decimal m (omega (arith, h)) in let g : get_or (decimal m) 0 0 ≡ 114 = ap (λ w. get_or w 0 0) e in absurd (omega arith)
 one_row (Held m) (Number n) h k e = let f = first_of_decimal n (omega (arith, k)) in let g : get_or (decimal n) 0 0 ≡ 114 = ap (λ w. get_or w 0 0) (sym e) in absurd (omega arith)

@@ -8,13 +8,10 @@ use Rattle.std.proofs.lemmas.List.{take_more, length-take-le}
 use Rattle.std.proofs.lemmas.Str.{digit_value_digit}
 use Rattle.std.proofs.lemmas.Str.Parse.{IsNumeralModel, numerals_by_value, tells_digits, digits_value_short, digit_at}
 use Rattle.std.proofs.lemmas.Int.Digits.{digits_value_more}
-use Rattle.std.proofs.lemmas.Fmt.{decimal_is_IsNumeral, decimal_injective, decimal-digits_value, first_decimal, decimal_digit, length-decimal-le}
+use Rattle.std.proofs.lemmas.Fmt.{decimal_is_IsNumeral, decimal-digits_value, first_decimal, decimal_digit, length-decimal-le}
 
 pub own : IsNumeralModel (AllDigits 10) (digits_value 10)
 own = numerals_by_value (AllDigits 10) tells_digits
-
-pub no_digits : AllDigits 10 []
-no_digits = tt
 
 all_digits_push : (xs : List ℕ) (c : ℕ) → AllDigits 10 xs → digit_value c < 10 → AllDigits 10 (xs ++ c ∷ [])
 all_digits_push [] c h low = (low, tt)
@@ -66,9 +63,6 @@ pub digits_form : (w : List ℕ) (v : ℕ) → AllDigits 10 w → v ≡ digits_v
 digits_form w v h e some short zero =
     let low = value_low w h short in
     (sym (ap decimal e ∙ decimal-digits_value own w h some zero (omega arith)), omega (arith, e, low))
-
-pub one_decimal : (m n : ℕ) → m < 10 ^ 19 → n < 10 ^ 19 → decimal m ≡ decimal n → m ≡ n
-one_decimal m n p q e = decimal_injective m n (omega arith) (omega arith) e
 
 pub all_digits_of : (w : List ℕ) (n : ℕ) → n < 10 ^ 19 → w ≡ decimal n → AllDigits 10 w
 all_digits_of w n low e = subst (AllDigits 10) (sym e) (decimal_digits n low)

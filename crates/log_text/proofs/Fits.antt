@@ -6,7 +6,7 @@ use Rattle.std.proofs.lemmas.List.Sums.{sum_by-cons}
 use Rattle.std.proofs.lemmas.Bool.{lt-ltb}
 use Rattle.log_text.specs.Words.{plain}
 use Rattle.log_text.specs.declared.statement.RawStep.{RawStep}
-use Rattle.log_text.specs.declared.statement.RawStep.TheVariants.{Const, Add, Sub, Mul, Less, Same, Has, Load, Store, Insert, Delete, Check, Skip, Out}
+use Rattle.log_text.specs.declared.statement.RawStep.TheVariants.{Const, Compute, Has, Load, Store, Insert, Delete, Check, Skip, Out}
 use Rattle.log_text.specs.declared.statement.RawForm.{RawForm}
 use Rattle.log_text.specs.declared.statement.RawForm.TheVariants.{Create, Run, Deed}
 use Rattle.log_text.specs.declared.statement.RawDeed.{RawDeed}
@@ -21,6 +21,7 @@ use Rattle.log_text.proofs.Bars.{no_bar, decimal_ne_bar, access_ne_bar}
 use Rattle.log_text.proofs.AccessFit.{access_fits}
 use Rattle.log_text.proofs.Whole.{whole_of_decimal}
 use Rattle.log_text.proofs.KindWords.{kind_of_word}
+use Rattle.log_text.proofs.OperationWords.{begins_no_deed, named_operation}
 use Rattle.log_text.proofs.Tails.{IsTail, body_is_tail, body_more}
 
 -- one more register of an INSERT
@@ -57,11 +58,8 @@ accesses_fit (x ∷ xs) n tail is low h =
 step_fits : (s : RawStep) (tail : List (List ℕ)) (n o : ℕ) → IsTail tail → n < 64 → o + outs_of s ≤ 8 → IsStep s →
     fault_from (OfStep n o ∷ []) (step_words s ++ tail) ≡ fault_from (OfBar (n + 1) (o + outs_of s) ∷ []) tail
 step_fits (Const to value) tail n o is low few h = rw (lt-ltb n 64 low, register_fits to h.0, whole_of_decimal value h.1, add-zero) refl
-step_fits (Add to left right) tail n o is low few h = rw (lt-ltb n 64 low, register_fits to h.0, register_fits left h.1, register_fits right h.2, add-zero) refl
-step_fits (Sub to left right) tail n o is low few h = rw (lt-ltb n 64 low, register_fits to h.0, register_fits left h.1, register_fits right h.2, add-zero) refl
-step_fits (Mul to left right) tail n o is low few h = rw (lt-ltb n 64 low, register_fits to h.0, register_fits left h.1, register_fits right h.2, add-zero) refl
-step_fits (Less to left right) tail n o is low few h = rw (lt-ltb n 64 low, register_fits to h.0, register_fits left h.1, register_fits right h.2, add-zero) refl
-step_fits (Same to left right) tail n o is low few h = rw (lt-ltb n 64 low, register_fits to h.0, register_fits left h.1, register_fits right h.2, add-zero) refl
+step_fits (Compute operation to left right) tail n o is low few h =
+    rw (begins_no_deed operation, named_operation operation, lt-ltb n 64 low, register_fits to h.0, register_fits left h.1, register_fits right h.2, add-zero) refl
 step_fits (Has to table row) tail n o is low few h = rw (lt-ltb n 64 low, register_fits to h.0, h.1, row_fits row h.2, add-zero) refl
 step_fits (Load to table row column) tail n o is low few h =
     rw (lt-ltb n 64 low, register_fits to h.0, h.1, row_fits row h.2, plain_of_decimal column h.3, add-zero) refl

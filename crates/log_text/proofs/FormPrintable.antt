@@ -2,10 +2,12 @@
 use Rattle.std.proofs.Common.{◌≡◌, ℕ, Bool, true, false, List, [], ◌∷◌, ◌++◌, map, Option, Some, None, refl, arith}
 use Rattle.std.specs.Prelude.{decimal, codes}
 use Rattle.std.specs.List.{AllByRecursion, flat_map, list_all}
+use Rattle.model_base.specs.declared.statement.Operation.{Operation}
+use Rattle.model_base.specs.declared.statement.Operation.TheVariants.{Add, Sub, Mul, Less, Same}
 use Rattle.model_base.specs.declared.statement.RowName.{RowName}
 use Rattle.model_base.specs.declared.statement.RowName.TheVariants.{Number, Held}
 use Rattle.log_text.specs.declared.statement.RawStep.{RawStep}
-use Rattle.log_text.specs.declared.statement.RawStep.TheVariants.{Const, Add, Sub, Mul, Less, Same, Has, Load, Store, Insert, Delete, Check, Skip, Out}
+use Rattle.log_text.specs.declared.statement.RawStep.TheVariants.{Const, Compute, Has, Load, Store, Insert, Delete, Check, Skip, Out}
 use Rattle.log_text.specs.declared.statement.RawForm.{RawForm}
 use Rattle.log_text.specs.declared.statement.RawForm.TheVariants.{Create, Run, Deed}
 use Rattle.log_text.specs.declared.statement.RawDeed.{RawDeed}
@@ -13,7 +15,7 @@ use Rattle.log_text.specs.declared.statement.RawDeed.TheVariants.{Grant, Revoke}
 use Rattle.model_base.specs.declared.deed.Kind.{Kind}
 use Rattle.model_base.specs.declared.deed.Kind.TheVariants as kind
 use Rattle.log_text.specs.Access.{access_word, letters, letter_if, IsAccess}
-use Rattle.log_text.specs.Statement.{body_words, deed_words, kind_word, last_deed, further_step, step_words, row_word, form_words, IsDeed, IsFormInGrammar, IsLastDeed, IsStep, IsRow, IsRegister}
+use Rattle.log_text.specs.Statement.{body_words, deed_words, kind_word, last_deed, further_step, operation_word, step_words, row_word, form_words, IsDeed, IsFormInGrammar, IsLastDeed, IsStep, IsRowNumber, IsRegister}
 use Rattle.log_text.specs.Fault.{is_printable}
 use Rattle.model_base.specs.declared.deed.Kinds.{Kinds}
 use Rattle.log_text.specs.declared.access.RawAccess.{RawAccess}
@@ -53,17 +55,21 @@ registers : (rs : List ℕ) → AllByRecursion IsRegister rs → AllByRecursion 
 registers [] h = tt
 registers (r ∷ rs) h = (register r h.0, registers rs h.1)
 
-row : (r : RowName) → IsRow r → IsPrintable (row_word r)
+row : (r : RowName) → IsRowNumber r → IsPrintable (row_word r)
 row (Number n) h = printable_decimal n (omega (arith, h))
 row (Held n) h = printable_append (codes "r") (decimal n) refl (register n h)
 
+operation_printable : (operation : Operation) → IsPrintable (operation_word operation)
+operation_printable Add = refl
+operation_printable Sub = refl
+operation_printable Mul = refl
+operation_printable Less = refl
+operation_printable Same = refl
+
 step : (s : RawStep) → IsStep s → AllByRecursion IsPrintable (step_words s)
 step (Const to value) h = (refl, (register to h.0, (printable_signed value h.1, tt)))
-step (Add to left right) h = (refl, (register to h.0, (register left h.1, (register right h.2, tt))))
-step (Sub to left right) h = (refl, (register to h.0, (register left h.1, (register right h.2, tt))))
-step (Mul to left right) h = (refl, (register to h.0, (register left h.1, (register right h.2, tt))))
-step (Less to left right) h = (refl, (register to h.0, (register left h.1, (register right h.2, tt))))
-step (Same to left right) h = (refl, (register to h.0, (register left h.1, (register right h.2, tt))))
+step (Compute operation to left right) h =
+    (operation_printable operation, (register to h.0, (register left h.1, (register right h.2, tt))))
 step (Has to table r) h = (refl, (register to h.0, (printable_name table h.1, (row r h.2, tt))))
 step (Load to table r column) h = (refl, (register to h.0, (printable_name table h.1, (row r h.2, (printable_decimal column (omega (arith, h.3)), tt)))))
 step (Store table r column from) h = (refl, (printable_name table h.0, (row r h.1, (printable_decimal column (omega (arith, h.2)), (register from h.3, tt)))))

@@ -4,6 +4,7 @@ pub mod Whole
 pub mod Rows
 pub mod Splits
 pub mod NameWords
+pub mod OperationWords
 pub mod StepNames
 pub mod KindWords
 pub mod Tails

@@ -1,13 +1,13 @@
 -- A line's next word, read as a name in one pass.
-use Rattle.std.proofs.Common.{◌≡◌, ℕ, ◌+◌, ◌-◌, ◌<◌, ◌≤◌, ◌&&◌, true, false, not, eqb, leb, inl, inr, List, [], ◌∷◌, length, take, drop, get_or, refl, ap, sym, ◌∙◌, arith, eq-eqb}
+use Rattle.std.proofs.Common.{◌≡◌, ℕ, ◌+◌, ◌-◌, ◌<◌, ◌≤◌, ◌&&◌, true, false, not, eqb, ltb, inl, inr, List, [], ◌∷◌, length, take, drop, get_or, refl, ap, sym, ◌∙◌, arith, eq-eqb}
 use Rattle.std.specs.List.{list_all, position_or_len, prefix_len}
 use Rattle.std.proofs.lemmas.List.{length-drop, get_or-drop, get_or-take, length-take-le}
 use Rattle.std.proofs.lemmas.List.Sums.{prefix_len_passes, prefix_len_stops, prefix_len_is, prefix_len-le-length, position_or_len_is, passes_at_first, AllPass-from_list_all, list_all-from_AllPass}
-use Rattle.std.proofs.lemmas.Bool.{and_parts, and_from, false_from_ne_true, cases_lt, le-leb, eqb-true, eqb-false, leb-true}
+use Rattle.std.proofs.lemmas.Bool.{and_parts, and_from, false_from_ne_true, cases_lt, lt-ltb, eqb-true, eqb-false, ltb-true}
 use Rattle.std.proofs.lemmas.Bool.Decides.{nat_tests}
 use Rattle.log_text.specs.Words.{first_word, is_name, is_name_byte, is_letter}
 use Rattle.log_text.specs.Parsing.{words_from}
-use Rattle.log_text.proofs.Splits.{next_word, no_word}
+use Rattle.log_text.proofs.Splits.{next_word}
 
 no_space : (b : ℕ) → is_name_byte b ≡ true → eqb b 32 ≡ false
 no_space b e = grind (arith, nat_tests)
@@ -44,21 +44,14 @@ pub name_from : (w : List ℕ) → list_all is_name_byte w ≡ true → 0 < leng
 name_from [] all some letter short = absurd (omega arith)
 name_from (b ∷ bs) all some letter short =
     let p = and_parts (is_name_byte b) (list_all is_name_byte bs) all in
-    and_from (is_letter b && list_all is_name_byte bs) (leb (length bs) 31) (and_from (is_letter b) (list_all is_name_byte bs) letter p.1) (le-leb (length bs) 31 (omega arith))
+    and_from (is_letter b && list_all is_name_byte bs) (ltb (length bs) 32) (and_from (is_letter b) (list_all is_name_byte bs) letter p.1) (lt-ltb (length bs) 32 (omega arith))
 
 name_all : (w : List ℕ) → is_name w ≡ true → (list_all is_name_byte w ≡ true) × (0 < length w) × (is_letter (get_or w 0 0) ≡ true) × (length w ≤ 32)
 name_all [] e = cc
 name_all (b ∷ bs) e =
-    let p = and_parts (is_letter b && list_all is_name_byte bs) (leb (length bs) 31) e in
+    let p = and_parts (is_letter b && list_all is_name_byte bs) (ltb (length bs) 32) e in
     let q = and_parts (is_letter b) (list_all is_name_byte bs) p.0 in
-    (and_from (is_name_byte b) (list_all is_name_byte bs) (letter_byte b q.0) q.1, omega arith, q.0, omega (arith, leb-true (length bs) 31 p.1))
-
--- what makes a word no name
-pub empty_no_name : (w : List ℕ) → length w ≡ 0 → is_name w ≡ false
-empty_no_name w e = false_from_ne_true (is_name w) (λ h. let p = name_all w h in omega (arith, p.1))
-
-pub no_letter_no_name : (w : List ℕ) → is_letter (get_or w 0 0) ≡ false → is_name w ≡ false
-no_letter_no_name w e = false_from_ne_true (is_name w) (λ h. let p = (name_all w h).2 in cc)
+    (and_from (is_name_byte b) (list_all is_name_byte bs) (letter_byte b q.0) q.1, omega arith, q.0, omega (arith, ltb-true (length bs) 32 p.1))
 
 pub long_no_name : (w : List ℕ) → 32 < length w → is_name w ≡ false
 long_no_name w long = false_from_ne_true (is_name w) (λ h. let p = name_all w h in omega (arith, p.3))
@@ -103,10 +96,6 @@ foreign_word line start end left view within value more ne =
     let same : start + q - start ≡ q = omega arith in
     ap (λ ws. is_name (first_word ws)) (r ∙ ap (λ n. take n rest ∷ words_from (start + q + 1) line) same)
     ∙ foreign_no_name w p (omega arith) (ap is_name_byte (get_or-take q rest p 0 beyond) ∙ stop)
-
--- no word is left
-pub nothing_no_name : (start : ℕ) (line : List ℕ) (left : List (List ℕ)) → words_from start line ≡ left → length line < start → is_name (first_word left) ≡ false
-nothing_no_name start line left view past = ap (λ ws. is_name (first_word ws)) (no_word start line left view past)
 
 -- the word is not a name
 pub first_no_name : (left : List (List ℕ)) (w : List ℕ) (ws : List (List ℕ)) → left ≡ w ∷ ws → is_name w ≡ false → is_name (first_word left) ≡ false

@@ -1,7 +1,6 @@
 -- The words of a form are those of no other.
 use Rattle.std.proofs.Common.{◌≡◌, ℕ, Bool, true, false, Option, Some, None, eqb, get_or, ◌<◌, ◌^◌, List, [], ◌∷◌, ◌++◌, map, drop, ◌*◌, ◌+◌, refl, ap, sym, ◌∙◌, arith}
 use Rattle.std.specs.Prelude.{decimal, codes}
-use Rattle.std.specs.Fmt.{signed_decimal}
 use Rattle.std.specs.List.{AllByRecursion}
 use Rattle.std.proofs.lemmas.Fmt.{decimal_injective}
 use Rattle.std.proofs.lemmas.Bool.{eqb-false}
@@ -9,17 +8,21 @@ use Rattle.log_text.specs.Words.{first_word}
 use Rattle.log_text.specs.Access.{access_word, IsAccess}
 use Rattle.log_text.specs.declared.access.RawAccess.{RawAccess}
 use Rattle.log_text.specs.declared.statement.RawStep.{RawStep}
-use Rattle.log_text.specs.declared.statement.RawStep.TheVariants.{Const, Add, Sub, Mul, Less, Same, Has, Load, Store, Insert, Delete, Check, Skip, Out}
+use Rattle.log_text.specs.declared.statement.RawStep.TheVariants.{Const, Compute, Has, Load, Store, Insert, Delete, Check, Skip, Out}
 use Rattle.log_text.specs.declared.statement.RawForm.{RawForm}
 use Rattle.log_text.specs.declared.statement.RawForm.TheVariants.{Create, Run, Deed}
 use Rattle.log_text.specs.declared.statement.RawDeed.{RawDeed}
 use Rattle.log_text.specs.declared.statement.RawDeed.TheVariants.{Grant, Revoke}
-use Rattle.log_text.specs.Statement.{body_words, deed_words, kind_word, last_deed, option_words, step_words, row_word, form_words, IsFormInGrammar, IsStep, IsRegister}
+use Rattle.log_text.specs.Statement.{body_words, deed_words, kind_word, last_deed, operation_word, option_words, step_words, form_words, IsFormInGrammar, IsStep, IsRegister}
 use Rattle.log_text.specs.Fault.{step_name}
+use Rattle.log_text.specs.declared.step_name.StepName.{StepName}
+use Rattle.log_text.specs.declared.step_name.StepName.TheVariants as name
+use Rattle.model_base.specs.declared.statement.Operation.{Operation}
 use Rattle.log_text.proofs.Bars.{decimal_ne_bar, access_ne_bar, one_row}
 use Rattle.log_text.proofs.Whole.{one_whole}
 use Rattle.log_text.proofs.AccessFit.{one_access}
 use Rattle.log_text.proofs.KindWords.{one_kind}
+use Rattle.log_text.proofs.OperationWords.{named_operation}
 use Rattle.log_text.proofs.Tails.{IsTail, body_is_tail, body_more, no_step, no_tail}
 
 one_accesses : (xs ys : List RawAccess) (vs ws : List (List ℕ)) → IsTail vs → IsTail ws → AllByRecursion IsAccess xs → AllByRecursion IsAccess ys → map access_word xs ++ vs ≡ map access_word ys ++ ws → (xs ≡ ys) × (vs ≡ ws)
@@ -61,9 +64,21 @@ letters ws = get_or (first_word ws) 0 0 + 3 * get_or (first_word ws) 2 0
 steps_apart : (s t : RawStep) (vs ws : List (List ℕ)) → eqb (letters (step_words s ++ vs)) (letters (step_words t ++ ws)) ≡ false → step_words s ++ vs ≡ step_words t ++ ws → ⊥
 steps_apart s t vs ws differ e = eqb-false (letters (step_words s ++ vs)) (letters (step_words t ++ ws)) differ (ap letters e)
 
--- a step of three registers, and of equal ones
-alike : (f : ℕ → ℕ → ℕ → RawStep) {d a b x y z : ℕ} → d ≡ x → a ≡ y → b ≡ z → f d a b ≡ f x y z
-alike f p q r = cc
+-- whether a step's name is that of an operation
+abbrev is_computed : Option StepName → Bool
+is_computed (Some (name.Compute operation)) = true
+is_computed _ = false
+
+-- the word of an operation begins no other step
+no_other : (operation : Operation) (s : RawStep) (us vs : List (List ℕ)) → is_computed (step_name (first_word (step_words s ++ vs))) ≡ false → operation_word operation ∷ us ≡ step_words s ++ vs → ⊥
+no_other operation s us vs other e =
+    let computed = ap is_computed (named_operation operation) in
+    let same : true ≡ false = sym computed ∙ ap (λ ws. is_computed (step_name (first_word ws))) e ∙ other in
+    cc
+
+-- the word of an operation is that of no other
+one_operation : (o p : Operation) → operation_word o ≡ operation_word p → o ≡ p
+one_operation o p e = let same : Some (name.Compute o) ≡ Some (name.Compute p) = sym (named_operation o) ∙ ap step_name e ∙ named_operation p in cc
 
 same_register : (m n : ℕ) → IsRegister m → IsRegister n → decimal m ≡ decimal n → m ≡ n
 same_register m n h k e = decimal_injective m n (omega arith) (omega arith) e
@@ -72,6 +87,16 @@ same_number : (m n : ℕ) → m < 2 ^ 32 → n < 2 ^ 32 → decimal m ≡ decima
 same_number m n h k e = decimal_injective m n (omega arith) (omega arith) e
 
 one_step : (s t : RawStep) (vs ws : List (List ℕ)) → IsTail vs → IsTail ws → IsStep s → IsStep t → step_words s ++ vs ≡ step_words t ++ ws → (s ≡ t) × (vs ≡ ws)
+one_step (Compute o d a b) (Compute p x y z) vs ws vt wt h k e =
+    let w = parts e in
+    let q = three_words w.1 in
+    let f1 = one_operation o p w.0 in
+    let f2 = same_register d x h.0 k.0 q.0 in
+    let f3 = same_register a y h.1 k.1 q.1 in
+    let f4 = same_register b z h.2 k.2 q.2 in
+    (cc, q.3)
+one_step (Compute o d a b) t vs ws vt wt h k e = absurd (no_other o t _ ws refl e)
+one_step s (Compute o d a b) vs ws vt wt h k e = absurd (no_other o s _ vs refl (sym e))
 one_step (Const d a) (Const x y) vs ws vt wt h k e =
     let p = parts (behind e) in
     let q = parts p.1 in
@@ -79,26 +104,6 @@ one_step (Const d a) (Const x y) vs ws vt wt h k e =
     let f2 = one_whole a y h.1 k.1 q.0 in
     (ap (λ r. Const r a) f1 ∙ ap (Const x) f2, q.1)
 one_step (Const d a) t vs ws vt wt h k e = absurd (steps_apart (Const d a) t vs ws refl e)
-one_step (Add d a b) (Add x y z) vs ws vt wt h k e =
-    let p = three_words (behind e) in
-    (alike Add (same_register d x h.0 k.0 p.0) (same_register a y h.1 k.1 p.1) (same_register b z h.2 k.2 p.2), p.3)
-one_step (Add d a b) t vs ws vt wt h k e = absurd (steps_apart (Add d a b) t vs ws refl e)
-one_step (Sub d a b) (Sub x y z) vs ws vt wt h k e =
-    let p = three_words (behind e) in
-    (alike Sub (same_register d x h.0 k.0 p.0) (same_register a y h.1 k.1 p.1) (same_register b z h.2 k.2 p.2), p.3)
-one_step (Sub d a b) t vs ws vt wt h k e = absurd (steps_apart (Sub d a b) t vs ws refl e)
-one_step (Mul d a b) (Mul x y z) vs ws vt wt h k e =
-    let p = three_words (behind e) in
-    (alike Mul (same_register d x h.0 k.0 p.0) (same_register a y h.1 k.1 p.1) (same_register b z h.2 k.2 p.2), p.3)
-one_step (Mul d a b) t vs ws vt wt h k e = absurd (steps_apart (Mul d a b) t vs ws refl e)
-one_step (Less d a b) (Less x y z) vs ws vt wt h k e =
-    let p = three_words (behind e) in
-    (alike Less (same_register d x h.0 k.0 p.0) (same_register a y h.1 k.1 p.1) (same_register b z h.2 k.2 p.2), p.3)
-one_step (Less d a b) t vs ws vt wt h k e = absurd (steps_apart (Less d a b) t vs ws refl e)
-one_step (Same d a b) (Same x y z) vs ws vt wt h k e =
-    let p = three_words (behind e) in
-    (alike Same (same_register d x h.0 k.0 p.0) (same_register a y h.1 k.1 p.1) (same_register b z h.2 k.2 p.2), p.3)
-one_step (Same d a b) t vs ws vt wt h k e = absurd (steps_apart (Same d a b) t vs ws refl e)
 one_step (Has d t r) (Has x u q) vs ws vt wt h k e =
     let p = three_words (behind e) in
     let f1 = same_register d x h.0 k.0 p.0 in

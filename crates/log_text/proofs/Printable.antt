@@ -1,5 +1,5 @@
 -- The words of statements hold printable bytes alone.
-use Rattle.std.proofs.Common.{◌≡◌, ℕ, suc, ℤ, pos, negsuc, ◌<◌, ◌≤◌, ◌^◌, true, ◌&&◌, leb, List, [], ◌∷◌, ◌++◌, length, get_or, refl, ◌∙◌, arith}
+use Rattle.std.proofs.Common.{◌≡◌, ℕ, suc, ℤ, pos, negsuc, ◌<◌, ◌≤◌, ◌^◌, true, ◌&&◌, leb, ltb, List, [], ◌∷◌, ◌++◌, length, get_or, refl, ◌∙◌, arith}
 use Rattle.std.specs.Prelude.{decimal, IsUtf8}
 use Rattle.std.specs.Fmt.{signed_decimal}
 use Rattle.std.specs.Str.Parse.{AllDigits}
@@ -12,8 +12,9 @@ use Rattle.std.proofs.lemmas.Str.Parse.{digit_from_value}
 use Rattle.std.proofs.lemmas.List.Sums.{AllPass-from_list_all}
 use Rattle.std.proofs.lemmas.Str.{IsUtf8-from_ascii}
 use Rattle.std.proofs.lemmas.Str.Ascii.{IsAscii-from_all}
-use Rattle.log_text.specs.Words.{is_name, is_name_byte, is_letter, fits_64_bits}
+use Rattle.log_text.specs.Words.{is_name, is_name_byte, is_letter}
 use Rattle.log_text.specs.Fault.{is_printable}
+use Rattle.model_base.specs.Body.{fits_64_bits}
 
 abbrev pub IsPrintable : List ℕ → Type 0
 IsPrintable bytes = list_all is_printable bytes ≡ true
@@ -36,7 +37,7 @@ name_bytes (b ∷ bs) e =
 pub printable_name : (w : List ℕ) → is_name w ≡ true → IsPrintable w
 printable_name [] e = refl
 printable_name (b ∷ bs) e =
-    let p = and_parts (is_letter b && list_all is_name_byte bs) (leb (length bs) 31) e in
+    let p = and_parts (is_letter b && list_all is_name_byte bs) (ltb (length bs) 32) e in
     let q = and_parts (is_letter b) (list_all is_name_byte bs) p.0 in
     and_from (is_printable b) (list_all is_printable bs) (letter b q.0) (name_bytes bs q.1)
 

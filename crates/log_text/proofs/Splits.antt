@@ -37,9 +37,6 @@ some_left start line within = cond-true (leb start (length line)) (words (drop s
 pub no_word : (start : ℕ) (line : List ℕ) (left : List (List ℕ)) → words_from start line ≡ left → length line < start → left ≡ []
 no_word start line left e past = sym e ∙ none_left start line past
 
-pub all_words : (line : List ℕ) → words_from 0 line ≡ words line
-all_words line = some_left 0 line (omega arith)
-
 -- one word, and the words behind it
 pub next_word : (line : List ℕ) (start end : ℕ) (left : List (List ℕ)) → words_from start line ≡ left → start ≤ length line → end ≡ start + position_or_len (λ b. eqb b 32) (drop start line) → end ≤ length line →
     left ≡ take (end - start) (drop start line) ∷ words_from (end + 1) line
@@ -57,9 +54,3 @@ next_word line start end left view within e bound =
           (let f : end + 1 ≡ start + (position_or_len (λ b. eqb b 32) rest + 1) = omega (arith, e) in ap (λ n. drop n line) f ∙ sym (drop-drop (position_or_len (λ b. eqb b 32) rest + 1) start line))
           ∙ ap (λ ws. take (end - start) rest ∷ ws) (sym (some_left (end + 1) line (omega arith)))
     ]
-
--- what stands before and behind the first byte of a value
-pub cut_behind : (w : List ℕ) (p i : ℕ) → i ≡ 0 + p → take (length w - (i + 1)) (drop (i + 1) w) ≡ drop (p + 1) w
-cut_behind w p i e =
-    let f : i ≡ p = omega (arith, e) in
-    ap (λ k. take k (drop (i + 1) w)) (sym (length-drop (i + 1) w)) ∙ take-length (drop (i + 1) w) ∙ ap (λ k. drop (k + 1) w) f

@@ -7,8 +7,10 @@ use Rattle.std.proofs.lemmas.List.{append-nil}
 use Rattle.log_text.specs.Faults.{or_else}
 use Rattle.log_text.specs.Fault.{OfStep, expected_in, fault_from, is_deed, step_fault, step_name}
 use Rattle.log_text.specs.Parsing.{fault_behind, step_word}
+use Rattle.model_base.specs.declared.statement.Operation.TheVariants.{Add, Sub, Mul, Less, Same}
 use Rattle.log_text.specs.declared.step_name.StepName.{StepName}
-use Rattle.log_text.specs.declared.step_name.StepName.TheVariants.{Const, Add, Sub, Mul, Less, Same, Has, Load, Store, Insert, Delete, Check, Skip, Out}
+use Rattle.log_text.specs.declared.step_name.StepName.TheVariants.{Const, Compute, Has, Load, Store, Insert, Delete, Check, Skip, Out}
+use Rattle.log_text.proofs.OperationWords.{begins_no_deed}
 
 -- one row of the table
 row : (b : Bool) (t s : StepName) (rest : Option StepName) → cond b (Some t) rest ≡ Some s → ((b ≡ true) × (t ≡ s)) ⊎ (rest ≡ Some s)
@@ -24,20 +26,20 @@ named_word w s e0 =
     elim (row (bytes_eq w (codes "CONST")) Const s _ e0) [
       | inl h ↦ found w Const s refl h
       | inr e1 ↦
-          elim (row (bytes_eq w (codes "ADD")) Add s _ e1) [
-            | inl h ↦ found w Add s refl h
+          elim (row (bytes_eq w (codes "ADD")) (Compute Add) s _ e1) [
+            | inl h ↦ found w (Compute Add) s refl h
             | inr e2 ↦
-                elim (row (bytes_eq w (codes "SUB")) Sub s _ e2) [
-                  | inl h ↦ found w Sub s refl h
+                elim (row (bytes_eq w (codes "SUB")) (Compute Sub) s _ e2) [
+                  | inl h ↦ found w (Compute Sub) s refl h
                   | inr e3 ↦
-                      elim (row (bytes_eq w (codes "MUL")) Mul s _ e3) [
-                        | inl h ↦ found w Mul s refl h
+                      elim (row (bytes_eq w (codes "MUL")) (Compute Mul) s _ e3) [
+                        | inl h ↦ found w (Compute Mul) s refl h
                         | inr e4 ↦
-                            elim (row (bytes_eq w (codes "LESS")) Less s _ e4) [
-                              | inl h ↦ found w Less s refl h
+                            elim (row (bytes_eq w (codes "LESS")) (Compute Less) s _ e4) [
+                              | inl h ↦ found w (Compute Less) s refl h
                               | inr e5 ↦
-                                  elim (row (bytes_eq w (codes "SAME")) Same s _ e5) [
-                                    | inl h ↦ found w Same s refl h
+                                  elim (row (bytes_eq w (codes "SAME")) (Compute Same) s _ e5) [
+                                    | inl h ↦ found w (Compute Same) s refl h
                                     | inr e6 ↦
                                         elim (row (bytes_eq w (codes "HAS")) Has s _ e6) [
                                           | inl h ↦ found w Has s refl h
@@ -90,11 +92,7 @@ named_delete w low high a b c d e f = let size : length w ≡ 6 = omega arith in
 pub no_step_fault : (s : StepName) (n o : ℕ) → n < 64 → (s ≡ Out → o < 8) → step_fault (Some s) n o ≡ None
 no_step_fault Out n o low few = let f = few refl in rw (lt-ltb n 64 low, lt-ltb o 8 f) refl
 no_step_fault Const n o low few = rw (lt-ltb n 64 low) refl
-no_step_fault Add n o low few = rw (lt-ltb n 64 low) refl
-no_step_fault Sub n o low few = rw (lt-ltb n 64 low) refl
-no_step_fault Mul n o low few = rw (lt-ltb n 64 low) refl
-no_step_fault Less n o low few = rw (lt-ltb n 64 low) refl
-no_step_fault Same n o low few = rw (lt-ltb n 64 low) refl
+no_step_fault (Compute operation) n o low few = rw (lt-ltb n 64 low) refl
 no_step_fault Has n o low few = rw (lt-ltb n 64 low) refl
 no_step_fault Load n o low few = rw (lt-ltb n 64 low) refl
 no_step_fault Store n o low few = rw (lt-ltb n 64 low) refl
@@ -106,11 +104,7 @@ no_step_fault Skip n o low few = rw (lt-ltb n 64 low) refl
 -- the word of a step begins no deed
 pub no_deed : (s : StepName) → is_deed (step_word s) ≡ false
 no_deed Const = refl
-no_deed Add = refl
-no_deed Sub = refl
-no_deed Mul = refl
-no_deed Less = refl
-no_deed Same = refl
+no_deed (Compute operation) = begins_no_deed operation
 no_deed Has = refl
 no_deed Load = refl
 no_deed Store = refl

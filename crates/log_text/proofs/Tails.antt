@@ -8,7 +8,8 @@ use Rattle.log_text.specs.Statement.{body_words, deed_words, further_step, last_
 use Rattle.log_text.specs.declared.statement.RawDeed.{RawDeed}
 use Rattle.log_text.specs.declared.statement.RawDeed.TheVariants.{Grant, Revoke}
 use Rattle.log_text.specs.declared.statement.RawStep.{RawStep}
-use Rattle.log_text.specs.declared.statement.RawStep.TheVariants.{Const, Add, Sub, Mul, Less, Same, Has, Load, Store, Insert, Delete, Check, Skip, Out}
+use Rattle.log_text.specs.declared.statement.RawStep.TheVariants.{Const, Compute, Has, Load, Store, Insert, Delete, Check, Skip, Out}
+use Rattle.log_text.proofs.OperationWords.{begins_no_deed}
 
 -- no word, or a bar first
 abbrev pub IsTail : List (List ℕ) → Type 0
@@ -33,11 +34,7 @@ no_tail (v ∷ vs) w ws is ne e = let f : v ≡ w = cc in ne (sym f ∙ is)
 -- the word of a step begins no deed
 pub step_begins : (step : RawStep) (ws : List (List ℕ)) → is_deed (first_word (step_words step ++ ws)) ≡ false
 step_begins (Const to value) ws = refl
-step_begins (Add to left right) ws = refl
-step_begins (Sub to left right) ws = refl
-step_begins (Mul to left right) ws = refl
-step_begins (Less to left right) ws = refl
-step_begins (Same to left right) ws = refl
+step_begins (Compute operation to left right) ws = begins_no_deed operation
 step_begins (Has to table row) ws = refl
 step_begins (Load to table row column) ws = refl
 step_begins (Store table row column from) ws = refl

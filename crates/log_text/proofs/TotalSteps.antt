@@ -6,11 +6,11 @@ use Rattle.std.specs.List.{AllByRecursion, sum_by}
 use Rattle.std.proofs.lemmas.List.Sums.{sum_by-cons}
 use Rattle.std.proofs.lemmas.Bool.{cases_Bool, cond-true, cond-false, ltb-true, and_parts, or_cases}
 use Rattle.std.proofs.lemmas.Slice.Eq.{bytes_eq-Decides}
-use Rattle.log_text.specs.Words.{plain, is_name, fits_64_bits}
+use Rattle.log_text.specs.Words.{plain, is_name}
 use Rattle.log_text.specs.Access.{access_word, IsAccess}
 use Rattle.log_text.specs.Faults.{unless, or_else}
 use Rattle.log_text.specs.Fault.{Expected, OfName, OfPlain, OfWhole, OfRegister, OfRow, OfKind, OfOption, OfAccess, OfStep, OfBar, OfMore, fault_from, misfit, expected_behind, may_end, is_bar, is_deed, step_name, step_fault, expected_in, expected_in_deed, expected_in_grant, expected_in_revoke, register_fault}
-use Rattle.log_text.specs.Statement.{body_words, deed_words, kind_word, option_words, row_word, IsDeed, IsLastDeed, IsRegister, IsRow, IsStep, step_words, outs_of}
+use Rattle.log_text.specs.Statement.{body_words, deed_words, kind_word, option_words, row_word, IsDeed, IsLastDeed, IsRegister, IsRowNumber, IsStep, step_words, outs_of}
 use Rattle.log_text.specs.declared.fault.LineFault.TheVariants.{UnknownWord, BadNumber, BadName, TooManySteps}
 use Rattle.log_text.specs.declared.access.RawAccess.{RawAccess}
 use Rattle.model_base.specs.declared.deed.Kind.{Kind}
@@ -21,6 +21,7 @@ use Rattle.log_text.specs.declared.step_name.StepName.{StepName}
 use Rattle.log_text.specs.declared.step_name.StepName.TheVariants as name
 use Rattle.log_text.specs.declared.statement.RawStep.TheVariants as step
 use Rattle.model_base.specs.declared.statement.RowName.{RowName}
+use Rattle.model_base.specs.Body.{fits_64_bits}
 use Rattle.log_text.proofs.Plain.{plain_empty}
 use Rattle.log_text.proofs.Whole.{whole_missing}
 use Rattle.log_text.proofs.StepNames.{at_step, named_word}
@@ -60,8 +61,8 @@ pub register_next : (ps : List Expected) (ws : List (List ℕ)) → fault_from (
 register_next ps ws e =
     next decimal IsRegister OfRegister ps ws refl (λ w. refl) (λ f. let g = rw plain_empty at f in cc) register_spells e
 
-pub row_next : (ps : List Expected) (ws : List (List ℕ)) → fault_from (OfRow ∷ ps) ws ≡ None → Next RowName row_word IsRow ps ws
-row_next ps ws e = next row_word IsRow OfRow ps ws refl (λ w. refl) (λ f. cc) row_spells e
+pub row_next : (ps : List Expected) (ws : List (List ℕ)) → fault_from (OfRow ∷ ps) ws ≡ None → Next RowName row_word IsRowNumber ps ws
+row_next ps ws e = next row_word IsRowNumber OfRow ps ws refl (λ w. refl) (λ f. cc) row_spells e
 
 pub kind_next : (ps : List Expected) (ws : List (List ℕ)) → fault_from (OfKind ∷ ps) ws ≡ None → Next Kind kind_word (λ k. Unit {0}) ps ws
 kind_next ps ws e = next kind_word (λ k. Unit {0}) OfKind ps ws refl (λ w. refl) (λ f. cc) kind_spells e
@@ -194,61 +195,17 @@ step_from fuel n o w ws (Some name.Const) read low is fits e steps few =
     let first = a.same in
     let second = b.same in
     record { step = step.Const a.value b.value; left = b.rest; outs = o; outs_are = omega arith; further = t; same = cc; is = (a.good, b.good) }
-step_from fuel n o w ws (Some name.Add) read low is fits e steps few =
+step_from fuel n o w ws (Some (name.Compute operation)) read low is fits e steps few =
     let below = ltb-true n 64 (unless_none (ltb n 64) TooManySteps fits) in
     let a = register_next (OfRegister ∷ OfRegister ∷ OfBar (n + 1) o ∷ []) ws e in
     let b = register_next (OfRegister ∷ OfBar (n + 1) o ∷ []) a.rest a.goes in
     let c = register_next (OfBar (n + 1) o ∷ []) b.rest b.goes in
     let t = read (n + 1) o c.rest (omega (arith, low, ap length a.same, ap length b.same, ap length c.same)) (omega arith) few c.goes in
-    let word = (named_word w name.Add is).0 in
+    let word = (named_word w (name.Compute operation) is).0 in
     let first = a.same in
     let second = b.same in
     let third = c.same in
-    record { step = step.Add a.value b.value c.value; left = c.rest; outs = o; outs_are = omega arith; further = t; same = cc; is = (a.good, b.good, c.good) }
-step_from fuel n o w ws (Some name.Sub) read low is fits e steps few =
-    let below = ltb-true n 64 (unless_none (ltb n 64) TooManySteps fits) in
-    let a = register_next (OfRegister ∷ OfRegister ∷ OfBar (n + 1) o ∷ []) ws e in
-    let b = register_next (OfRegister ∷ OfBar (n + 1) o ∷ []) a.rest a.goes in
-    let c = register_next (OfBar (n + 1) o ∷ []) b.rest b.goes in
-    let t = read (n + 1) o c.rest (omega (arith, low, ap length a.same, ap length b.same, ap length c.same)) (omega arith) few c.goes in
-    let word = (named_word w name.Sub is).0 in
-    let first = a.same in
-    let second = b.same in
-    let third = c.same in
-    record { step = step.Sub a.value b.value c.value; left = c.rest; outs = o; outs_are = omega arith; further = t; same = cc; is = (a.good, b.good, c.good) }
-step_from fuel n o w ws (Some name.Mul) read low is fits e steps few =
-    let below = ltb-true n 64 (unless_none (ltb n 64) TooManySteps fits) in
-    let a = register_next (OfRegister ∷ OfRegister ∷ OfBar (n + 1) o ∷ []) ws e in
-    let b = register_next (OfRegister ∷ OfBar (n + 1) o ∷ []) a.rest a.goes in
-    let c = register_next (OfBar (n + 1) o ∷ []) b.rest b.goes in
-    let t = read (n + 1) o c.rest (omega (arith, low, ap length a.same, ap length b.same, ap length c.same)) (omega arith) few c.goes in
-    let word = (named_word w name.Mul is).0 in
-    let first = a.same in
-    let second = b.same in
-    let third = c.same in
-    record { step = step.Mul a.value b.value c.value; left = c.rest; outs = o; outs_are = omega arith; further = t; same = cc; is = (a.good, b.good, c.good) }
-step_from fuel n o w ws (Some name.Less) read low is fits e steps few =
-    let below = ltb-true n 64 (unless_none (ltb n 64) TooManySteps fits) in
-    let a = register_next (OfRegister ∷ OfRegister ∷ OfBar (n + 1) o ∷ []) ws e in
-    let b = register_next (OfRegister ∷ OfBar (n + 1) o ∷ []) a.rest a.goes in
-    let c = register_next (OfBar (n + 1) o ∷ []) b.rest b.goes in
-    let t = read (n + 1) o c.rest (omega (arith, low, ap length a.same, ap length b.same, ap length c.same)) (omega arith) few c.goes in
-    let word = (named_word w name.Less is).0 in
-    let first = a.same in
-    let second = b.same in
-    let third = c.same in
-    record { step = step.Less a.value b.value c.value; left = c.rest; outs = o; outs_are = omega arith; further = t; same = cc; is = (a.good, b.good, c.good) }
-step_from fuel n o w ws (Some name.Same) read low is fits e steps few =
-    let below = ltb-true n 64 (unless_none (ltb n 64) TooManySteps fits) in
-    let a = register_next (OfRegister ∷ OfRegister ∷ OfBar (n + 1) o ∷ []) ws e in
-    let b = register_next (OfRegister ∷ OfBar (n + 1) o ∷ []) a.rest a.goes in
-    let c = register_next (OfBar (n + 1) o ∷ []) b.rest b.goes in
-    let t = read (n + 1) o c.rest (omega (arith, low, ap length a.same, ap length b.same, ap length c.same)) (omega arith) few c.goes in
-    let word = (named_word w name.Same is).0 in
-    let first = a.same in
-    let second = b.same in
-    let third = c.same in
-    record { step = step.Same a.value b.value c.value; left = c.rest; outs = o; outs_are = omega arith; further = t; same = cc; is = (a.good, b.good, c.good) }
+    record { step = step.Compute operation a.value b.value c.value; left = c.rest; outs = o; outs_are = omega arith; further = t; same = cc; is = (a.good, b.good, c.good) }
 step_from fuel n o w ws (Some name.Has) read low is fits e steps few =
     let below = ltb-true n 64 (unless_none (ltb n 64) TooManySteps fits) in
     let a = register_next (OfName ∷ OfRow ∷ OfBar (n + 1) o ∷ []) ws e in

@@ -4,11 +4,11 @@ use Rattle.std.specs.Prelude.{codes, decimal, is_some, IsTrue}
 use Rattle.std.specs.Fmt.{signed_decimal}
 use Rattle.std.proofs.lemmas.List.{append-nil}
 use Rattle.std.proofs.lemmas.Bool.{cases_Bool, cond-true, cond-false, eqb-true, ltb-true, and_parts}
-use Rattle.log_text.specs.Words.{plain, whole, is_name, fits_64_bits}
+use Rattle.log_text.specs.Words.{plain, signed_of, is_name}
 use Rattle.log_text.specs.Access.{letter_if, letters, access_word, IsAccess, is_in_order, is_letters, before_colon, after_colon, access_fault}
 use Rattle.log_text.specs.Faults.{unless, or_else}
 use Rattle.log_text.specs.Fault.{kind_named, register_fault, row_fault}
-use Rattle.log_text.specs.Statement.{kind_word, row_word, IsRegister, IsRow}
+use Rattle.log_text.specs.Statement.{kind_word, row_word, IsRegister, IsRowNumber}
 use Rattle.log_text.specs.declared.fault.LineFault.{LineFault}
 use Rattle.log_text.specs.declared.fault.LineFault.TheVariants.{UnknownWord, BadNumber, BadName, BadRegister}
 use Rattle.log_text.specs.declared.access.RawAccess.{RawAccess}
@@ -16,6 +16,7 @@ use Rattle.model_base.specs.declared.deed.Kind.{Kind}
 use Rattle.model_base.specs.declared.deed.Kinds.{Kinds}
 use Rattle.model_base.specs.declared.statement.RowName.{RowName}
 use Rattle.model_base.specs.declared.statement.RowName.TheVariants.{Number, Held}
+use Rattle.model_base.specs.Body.{fits_64_bits}
 use Rattle.log_text.proofs.Plain.{plain_some}
 use Rattle.log_text.proofs.Whole.{whole_some}
 use Rattle.log_text.proofs.KindWords.{named_kind}
@@ -49,9 +50,9 @@ plain_spells w e =
     let p = plain_some w s.0 s.1 in
     record { value = s.0; same = p.0; good = p.1 }
 
-pub whole_spells : (w : List ℕ) → is_some (whole w) ≡ true → Spells ℤ signed_decimal (λ z. IsTrue (fits_64_bits z)) w
+pub whole_spells : (w : List ℕ) → is_some (signed_of w) ≡ true → Spells ℤ signed_decimal (λ z. IsTrue (fits_64_bits z)) w
 whole_spells w e =
-    let s = some_of (whole w) e in
+    let s = some_of (signed_of w) e in
     let p = whole_some w s.0 s.1 in
     record { value = s.0; same = p.0; good = p.1 }
 
@@ -61,7 +62,7 @@ register_spells w e =
     let p = plain_some w s.0 s.1 in
     record { value = s.0; same = p.0; good = s.2 }
 
-pub row_spells : (w : List ℕ) → row_fault w ≡ None → Spells RowName row_word IsRow w
+pub row_spells : (w : List ℕ) → row_fault w ≡ None → Spells RowName row_word IsRowNumber w
 row_spells [] e = absurd cc
 row_spells (b ∷ bs) e = elim (cases_Bool (eqb b 114)) [
   | inl held ↦

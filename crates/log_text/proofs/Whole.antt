@@ -16,7 +16,8 @@ use Rattle.std.proofs.lemmas.Int.{ints}
 use Rattle.log_text.specs.declared.fault.LineFault.TheVariants.{BadNumber}
 use Rattle.log_text.specs.Faults.{unless}
 use Rattle.log_text.specs.Fault.{misfit, OfWhole}
-use Rattle.log_text.specs.Words.{whole, fits_64_bits}
+use Rattle.log_text.specs.Words.{signed_of}
+use Rattle.model_base.specs.Body.{fits_64_bits}
 
 -- the bound, as std has it
 pub magnitude : (z : ℤ) → fits_64_bits z ≡ true → mag z < 2 ^ 63
@@ -24,7 +25,7 @@ magnitude (pos n) h = ltb-true n (2 ^ 63) h
 magnitude (negsuc n) h = ltb-true n (2 ^ 63) h
 
 -- what a whole number's word is
-pub whole_some : (w : List ℕ) (z : ℤ) → whole w ≡ Some z → (w ≡ signed_decimal z) × (fits_64_bits z ≡ true)
+pub whole_some : (w : List ℕ) (z : ℤ) → signed_of w ≡ Some z → (w ≡ signed_decimal z) × (fits_64_bits z ≡ true)
 whole_some w z e =
     let v = signed_digits_value 10 w in
     let p = cond_some (fits_64_bits v && bytes_eq (signed_decimal v) w) v z e in
@@ -54,7 +55,7 @@ value_back (negsuc n) h =
     let low : suc n < 2 ^ 64 = omega (arith, ltb-true n (2 ^ 63) h) in
     ap (λ v. neg_ℤ (pos v)) (decimal_is_IsNumeral (suc n) low).1
 
-pub whole_of_decimal : (z : ℤ) → fits_64_bits z ≡ true → whole (signed_decimal z) ≡ Some z
+pub whole_of_decimal : (z : ℤ) → fits_64_bits z ≡ true → signed_of (signed_decimal z) ≡ Some z
 whole_of_decimal z h =
     let v = signed_digits_value 10 (signed_decimal z) in
     let e : v ≡ z = value_back z h in
@@ -63,7 +64,7 @@ whole_of_decimal z h =
     ∙ ap Some e
 
 -- a word that is no number's decimal form is not whole
-pub whole_none : (w : List ℕ) → ((z : ℤ) → fits_64_bits z ≡ true → w ≡ signed_decimal z → ⊥) → whole w ≡ None
+pub whole_none : (w : List ℕ) → ((z : ℤ) → fits_64_bits z ≡ true → w ≡ signed_decimal z → ⊥) → signed_of w ≡ None
 whole_none w differs =
     elim (cases_Bool (fits_64_bits (signed_digits_value 10 w) && bytes_eq (signed_decimal (signed_digits_value 10 w)) w)) [
       | inl same ↦ let p = whole_some w (signed_digits_value 10 w) (cond-true _ _ _ same) in absurd (differs (signed_digits_value 10 w) p.1 p.0)
@@ -80,15 +81,15 @@ module _ (w : List ℕ) (minus : get_or w 0 0 ≢ 45) where
   differs other (pos n) h e = other n (ltb-true n (2 ^ 63) h) e
   differs other (negsuc n) h e = minus (ap (λ v. get_or v 0 0) e)
 
-  pub plain_unnatural : ((n : ℕ) → n < 10 ^ 19 → w ≡ decimal n → ⊥) → whole w ≡ None
+  pub plain_unnatural : ((n : ℕ) → n < 10 ^ 19 → w ≡ decimal n → ⊥) → signed_of w ≡ None
   plain_unnatural other = whole_none w (differs (λ n low e. other n (omega arith) e))
 
-  pub plain_large : (n : ℕ) → w ≡ decimal n → n < 10 ^ 19 → 2 ^ 63 ≤ n → whole w ≡ None
+  pub plain_large : (n : ℕ) → w ≡ decimal n → n < 10 ^ 19 → 2 ^ 63 ≤ n → signed_of w ≡ None
   plain_large n e low high =
       whole_none w (differs (λ m small same. let f = decimal_injective n m (omega arith) (omega arith) (sym e ∙ same) in omega arith))
 
-pub whole_natural : (w : List ℕ) (n : ℕ) → w ≡ decimal n → n < 2 ^ 63 → whole w ≡ Some (pos n)
-whole_natural w n e low = ap whole e ∙ whole_of_decimal (pos n) (lt-ltb n (2 ^ 63) low)
+pub whole_natural : (w : List ℕ) (n : ℕ) → w ≡ decimal n → n < 2 ^ 63 → signed_of w ≡ Some (pos n)
+whole_natural w n e low = ap signed_of e ∙ whole_of_decimal (pos n) (lt-ltb n (2 ^ 63) low)
 
 -- behind a minus
 module _ (ds : List ℕ) where
@@ -96,23 +97,23 @@ module _ (ds : List ℕ) where
   differs_behind other (pos n) h e = (unsigned n (omega (arith, ltb-true n (2 ^ 63) h))).1 (ap (λ v. get_or v 0 0) (sym e))
   differs_behind other (negsuc n) h e = other n (ltb-true n (2 ^ 63) h) (ap (drop 1) e)
 
-  pub minus_unnatural : ((n : ℕ) → n < 10 ^ 19 → ds ≡ decimal n → ⊥) → whole (45 ∷ ds) ≡ None
+  pub minus_unnatural : ((n : ℕ) → n < 10 ^ 19 → ds ≡ decimal n → ⊥) → signed_of (45 ∷ ds) ≡ None
   minus_unnatural other = whole_none (45 ∷ ds) (differs_behind (λ n low e. other (suc n) (omega arith) e))
 
-  pub minus_number : (n : ℕ) → ds ≡ decimal n → (n ≡ 0 → ⊥) → n ≤ 2 ^ 63 → whole (45 ∷ ds) ≡ Some (negsuc (n - 1))
+  pub minus_number : (n : ℕ) → ds ≡ decimal n → (n ≡ 0 → ⊥) → n ≤ 2 ^ 63 → signed_of (45 ∷ ds) ≡ Some (negsuc (n - 1))
   minus_number n e some high =
       let one : suc (n - 1) ≡ n = omega arith in
-      ap (λ v. whole (45 ∷ v)) (e ∙ ap decimal (sym one)) ∙ whole_of_decimal (negsuc (n - 1)) (lt-ltb (n - 1) (2 ^ 63) (omega arith))
+      ap (λ v. signed_of (45 ∷ v)) (e ∙ ap decimal (sym one)) ∙ whole_of_decimal (negsuc (n - 1)) (lt-ltb (n - 1) (2 ^ 63) (omega arith))
 
-  pub minus_zero : (n : ℕ) → ds ≡ decimal n → n ≡ 0 → whole (45 ∷ ds) ≡ None
+  pub minus_zero : (n : ℕ) → ds ≡ decimal n → n ≡ 0 → signed_of (45 ∷ ds) ≡ None
   minus_zero n e zero_is =
       whole_none (45 ∷ ds) (differs_behind (λ m small same. let f = decimal_injective n (suc m) (omega arith) (omega arith) (sym e ∙ same) in omega arith))
 
-  pub minus_large : (n : ℕ) → ds ≡ decimal n → n < 10 ^ 19 → 2 ^ 63 < n → whole (45 ∷ ds) ≡ None
+  pub minus_large : (n : ℕ) → ds ≡ decimal n → n < 10 ^ 19 → 2 ^ 63 < n → signed_of (45 ∷ ds) ≡ None
   minus_large n e low high =
       whole_none (45 ∷ ds) (differs_behind (λ m small same. let f = decimal_injective n (suc m) (omega arith) (omega arith) (sym e ∙ same) in omega arith))
 
-pub whole_empty : whole [] ≡ None
+pub whole_empty : signed_of [] ≡ None
 whole_empty = plain_unnatural [] (λ e. omega (arith, e)) (λ n low same. let p = (decimal_is_IsNumeral n (omega arith)).0 in let e = ap length same in omega arith)
 
 -- a missing word is no whole number
@@ -123,7 +124,7 @@ whole_missing = ap (λ o. unless (is_some o) BadNumber) whole_empty
 pub negated : (n : ℕ) → (n ≡ 0 → ⊥) → n ≤ 2 ^ 63 → to_z w64 (of_z w64 (negsuc 0 -ℤ to_z w64 (n - 1))) ≡ negsuc (n - 1)
 negated n some high = omega (arith, ints)
 
-pub whole_nothing : (w : List ℕ) → length w ≡ 0 → whole w ≡ None
+pub whole_nothing : (w : List ℕ) → length w ≡ 0 → signed_of w ≡ None
 whole_nothing [] e = whole_empty
 whole_nothing (b ∷ bs) e = absurd (omega arith)
 

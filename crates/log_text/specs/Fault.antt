@@ -1,15 +1,18 @@
 -- Which fault a line has: of its words, the first that doesn't fit what is expected there decides.
 use Rattle.std.specs.Prelude.{ℕ, ◌+◌, Bool, true, false, ◌&&◌, ◌||◌, List, [], ◌∷◌, ◌++◌, length, nat_lt, nat_le, ◌==◌, bytes_eq, is_some, if◌then◌else◌, Option, Some, None, codes}
 use Rattle.std.specs.List.{list_all}
-use Rattle.log_text.specs.Words.{words, plain, whole, is_name}
+use Rattle.log_text.specs.Words.{words, plain, signed_of, is_name}
 use Rattle.log_text.specs.Faults.{unless, or_else}
 use Rattle.log_text.specs.Access.{access_fault}
 use Rattle.log_text.specs.declared.fault.LineFault.{LineFault}
 use Rattle.log_text.specs.declared.fault.LineFault.TheVariants.{TooLong, NotAscii, Empty, UnknownWord, BadNumber, BadName, TooManySteps, TooManyAccesses, BadRegister}
+use Rattle.model_base.specs.declared.limits.TheConstants.{MOST_ACCESSES, MOST_COLUMNS, MOST_OUTPUTS, MOST_REGISTERS, MOST_STEPS}
+use Rattle.log_text_base.specs.declared.limits.TheConstants.{MOST_LINE_BYTES}
 use Rattle.model_base.specs.declared.deed.Kind.{Kind}
 use Rattle.model_base.specs.declared.deed.Kind.TheVariants as kind
+use Rattle.model_base.specs.declared.statement.Operation.TheVariants.{Add, Sub, Mul, Less, Same}
 use Rattle.log_text.specs.declared.step_name.StepName.{StepName}
-use Rattle.log_text.specs.declared.step_name.StepName.TheVariants.{Const, Add, Sub, Mul, Less, Same, Has, Load, Store, Insert, Delete, Check, Skip, Out}
+use Rattle.log_text.specs.declared.step_name.StepName.TheVariants.{Const, Compute, Has, Load, Store, Insert, Delete, Check, Skip, Out}
 
 -- what may stand next in a line
 pub data Expected : Type 0 where
@@ -54,11 +57,11 @@ kind_named w =
 abbrev pub step_name : List ℕ → Option StepName
 step_name w =
     if bytes_eq w (codes "CONST") then Some Const
-    else if bytes_eq w (codes "ADD") then Some Add
-    else if bytes_eq w (codes "SUB") then Some Sub
-    else if bytes_eq w (codes "MUL") then Some Mul
-    else if bytes_eq w (codes "LESS") then Some Less
-    else if bytes_eq w (codes "SAME") then Some Same
+    else if bytes_eq w (codes "ADD") then Some (Compute Add)
+    else if bytes_eq w (codes "SUB") then Some (Compute Sub)
+    else if bytes_eq w (codes "MUL") then Some (Compute Mul)
+    else if bytes_eq w (codes "LESS") then Some (Compute Less)
+    else if bytes_eq w (codes "SAME") then Some (Compute Same)
     else if bytes_eq w (codes "HAS") then Some Has
     else if bytes_eq w (codes "LOAD") then Some Load
     else if bytes_eq w (codes "STORE") then Some Store
@@ -69,21 +72,17 @@ step_name w =
     else if bytes_eq w (codes "OUT") then Some Out
     else None
 
--- a step too many: the 65th, or the ninth OUT
+-- a step too many, or an OUT too many
 abbrev pub step_fault : Option StepName → ℕ → ℕ → Option LineFault
 step_fault None steps outs = Some UnknownWord
-step_fault (Some Out) steps outs = unless (nat_lt steps 64 && nat_lt outs 8) TooManySteps
-step_fault (Some _) steps outs = unless (nat_lt steps 64) TooManySteps
+step_fault (Some Out) steps outs = unless (nat_lt steps MOST_STEPS && nat_lt outs MOST_OUTPUTS) TooManySteps
+step_fault (Some _) steps outs = unless (nat_lt steps MOST_STEPS) TooManySteps
 
 -- what follows the word of a step, when there are so many steps and outs before it
 abbrev pub expected_in : Option StepName → ℕ → ℕ → List Expected
 expected_in None steps outs = []
 expected_in (Some Const) steps outs = OfRegister ∷ OfWhole ∷ OfBar (steps + 1) outs ∷ []
-expected_in (Some Add) steps outs = OfRegister ∷ OfRegister ∷ OfRegister ∷ OfBar (steps + 1) outs ∷ []
-expected_in (Some Sub) steps outs = OfRegister ∷ OfRegister ∷ OfRegister ∷ OfBar (steps + 1) outs ∷ []
-expected_in (Some Mul) steps outs = OfRegister ∷ OfRegister ∷ OfRegister ∷ OfBar (steps + 1) outs ∷ []
-expected_in (Some Less) steps outs = OfRegister ∷ OfRegister ∷ OfRegister ∷ OfBar (steps + 1) outs ∷ []
-expected_in (Some Same) steps outs = OfRegister ∷ OfRegister ∷ OfRegister ∷ OfBar (steps + 1) outs ∷ []
+expected_in (Some (Compute operation)) steps outs = OfRegister ∷ OfRegister ∷ OfRegister ∷ OfBar (steps + 1) outs ∷ []
 expected_in (Some Has) steps outs = OfRegister ∷ OfName ∷ OfRow ∷ OfBar (steps + 1) outs ∷ []
 expected_in (Some Load) steps outs = OfRegister ∷ OfName ∷ OfRow ∷ OfPlain ∷ OfBar (steps + 1) outs ∷ []
 expected_in (Some Store) steps outs = OfName ∷ OfRow ∷ OfPlain ∷ OfRegister ∷ OfBar (steps + 1) outs ∷ []
@@ -106,7 +105,7 @@ expected_in_deed w = if bytes_eq w (codes "GRANT") then expected_in_grant else e
 
 abbrev pub register_fault : Option ℕ → Option LineFault
 register_fault None = Some BadNumber
-register_fault (Some n) = unless (nat_lt n 16) BadRegister
+register_fault (Some n) = unless (nat_lt n MOST_REGISTERS) BadRegister
 
 abbrev pub row_fault : List ℕ → Option LineFault
 row_fault [] = Some BadNumber
@@ -116,17 +115,18 @@ row_fault (b ∷ bs) = if b == 114 then register_fault (plain bs) else unless (i
 abbrev pub misfit : Expected → List ℕ → Option LineFault
 misfit OfName w = unless (is_name w) BadName
 misfit OfPlain w = unless (is_some (plain w)) BadNumber
-misfit OfWhole w = unless (is_some (whole w)) BadNumber
+misfit OfWhole w = unless (is_some (signed_of w)) BadNumber
 misfit OfRegister w = register_fault (plain w)
 misfit OfRow w = row_fault w
 misfit OfKind w = unless (is_some (kind_named w)) UnknownWord
 misfit OfOption w = unless (bytes_eq w (codes "OPTION")) UnknownWord
 misfit OfForm w = unless (bytes_eq w (codes "CREATE") || bytes_eq w (codes "RUN") || is_deed w) UnknownWord
 misfit OfAccess w = access_fault w
-misfit (OfNext accesses) w = if is_bar w then None else if nat_lt accesses 16 then access_fault w else Some TooManyAccesses
+misfit (OfNext accesses) w = if is_bar w then None else if nat_lt accesses MOST_ACCESSES then access_fault w else Some TooManyAccesses
 misfit (OfStep steps outs) w = if is_deed w then None else step_fault (step_name w) steps outs
 misfit (OfBar steps outs) w = unless (is_bar w) UnknownWord
-misfit (OfMore registers steps outs) w = if is_bar w then None else if nat_lt registers 8 then register_fault (plain w) else Some UnknownWord
+misfit (OfMore registers steps outs) w =
+    if is_bar w then None else if nat_lt registers MOST_COLUMNS then register_fault (plain w) else Some UnknownWord
 
 -- what a word that fits adds to what is expected
 abbrev pub expected_behind : Expected → List ℕ → List Expected
@@ -169,7 +169,7 @@ is_printable b = nat_le 32 b && nat_le b 126
 -- the fault of a line, if it has one
 abbrev pub line_fault : List ℕ → Option LineFault
 line_fault line =
-    if nat_lt 4096 (length line) then Some TooLong
+    if nat_lt MOST_LINE_BYTES (length line) then Some TooLong
     else if length line == 0 then Some Empty
     else if list_all is_printable line then fault_from (OfName ∷ OfForm ∷ []) (words line)
     else Some NotAscii

@@ -1,22 +1,20 @@
 -- A line while it is read or written.
-use Rattle.std.specs.Prelude.{◌≡◌, ℕ, Bool, true, false, List, [], ◌∷◌, ◌++◌, Option, None, codes, length, drop, nat_le, if◌then◌else◌}
-use Rattle.std.specs.List.{flat_map}
+use Rattle.std.specs.Prelude.{◌≡◌, ℕ, ◌≤◌, Bool, true, false, List, [], ◌∷◌, ◌++◌, Option, None, codes, decimal, length, map, drop, nat_le, if◌then◌else◌}
+use Rattle.std.specs.List.{flat_map, AllByRecursion}
+use Rattle.model_base.specs.declared.limits.TheConstants.{MOST_COLUMNS}
 use Rattle.log_text.specs.Words.{words}
-use Rattle.log_text.specs.Statement.{step_words}
-use Rattle.log_text.specs.Fault.{OfStep, fault_from}
+use Rattle.log_text.specs.Statement.{operation_word, step_words, IsRegister}
+use Rattle.log_text.specs.Fault.{OfMore, OfStep, fault_from}
+use Rattle.log_text.specs.Faults.{IsFault}
 use Rattle.log_text.specs.declared.fault.LineFault.{LineFault}
 use Rattle.log_text.specs.declared.statement.RawStep.{RawStep}
 use Rattle.log_text.specs.declared.step_name.StepName.{StepName}
-use Rattle.log_text.specs.declared.step_name.StepName.TheVariants.{Const, Add, Sub, Mul, Less, Same, Has, Load, Store, Insert, Delete, Check, Skip, Out}
+use Rattle.log_text.specs.declared.step_name.StepName.TheVariants.{Const, Compute, Has, Load, Store, Insert, Delete, Check, Skip, Out}
 
 -- the word that names a step
 abbrev pub step_word : StepName → List ℕ
 step_word Const = codes "CONST"
-step_word Add = codes "ADD"
-step_word Sub = codes "SUB"
-step_word Mul = codes "MUL"
-step_word Less = codes "LESS"
-step_word Same = codes "SAME"
+step_word (Compute operation) = operation_word operation
 step_word Has = codes "HAS"
 step_word Load = codes "LOAD"
 step_word Store = codes "STORE"
@@ -27,14 +25,33 @@ step_word Skip = codes "SKIP"
 step_word Out = codes "OUT"
 
 -- the words begin with a step, and then come a bar and what is left, or nothing
-abbrev pub Goes : List (List ℕ) → RawStep → Bool → List (List ℕ) → Type 0
-Goes old s true left = old ≡ step_words s ++ codes "|" ∷ left
-Goes old s false left = old ≡ step_words s
+abbrev pub TakesStep : List (List ℕ) → RawStep → Bool → List (List ℕ) → Type 0
+TakesStep old s true left = old ≡ step_words s ++ codes "|" ∷ left
+TakesStep old s false left = old ≡ step_words s
 
 -- the fault of what is left behind a bar, or none at the end
 abbrev pub fault_behind : Bool → ℕ → ℕ → List (List ℕ) → Option LineFault
 fault_behind true steps outs left = fault_from (OfStep steps outs ∷ []) left
 fault_behind false steps outs left = None
+
+-- one to eight registers, as an INSERT has them
+abbrev pub AreInsertable : List ℕ → Type 0
+AreInsertable registers = (1 ≤ length registers) × (length registers ≤ MOST_COLUMNS) × AllByRecursion IsRegister registers
+
+-- the registers and the words make the new registers, and then come a bar and what is left, or nothing
+abbrev pub TakesRegisters : List ℕ → List (List ℕ) → List ℕ → Bool → List (List ℕ) → Type 0
+TakesRegisters old words new true left = map decimal old ++ words ≡ map decimal new ++ codes "|" ∷ left
+TakesRegisters old words new false left = map decimal old ++ words ≡ map decimal new
+
+-- behind so many registers of an INSERT the words have the fault of what is left behind the bar, or none at the end
+abbrev pub FitAsRegisters : ℕ → List (List ℕ) → Bool → List (List ℕ) → Type 0
+FitAsRegisters registers words more left =
+    (steps outs : ℕ) → fault_from (OfMore registers steps outs ∷ []) words ≡ fault_behind more steps outs left
+
+-- behind so many registers of an INSERT the words have this fault
+abbrev pub FailAsRegisters : ℕ → List (List ℕ) → LineFault → Type 0
+FailAsRegisters registers words fault =
+    (steps outs : ℕ) → IsFault fault (fault_from (OfMore registers steps outs ∷ []) words)
 
 -- each word behind a space
 abbrev pub spaced : List (List ℕ) → List ℕ

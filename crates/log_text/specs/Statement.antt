@@ -2,18 +2,23 @@
 use Rattle.std.specs.Prelude.{◌≡◌, ℕ, ◌<◌, ◌≤◌, ◌^◌, Bool, Option, Some, None, List, [], ◌∷◌, ◌++◌, length, map, codes, if◌then◌else◌, IsTrue}
 use Rattle.std.specs.Fmt.{decimal, signed_decimal}
 use Rattle.std.specs.List.{join_with_byte, flat_map, AllByRecursion, sum_by}
+use Rattle.model_base.specs.declared.limits.TheConstants.{MOST_ACCESSES, MOST_COLUMNS, MOST_OUTPUTS, MOST_REGISTERS, MOST_STEPS}
+use Rattle.log_text_base.specs.declared.limits.TheConstants.{MOST_LINE_BYTES}
 use Rattle.model_base.specs.declared.deed.Kind.{Kind}
 use Rattle.model_base.specs.declared.deed.Kind.TheVariants as kind
+use Rattle.model_base.specs.declared.statement.Operation.{Operation}
+use Rattle.model_base.specs.declared.statement.Operation.TheVariants.{Add, Sub, Mul, Less, Same}
 use Rattle.model_base.specs.declared.statement.RowName.{RowName}
 use Rattle.model_base.specs.declared.statement.RowName.TheVariants.{Number, Held}
-use Rattle.log_text.specs.Words.{words, is_name, fits_64_bits}
+use Rattle.log_text.specs.Words.{words, is_name}
 use Rattle.log_text.specs.Access.{access_word, IsAccess}
 use Rattle.log_text.specs.declared.statement.RawDeed.{RawDeed}
 use Rattle.log_text.specs.declared.statement.RawDeed.TheVariants.{Grant, Revoke}
 use Rattle.log_text.specs.declared.statement.RawForm.{RawForm}
 use Rattle.log_text.specs.declared.statement.RawForm.TheVariants.{Create, Run, Deed}
 use Rattle.log_text.specs.declared.statement.RawStep.{RawStep}
-use Rattle.log_text.specs.declared.statement.RawStep.TheVariants.{Const, Add, Sub, Mul, Less, Same, Has, Load, Store, Insert, Delete, Check, Skip, Out}
+use Rattle.log_text.specs.declared.statement.RawStep.TheVariants.{Const, Compute, Has, Load, Store, Insert, Delete, Check, Skip, Out}
+use Rattle.model_base.specs.Body.{fits_64_bits}
 
 -- a user, and what the user asks for
 pub record Sentence : Type 0 where
@@ -25,14 +30,18 @@ abbrev pub row_word : RowName → List ℕ
 row_word (Number number) = decimal number
 row_word (Held register) = codes "r" ++ decimal register
 
+-- the word of an operation
+abbrev pub operation_word : Operation → List ℕ
+operation_word Add = codes "ADD"
+operation_word Sub = codes "SUB"
+operation_word Mul = codes "MUL"
+operation_word Less = codes "LESS"
+operation_word Same = codes "SAME"
+
 -- the words of a step
 abbrev pub step_words : RawStep → List (List ℕ)
 step_words (Const to value) = codes "CONST" ∷ decimal to ∷ signed_decimal value ∷ []
-step_words (Add to left right) = codes "ADD" ∷ decimal to ∷ decimal left ∷ decimal right ∷ []
-step_words (Sub to left right) = codes "SUB" ∷ decimal to ∷ decimal left ∷ decimal right ∷ []
-step_words (Mul to left right) = codes "MUL" ∷ decimal to ∷ decimal left ∷ decimal right ∷ []
-step_words (Less to left right) = codes "LESS" ∷ decimal to ∷ decimal left ∷ decimal right ∷ []
-step_words (Same to left right) = codes "SAME" ∷ decimal to ∷ decimal left ∷ decimal right ∷ []
+step_words (Compute operation to left right) = operation_word operation ∷ decimal to ∷ decimal left ∷ decimal right ∷ []
 step_words (Has to table row) = codes "HAS" ∷ decimal to ∷ table ∷ row_word row ∷ []
 step_words (Load to table row column) = codes "LOAD" ∷ decimal to ∷ table ∷ row_word row ∷ decimal column ∷ []
 step_words (Store table row column from) = codes "STORE" ∷ table ∷ row_word row ∷ decimal column ∷ decimal from ∷ []
@@ -85,28 +94,25 @@ statement_words s = s.user ∷ form_words s.form
 abbrev pub spelling : Sentence → List ℕ
 spelling s = join_with_byte 32 (statement_words s)
 
--- one of the sixteen registers
+-- one of the registers
 abbrev pub IsRegister : ℕ → Type 0
-IsRegister n = n < 16
+IsRegister n = n < MOST_REGISTERS
 
 -- a row's number fits 32 bits
-abbrev pub IsRow : RowName → Type 0
-IsRow (Number number) = number < 2 ^ 32
-IsRow (Held register) = IsRegister register
+abbrev pub IsRowNumber : RowName → Type 0
+IsRowNumber (Number number) = number < 2 ^ 32
+IsRowNumber (Held register) = IsRegister register
 
 -- a step's names are names, and its numbers are in their ranges
 abbrev pub IsStep : RawStep → Type 0
 IsStep (Const to value) = IsRegister to × IsTrue (fits_64_bits value)
-IsStep (Add to left right) = IsRegister to × IsRegister left × IsRegister right
-IsStep (Sub to left right) = IsRegister to × IsRegister left × IsRegister right
-IsStep (Mul to left right) = IsRegister to × IsRegister left × IsRegister right
-IsStep (Less to left right) = IsRegister to × IsRegister left × IsRegister right
-IsStep (Same to left right) = IsRegister to × IsRegister left × IsRegister right
-IsStep (Has to table row) = IsRegister to × IsTrue (is_name table) × IsRow row
-IsStep (Load to table row column) = IsRegister to × IsTrue (is_name table) × IsRow row × (column < 2 ^ 32)
-IsStep (Store table row column from) = IsTrue (is_name table) × IsRow row × (column < 2 ^ 32) × IsRegister from
-IsStep (Insert table row from) = IsTrue (is_name table) × IsRow row × (1 ≤ length from) × (length from ≤ 8) × AllByRecursion IsRegister from
-IsStep (Delete table row) = IsTrue (is_name table) × IsRow row
+IsStep (Compute operation to left right) = IsRegister to × IsRegister left × IsRegister right
+IsStep (Has to table row) = IsRegister to × IsTrue (is_name table) × IsRowNumber row
+IsStep (Load to table row column) = IsRegister to × IsTrue (is_name table) × IsRowNumber row × (column < 2 ^ 32)
+IsStep (Store table row column from) = IsTrue (is_name table) × IsRowNumber row × (column < 2 ^ 32) × IsRegister from
+IsStep (Insert table row from) = IsTrue (is_name table) × IsRowNumber row × (1 ≤ length from) × (length from ≤ MOST_COLUMNS)
+    × AllByRecursion IsRegister from
+IsStep (Delete table row) = IsTrue (is_name table) × IsRowNumber row
 IsStep (Check of) = IsRegister of
 IsStep (Skip of steps) = IsRegister of × (steps < 2 ^ 32)
 IsStep (Out of) = IsRegister of
@@ -126,19 +132,19 @@ abbrev pub IsLastDeed : Option RawDeed → Type 0
 IsLastDeed None = Unit {0}
 IsLastDeed (Some deed) = IsDeed deed
 
--- a table with a number of columns below 2^32, or 1 to 16 accesses and at most 64 steps, at most 8 of them OUT, and
--- perhaps a deed, or a deed
+-- a table with a number of columns below 2^32, or accesses and steps, some of them OUT, within their limits, and perhaps
+-- a deed, or a deed
 abbrev pub IsFormInGrammar : RawForm → Type 0
 IsFormInGrammar (Create table columns) = IsTrue (is_name table) × (columns < 2 ^ 32)
-IsFormInGrammar (Run accesses steps deed) = (1 ≤ length accesses) × (length accesses ≤ 16) × AllByRecursion IsAccess accesses
-    × (length steps ≤ 64) × (sum_by outs_of steps ≤ 8) × AllByRecursion IsStep steps × IsLastDeed deed
+IsFormInGrammar (Run accesses steps deed) = (1 ≤ length accesses) × (length accesses ≤ MOST_ACCESSES) × AllByRecursion IsAccess accesses
+    × (length steps ≤ MOST_STEPS) × (sum_by outs_of steps ≤ MOST_OUTPUTS) × AllByRecursion IsStep steps × IsLastDeed deed
 IsFormInGrammar (Deed deed) = IsDeed deed
 
--- the statement has a line of at most 4,096 bytes
+-- the statement has a line of at most `MOST_LINE_BYTES`
 pub record IsInGrammar (s : Sentence) : Type 0 where
   pub user : IsTrue (is_name s.user)
   pub form : IsFormInGrammar s.form
-  pub short : length (spelling s) ≤ 4096
+  pub short : length (spelling s) ≤ MOST_LINE_BYTES
 
 -- the line's words are those of the statement
 pub record Reads (line : List ℕ) (s : Sentence) : Type 0 where

@@ -1,8 +1,10 @@
 -- The words of a line, and which of them are names and numbers.
-use Rattle.std.specs.Prelude.{ℕ, ◌≤◌, ◌^◌, IsTrue, take, Bool, false, ◌&&◌, ◌||◌, List, [], ◌∷◌, length, nat_lt, nat_le, ◌==◌, if◌then◌else◌, Option, Some, None, bytes_eq, ℤ, pos, negsuc}
+use Rattle.std.specs.Prelude.{ℕ, ◌≤◌, ◌^◌, IsTrue, take, Bool, false, ◌&&◌, ◌||◌, List, [], ◌∷◌, length, nat_lt, nat_le, ◌==◌, if◌then◌else◌, Option, Some, None, bytes_eq, ℤ}
 use Rattle.std.specs.Fmt.{decimal, signed_decimal}
 use Rattle.std.specs.List.{slice_split, list_all}
 use Rattle.std.specs.Str.Parse.{digits_value, signed_digits_value}
+use Rattle.model_base.specs.declared.limits.TheConstants.{MOST_NAME_BYTES}
+use Rattle.model_base.specs.Body.{fits_64_bits}
 
 -- the pieces between single spaces
 abbrev pub words : List ℕ → List (List ℕ)
@@ -17,14 +19,9 @@ first_word (w ∷ ws) = w
 abbrev pub plain : List ℕ → Option ℕ
 plain word = let n = digits_value 10 word in if nat_lt n (2 ^ 32) && bytes_eq (decimal n) word then Some n else None
 
--- whether 64 bits hold the number with its sign
-abbrev pub fits_64_bits : ℤ → Bool
-fits_64_bits (pos n) = nat_lt n (2 ^ 63)
-fits_64_bits (negsuc n) = nat_lt n (2 ^ 63)
-
 -- the number of 64 bits whose decimal form, with a minus below 0, the word is
-abbrev pub whole : List ℕ → Option ℤ
-whole word = let z = signed_digits_value 10 word in if fits_64_bits z && bytes_eq (signed_decimal z) word then Some z else None
+abbrev pub signed_of : List ℕ → Option ℤ
+signed_of word = let z = signed_digits_value 10 word in if fits_64_bits z && bytes_eq (signed_decimal z) word then Some z else None
 
 -- a to z
 abbrev pub is_letter : ℕ → Bool
@@ -34,12 +31,12 @@ is_letter b = nat_le 97 b && nat_le b 122
 abbrev pub is_name_byte : ℕ → Bool
 is_name_byte b = is_letter b || (nat_le 48 b && nat_le b 57) || (b == 95)
 
--- a to z, then up to 31 of a to z, 0 to 9, underscore
+-- a to z, then a to z, 0 to 9, underscore, at most `MOST_NAME_BYTES` in all
 abbrev pub is_name : List ℕ → Bool
 is_name [] = false
-is_name (b ∷ bs) = is_letter b && list_all is_name_byte bs && nat_le (length bs) 31
+is_name (b ∷ bs) = is_letter b && list_all is_name_byte bs && nat_lt (length bs) MOST_NAME_BYTES
 
--- the first bytes of thirty-two are a name
+-- the first bytes of `MOST_NAME_BYTES` are a name
 pub record IsNameIn (len : ℕ) (bytes : List ℕ) : Type 0 where
-  pub within : len ≤ 32
+  pub within : len ≤ MOST_NAME_BYTES
   pub name : IsTrue (is_name (take len bytes))

@@ -8,7 +8,7 @@ use std::alloc::{AllocError, AllocFailed};
 /// Why a line is no statement: the first of its faults, its words read from left to right.
 #[derive(Clone, Copy, Debug, PartialEq, Eq)]
 pub enum LineFault {
-    /// More than 4,096 bytes.
+    /// More than `MOST_LINE_BYTES`.
     TooLong = 1,
     /// A byte outside 32 to 126.
     NotAscii = 2,
@@ -20,11 +20,11 @@ pub enum LineFault {
     BadNumber = 5,
     /// Not a name.
     BadName = 6,
-    /// The 65th step, or the ninth OUT.
+    /// A step behind `MOST_STEPS`, or an OUT behind `MOST_OUTPUTS`.
     TooManySteps = 7,
-    /// The 17th access.
+    /// An access behind `MOST_ACCESSES`.
     TooManyAccesses = 8,
-    /// A register above 15.
+    /// A register of the number `MOST_REGISTERS` or above.
     BadRegister = 9,
     /// No fault of the line: memory ran out.
     NoMemory = 10,

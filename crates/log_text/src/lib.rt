@@ -17,9 +17,6 @@ pub use access::RawAccess;
 pub use fault::LineFault;
 pub use kind::kind_word;
 pub use laws::every_line_reads;
-pub use log_text_base::{
-    Counted, LineReader, ReadFault, WriteFault, flush, write_much, write_out, write_pending,
-};
 pub use name::Name;
 pub use parsing::{one_spelling, parse_line};
 pub use printing::print_statement;

@@ -1,15 +1,16 @@
 //! Names of users and tables.
 
+use model_base::MOST_NAME_BYTES;
 use std::fmt;
 use std::marker::Model;
 
-/// The name of a user or a table: a to z, then up to 31 of a to z, 0 to 9 and underscore.
+/// The name of a user or a table: a to z, then a to z, 0 to 9 and underscore, at most `MOST_NAME_BYTES` in all.
 ///
 /// It is kept in the value itself, so that it takes no memory.
 #[derive(Drop)]
 pub struct Name {
     len: u8,
-    bytes: [u8; 32],
+    bytes: [u8; MOST_NAME_BYTES],
 }
 
 impl Model for Name {
@@ -43,7 +44,7 @@ impl Name {
         requires { IsTrue (is_name word.now) }
         ensures { result ≡ word.now }
     {
-        let mut bytes = [0; 32];
+        let mut bytes = [0; MOST_NAME_BYTES];
         bytes[..word.len()].copy_from_slice(word);
         Name {
             len: word.len() as u8,
@@ -87,5 +88,5 @@ pub(crate) fn has_name_form(word: &[u8]) -> bool
     let Some((first, others)) = word.split_first() else {
         return false;
     };
-    first.is_ascii_lowercase() && has_name_bytes(others) && others.len() <= 31
+    first.is_ascii_lowercase() && has_name_bytes(others) && others.len() < MOST_NAME_BYTES
 }

@@ -2,7 +2,7 @@
 ghost use Rattle.std.specs.Prelude.{◌≡◌, ◌≤◌, ◌<◌, ◌^◌, ◌∷◌, ℕ, length, MatchOption};
 ghost use Rattle.std.specs.Fmt.{decimal};
 ghost use Rattle.std.specs.Str.Parse.{AllDigits, digits_value};
-ghost use Rattle.log_text.specs.Words.{plain, whole};
+ghost use Rattle.log_text.specs.Words.{plain, signed_of};
 
 /// The number that at most 19 digits write, if each byte is a digit.
 fn digits(word: &[u8]) -> Option<u64>
@@ -56,7 +56,7 @@ pub(crate) fn plain_value(word: &[u8]) -> Option<u32>
 
 /// The number of 64 bits that digits behind a minus spell.
 fn negative_value(digits: &[u8]) -> Option<i64>
-    ensures { result ≡ whole (45 ∷ digits.now) }
+    ensures { result ≡ signed_of (45 ∷ digits.now) }
 {
     let Some(size) = natural(digits) else {
         return None;
@@ -72,7 +72,7 @@ fn negative_value(digits: &[u8]) -> Option<i64>
 
 /// The number of 64 bits that a word spells.
 pub(crate) fn whole_value(word: &[u8]) -> Option<i64>
-    ensures { result ≡ whole word.now }
+    ensures { result ≡ signed_of word.now }
 {
     let Some((first, others)) = word.split_first() else {
         return None;

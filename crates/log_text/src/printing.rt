@@ -3,7 +3,7 @@ ghost use Rattle.std.specs.Prelude.{◌≡◌, ◌++◌, ◌∷◌, [], ◌<◌,
 ghost use Rattle.std.specs.Fmt.{decimal};
 ghost use Rattle.std.specs.List.{flat_map};
 ghost use Rattle.log_text.specs.Access.{letters, letter_if, access_word};
-ghost use Rattle.log_text.specs.Statement.{spelling, deed_words, further_step, last_deed, row_word, Reads};
+ghost use Rattle.log_text.specs.Statement.{spelling, deed_words, further_step, last_deed, operation_word, row_word, Reads};
 ghost use Rattle.log_text.specs.Parsing.{spaced};
 ghost use Rattle.log_text.specs.declared.statement.RawStep.{RawStep};
 
@@ -11,7 +11,7 @@ use crate::access::RawAccess;
 use crate::kind::kind_word;
 use crate::name::Name;
 use crate::statement::{RawDeed, RawForm, RawStatement, RawStep};
-use model_base::{Kinds, Register, RowName};
+use model_base::{Kinds, Operation, Register, RowName};
 use std::alloc::{AllocError, Global};
 
 /// Appends the row, as a step gives it.
@@ -47,16 +47,31 @@ fn push_constant(text: &mut String, to: Register, value: i64) -> Result<(), Allo
     Ok(())
 }
 
+/// The word of an operation.
+fn operation_word(operation: Operation) -> &'static str
+    ensures { result.now ≡ operation_word operation }
+{
+    match operation {
+        Operation::Add => "ADD",
+        Operation::Sub => "SUB",
+        Operation::Mul => "MUL",
+        Operation::Less => "LESS",
+        Operation::Same => "SAME",
+    }
+}
+
 /// Appends a bar, and a step that puts what it computes of two registers into a third.
 fn push_operation(
     text: &mut String,
-    word: &str,
+    operation: Operation,
     to: Register,
     left: Register,
     right: Register,
 ) -> Result<(), AllocError>
-    ensures { OnOk result (string_bytes text.new ≡ string_bytes text.old ++ spaced (codes "|" ∷ word.now ∷ decimal to ∷ decimal left ∷ decimal right ∷ [])) }
+    ensures { OnOk result (string_bytes text.new ≡ string_bytes text.old
+        ++ spaced (further_step (RawStep.Compute operation to left right))) }
 {
+    let word = operation_word(operation);
     let (to, left, right) = (to.index(), left.index(), right.index());
     write!(text, " | {word} {to} {left} {right}")?;
     Ok(())
@@ -95,7 +110,8 @@ fn push_store(
     column: u32,
     from: Register,
 ) -> Result<(), AllocError>
-    ensures { OnOk result (string_bytes text.new ≡ string_bytes text.old ++ spaced (further_step (RawStep.Store table.now row column from))) }
+    ensures { OnOk result (string_bytes text.new
+        ≡ string_bytes text.old ++ spaced (further_step (RawStep.Store table.now row column from))) }
 {
     write!(text, " | STORE {table} ")?;
     push_row(text, row)?;
@@ -110,7 +126,8 @@ fn push_insert(
     row: RowName,
     from: &[Register],
 ) -> Result<(), AllocError>
-    ensures { OnOk result (string_bytes text.new ≡ string_bytes text.old ++ spaced (codes "|" ∷ codes "INSERT" ∷ table.now ∷ row_word row ∷ map decimal from.now)) }
+    ensures { OnOk result (string_bytes text.new
+        ≡ string_bytes text.old ++ spaced (codes "|" ∷ codes "INSERT" ∷ table.now ∷ row_word row ∷ map decimal from.now)) }
 {
     write!(text, " | INSERT {table} ")?;
     push_row(text, row)?;
@@ -149,11 +166,12 @@ fn push_step(text: &mut String, step: &RawStep) -> Result<(), AllocError>
 {
     match step {
         RawStep::Const { to, value } => push_constant(text, *to, *value),
-        RawStep::Add { to, left, right } => push_operation(text, "ADD", *to, *left, *right),
-        RawStep::Sub { to, left, right } => push_operation(text, "SUB", *to, *left, *right),
-        RawStep::Mul { to, left, right } => push_operation(text, "MUL", *to, *left, *right),
-        RawStep::Less { to, left, right } => push_operation(text, "LESS", *to, *left, *right),
-        RawStep::Same { to, left, right } => push_operation(text, "SAME", *to, *left, *right),
+        RawStep::Compute {
+            operation,
+            to,
+            left,
+            right,
+        } => push_operation(text, *operation, *to, *left, *right),
         RawStep::Has { to, table, row } => push_has(text, *to, table, *row),
         RawStep::Load {
             to,
@@ -264,7 +282,9 @@ fn run_text(
     steps: &[RawStep],
     deed: &Option<RawDeed>,
 ) -> Result<String, AllocError>
-    ensures { IfOk result (λ text. string_bytes text ≡ user.now ++ codes " RUN" ++ spaced (map access_word accesses.now) ++ spaced (flat_map further_step steps.now) ++ spaced (last_deed deed.now)) }
+    ensures { IfOk result (λ text. string_bytes text
+        ≡ user.now ++ codes " RUN" ++ spaced (map access_word accesses.now)
+        ++ spaced (flat_map further_step steps.now) ++ spaced (last_deed deed.now)) }
 {
     let mut text = format!(in alloc; "{user} RUN")?;
     push_accesses(&mut text, accesses)?;

@@ -2,7 +2,7 @@
 
 use crate::access::RawAccess;
 use crate::name::Name;
-use model_base::{Items, Kind, Register, RowName};
+use model_base::{Items, Kind, Operation, Register, RowName};
 use std::marker::Model;
 
 /// One step of a body, with its table's name.
@@ -12,27 +12,8 @@ pub enum RawStep {
         to: Register,
         value: i64,
     },
-    Add {
-        to: Register,
-        left: Register,
-        right: Register,
-    },
-    Sub {
-        to: Register,
-        left: Register,
-        right: Register,
-    },
-    Mul {
-        to: Register,
-        left: Register,
-        right: Register,
-    },
-    Less {
-        to: Register,
-        left: Register,
-        right: Register,
-    },
-    Same {
+    Compute {
+        operation: Operation,
         to: Register,
         left: Register,
         right: Register,
@@ -54,7 +35,7 @@ pub enum RawStep {
         column: u32,
         from: Register,
     },
-    /// A row of one to eight numbers.
+    /// A row of one to `MOST_COLUMNS` numbers.
     Insert {
         table: Name,
         row: RowName,
@@ -101,7 +82,7 @@ pub enum RawForm {
         table: Name,
         columns: u32,
     },
-    /// One to 16 accesses, at most 64 steps, at most 8 of them `Out`, and perhaps a deed.
+    /// One to `MOST_ACCESSES` accesses, at most `MOST_STEPS` steps, at most `MOST_OUTPUTS` of them `Out`, and perhaps a deed.
     Run {
         accesses: Items<RawAccess>,
         steps: Items<RawStep>,

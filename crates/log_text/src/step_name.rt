@@ -1,15 +1,13 @@
 //! The words that name a step.
 ghost use Rattle.std.specs.Prelude.{◌≡◌};
 
+use model_base::Operation;
+
 /// Which step.
 #[derive(Clone, Copy)]
 pub(crate) enum StepName {
     Const,
-    Add,
-    Sub,
-    Mul,
-    Less,
-    Same,
+    Compute(Operation),
     Has,
     Load,
     Store,
@@ -30,11 +28,11 @@ impl StepName {
     {
         match word {
             b"CONST" => Some(StepName::Const),
-            b"ADD" => Some(StepName::Add),
-            b"SUB" => Some(StepName::Sub),
-            b"MUL" => Some(StepName::Mul),
-            b"LESS" => Some(StepName::Less),
-            b"SAME" => Some(StepName::Same),
+            b"ADD" => Some(StepName::Compute(Operation::Add)),
+            b"SUB" => Some(StepName::Compute(Operation::Sub)),
+            b"MUL" => Some(StepName::Compute(Operation::Mul)),
+            b"LESS" => Some(StepName::Compute(Operation::Less)),
+            b"SAME" => Some(StepName::Compute(Operation::Same)),
             b"HAS" => Some(StepName::Has),
             b"LOAD" => Some(StepName::Load),
             b"STORE" => Some(StepName::Store),

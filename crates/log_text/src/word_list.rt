@@ -5,6 +5,7 @@ ghost use Rattle.log_text.specs.Words.{words, first_word, is_name, is_name_byte}
 ghost use Rattle.log_text.specs.Parsing.{words_from};
 
 use crate::name::may_be_in_name;
+use model_base::MOST_NAME_BYTES;
 use std::marker::Model;
 
 /// The index of the first byte of this value at or behind `start`, or the length if there is none.
@@ -86,7 +87,7 @@ impl<'a> Words<'a> {
         if !word[0].is_ascii_lowercase() {
             return None;
         }
-        if word.len() > 32 {
+        if word.len() > MOST_NAME_BYTES {
             return None;
         }
         self.start = end + 1;

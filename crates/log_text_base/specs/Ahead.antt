@@ -6,7 +6,7 @@ use Rattle.log_text_base.specs.declared.line_reader.LineReader.{LineReader}
 abbrev pub ahead : LineReader → List ℕ
 ahead lines = slice_range lines.buffer.items lines.start lines.end
 
--- The line that the last call found, where it found one, up to 4,097 bytes.
+-- The line that the last call found, where it found one, up to `KEPT_BYTES`.
 abbrev pub found_line : LineReader → List ℕ
 found_line lines =
     if lines.is_kept then lines.kept.items else slice_range lines.buffer.items lines.line_start lines.line_end

@@ -2,16 +2,17 @@
 use Rattle.std.specs.Prelude.{◌≡◌, ◌<◌, ◌+◌, ◌-◌, ◌^◌, ℕ, List, ◌++◌, length, take, min, ⊤, Option, Some, None}
 use Rattle.std.specs.Io.KnownBytes.{Appends}
 use Rattle.log_text_base.specs.Lines.{first_line, other_lines}
+use Rattle.log_text_base.specs.declared.limits.TheConstants.{KEPT_BYTES}
 
 -- The count after one more failure, which stops at `u64::MAX`.
 abbrev pub raised : ℕ → ℕ
 raised errors = min (errors + 1) (2 ^ 64 - 1)
 
--- The reader's first line was taken, and line is front and then that line, up to 4,097 bytes.
+-- The reader's first line was taken, and line is front and then that line, up to `KEPT_BYTES`.
 abbrev pub TookLine : Option (List ℕ) → Option (List ℕ) → List ℕ → List ℕ → Type 0
 TookLine None new front line = ⊤
 TookLine (Some xs) None front line = ⊥
-TookLine (Some xs) (Some ys) front line = (line ≡ take 4097 (front ++ first_line xs)) × (ys ≡ other_lines xs)
+TookLine (Some xs) (Some ys) front line = (line ≡ take KEPT_BYTES (front ++ first_line xs)) × (ys ≡ other_lines xs)
 
 -- The reader had bytes left.
 abbrev pub HadSome : Option (List ℕ) → Type 0

@@ -4,6 +4,7 @@ ghost use Rattle.std.specs.Io.{ReadsAtMost, WritesAtMost};
 ghost use Rattle.std.specs.Io.KnownBytes.{ReadConsumes, WriteAppends, Keeps};
 ghost use Rattle.log_text_base.specs.Known.{raised};
 
+use super::limits::MOST_GIVEN_BYTES;
 use std::io;
 use std::io::{ErrorKind, Read, Write};
 
@@ -37,7 +38,7 @@ impl<T> Counted<T> {
 impl<R: Read> Read for Counted<R> {
     ghost remaining = { λ c. R.remaining c.inner };
 
-    /// Reads into `buf`, and counts. Once 2^62 bytes were given it answers an error of its own.
+    /// Reads into `buf`, and counts. Once `MOST_GIVEN_BYTES` were given it answers an error of its own.
     fn read(&mut self, buf: &mut [u8]) -> io::Result<usize>
         ensures bound { ReadsAtMost result buf.new }
         ensures bytes { ReadConsumes (R.remaining self.old.inner) (R.remaining self.new.inner)
@@ -45,10 +46,10 @@ impl<R: Read> Read for Counted<R> {
         ensures ok { OnOk result (self.new.errors ≡ self.old.errors) }
         ensures err { OnErr result (self.new.errors ≡ raised self.old.errors) }
         ensures given { IfOk result (λ n. (self.new.given ≡ self.old.given + n)
-            × (self.old.given < 2 ^ 62)) }
+            × (self.old.given < MOST_GIVEN_BYTES)) }
         ensures err_given { OnErr result (self.new.given ≡ self.old.given) }
     {
-        if self.given >= 1 << 62 {
+        if self.given >= MOST_GIVEN_BYTES {
             self.errors = self.errors.saturating_add(1);
             return Err(io::Error::from(ErrorKind::Other));
         }

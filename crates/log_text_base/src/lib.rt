@@ -5,11 +5,13 @@
 mod counted;
 mod fault;
 mod laws;
+mod limits;
 mod line_reader;
 mod writing;
 
 pub use counted::Counted;
 pub use fault::{ReadFault, WriteFault};
 pub use laws::{lines_laws, writing_laws};
+pub use limits::{BUFFER_BYTES, KEPT_BYTES, MOST_GIVEN_BYTES, MOST_LINE_BYTES, PENDING_BYTES};
 pub use line_reader::LineReader;
 pub use writing::{PIECE_LEN, flush, write_much, write_out, write_pending};

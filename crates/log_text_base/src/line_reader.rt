@@ -1,33 +1,29 @@
-//! A reader of lines that keeps at most 4,097 bytes of a line.
+//! A reader of lines that keeps at most `KEPT_BYTES` of a line.
 ghost use Rattle.std.specs.Prelude.{◌≡◌, ◌<◌, ◌≤◌, ◌+◌, ◌^◌, ◌↔◌, [], ◌++◌, IfOk, OnOk, IfErr, IsTrue, MatchBool, length, take, vec_len};
 ghost use Rattle.std.specs.Io.KnownBytes.{Keeps, IsAtEnd, prepend_known};
 ghost use Rattle.memchr.specs.Find.{IsFirstByte, is_byte};
 ghost use Rattle.log_text_base.specs.Known.{raised, TookLine, HadSome};
 ghost use Rattle.log_text_base.specs.Lines.{HasLine};
+ghost use Rattle.log_text_base.specs.declared.limits.TheConstants.{BUFFER_BYTES, KEPT_BYTES};
 
 use super::counted::Counted;
 use super::fault::ReadFault;
+use super::limits::{BUFFER_BYTES, KEPT_BYTES, MOST_GIVEN_BYTES};
 use memchr::memchr;
 use std::alloc::{AllocError, Global};
 use std::io::Read;
 
-/// How many bytes of a line are kept.
-const KEPT_LEN: usize = 4097;
-
-/// How many bytes are read ahead at most.
-const BUFFER_LEN: usize = 65_536;
-
 /// A buffer to read into.
 fn empty_buffer(alloc: Global) -> Result<Vec<u8>, AllocError>
-    ensures { IfOk result (λ buffer. vec_len buffer ≡ BUFFER_LEN) }
+    ensures { IfOk result (λ buffer. vec_len buffer ≡ BUFFER_BYTES) }
 {
-    let buffer = vec![in alloc; 0; BUFFER_LEN]?;
+    let buffer = vec![in alloc; 0; BUFFER_BYTES]?;
     Ok(buffer)
 }
 
-/// Reads a text line by line, through a buffer of 65,536 bytes. Lines are cut at LF, and a last
-/// piece without LF is a line if it isn't empty. Of a line longer than 4,097 bytes the first 4,097
-/// are kept.
+/// Reads a text line by line, through a buffer of `BUFFER_BYTES`. Lines are cut at LF, and a last
+/// piece without LF is a line if it isn't empty. Of a line longer than `KEPT_BYTES`
+/// the first so many are kept.
 ///
 /// It doesn't own the reader, so each call is to be made with the same one.
 #[derive(Drop)]
@@ -42,12 +38,12 @@ pub struct LineReader {
     /// Whether that line crossed the buffer's end, and was copied.
     is_kept: bool,
     kept: Vec<u8>,
-    ghost room: { vec_len buffer ≡ 65536 },
+    ghost room: { vec_len buffer ≡ BUFFER_BYTES },
     ghost ordered: { start ≤ end },
-    ghost within: { end ≤ 65536 },
+    ghost within: { end ≤ BUFFER_BYTES },
     ghost line_ordered: { line_start ≤ line_end },
-    ghost line_within: { line_end ≤ 65536 },
-    ghost short: { vec_len kept ≤ 4097 },
+    ghost line_within: { line_end ≤ BUFFER_BYTES },
+    ghost short: { vec_len kept ≤ KEPT_BYTES },
 }
 
 impl LineReader {
@@ -69,7 +65,7 @@ impl LineReader {
         })
     }
 
-    /// The line that the last `next_line` found, without its LF: its first 4,097 bytes, if it has
+    /// The line that the last `next_line` found, without its LF: its first `KEPT_BYTES`, if it has
     /// more. Where that call answered false or an error, no promise is made of these bytes.
     pub fn line(&self) -> &[u8]
         ensures { result.now ≡ found_line self.now }
@@ -105,7 +101,7 @@ impl LineReader {
             (0 < length (ahead self.new))
             ((self.new.start ≡ self.new.end) × IsAtEnd (R.remaining reader.new.inner))) }
         ensures given { OnOk result (reader.new.given ≡ reader.old.given + length (ahead self.new)) }
-        ensures bound { 0 < length (ahead self.new) → reader.new.given ≤ 2 ^ 62 + 65536 }
+        ensures bound { 0 < length (ahead self.new) → reader.new.given ≤ MOST_GIVEN_BYTES + BUFFER_BYTES }
         ensures ok { OnOk result (reader.new.errors ≡ reader.old.errors) }
         ensures err { IfErr result (λ f. (f ≡ ReadFault.Read)
             × (reader.new.errors ≡ raised reader.old.errors)) }
@@ -124,7 +120,7 @@ impl LineReader {
 
     /// Reads ahead if nothing is ahead. False at the end of what the reader gives.
     fn look_ahead<R: Read>(&mut self, reader: &mut Counted<R>) -> Result<bool, ReadFault>
-        requires { 0 < length (ahead self.old) → reader.old.given ≤ 2 ^ 62 + 65536 }
+        requires { 0 < length (ahead self.old) → reader.old.given ≤ MOST_GIVEN_BYTES + BUFFER_BYTES }
         ensures bytes { OnOk result (Keeps
             (prepend_known (ahead self.old) (R.remaining reader.old.inner))
             (prepend_known (ahead self.new) (R.remaining reader.new.inner))) }
@@ -134,7 +130,7 @@ impl LineReader {
             × (reader.new.given ≡ reader.old.given))) }
         ensures given { OnOk result (reader.new.given + length (ahead self.old)
             ≡ reader.old.given + length (ahead self.new)) }
-        ensures bound { 0 < length (ahead self.new) → reader.new.given ≤ 2 ^ 62 + 65536 }
+        ensures bound { 0 < length (ahead self.new) → reader.new.given ≤ MOST_GIVEN_BYTES + BUFFER_BYTES }
         ensures ok { OnOk result (reader.new.errors ≡ reader.old.errors) }
         ensures err { IfErr result (λ f. (f ≡ ReadFault.Read)
             × (reader.new.errors ≡ raised reader.old.errors)) }
@@ -151,27 +147,27 @@ impl LineReader {
     }
 
     #[tactic(auto, using(crate::proofs::Pieces::keep_piece))]
-    /// Keeps the next n bytes ahead behind what is kept, up to 4,097 in all.
+    /// Keeps the next n bytes ahead behind what is kept, up to `KEPT_BYTES` in all.
     fn keep(&mut self, n: usize) -> Result<(), AllocError>
         requires { n ≤ length (ahead self.old) }
         ensures kept { OnOk result (self.new.kept.items
-            ≡ take 4097 (self.old.kept.items ++ take n (ahead self.old))) }
+            ≡ take KEPT_BYTES (self.old.kept.items ++ take n (ahead self.old))) }
         ensures ahead { ahead self.new ≡ ahead self.old }
         ensures start { self.new.start ≡ self.old.start }
         ensures end { self.new.end ≡ self.old.end }
         ensures is_kept { self.new.is_kept ≡ self.old.is_kept }
     {
-        let more = n.min(KEPT_LEN - self.kept.len());
+        let more = n.min(KEPT_BYTES - self.kept.len());
         self.kept
             .extend_from_slice(&self.buffer[self.start..self.start + more])?;
         Ok(())
     }
 
     #[tactic(auto, using(crate::proofs::Pieces::line_start))]
-    /// Takes the rest of the line, and keeps it behind what is kept, up to 4,097 bytes in all.
+    /// Takes the rest of the line, and keeps it behind what is kept, up to `KEPT_BYTES` in all.
     fn rest_of_line<R: Read>(&mut self, reader: &mut Counted<R>) -> Result<(), ReadFault>
         requires some { 0 < length (ahead self.old) }
-        requires given { reader.old.given ≤ 2 ^ 62 + 65536 }
+        requires given { reader.old.given ≤ MOST_GIVEN_BYTES + BUFFER_BYTES }
         ensures line { OnOk result (TookLine
             (prepend_known (ahead self.old) (R.remaining reader.old.inner))
             (prepend_known (ahead self.new) (R.remaining reader.new.inner))
@@ -181,8 +177,8 @@ impl LineReader {
             → reader.new.errors ≡ reader.old.errors }
         ensures forward { OnOk result (
             (reader.old.given + length (ahead self.new) < reader.new.given + length (ahead self.old))
-            × (reader.new.given ≤ 2 ^ 62 + 65536)) }
-        ensures bound { 0 < length (ahead self.new) → reader.new.given ≤ 2 ^ 62 + 65536 }
+            × (reader.new.given ≤ MOST_GIVEN_BYTES + BUFFER_BYTES)) }
+        ensures bound { 0 < length (ahead self.new) → reader.new.given ≤ MOST_GIVEN_BYTES + BUFFER_BYTES }
         ensures is_kept { self.new.is_kept ≡ self.old.is_kept }
     {
         'pieces: loop {
@@ -201,10 +197,11 @@ impl LineReader {
 
     /// Finds the next line, and takes it. False at the end of what the reader gives.
     ///
-    /// `Read` comes only where the reader answered an error, or had given 2^62 bytes. After an
-    /// error the part of a line that was read is gone, and a further call may be made.
+    /// `Read` comes only where the reader answered an error, or had given
+    /// `MOST_GIVEN_BYTES`. After an error the part of a line that was read is gone, and a further call
+    /// may be made.
     pub fn next_line<R: Read>(&mut self, reader: &mut Counted<R>) -> Result<bool, ReadFault>
-        requires { 0 < length (ahead self.old) → reader.old.given ≤ 2 ^ 62 + 65536 }
+        requires { 0 < length (ahead self.old) → reader.old.given ≤ MOST_GIVEN_BYTES + BUFFER_BYTES }
         // What is still to come is what is ahead, and then what the reader has left.
         ensures line { IfOk result (λ found. MatchBool found
             (TookLine (prepend_known (ahead self.old) (R.remaining reader.old.inner))
@@ -219,10 +216,10 @@ impl LineReader {
         // A line has a byte at least, so a loop over the lines ends.
         ensures given { IfOk result (λ found. MatchBool found
             ((reader.old.given + length (ahead self.new) < reader.new.given + length (ahead self.old))
-            × (reader.new.given ≤ 2 ^ 62 + 65536))
+            × (reader.new.given ≤ MOST_GIVEN_BYTES + BUFFER_BYTES))
             (reader.new.given ≡ reader.old.given)) }
         // What a further call requires holds after an error too.
-        ensures bound { 0 < length (ahead self.new) → reader.new.given ≤ 2 ^ 62 + 65536 }
+        ensures bound { 0 < length (ahead self.new) → reader.new.given ≤ MOST_GIVEN_BYTES + BUFFER_BYTES }
         // Where a whole line was read ahead, the reader isn't asked.
         ensures unread { HasLine (ahead self.old) → reader.new ≡ reader.old }
     {
@@ -232,7 +229,7 @@ impl LineReader {
         if let Some(n) = self.first_feed() {
             self.is_kept = false;
             self.line_start = self.start;
-            self.line_end = self.start + n.min(KEPT_LEN);
+            self.line_end = self.start + n.min(KEPT_BYTES);
             self.start += n + 1;
             return Ok(true);
         }

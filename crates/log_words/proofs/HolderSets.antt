@@ -1,12 +1,12 @@
 -- The order of users with a kind on a table, and who is in a set of them.
-use Rattle.std.proofs.Common.{◌≡◌, ℕ, ◌&&◌, ◌||◌, Bool, true, false, cond, eqb, ltb, refl, sym, ◌∙◌, ap, arith, inl, inr}
+use Rattle.std.proofs.Common.{◌≡◌, ℕ, ◌&&◌, ◌||◌, Bool, true, false, cond, eqb, ltb, refl, sym, ◌∙◌, ap, arith}
 use Rattle.std.specs.Prelude.{◌==◌}
 use Rattle.std.specs.BTreeMap.{is_at}
 use Rattle.std.specs.BTreeSet.{BTreeSet, contains}
 use Rattle.std.specs.Ordering.{is_eq, nat_cmp, ordering_then}
 use Rattle.std.specs.declared.cmp.Ordering.{Ordering}
 use Rattle.std.specs.declared.cmp.Ordering.TheVariants.{Less, Equal, Greater}
-use Rattle.std.proofs.lemmas.Bool.{and_parts, cases_Bool, eqb-true}
+use Rattle.std.proofs.lemmas.Bool.{and_parts, eqb-true}
 use Rattle.std.proofs.lemmas.Bool.Decides.{nat_tests}
 use Rattle.model_base.specs.declared.deed.Grant.{Grant}
 use Rattle.model_base.specs.declared.deed.Kind.{Kind}
@@ -14,10 +14,9 @@ use Rattle.model_base.specs.declared.deed.Kind.TheVariants.{Read, Insert, Update
 use Rattle.model_base.specs.Privileges.{same_kind}
 use Rattle.grants.specs.Index.{is_by, is_to}
 use Rattle.log_words.specs.declared.holders.Holder.{Holder}
-use Rattle.log_words.specs.Holders.{grantee_of, grantor_of, holder_cmp, holder_of, kind_code, same_holder}
-
-pub by_cases : {G : Type 0} (test : Bool) → (test ≡ true → G) → (test ≡ false → G) → G
-by_cases test passes fails = elim (cases_Bool test) [ inl e ↦ passes e | inr e ↦ fails e ]
+use Rattle.log_words.specs.Holders.{grantee_holder, grantor_of, holder_cmp, holder_of, same_holder}
+use Rattle.grants.specs.Sides.{kind_code}
+use Rattle.model_base.proofs.Replay.{by_cases}
 
 is_eq-nat_cmp : (x y : ℕ) → is_eq (nat_cmp x y) ≡ eqb x y
 is_eq-nat_cmp x y =
@@ -98,7 +97,7 @@ same_user user other kind kind' table table' =
     ∙ ap (λ b. (user == other) && b) (and-turned (same_kind kind kind') (table == table') ∙ ap (λ b. (table == table') && b) (same_kind-code kind kind'))
 
 -- a grant is to a user, of a kind on a table, if its grantee is that
-pub to-holder : (user : ℕ) (kind : Kind) (table : ℕ) (grant : Grant) → is_to user kind table grant ≡ same_holder (holder_of user kind table) (grantee_of grant)
+pub to-holder : (user : ℕ) (kind : Kind) (table : ℕ) (grant : Grant) → is_to user kind table grant ≡ same_holder (holder_of user kind table) (grantee_holder grant)
 to-holder user kind table grant = same_user user grant.grantee kind grant.kind table grant.table
 
 -- and by a user, if its grantor is

@@ -2,7 +2,7 @@
 use Rattle.std.proofs.Common.{◌≡◌, ℕ, zero, suc, ◌+◌, ◌<◌, ◌||◌, not, Bool, true, false, List, [], ◌∷◌, ◌++◌, length, get_or, replicate, refl, sym, ◌∙◌, ap, arith, inl, inr}
 use Rattle.std.specs.Prelude.{◌==◌, is_none, is_some, Option, Some, None, slice_get}
 use Rattle.std.specs.Option.{option_map_or}
-use Rattle.std.proofs.lemmas.Bool.{and_from, and_parts, cases_Bool, cases_lt, eq-eqb, eqb-true, or_right, true≢false}
+use Rattle.std.proofs.lemmas.Bool.{and_from, and_parts, cases_lt, eq-eqb, eqb-true, or_right, true≢false}
 use Rattle.std.proofs.lemmas.List.{get_or_append_left, get_or_push, length-append, length_push}
 use Rattle.model_base.specs.declared.deed.Deed.{Deed}
 use Rattle.model_base.specs.declared.deed.Revocation.{Revocation}
@@ -12,17 +12,15 @@ use Rattle.model_base.specs.Outcomes.{deed_of}
 use Rattle.model_base.specs.Privileges.{concerns, gives, names, option_of, same_kind}
 use Rattle.grants.specs.Index.{is_to}
 use Rattle.bohm_core_base.specs.declared.event.Event.{Event}
-use Rattle.bohm_core_base.specs.Batch.{Batch, IsSound, slots_of, words_by}
+use Rattle.bohm_core_base.specs.Batch.{Batch, IsSoundBatch, batch_slots, words_by}
 use Rattle.bohm_core_base.specs.Cascades.{EndsByCascade}
 use Rattle.bohm_core_base.specs.Machine.{end_of, own_of, reach, start}
-use Rattle.bohm_core_base.specs.Serial.{records_in, rows_at, serial_ends, serial_words, whole_end, world_before}
+use Rattle.bohm_core_base.specs.Serial.{records_in, rows_at, serial_ends, serial_words, whole_end, batch_world_before}
 use Rattle.log_batch.specs.Supplied.{Ranged, batch_in}
-use Rattle.words.specs.Layout.{IsListed, slot_at}
+use Rattle.words.specs.Layout.{IsListed, listed_slot_at}
 use Rattle.words.specs.Views.{In}
 use Rattle.log_words.specs.Listing.{is_against, is_lent, is_open, is_reached, is_revoked, lends, listed_below, listed_slots}
-
-by_cases : {G : Type 0} (test : Bool) → (test ≡ true → G) → (test ≡ false → G) → G
-by_cases test passes fails = elim (cases_Bool test) [ inl e ↦ passes e | inr e ↦ fails e ]
+use Rattle.model_base.proofs.Replay.{by_cases}
 
 in_front : (x : ℕ) (l m : List ℕ) → In x l → In x (l ++ m)
 in_front x [] m has = absurd has
@@ -143,28 +141,28 @@ module _ (b : Batch) where
       ]
 
   -- a listed slot lends what its grant gives
-  lent-in : (l : List ℕ) (slot : ℕ) (giver grant : Grant) → In slot l → slice_get (slots_of b) slot ≡ Some giver → lends giver grant ≡ true → is_lent b l grant ≡ true
+  lent-in : (l : List ℕ) (slot : ℕ) (giver grant : Grant) → In slot l → slice_get (batch_slots b) slot ≡ Some giver → lends giver grant ≡ true → is_lent b l grant ≡ true
   lent-in [] slot giver grant has at lent = absurd has
   lent-in (first ∷ l) slot giver grant has at lent =
       elim has [
         | inl here ↦
-            let test : ℕ → Bool = λ k. option_map_or (λ (g : Grant). lends g grant) (slice_get (slots_of b) k) false in
+            let test : ℕ → Bool = λ k. option_map_or (λ (g : Grant). lends g grant) (slice_get (batch_slots b) k) false in
             let passes : test first ≡ true = ap test (sym here) ∙ ap (λ found. option_map_or (λ (g : Grant). lends g grant) found false) at ∙ lent in
             rw passes refl
         | inr later ↦ or_right _ (is_lent b l grant) (lent-in l slot giver grant later at lent)
       ]
 
-  module _ (sound : IsSound b)
-      (ender : (batch : Batch) (events : List Event) (slot index : ℕ) → IsSound batch → end_of (reach batch events) slot ≡ Some (batch.first + index)
+  module _ (sound : IsSoundBatch b)
+      (ender : (batch : Batch) (events : List Event) (slot index : ℕ) → IsSoundBatch batch → end_of (reach batch events) slot ≡ Some (batch.first + index)
       → own_of (reach batch events) index ≡ serial_words batch index)
-      (ended : (batch : Batch) (events : List Event) (slot end : ℕ) → IsSound batch → end_of (reach batch events) slot ≡ Some end → whole_end batch slot ≡ Some end)
-      (cascades : (batch : Batch) (index slot : ℕ) → IsSound batch → slot < length (slots_of batch) → serial_ends batch index slot ≡ true → EndsByCascade batch index slot) where
+      (ended : (batch : Batch) (events : List Event) (slot end : ℕ) → IsSoundBatch batch → end_of (reach batch events) slot ≡ Some end → whole_end batch slot ≡ Some end)
+      (cascades : (batch : Batch) (index slot : ℕ) → IsSoundBatch batch → slot < length (batch_slots batch) → serial_ends batch index slot ≡ true → EndsByCascade batch index slot) where
     -- a place has a word
     serial-some : (n : ℕ) → 0 < length (serial_words b n)
     unfolding serial_words words_by
     serial-some n =
-        let rows = rows_at (b.accesses n) (world_before b n).rows in
-        let entries = records_in b n (world_before b n) in
+        let rows = rows_at (b.accesses n) (batch_world_before b n).rows in
+        let entries = records_in b n (batch_world_before b n) in
         let some = sound.outcome n in
         let wide = sound.header n rows entries in
         rw (length-append (b.answer n rows entries).header _) (omega arith)
@@ -192,7 +190,7 @@ module _ (b : Batch) where
             absurd (omega arith)
 
     -- every record that the serial run ends in the batch may be reached
-    ended-reached : (n index slot : ℕ) → slot < n → slot < length (slots_of b) → serial_ends b index slot ≡ true
+    ended-reached : (n index slot : ℕ) → slot < n → slot < length (batch_slots b) → serial_ends b index slot ≡ true
         → is_reached b (listed_below b slot) slot ≡ true
     ended-reached zero index slot below within ends = absurd (omega arith)
     ended-reached (suc n) index slot below within ends =
@@ -213,16 +211,16 @@ module _ (b : Batch) where
         and_from (is_open b slot) _ (unended index slot ends) (ap (λ found. option_map_or test found false) by.at ∙ passes)
 
     -- so it is listed
-    ended-listed : (index slot : ℕ) → slot < length (slots_of b) → serial_ends b index slot ≡ true → In slot (listed_slots b)
+    ended-listed : (index slot : ℕ) → slot < length (batch_slots b) → serial_ends b index slot ≡ true → In slot (listed_slots b)
     ended-listed index slot within ends =
-        listed-all (length (slots_of b)) slot within (ended-reached (suc slot) index slot (omega arith) within ends)
+        listed-all (length (batch_slots b)) slot within (ended-reached (suc slot) index slot (omega arith) within ends)
 
     -- so they may have the words of the batch's ends
     pub listed-right : IsListed b (listed_slots b)
     listed-right =
-        let good = good-below (length (slots_of b)) in record {
+        let good = good-below (length (batch_slots b)) in record {
           within = good.below;
-          unended = λ r has. is-none (end_of (start b) (slot_at (listed_slots b) r)) (good.endless r has);
+          unended = λ r has. is-none (end_of (start b) (listed_slot_at (listed_slots b) r)) (good.endless r has);
           apart = good.apart;
           every = ended-listed;
         }

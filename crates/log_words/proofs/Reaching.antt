@@ -13,14 +13,17 @@ use Rattle.std.proofs.lemmas.List.Folds.{list_any-append}
 use Rattle.model_base.specs.declared.deed.Grant.{Grant}
 use Rattle.model_base.specs.declared.deed.Kind.{Kind}
 use Rattle.grants.specs.Index.{IsNext, is_by, is_to, passes_at}
-use Rattle.bohm_core_base.specs.Batch.{Batch, slots_of}
+use Rattle.bohm_core_base.specs.Batch.{Batch, batch_slots}
 use Rattle.log_batch.specs.Earlier.{earlier_count, earlier_grants}
 use Rattle.log_words.specs.declared.holders.Holders.{Holders}
 use Rattle.log_words.specs.declared.reach.Reach.{Reach}
-use Rattle.log_words.specs.Holders.{grantee_of, grantor_of, has_holder, holder_of, same_holder}
+use Rattle.log_words.specs.Holders.{grantee_holder, grantor_of, has_holder, holder_of, same_holder}
 use Rattle.log_words.specs.Listing.{is_against, is_lent, is_open, is_reached, is_revoked, lends, listed_below}
-use Rattle.log_words.specs.Reach.{Adds, AreSeeds, IsDue, IsReach, is_one_of}
-use Rattle.log_words.proofs.HolderSets.{by-holder, by_cases, same_holder-true, to-holder}
+use Rattle.log_words.specs.Reach.{Adds, AreSeeds, IsDue, IsReach}
+use Rattle.grants.specs.Pass.{is_one_of}
+use Rattle.log_words.proofs.HolderSets.{by-holder, same_holder-true, to-holder}
+use Rattle.grants.proofs.Worklist.{nothing}
+use Rattle.model_base.proofs.Replay.{by_cases}
 
 -- a set of numbers, and one with a number more
 is_at-same : (slot key : ℕ) → is_at (nat_cmp slot) key ≡ (key == slot)
@@ -79,11 +82,6 @@ or_turned true false = refl
 or_turned false true = refl
 or_turned false false = refl
 
--- nothing is found
-pub nothing : {X : Type 0} (found : Option X) → ((x : X) → found ≡ Some x → ⊥) → found ≡ None
-nothing None never = refl
-nothing (Some x) never = absurd (never x refl)
-
 -- nothing is due
 pub none-due : (due : List ℕ) → (0 < length due → ⊥) → (j : ℕ) → is_one_of due j ≡ false
 none-due [] empty j = refl
@@ -95,15 +93,15 @@ not_new is_new true is none = refl
 not_new is_new false is none = absurd (true≢false (sym is ∙ none))
 
 module _ (b : Batch) where
-  passes-earlier : (passes : Grant → Bool) (j : ℕ) → j < earlier_count b → passes_at passes (earlier_grants b) j ≡ passes_at passes (slots_of b) j
-  passes-earlier passes j less = ap (λ found. option_map_or passes found false) (take_at (slots_of b) (earlier_count b) j less)
+  passes-earlier : (passes : Grant → Bool) (j : ℕ) → j < earlier_count b → passes_at passes (earlier_grants b) j ≡ passes_at passes (batch_slots b) j
+  passes-earlier passes j less = ap (λ found. option_map_or passes found false) (take_at (batch_slots b) (earlier_count b) j less)
 
   -- what is found stands before the batch
   pub found-earlier : (passes : Grant → Bool) (j : ℕ) → passes_at passes (earlier_grants b) j ≡ true → j < earlier_count b
   found-earlier passes j found =
       elim (cases_lt j (earlier_count b)) [
         | inl less ↦ less
-        | inr over ↦ absurd (true≢false (sym found ∙ ap (λ grant. option_map_or passes grant false) (take_past (slots_of b) (earlier_count b) j over)))
+        | inr over ↦ absurd (true≢false (sym found ∙ ap (λ grant. option_map_or passes grant false) (take_past (batch_slots b) (earlier_count b) j over)))
       ]
 
   module _ (passes : Grant → Bool) (start : ℕ) (old : List ℕ) where
@@ -137,7 +135,7 @@ module _ (b : Batch) where
                   omega arith,
                   omega arith,
                   ap (is_open b) (sym same) ∙ parts.0,
-                  ap (passes_at passes (slots_of b)) (sym same) ∙ sym (passes-earlier passes slot here) ∙ next.1,
+                  ap (passes_at passes (batch_slots b)) (sym same) ∙ sym (passes-earlier passes slot here) ∙ next.1,
                 )
             | inr before ↦ so_far.only j before
           ];
@@ -164,11 +162,11 @@ module _ (b : Batch) where
     }
 
   -- at first nobody is revoked from and nothing is due
-  pub seeds-none : (revoked : Holders) (due : List ℕ) → ((grant : Grant) → has_holder revoked (grantee_of grant) ≡ false) → due ≡ []
+  pub seeds-none : (revoked : Holders) (due : List ℕ) → ((grant : Grant) → has_holder revoked (grantee_holder grant) ≡ false) → due ≡ []
       → AreSeeds b 0 revoked due
   seeds-none revoked due nobody nothing = record {
     holders = nobody;
-    all = λ j less open_j is. absurd (true≢false (sym is ∙ never (slice_get (slots_of b) j)));
+    all = λ j less open_j is. absurd (true≢false (sym is ∙ never (slice_get (batch_slots b) j)));
     only = λ j is. absurd (true≢false (sym is ∙ ap (λ l. is_one_of l j) nothing));
   }
     where
@@ -182,8 +180,8 @@ module _ (b : Batch) where
         → AreSeeds b (suc index) revoked due
     seeds-same revoked due none seeds = record {
       holders = λ grant. seeds.holders grant ∙ sym (same grant);
-      all = λ j less open_j is. seeds.all j less open_j (sym (at (slice_get (slots_of b) j)) ∙ is);
-      only = λ j is. (let was = seeds.only j is in (was.0, was.1, at (slice_get (slots_of b) j) ∙ was.2));
+      all = λ j less open_j is. seeds.all j less open_j (sym (at (slice_get (batch_slots b) j)) ∙ is);
+      only = λ j is. (let was = seeds.only j is in (was.0, was.1, at (slice_get (batch_slots b) j) ∙ was.2));
     }
       where
         same : (grant : Grant) → is_revoked b (suc index) grant ≡ is_revoked b index grant
@@ -196,20 +194,20 @@ module _ (b : Batch) where
     module _ (user : ℕ) (kind : Kind) (table : ℕ) (against : (grant : Grant) → is_against (b.deed index) grant ≡ is_to user kind table grant) where
       -- a revocation against one against whom there was one before
       pub seeds-again : (old new : Holders) (due : List ℕ) → has_holder old (holder_of user kind table) ≡ true
-          → ((grant : Grant) → has_holder new (grantee_of grant) ≡ (same_holder (holder_of user kind table) (grantee_of grant) || has_holder old (grantee_of grant)))
+          → ((grant : Grant) → has_holder new (grantee_holder grant) ≡ (same_holder (holder_of user kind table) (grantee_holder grant) || has_holder old (grantee_holder grant)))
           → AreSeeds b index old due → AreSeeds b (suc index) new due
       seeds-again old new due was put seeds = record {
-        holders = λ grant. put grant ∙ ap (λ x. x || has_holder old (grantee_of grant)) (sym (against grant ∙ to-holder user kind table grant))
+        holders = λ grant. put grant ∙ ap (λ x. x || has_holder old (grantee_holder grant)) (sym (against grant ∙ to-holder user kind table grant))
             ∙ ap (λ x. is_against (b.deed index) grant || x) (seeds.holders grant);
-        all = λ j less open_j is. seeds.all j less open_j (sym (at (slice_get (slots_of b) j)) ∙ is);
-        only = λ j is. (let before = seeds.only j is in (before.0, before.1, at (slice_get (slots_of b) j) ∙ before.2));
+        all = λ j less open_j is. seeds.all j less open_j (sym (at (slice_get (batch_slots b) j)) ∙ is);
+        only = λ j is. (let before = seeds.only j is in (before.0, before.1, at (slice_get (batch_slots b) j) ∙ before.2));
       }
         where
           same : (grant : Grant) → is_revoked b (suc index) grant ≡ is_revoked b index grant
           same grant =
               by_cases (is_against (b.deed index) grant)
               (λ yes.
-              let here = same_holder-true (holder_of user kind table) (grantee_of grant) (sym (against grant ∙ to-holder user kind table grant) ∙ yes) in
+              let here = same_holder-true (holder_of user kind table) (grantee_holder grant) (sym (against grant ∙ to-holder user kind table grant) ∙ yes) in
               let revoked : is_revoked b index grant ≡ true = sym (seeds.holders grant) ∙ ap (has_holder old) (sym here) ∙ was in
               rw (yes, revoked) refl)
               (λ no. rw no refl)
@@ -220,18 +218,18 @@ module _ (b : Batch) where
 
       -- and against one against whom there was none
       pub seeds-more : (old new : Holders) (due more : List ℕ)
-          → ((grant : Grant) → has_holder new (grantee_of grant) ≡ (same_holder (holder_of user kind table) (grantee_of grant) || has_holder old (grantee_of grant)))
+          → ((grant : Grant) → has_holder new (grantee_holder grant) ≡ (same_holder (holder_of user kind table) (grantee_holder grant) || has_holder old (grantee_holder grant)))
           → Adds b (is_to user kind table) 0 (earlier_count b) due more → AreSeeds b index old due → AreSeeds b (suc index) new more
       seeds-more old new due more put adds seeds = record {
-        holders = λ grant. put grant ∙ ap (λ x. x || has_holder old (grantee_of grant)) (sym (against grant ∙ to-holder user kind table grant))
+        holders = λ grant. put grant ∙ ap (λ x. x || has_holder old (grantee_holder grant)) (sym (against grant ∙ to-holder user kind table grant))
             ∙ ap (λ x. is_against (b.deed index) grant || x) (seeds.holders grant);
-        all = λ j less open_j is. elim (parts (slice_get (slots_of b) j) is) [
+        all = λ j less open_j is. elim (parts (slice_get (batch_slots b) j) is) [
           | inl now ↦ adds.found j (omega arith) less open_j now
           | inr before ↦ adds.kept j (seeds.all j less open_j before)
         ];
         only = λ j is. elim (adds.only j is) [
-          | inl was ↦ (let before = seeds.only j was in (before.0, before.1, later (slice_get (slots_of b) j) before.2))
-          | inr now ↦ (now.1, now.2, first (slice_get (slots_of b) j) now.3)
+          | inl was ↦ (let before = seeds.only j was in (before.0, before.1, later (slice_get (batch_slots b) j) before.2))
+          | inr now ↦ (now.1, now.2, first (slice_get (batch_slots b) j) now.3)
         ];
       }
         where
@@ -260,8 +258,8 @@ module _ (b : Batch) where
   pub due-first : (revoked : Holders) (listed due : List ℕ) → listed ≡ [] → AreSeeds b b.size revoked due → IsDue b 0 listed due
   due-first revoked listed due none seeds = record {
     all = λ j low less is.
-        (let parts = and_parts (is_open b j) _ is in seeds.all j less parts.0 (sym (at (slice_get (slots_of b) j)) ∙ parts.1));
-    only = λ j is. (let was = seeds.only j is in (omega arith, was.0, and_from (is_open b j) _ was.1 (at (slice_get (slots_of b) j) ∙ was.2)));
+        (let parts = and_parts (is_open b j) _ is in seeds.all j less parts.0 (sym (at (slice_get (batch_slots b) j)) ∙ parts.1));
+    only = λ j is. (let was = seeds.only j is in (omega arith, was.0, and_from (is_open b j) _ was.1 (at (slice_get (batch_slots b) j) ∙ was.2)));
   }
     where
       at : (found : Option Grant) → option_map_or (why listed) found false ≡ option_map_or (is_revoked b b.size) found false
@@ -269,7 +267,7 @@ module _ (b : Batch) where
       at (Some grant) = ap (λ l. is_revoked b b.size grant || is_lent b l grant) none ∙ or_none (is_revoked b b.size grant)
 
   pub reach-first : (reach : Reach) → reach.slots.items ≡ [] → ((grant : Grant) → has_holder reach.lent (grantor_of grant) ≡ false)
-      → ((grant : Grant) → has_holder reach.revoked (grantee_of grant) ≡ is_revoked b b.size grant) → IsReach b 0 reach
+      → ((grant : Grant) → has_holder reach.revoked (grantee_holder grant) ≡ is_revoked b b.size grant) → IsReach b 0 reach
   reach-first reach none nobody revoked = record {
     slots = none;
     lent = λ grant. nobody grant ∙ sym (ap (λ l. is_lent b l grant) none);
@@ -339,10 +337,10 @@ module _ (b : Batch) where
       }
 
   -- one slot more that is reached
-  module _ (slot : ℕ) (grant : Grant) (at : slice_get (slots_of b) slot ≡ Some grant) where
+  module _ (slot : ℕ) (grant : Grant) (at : slice_get (batch_slots b) slot ≡ Some grant) where
     lent-more : (listed : List ℕ) (other : Grant) → is_lent b (listed ++ slot ∷ []) other ≡ (lends grant other || is_lent b listed other)
     lent-more listed other =
-        let test : ℕ → Bool = λ k. option_map_or (λ (giver : Grant). lends giver other) (slice_get (slots_of b) k) false in
+        let test : ℕ → Bool = λ k. option_map_or (λ (giver : Grant). lends giver other) (slice_get (batch_slots b) k) false in
         let here : test slot ≡ lends grant other = ap (λ found. option_map_or (λ (giver : Grant). lends giver other) found false) at in
         list_any-append test listed (slot ∷ [])
         ∙ ap (λ x. list_any test listed || x) (or_none (test slot) ∙ here)
@@ -351,7 +349,7 @@ module _ (b : Batch) where
     reached-more : (listed : List ℕ) (j : ℕ) → is_reached b listed j ≡ true → is_reached b (listed ++ slot ∷ []) j ≡ true
     reached-more listed j is =
         let parts = and_parts (is_open b j) _ is in
-        and_from (is_open b j) _ parts.0 (by_found (slice_get (slots_of b) j) parts.1)
+        and_from (is_open b j) _ parts.0 (by_found (slice_get (batch_slots b) j) parts.1)
       where
         by_found : (found : Option Grant) → option_map_or (why listed) found false ≡ true → option_map_or (why (listed ++ slot ∷ [])) found false ≡ true
         by_found None is = is
@@ -364,7 +362,7 @@ module _ (b : Batch) where
     pub reach-more : (old new : Reach) → is_reached b old.slots.items slot ≡ true → IsReach b slot old
         → new.slots.items ≡ old.slots.items ++ slot ∷ []
         → ((other : Grant) → has_holder new.lent (grantor_of other) ≡ (lends grant other || has_holder old.lent (grantor_of other)))
-        → ((other : Grant) → has_holder new.revoked (grantee_of other) ≡ has_holder old.revoked (grantee_of other))
+        → ((other : Grant) → has_holder new.revoked (grantee_holder other) ≡ has_holder old.revoked (grantee_holder other))
         → IsReach b (suc slot) new
     reach-more old new reached was slots lent revoked = record {
       slots =
@@ -390,13 +388,13 @@ module _ (b : Batch) where
     due-more next listed rest more adds option state = record {
       all = λ j from less is.
           (let parts = and_parts (is_open b j) _ is in
-          elim (by_found (slice_get (slots_of b) j) parts.1) [
+          elim (by_found (slice_get (batch_slots b) j) parts.1) [
             | inl before ↦ adds.kept j (state.all j from less (and_from (is_open b j) _ parts.0 before))
             | inr now ↦ adds.found j from less parts.0 now
           ]);
       only = λ j is. elim (adds.only j is) [
         | inl was ↦ (let before = state.only j was in (before.0, before.1, reached-more listed j before.2))
-        | inr now ↦ (now.0, now.1, and_from (is_open b j) _ now.2 (lent-by (slice_get (slots_of b) j) now.3))
+        | inr now ↦ (now.0, now.1, and_from (is_open b j) _ now.2 (lent-by (slice_get (batch_slots b) j) now.3))
       ];
     }
       where
@@ -420,11 +418,11 @@ module _ (b : Batch) where
 
     -- none are due by it, if it gives nobody the option who didn't have it
     pub due-same : (reach : Reach) (next : ℕ) (rest : List ℕ) → ((other : Grant) → has_holder reach.lent (grantor_of other) ≡ is_lent b reach.slots.items other)
-        → (grant.option && not (has_holder reach.lent (grantee_of grant))) ≡ false
+        → (grant.option && not (has_holder reach.lent (grantee_holder grant))) ≡ false
         → IsDue b next reach.slots.items rest → IsDue b next (reach.slots.items ++ slot ∷ []) rest
     due-same reach next rest lent old state = record {
       all = λ j from less is.
-          (let parts = and_parts (is_open b j) _ is in state.all j from less (and_from (is_open b j) _ parts.0 (by_found (slice_get (slots_of b) j) parts.1)));
+          (let parts = and_parts (is_open b j) _ is in state.all j from less (and_from (is_open b j) _ parts.0 (by_found (slice_get (batch_slots b) j) parts.1)));
       only = λ j is. (let before = state.only j is in (before.0, before.1, reached-more reach.slots.items j before.2));
     }
       where
@@ -442,7 +440,7 @@ module _ (b : Batch) where
                   (elim (or_cases (lends grant other) (is_lent b reach.slots.items other) (sym (lent-more reach.slots.items other) ∙ lent')) [
                     | inl now ↦
                         let both = and_parts grant.option _ now in
-                        let same = same_holder-true (grantee_of grant) (grantor_of other) (sym (by-holder grant.grantee grant.kind grant.table other) ∙ both.1) in
+                        let same = same_holder-true (grantee_holder grant) (grantor_of other) (sym (by-holder grant.grantee grant.kind grant.table other) ∙ both.1) in
                         sym (lent other) ∙ ap (has_holder reach.lent) (sym same) ∙ had grant.option _ old both.0
                     | inr before ↦ before
                   ])
@@ -451,8 +449,8 @@ module _ (b : Batch) where
     -- whether the slot is reached, by who is in the sets
     pub reached-by : (reach : Reach) (is_none revoked lent : Bool) → is_none ≡ is_open b slot
         → ((other : Grant) → has_holder reach.lent (grantor_of other) ≡ is_lent b reach.slots.items other)
-        → ((other : Grant) → has_holder reach.revoked (grantee_of other) ≡ is_revoked b b.size other)
-        → revoked ≡ has_holder reach.revoked (grantee_of grant) → lent ≡ has_holder reach.lent (grantor_of grant)
+        → ((other : Grant) → has_holder reach.revoked (grantee_holder other) ≡ is_revoked b b.size other)
+        → revoked ≡ has_holder reach.revoked (grantee_holder grant) → lent ≡ has_holder reach.lent (grantor_of grant)
         → (is_none && (revoked || lent)) ≡ is_reached b reach.slots.items slot
     reached-by reach is_none revoked lent none lents revokes by to =
         rw (at, none) (ap (λ x. is_open b slot && x) (ap (λ x. x || lent) (by ∙ revokes grant) ∙ ap (λ x. is_revoked b b.size grant || x) (to ∙ lents grant)))

@@ -5,24 +5,17 @@ use Rattle.std.specs.Ordering.{nat_cmp, ordering_then}
 use Rattle.std.specs.declared.cmp.Ordering.{Ordering}
 use Rattle.model_base.specs.declared.deed.Grant.{Grant}
 use Rattle.model_base.specs.declared.deed.Kind.{Kind}
-use Rattle.model_base.specs.declared.deed.Kind.TheVariants.{Read, Insert, Update, Delete}
 use Rattle.log_words.specs.declared.holders.Holder.{Holder}
 use Rattle.log_words.specs.declared.holders.Holders.{Holders}
-
--- the code of a kind
-abbrev pub kind_code : Kind → ℕ
-kind_code Read = 0
-kind_code Insert = 1
-kind_code Update = 2
-kind_code Delete = 3
+use Rattle.grants.specs.Sides.{kind_code}
 
 -- a user with a kind on a table
 abbrev pub holder_of : ℕ → Kind → ℕ → Holder
 holder_of user kind table = record { user = user; table = table; kind = kind_code kind }
 
 -- whom a grant is to, and by whom it is, with its kind on its table
-abbrev pub grantee_of : Grant → Holder
-grantee_of grant = holder_of grant.grantee grant.kind grant.table
+abbrev pub grantee_holder : Grant → Holder
+grantee_holder grant = holder_of grant.grantee grant.kind grant.table
 
 abbrev pub grantor_of : Grant → Holder
 grantor_of grant = holder_of grant.grantor grant.kind grant.table

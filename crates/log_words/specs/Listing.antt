@@ -10,7 +10,7 @@ use Rattle.model_base.specs.declared.deed.Deed.{Deed}
 use Rattle.model_base.specs.declared.deed.Deed.TheVariants.{Granting, Revoking}
 use Rattle.model_base.specs.declared.deed.Grant.{Grant}
 use Rattle.grants.specs.Index.{is_by, is_to}
-use Rattle.bohm_core_base.specs.Batch.{Batch, slots_of}
+use Rattle.bohm_core_base.specs.Batch.{Batch, batch_slots}
 use Rattle.bohm_core_base.specs.Machine.{end_of, start}
 
 -- whether there is a deed, and it is a revocation of the grant's kind on its table against its grantee
@@ -31,7 +31,7 @@ lends giver grant = giver.option && is_by giver.grantee giver.kind giver.table g
 -- whether the grant of one of these slots does
 abbrev pub is_lent : Batch → List ℕ → Grant → Bool
 is_lent batch slots grant =
-    list_any (λ slot. option_map_or (λ giver. lends giver grant) (slice_get (slots_of batch) slot) false) slots
+    list_any (λ slot. option_map_or (λ giver. lends giver grant) (slice_get (batch_slots batch) slot) false) slots
 
 -- whether the record of a slot has no end before the batch
 abbrev pub is_open : Batch → ℕ → Bool
@@ -41,7 +41,7 @@ is_open batch slot = is_none (end_of (start batch) slot)
 abbrev pub is_reached : Batch → List ℕ → ℕ → Bool
 is_reached batch listed slot =
     is_open batch slot
-    && option_map_or (λ grant. is_revoked batch batch.size grant || is_lent batch listed grant) (slice_get (slots_of batch) slot) false
+    && option_map_or (λ grant. is_revoked batch batch.size grant || is_lent batch listed grant) (slice_get (batch_slots batch) slot) false
 
 -- those of so many slots that the batch may reach, in order
 abbrev pub listed_below : Batch → ℕ → List ℕ
@@ -51,4 +51,4 @@ listed_below batch (suc slot) =
 
 -- all of them
 abbrev pub listed_slots : Batch → List ℕ
-listed_slots batch = listed_below batch (length (slots_of batch))
+listed_slots batch = listed_below batch (length (batch_slots batch))

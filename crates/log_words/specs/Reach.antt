@@ -1,46 +1,45 @@
 -- How far the slots are found that a batch may reach.
-use Rattle.std.specs.Prelude.{◌≡◌, ◌<◌, ◌≤◌, ◌⊎◌, ◌==◌, ℕ, Bool, true, List}
-use Rattle.std.specs.List.{list_any}
+use Rattle.std.specs.Prelude.{◌≡◌, ◌<◌, ◌≤◌, ◌⊎◌, ℕ, Bool, true, List}
 use Rattle.model_base.specs.declared.deed.Grant.{Grant}
 use Rattle.model_base.specs.declared.deed.Kind.{Kind}
 use Rattle.grants.specs.Index.{is_by, is_to, passes_at}
-use Rattle.bohm_core_base.specs.Batch.{Batch, slots_of}
+use Rattle.bohm_core_base.specs.Batch.{Batch, batch_slots}
 use Rattle.log_batch.specs.Earlier.{earlier_count}
 use Rattle.log_words.specs.declared.holders.Holders.{Holders}
 use Rattle.log_words.specs.declared.reach.Party.{Party}
 use Rattle.log_words.specs.declared.reach.Party.TheVariants.{Grantee, Grantor}
 use Rattle.log_words.specs.declared.reach.Reach.{Reach}
-use Rattle.log_words.specs.Holders.{grantee_of, grantor_of, has_holder}
+use Rattle.log_words.specs.Holders.{grantee_holder, grantor_of, has_holder}
 use Rattle.log_words.specs.Listing.{is_lent, is_open, is_reached, is_revoked, listed_below}
-
--- whether the slot is one of these
-abbrev pub is_one_of : List ℕ → ℕ → Bool
-is_one_of slots slot = list_any (λ other. other == slot) slots
+use Rattle.grants.specs.Pass.{is_one_of}
 
 -- whether the grant has the user as this party, and is of the kind on the table
-abbrev pub is_of : Party → ℕ → Kind → ℕ → Grant → Bool
-is_of Grantee = is_to
-is_of Grantor = is_by
+abbrev pub has_party : Party → ℕ → Kind → ℕ → Grant → Bool
+has_party Grantee = is_to
+has_party Grantor = is_by
 
 -- to the slots that are due, some from one on were added, those below another all, that are open and whose grants pass the test
 pub record Adds (batch : Batch) (passes : Grant → Bool) (start end : ℕ) (old new : List ℕ) : Type 0 where
-  pub found : (j : ℕ) → start ≤ j → j < end → is_open batch j ≡ true → passes_at passes (slots_of batch) j ≡ true → is_one_of new j ≡ true
+  pub found : (j : ℕ) → start ≤ j → j < end → is_open batch j ≡ true
+      → passes_at passes (batch_slots batch) j ≡ true → is_one_of new j ≡ true
   pub kept : (j : ℕ) → is_one_of old j ≡ true → is_one_of new j ≡ true
   pub only : (j : ℕ) → is_one_of new j ≡ true
-      → (is_one_of old j ≡ true) ⊎ ((start ≤ j) × (j < earlier_count batch) × (is_open batch j ≡ true) × (passes_at passes (slots_of batch) j ≡ true))
+      → (is_one_of old j ≡ true) ⊎ ((start ≤ j) × (j < earlier_count batch) × (is_open batch j ≡ true)
+      × (passes_at passes (batch_slots batch) j ≡ true))
 
 -- against whom so many places may make revocations, and which slots before the batch are due by them
 pub record AreSeeds (batch : Batch) (count : ℕ) (revoked : Holders) (due : List ℕ) : Type 0 where
-  pub holders : (grant : Grant) → has_holder revoked (grantee_of grant) ≡ is_revoked batch count grant
-  pub all : (j : ℕ) → j < earlier_count batch → is_open batch j ≡ true → passes_at (is_revoked batch count) (slots_of batch) j ≡ true → is_one_of due j ≡ true
+  pub holders : (grant : Grant) → has_holder revoked (grantee_holder grant) ≡ is_revoked batch count grant
+  pub all : (j : ℕ) → j < earlier_count batch → is_open batch j ≡ true
+      → passes_at (is_revoked batch count) (batch_slots batch) j ≡ true → is_one_of due j ≡ true
   pub only : (j : ℕ) → is_one_of due j ≡ true
-      → (j < earlier_count batch) × (is_open batch j ≡ true) × (passes_at (is_revoked batch count) (slots_of batch) j ≡ true)
+      → (j < earlier_count batch) × (is_open batch j ≡ true) × (passes_at (is_revoked batch count) (batch_slots batch) j ≡ true)
 
 -- all slots below one are found that the batch may reach, to whom they give the option, and against whom it has revocations
 pub record IsReach (batch : Batch) (low : ℕ) (reach : Reach) : Type 0 where
   pub slots : reach.slots.items ≡ listed_below batch low
   pub lent : (grant : Grant) → has_holder reach.lent (grantor_of grant) ≡ is_lent batch reach.slots.items grant
-  pub revoked : (grant : Grant) → has_holder reach.revoked (grantee_of grant) ≡ is_revoked batch batch.size grant
+  pub revoked : (grant : Grant) → has_holder reach.revoked (grantee_holder grant) ≡ is_revoked batch batch.size grant
 
 -- from a slot on, those are due that stand before the batch and that it may reach by the slots found so far
 pub record IsDue (batch : Batch) (low : ℕ) (listed due : List ℕ) : Type 0 where

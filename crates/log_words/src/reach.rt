@@ -3,12 +3,13 @@
 ghost use Rattle.std.specs.Prelude.{◌≡◌, ◌<◌, ◌≤◌, ◌+◌, ◌++◌, ◌∷◌, ◌||◌, ◌&&◌, ◌==◌, [], ℕ, suc, not, true, IfOk, OnOk, length, slice_get, Some};
 ghost use Rattle.model_base.specs.declared.deed.Grant.{Grant};
 ghost use Rattle.grants.specs.Index.{IsNext};
-ghost use Rattle.bohm_core_base.specs.Batch.{slots_of};
+ghost use Rattle.bohm_core_base.specs.Batch.{batch_slots};
 ghost use Rattle.log_batch.specs.Earlier.{earlier_count, earlier_grants};
 ghost use Rattle.log_batch.specs.Supplied.{batch_in};
-ghost use Rattle.log_words.specs.Holders.{grantee_of, grantor_of, has_holder};
+ghost use Rattle.log_words.specs.Holders.{grantee_holder, grantor_of, has_holder};
 ghost use Rattle.log_words.specs.Listing.{is_open, is_reached, lends};
-ghost use Rattle.log_words.specs.Reach.{Adds, AreSeeds, IsDue, IsReach, is_of, is_one_of};
+ghost use Rattle.log_words.specs.Reach.{Adds, AreSeeds, IsDue, IsReach, has_party};
+ghost use Rattle.grants.specs.Pass.{is_one_of};
 
 use crate::holders::{Holders, holder_of};
 use log_batch::LogBatch;
@@ -41,7 +42,7 @@ fn next_of(
     table: Table,
     from: usize,
 ) -> Option<usize>
-    ensures { IsNext (is_of party user kind table) (earlier_grants (batch_in batch.now)) from result }
+    ensures { IsNext (has_party party user kind table) (earlier_grants (batch_in batch.now)) from result }
 {
     match party {
         Party::Grantee => batch.earlier_to(user, kind, table, from),
@@ -51,8 +52,9 @@ fn next_of(
 
 /// The slot is due, if its record has no end before the batch.
 fn add_slot(batch: &LogBatch<'_>, slot: usize, due: &mut BTreeSet<usize>) -> Result<(), AllocError>
-    requires { slot < length (slots_of (batch_in batch.now)) }
-    ensures { OnOk result ((j : ℕ) → is_one_of due.new.keys j ≡ ((is_open (batch_in batch.now) slot && (slot == j)) || is_one_of due.old.keys j)) }
+    requires { slot < length (batch_slots (batch_in batch.now)) }
+    ensures { OnOk result ((j : ℕ) → is_one_of due.new.keys j
+        ≡ ((is_open (batch_in batch.now) slot && (slot == j)) || is_one_of due.old.keys j)) }
 {
     let unended = batch.end_at_first(slot).is_none();
     if unended {
@@ -72,7 +74,8 @@ fn add_grants(
     start: usize,
     due: &mut BTreeSet<usize>,
 ) -> Result<(), AllocError>
-    ensures { OnOk result (Adds (batch_in batch.now) (is_of party user kind table) start (earlier_count (batch_in batch.now)) due.old.keys due.new.keys) }
+    ensures { OnOk result (Adds (batch_in batch.now) (has_party party user kind table) start
+        (earlier_count (batch_in batch.now)) due.old.keys due.new.keys) }
 {
     let end = batch.earlier_count();
     let mut from = start;
@@ -130,9 +133,13 @@ impl Reach {
     /// One more slot. Answers whether its grant gives the option to one to whom none of the slots before it did.
     fn take(&mut self, slot: usize, grant: &Grant) -> Result<bool, AllocError>
         ensures slots { OnOk result (self.new.slots.items ≡ self.old.slots.items ++ slot ∷ []) }
-        ensures lent { OnOk result ((other : Grant) → has_holder self.new.lent (grantor_of other) ≡ (lends grant.now other || has_holder self.old.lent (grantor_of other))) }
-        ensures revoked { OnOk result ((holder : Grant) → has_holder self.new.revoked (grantee_of holder) ≡ has_holder self.old.revoked (grantee_of holder)) }
-        ensures was { IfOk result (λ is_new. is_new ≡ (grant.now.option && not (has_holder self.old.lent (grantee_of grant.now)))) }
+        ensures lent { OnOk result ((other : Grant)
+            → has_holder self.new.lent (grantor_of other)
+            ≡ (lends grant.now other || has_holder self.old.lent (grantor_of other))) }
+        ensures revoked { OnOk result ((holder : Grant)
+            → has_holder self.new.revoked (grantee_holder holder)
+            ≡ has_holder self.old.revoked (grantee_holder holder)) }
+        ensures was { IfOk result (λ is_new. is_new ≡ (grant.now.option && not (has_holder self.old.lent (grantee_holder grant.now)))) }
     {
         self.slots.push(slot)?;
         if grant.option {
@@ -192,7 +199,7 @@ impl Reach {
 
     /// A slot of a grant that the batch may make, if it may reach it.
     fn judge_own(&mut self, batch: &LogBatch<'_>, slot: usize) -> Result<(), AllocError>
-        requires within { slot < length (slots_of (batch_in batch.now)) }
+        requires within { slot < length (batch_slots (batch_in batch.now)) }
         requires reach { IsReach (batch_in batch.now) slot self.old }
         ensures { OnOk result (IsReach (batch_in batch.now) (suc slot) self.new) }
     {
@@ -212,7 +219,7 @@ impl Reach {
 
     /// All slots that the batch may reach. An error is want of memory.
     pub(crate) fn of(alloc: Global, batch: &LogBatch<'_>) -> Result<Reach, AllocError>
-        ensures { IfOk result (λ reach. IsReach (batch_in batch.now) (length (slots_of (batch_in batch.now))) reach) }
+        ensures { IfOk result (λ reach. IsReach (batch_in batch.now) (length (batch_slots (batch_in batch.now))) reach) }
     {
         let mut revoked = Holders::new(alloc);
         let mut due = BTreeSet::new(alloc);

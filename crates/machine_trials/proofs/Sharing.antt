@@ -4,8 +4,8 @@ use Rattle.std.specs.Prelude.{Option}
 use Rattle.std.specs.List.{list_all}
 use Rattle.std.proofs.lemmas.Bool.{and_parts, cases_Bool, eqb-true, true≢false}
 use Rattle.bohm_core_base.specs.declared.event.Event.{Event}
-use Rattle.bohm_core_base.specs.Batch.{Batch, slots_of, words_length}
-use Rattle.bohm_core_base.specs.Laws.{IsRight}
+use Rattle.bohm_core_base.specs.Batch.{Batch, batch_slots, words_length}
+use Rattle.bohm_core_base.specs.Laws.{IsSerialPlace}
 use Rattle.bohm_core_base.specs.Machine.{end_of, reach}
 use Rattle.bohm_core_base.specs.Serial.{is_end, serial_ends, whole_end}
 use Rattle.words.specs.declared.view.View.{View}
@@ -23,9 +23,9 @@ serial-from b index slot whole = rw whole (eq-eqb (b.first + index) (b.first + i
 
 -- a slot ended at a done place exactly if the serial run ends it there
 pub ends-serial : (b : Batch) (events : List Event) (index slot : ℕ)
-    → IsRight b (reach b events) index
+    → IsSerialPlace b (reach b events) index
     → ((end : ℕ) → end_of (reach b events) slot ≡ Some end → whole_end b slot ≡ Some end)
-    → slot < length (slots_of b) → is_end (b.first + index) (end_of (reach b events) slot) ≡ serial_ends b index slot
+    → slot < length (batch_slots b) → is_end (b.first + index) (end_of (reach b events) slot) ≡ serial_ends b index slot
 ends-serial b events index slot right ended within = elim (cases_Bool (serial_ends b index slot)) [
   | inl ends ↦ rw (right.ends slot within ends, ends) (eq-eqb (b.first + index) (b.first + index) refl)
   | inr fails ↦ elim (cases_Bool (is_end (b.first + index) (end_of (reach b events) slot))) [

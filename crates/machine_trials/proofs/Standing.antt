@@ -8,7 +8,7 @@ use Rattle.model_base.specs.Outcomes.{deeds_before, owners}
 use Rattle.model_base.specs.Privileges.{has, option_of, owns}
 use Rattle.chains.specs.Store.{versions_between}
 use Rattle.grants.specs.declared.book.Creation.{Creation}
-use Rattle.grants.specs.Book.{Entries, ShowsBook, owners_of, table_of, view_of}
+use Rattle.grants.specs.Book.{Entries, ShowsBook, owners_of, table_of_deed, view_of}
 use Rattle.grants.specs.View.{has_by, holds_in}
 use Rattle.machine_trials.specs.Worked.{BeginsWorked, creating, granted, granting, inserting, version_left}
 
@@ -18,7 +18,7 @@ empty_book book owners no_table no_record = record {
   more = owners;
   begins = sym (ap (λ (tables : List Creation). owners_of tables ++ owners) no_table);
   proper = record {};
-  told = All-nil (λ (deed : Deed). table_of deed < length book.tables);
+  told = All-nil (λ (deed : Deed). table_of_deed deed < length book.tables);
   same = no_record;
 }
 

@@ -4,7 +4,7 @@
 ghost use Rattle.std.specs.Prelude.{◌≡◌, ◌==◌, ◌<◌, ◌≤◌, [], ℕ, IsTrue, length, slice_index_or, suc};
 ghost use Rattle.std.specs.List.{list_all};
 ghost use Rattle.bohm_core_base.specs.declared.hold.Hold.TheVariants.{Done};
-ghost use Rattle.bohm_core_base.specs.Batch.{references, slots_of, words_length};
+ghost use Rattle.bohm_core_base.specs.Batch.{reference_words, batch_slots, words_length};
 ghost use Rattle.bohm_core_base.specs.Machine.{hold_of};
 ghost use Rattle.bohm_core_base.specs.Serial.{serial_ends, serial_words};
 ghost use Rattle.log_batch.specs.Supplied.{batch_in};
@@ -67,7 +67,7 @@ fn serial_own<'a>(machine: &'a Machine<OfLog<'_>>, index: usize) -> &'a [u64]
 fn ends_slot(machine: &Machine<OfLog<'_>>, index: usize, slot: usize) -> bool
     requires within { index < machine.now.statements.size }
     requires done { hold_of machine.now.state index ≡ Done }
-    requires slot { slot < length (slots_of (batch_in machine.now.statements)) }
+    requires slot { slot < length (batch_slots (batch_in machine.now.statements)) }
     ensures { result ≡ serial_ends (batch_in machine.now.statements) index slot }
 {
     done_places_are_serial();
@@ -85,7 +85,7 @@ fn are_base(references: &[usize]) -> bool
 /// Whether a place that the machine has done refers to none of the batch.
 fn refers_to_none(machine: &Machine<OfLog<'_>>, index: usize) -> bool
     requires { hold_of machine.now.state index ≡ Done }
-    ensures { IsTrue result → (other : ℕ) → ¬ (In (suc other) (references (batch_in machine.now.statements) index)) }
+    ensures { IsTrue result → (other : ℕ) → ¬ (In (suc other) (reference_words (batch_in machine.now.statements) index)) }
 {
     done_places_are_serial();
     are_base(machine.state().references(index))
@@ -108,7 +108,7 @@ fn store_words(
     requires same { machine.now.statements ≡ words.now.key.batch }
     requires within { index < words.now.key.batch.size }
     requires done { hold_of machine.now.state index ≡ Done }
-    requires none { (other : ℕ) → ¬ (In (suc other) (references (batch_in words.now.key.batch) index)) }
+    requires none { (other : ℕ) → ¬ (In (suc other) (reference_words (batch_in words.now.key.batch) index)) }
     requires ours { IsPassOf words.now holding.old }
     requires held { Holds holding.old.view index 0 [] }
     ensures ours { IsPassOf words.now holding.new }
@@ -132,7 +132,7 @@ fn finish(
     requires same { machine.now.statements ≡ words.now.key.batch }
     requires within { index < words.now.key.batch.size }
     requires done { hold_of machine.now.state index ≡ Done }
-    requires none { (other : ℕ) → ¬ (In (suc other) (references (batch_in words.now.key.batch) index)) }
+    requires none { (other : ℕ) → ¬ (In (suc other) (reference_words (batch_in words.now.key.batch) index)) }
     requires ours { IsPassOf words.now holding.old }
     requires held { Holds holding.old.view index (words_length (batch_in words.now.key.batch) index) [] }
     ensures { IsPassOf words.now holding.new }
@@ -159,7 +159,7 @@ fn revoke(machine: &Machine<OfLog<'_>>, words: &LogWords<'_>, holding: &mut Hold
     requires same { machine.now.statements ≡ words.now.key.batch }
     requires size { words.now.key.batch.size ≡ 2 }
     requires done { hold_of machine.now.state 1 ≡ Done }
-    requires none { (other : ℕ) → ¬ (In (suc other) (references (batch_in words.now.key.batch) 1)) }
+    requires none { (other : ℕ) → ¬ (In (suc other) (reference_words (batch_in words.now.key.batch) 1)) }
     requires ours { IsPassOf words.now holding.old }
     requires held { Holds holding.old.view 1 0 [] }
     ensures { IsPassOf words.now holding.new }
@@ -227,7 +227,7 @@ fn tell_calls(
     requires same { machine.now.statements ≡ words.now.key.batch }
     requires size { words.now.key.batch.size ≡ 2 }
     requires done { hold_of machine.now.state 1 ≡ Done }
-    requires none { (other : ℕ) → ¬ (In (suc other) (references (batch_in words.now.key.batch) 1)) }
+    requires none { (other : ℕ) → ¬ (In (suc other) (reference_words (batch_in words.now.key.batch) 1)) }
     requires ours { IsPassOf words.now pass }
 {
     let (first, second) = words.words().split(pass);
@@ -277,7 +277,7 @@ fn tell_batch_words(
     requires same { machine.now.statements ≡ batch }
     requires size { batch.size ≡ 2 }
     requires done { hold_of machine.now.state 1 ≡ Done }
-    requires none { (other : ℕ) → ¬ (In (suc other) (references (batch_in machine.now.statements) 1)) }
+    requires none { (other : ℕ) → ¬ (In (suc other) (reference_words (batch_in machine.now.statements) 1)) }
 {
     let slots = ended_slots(alloc, &batch)?;
     let (words, pass) = LogWords::new(alloc, LogKey::new(batch, slots))?;

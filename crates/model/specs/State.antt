@@ -1,7 +1,7 @@
 -- What the state of a run stands for.
 use Rattle.model_base.specs.Outcomes.{World}
 use Rattle.body.specs.RowMap.{rows_of}
-use Rattle.model.specs.declared.state.State.{State}
+use Rattle.model.specs.declared.serial_state.State.{State}
 
 -- what stands before a place, as the state has it
 abbrev pub world_of : State → World

@@ -40,7 +40,8 @@ pub(crate) fn make(
     deed: Option<Deed>,
 ) -> Result<DeedDone, AllocError>
     requires { grants.now ≡ kept owners.now deeds.old.items }
-    ensures done { IfOk result (λ done. (rows : Rows) → done ≡ deed_done owners.now (record { rows = rows; deeds = deeds.old.items }) deed) }
+    ensures done { IfOk result (λ done. (rows : Rows)
+        → done ≡ deed_done owners.now (record { rows = rows; deeds = deeds.old.items }) deed) }
     ensures deeds { OnOk result (deeds.new.items ≡ deeds.old.items ++ option_map_or (λ made. made ∷ []) deed []) }
 {
     let Some(deed) = &deed else {

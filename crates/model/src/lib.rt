@@ -1,8 +1,7 @@
 //! The slow serial run of a log: each place in turn, by replaying all that came before it.
 //!
 //! It follows the definitions of `model_base` one by one, so that it can be read beside them. What is held is found by
-//! making all deeds anew, and what took a privilege away by making each beginning of the deeds anew. The types of a log
-//! and of its outcomes are passed on.
+//! making all deeds anew, and what took a privilege away by making each beginning of the deeds anew.
 #![tactic(auto)]
 
 ghost use Rattle.std.specs.Prelude.{◌≡◌, ℕ, All, IfOk, slice_get};
@@ -12,15 +11,11 @@ ghost use Rattle.body.specs.Premises.{IsRunnable};
 mod deeds;
 mod needs;
 mod replay;
-mod state;
+mod serial_state;
 
-pub use model_base::{
-    Access, Cause, Deed, DeedDone, DeedForm, Form, Grant, Items, Key, Kind, Kinds, Need, Outcome,
-    Outputs, Place, Reason, Register, Revocation, Row, RowName, RowNumber, Statement, Step, Table,
-    User, Values,
-};
+use model_base::{Outcome, Place, Statement};
 use replay::owners;
-use state::State;
+use serial_state::State;
 use std::alloc::{AllocError, Global};
 
 /// The outcome of each place of a log, found by following the definition: plain and slow.

@@ -111,7 +111,7 @@ run-same own more place world (statement ∷ statements) stands low =
     ap (λ (result : Outcome × World). world_after (own ++ more) (place + 1) result.1 statements) here
     ∙ run-same own more (place + 1) next.1 statements ((next-at_place own place world statement).stands stands) (All-tail (NeedsWithin (length own)) statement statements low)
 
-owners-append : (log more : List Statement) → owners (log ++ more) ≡ owners log ++ owners more
+pub owners-append : (log more : List Statement) → owners (log ++ more) ≡ owners log ++ owners more
 owners-append log more = flat_map-append (λ (s : Statement). creator s.user s.form) log more
 
 -- an item of the first list is at its index with more behind

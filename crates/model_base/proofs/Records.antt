@@ -104,7 +104,7 @@ not_not : (b : Bool) → not (not b) ≡ b
 not_not true = refl
 not_not false = refl
 
--- nothing put behind an end leaves it
+-- nothing appended to an end leaves it
 option_or-none : (o : Option ℕ) → option_or o None ≡ o
 option_or-none None = refl
 option_or-none (Some x) = refl

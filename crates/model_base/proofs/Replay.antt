@@ -36,7 +36,7 @@ revokes-snoc_grant deeds grant first =
     let test : Deed → Bool = λ deed. revokes deed first in
     list_any-append test deeds (Granting grant ∷ []) ∙ or_false (list_any test deeds)
 
--- a grant put behind the others is not erased
+-- a grant appended to the others is not erased
 pub erased-grant : (deeds : List Deed) (grant : Grant) → erased (deeds ++ Granting grant ∷ []) ≡ erased deeds ++ grant ∷ []
 erased-grant [] grant = refl
 erased-grant (Granting first ∷ deeds) grant =
@@ -46,7 +46,7 @@ erased-grant (Granting first ∷ deeds) grant =
     (λ none. rw (same, none) (ap (λ r. first ∷ r) (erased-grant deeds grant)))
 erased-grant (Revoking first ∷ deeds) grant = erased-grant deeds grant
 
--- a revocation put behind the others erases those that it names
+-- a revocation appended to the others erases those that it names
 pub erased-revoke : (deeds : List Deed) (revocation : Revocation)
     → erased (deeds ++ Revoking revocation ∷ []) ≡ filter (λ grant. not (names revocation grant)) (erased deeds)
 erased-revoke [] revocation = refl

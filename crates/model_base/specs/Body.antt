@@ -1,15 +1,18 @@
--- What the steps of a body mean: an ordinary program over one map of all rows and sixteen registers. A step that
+-- What the steps of a body mean: an ordinary program over one map of all rows and a few registers. A step that
 -- touches a row is first judged by what its statement declares, and only then by whether the row is there.
 use Rattle.std.specs.Prelude.{◌==◌, ◌&&◌, ℕ, zero, suc, ◌+◌, ◌^◌, Bool, false, Option, Some, None, List, [], ◌∷◌, ◌++◌, map, replicate, slice_index_or, slice_set, if◌then◌else◌, nat_lt, is_some, ℤ, pos, negsuc, ◌+ℤ◌, ◌-ℤ◌, ◌*ℤ◌, int_lt}
 use Rattle.std.specs.List.{find}
 use Rattle.std.specs.Ordering.{int_eq}
 use Rattle.model_base.specs.Rows.{Rows, with_row}
 use Rattle.model_base.specs.Privileges.{has_kind}
+use Rattle.model_base.specs.declared.limits.TheConstants.{MOST_REGISTERS}
 use Rattle.model_base.specs.declared.deed.Kind.{Kind}
 use Rattle.model_base.specs.declared.deed.Kind.TheVariants.{Read, Insert, Update, Delete}
 use Rattle.model_base.specs.declared.statement.Access.{Access}
 use Rattle.model_base.specs.declared.statement.RowName.{RowName}
 use Rattle.model_base.specs.declared.statement.RowName.TheVariants.{Number, Held}
+use Rattle.model_base.specs.declared.statement.Operation.{Operation}
+use Rattle.model_base.specs.declared.statement.Operation.TheVariants.{Add, Sub, Mul, Less, Same}
 use Rattle.model_base.specs.declared.statement.Step.{Step}
 use Rattle.model_base.specs.declared.outcome.Reason.{Reason}
 use Rattle.model_base.specs.declared.outcome.Reason.TheVariants.{NoRow, RowExists, Overflow, Check}
@@ -69,21 +72,29 @@ touch accesses machine kind table name effect =
     touch_declared machine table (declared accesses kind table (row_number machine.registers name)) effect
 
 -- whether the number is at least -2^63 and below 2^63
-abbrev pub fits : ℤ → Bool
-fits (pos n) = nat_lt n (2 ^ 63)
-fits (negsuc n) = nat_lt n (2 ^ 63)
+abbrev pub fits_64_bits : ℤ → Bool
+fits_64_bits (pos n) = nat_lt n (2 ^ 63)
+fits_64_bits (negsuc n) = nat_lt n (2 ^ 63)
 
 -- a number is put into a register
 abbrev pub put : Machine → ℕ → ℤ → Effect
 put machine register value = goes_on (with_register machine register value) 0
 
--- the result of a sum, a difference or a product is put there if it fits
+-- what was computed is put there if it fits
 abbrev pub put_fitting : Machine → ℕ → ℤ → Effect
-put_fitting machine register value = if fits value then put machine register value else aborts Overflow
+put_fitting machine register value = if fits_64_bits value then put machine register value else aborts Overflow
 
 -- 1 for what holds, 0 for what doesn't
 abbrev pub flag : Bool → ℤ
 flag b = if b then pos 1 else pos 0
+
+-- what an operation makes of two numbers
+abbrev pub computed : Operation → ℤ → ℤ → ℤ
+computed Add left right = left +ℤ right
+computed Sub left right = left -ℤ right
+computed Mul left right = left *ℤ right
+computed Less left right = flag (int_lt left right)
+computed Same left right = flag (int_eq left right)
 
 -- whether the number is 0
 abbrev pub is_zero : ℤ → Bool
@@ -115,14 +126,12 @@ delete_row machine table row (Some _) = goes_on (record machine { rows = with_ro
 -- what each step does
 abbrev pub perform : List Access → Step → Machine → Effect
 perform accesses (Step.Const to value) m = put m to value
-perform accesses (Step.Add to left right) m = put_fitting m to (read_register m left +ℤ read_register m right)
-perform accesses (Step.Sub to left right) m = put_fitting m to (read_register m left -ℤ read_register m right)
-perform accesses (Step.Mul to left right) m = put_fitting m to (read_register m left *ℤ read_register m right)
-perform accesses (Step.Less to left right) m = put m to (flag (int_lt (read_register m left) (read_register m right)))
-perform accesses (Step.Same to left right) m = put m to (flag (int_eq (read_register m left) (read_register m right)))
+perform accesses (Step.Compute operation to left right) m =
+    put_fitting m to (computed operation (read_register m left) (read_register m right))
 perform accesses (Step.Has to table row) m = touch accesses m Read table row (λ _ found. put m to (flag (is_some found)))
 perform accesses (Step.Load to table row column) m = touch accesses m Read table row (λ _ found. load_column m to column found)
-perform accesses (Step.Store table row column from) m = touch accesses m Update table row (λ number found. store_column m table column from number found)
+perform accesses (Step.Store table row column from) m = touch accesses m Update table row
+    (λ number found. store_column m table column from number found)
 perform accesses (Step.Insert table row from) m = touch accesses m Insert table row (λ number found. insert_row m table from number found)
 perform accesses (Step.Delete table row) m = touch accesses m Delete table row (λ number found. delete_row m table number found)
 perform accesses (Step.Check of) m = if is_zero (read_register m of) then aborts Check else goes_on m 0
@@ -144,4 +153,5 @@ run_steps accesses (step ∷ steps) number zero m =
 
 -- what a body means over a map of all rows
 abbrev pub meaning : List Step → List Access → Rows → Ending
-meaning steps accesses rows = run_steps accesses steps 0 0 (record { rows = rows; registers = replicate 16 (pos 0); outputs = [] })
+meaning steps accesses rows =
+    run_steps accesses steps 0 0 (record { rows = rows; registers = replicate MOST_REGISTERS (pos 0); outputs = [] })

@@ -9,3 +9,4 @@ pub mod Laws
 pub mod Paths
 pub mod Records
 pub mod Growing
+pub mod OwnedTables

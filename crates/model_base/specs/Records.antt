@@ -85,3 +85,7 @@ last_loss_by owners entries user need (suc place) =
     if holds_by owners (cut place entries) user need && not (holds_by owners (cut (suc place) entries) user need)
     then Some place
     else last_loss_by owners entries user need place
+
+-- whether the grant of the record is in force at a place
+abbrev pub is_in_force_at : ℕ → Record → Bool
+is_in_force_at place entry = nat_lt entry.grant.place place && is_none (end_below place entry.end)

@@ -1,4 +1,4 @@
-//! What holds of a log to which statements are put behind.
+//! What holds of a log to which statements are appended.
 
 ghost use Rattle.std.specs.Prelude.{◌≡◌, ◌<◌, ◌≤◌, ◌++◌, ℕ, List, length};
 ghost use Rattle.model_base.specs.Growing.{NeedsOwnTables};
@@ -8,7 +8,7 @@ ghost use Rattle.model_base.specs.Versions.{version_cells};
 ghost use Rattle.model_base.specs.declared.statement.Access.{Access};
 ghost use Rattle.model_base.specs.declared.statement.Statement.{Statement};
 
-/// Statements that are put behind a log change nothing of its places: what stands before each of them, and before the next
+/// Statements that are appended to a log change nothing of its places: what stands before each of them, and before the next
 /// one, their outcomes and version cells, and what they are referred to. Their tables have later numbers, so the condition is
 /// that each need of the log is on a table of the log; to what a place is referred has no condition.
 pub fn earlier_places_stand()

@@ -7,6 +7,7 @@
 mod deed;
 mod growing_laws;
 mod laws;
+mod limits;
 mod list;
 mod name;
 mod outcome;
@@ -22,6 +23,11 @@ pub use laws::{
     ended_grants_stay_ended, fewer_grants_keep_fewer, grants_end_none, held_needs_have_paths,
     paths_take_the_earliest, places_make_one_deed_at_most, revocations_add_none,
 };
+pub use limits::{
+    MOST_ACCESSES, MOST_BATCH_STATEMENTS, MOST_COLUMNS, MOST_KEPT_BATCHES, MOST_NAME_BYTES,
+    MOST_NAMES, MOST_OUTPUTS, MOST_PARTITIONS, MOST_PLACES, MOST_REGISTERS, MOST_STEPS,
+    MOST_VALUES, MOST_WORKERS,
+};
 pub use list::Items;
 pub use name::{Place, RowNumber, Table, User};
 pub use outcome::{DeedDone, Outcome, Reason};
@@ -33,4 +39,4 @@ pub use record_laws::{
 };
 pub use reference::Reference;
 pub use row::{Key, Outputs, Row, Values};
-pub use statement::{Access, DeedForm, Form, Register, RowName, Statement, Step};
+pub use statement::{Access, DeedForm, Form, Operation, Register, RowName, Statement, Step};

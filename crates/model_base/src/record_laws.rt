@@ -6,6 +6,7 @@ ghost use Rattle.std.specs.List.{list_any};
 ghost use Rattle.std.specs.Option.{option_map_or};
 ghost use Rattle.model_base.specs.Laws.{IsPart, IsRising};
 ghost use Rattle.model_base.specs.Outcomes.{cause, deeds_before, owners};
+ghost use Rattle.model_base.specs.OwnedTables.{AreOnOwnedTables};
 ghost use Rattle.model_base.specs.Privileges.{IsProper, concerns, ended_by, gives, holds, is_among, kept, option_of, owns, place_of, replayed};
 ghost use Rattle.model_base.specs.Records.{covered, cut, deeds_below, end_after, ended_at, ended_by_records, grants_of, holds_by, in_force, last_loss_by, recorded, records};
 ghost use Rattle.model_base.specs.declared.deed.Cause.TheVariants.{Never, Taken};
@@ -32,7 +33,7 @@ pub fn unended_records_are_in_force()
         ≡ (owns owners user need.table || list_any (λ entry. is_none entry.end && gives entry.grant user need) entries) }
 {}
 
-/// The records of one more deed: a grant, whose place no deed has, is put behind the others, with no end; a revocation
+/// The records of one more deed: a grant, whose place no deed has, is appended to the others, with no end; a revocation
 /// ends, at its place, the records without an end of the grants that it takes out of force.
 pub fn deeds_change_records()
     ensures granting { (owners : List ℕ) (deeds : List Deed) (grant : Grant)
@@ -65,7 +66,8 @@ pub fn ends_are_revocations()
     ensures revocation { (owners : List ℕ) (deeds : List Deed)
         → IsProper owners deeds
         → All (λ entry. (end : ℕ) → entry.end ≡ Some end
-        → (revocation : Revocation) × Contains deeds (Revoking revocation) × (end ≡ revocation.place) × (concerns revocation entry.grant ≡ true))
+        → (revocation : Revocation) × Contains deeds (Revoking revocation)
+        × (end ≡ revocation.place) × (concerns revocation entry.grant ≡ true))
         (records owners deeds) }
 {}
 
@@ -157,24 +159,24 @@ pub fn causes_are_losses_by_records()
 /// grants of proper deeds are on such tables.
 pub fn later_owners_change_nothing()
     ensures tables { (owners : List ℕ) (deeds : List Deed)
-        → IsProper owners deeds → All (λ grant. grant.table < length owners) (grants_of deeds) }
+        → IsProper owners deeds → AreOnOwnedTables owners (grants_of deeds) }
     ensures proper { (owners more : List ℕ) (deeds : List Deed)
-        → All (λ grant. grant.table < length owners) (grants_of deeds)
+        → AreOnOwnedTables owners (grants_of deeds)
         → (IsProper (owners ++ more) deeds) ↔ (IsProper owners deeds) }
     ensures kept { (owners more : List ℕ) (deeds : List Deed)
-        → All (λ grant. grant.table < length owners) (grants_of deeds)
+        → AreOnOwnedTables owners (grants_of deeds)
         → kept (owners ++ more) deeds ≡ kept owners deeds }
     ensures records { (owners more : List ℕ) (deeds : List Deed)
-        → All (λ grant. grant.table < length owners) (grants_of deeds)
+        → AreOnOwnedTables owners (grants_of deeds)
         → records (owners ++ more) deeds ≡ records owners deeds }
     ensures ended { (owners more : List ℕ) (deeds : List Deed) (revocation : Revocation)
-        → All (λ grant. grant.table < length owners) (grants_of deeds)
+        → AreOnOwnedTables owners (grants_of deeds)
         → ended_by (owners ++ more) deeds revocation ≡ ended_by owners deeds revocation }
     ensures held { (owners more : List ℕ) (deeds : List Deed) (user : ℕ) (need : Need)
-        → All (λ grant. grant.table < length owners) (grants_of deeds) → need.table < length owners
+        → AreOnOwnedTables owners (grants_of deeds) → need.table < length owners
         → holds (owners ++ more) deeds user need ≡ holds owners deeds user need }
     ensures cause { (owners more : List ℕ) (deeds : List Deed) (user : ℕ) (need : Need)
-        → All (λ grant. grant.table < length owners) (grants_of deeds) → need.table < length owners
+        → AreOnOwnedTables owners (grants_of deeds) → need.table < length owners
         → cause (owners ++ more) deeds user need ≡ cause owners deeds user need }
     ensures held_by { (owners more : List ℕ) (entries : List Record) (user : ℕ) (need : Need)
         → need.table < length owners
@@ -183,7 +185,7 @@ pub fn later_owners_change_nothing()
         → need.table < length owners
         → last_loss_by (owners ++ more) entries user need place ≡ last_loss_by owners entries user need place }
     ensures ended_by { (owners more : List ℕ) (entries : List Record) (revocation : Revocation)
-        → All (λ grant. grant.table < length owners) (in_force entries)
+        → AreOnOwnedTables owners (in_force entries)
         → ended_by_records (owners ++ more) entries revocation ≡ ended_by_records owners entries revocation }
 {}
 
@@ -204,5 +206,6 @@ pub fn records_tell_of_logs()
     ensures cause { (log : List Statement) (covers : ℕ → Bool) (place later : ℕ) (user : ℕ) (need : Need)
         → place ≤ later → covers need.table ≡ true
         → cause (owners log) (deeds_before log place) user need
-        ≡ option_map_or Taken (last_loss_by (owners log) (covered covers (records (owners log) (deeds_before log later))) user need place) Never }
+        ≡ option_map_or Taken
+        (last_loss_by (owners log) (covered covers (records (owners log) (deeds_before log later))) user need place) Never }
 {}

@@ -1,5 +1,6 @@
 //! Keys, rows and outputs.
 
+use crate::limits::MOST_VALUES;
 use crate::name::{RowNumber, Table};
 use std::marker::Model;
 
@@ -16,11 +17,11 @@ pub type Row = Values;
 /// What a body answers: the numbers that its OUT steps gave, in order.
 pub type Outputs = Values;
 
-/// Up to eight numbers, kept in the value itself, so that a copy takes no memory.
+/// Up to `MOST_VALUES` numbers, kept in the value itself, so that a copy takes no memory.
 #[derive(Clone, Copy, PartialEq, Eq, Debug)]
 pub struct Values {
     len: u8,
-    values: [i64; 8],
+    values: [i64; MOST_VALUES],
 }
 
 impl Model for Values {
@@ -48,7 +49,7 @@ impl Values {
     {
         Values {
             len: 0,
-            values: [0; 8],
+            values: [0; MOST_VALUES],
         }
     }
 
@@ -68,7 +69,7 @@ impl Values {
 
     /// Puts a number behind the others.
     pub fn push(&mut self, value: i64)
-        requires { length self.old < 8 }
+        requires { length self.old < MOST_VALUES }
         ensures { self.new ≡ self.old ++ value ∷ [] }
     {
         self.values[self.len as usize] = value;

@@ -1,23 +1,25 @@
 //! The statements of a log.
 
 use crate::deed::{Deed, Grant, Kind, Kinds, Revocation};
+use crate::limits::MOST_REGISTERS;
 use crate::list::Items;
 use crate::name::{Place, RowNumber, Table, User};
 use crate::row::Key;
 use std::marker::Model;
 
-/// One of the sixteen registers of a body.
+/// One of the `MOST_REGISTERS` registers of a body.
 #[derive(Clone, Copy, PartialEq, Eq, Debug)]
 pub struct Register(u8);
 
 impl Model for Register {
     ghost use Rattle.std.specs.Prelude.{ℕ, ◌<◌};
+    ghost use Rattle.model_base.specs.declared.limits.TheConstants.{MOST_REGISTERS};
 
     ghost Value = { ℕ };
 
     ghost view = { λ register. register.0 };
 
-    ghost invariant = { λ register. register.0 < 16 };
+    ghost invariant = { λ register. register.0 < MOST_REGISTERS };
 
     ghost inverse = { λ number. record { 0 = number } };
 }
@@ -27,16 +29,16 @@ impl Register {
 
     /// The register of this number.
     pub fn new(number: u8) -> Self
-        requires { number < 16 }
+        requires { number < MOST_REGISTERS }
         ensures { result ≡ number }
     {
         Register(number)
     }
 
-    /// Its number, from 0 to 15.
+    /// Its number, from 0.
     pub fn index(self) -> usize
         ensures number { result ≡ self }
-        ensures below { result < 16 }
+        ensures below { result < MOST_REGISTERS }
     {
         self.0 as usize
     }
@@ -58,6 +60,28 @@ pub struct Access {
     pub kinds: Kinds,
 }
 
+impl Access {
+    ghost use Rattle.std.specs.Prelude.{◌≡◌};
+    ghost use Rattle.model_base.specs.Versions.{is_writing};
+
+    /// Whether it declares a kind that changes rows.
+    pub fn is_writing(&self) -> bool
+        ensures { result ≡ is_writing self.now }
+    {
+        self.kinds.insert || self.kinds.update || self.kinds.delete
+    }
+}
+
+/// What a step computes of two numbers: their sum, difference or product, or 1 or 0 as they compare.
+#[derive(Clone, Copy, PartialEq, Eq, Debug)]
+pub enum Operation {
+    Add,
+    Sub,
+    Mul,
+    Less,
+    Same,
+}
+
 /// One step of a body. Registers are named by `to`, `left`, `right`, `from` and `of`; columns are numbered from 0.
 #[derive(Debug, Drop)]
 pub enum Step {
@@ -65,27 +89,8 @@ pub enum Step {
         to: Register,
         value: i64,
     },
-    Add {
-        to: Register,
-        left: Register,
-        right: Register,
-    },
-    Sub {
-        to: Register,
-        left: Register,
-        right: Register,
-    },
-    Mul {
-        to: Register,
-        left: Register,
-        right: Register,
-    },
-    Less {
-        to: Register,
-        left: Register,
-        right: Register,
-    },
-    Same {
+    Compute {
+        operation: Operation,
         to: Register,
         left: Register,
         right: Register,

@@ -1,9 +1,9 @@
--- Words put behind the others, and all words taken away, keep the padding.
+-- Words appended to the others, and all words taken away, keep the padding.
 use Rattle.std.proofs.Common.{◌≡◌, ℕ, suc, ◌+◌, ◌-◌, ◌<◌, ◌≤◌, List, [], ◌∷◌, ◌++◌, length, take, drop, set, get_or, refl, sym, ◌∙◌, ap, arith, append_assoc, length-append, length-drop, length-set, ext_get_or}
 use Rattle.std.specs.Prelude.{replicate}
 use Rattle.std.proofs.Math.Seq.{drop-append_seam, set-append_seam, take-append_seam}
 use Rattle.std.proofs.lemmas.List.{get_or-replicate, length-replicate, length-take-le, replicate-append-replicate}
-use Rattle.own_words.specs.Room.{IsPadded}
+use Rattle.own_words.specs.Room.{IsRoomPadded}
 
 -- what stands behind some numbers that stand in front of the array
 pub take_front : (n : ℕ) (front rest : List ℕ) → length front ≡ n → take n (front ++ rest) ≡ front
@@ -30,7 +30,7 @@ module _ (n : ℕ) (xs : List ℕ) (within : n ≤ 156) (whole : length xs ≡ 1
         let long : length (take n xs ++ x ∷ []) ≡ n + 1 = length-append (take n xs) (x ∷ []) ∙ rw front-length refl in
         ap (take (n + 1)) (set_split ∙ sym (append_assoc (take n xs) (x ∷ []) rest)) ∙ take_front (n + 1) (take n xs ++ x ∷ []) rest long
 
-    pub padded_more : IsPadded (record { len = n + 1; words = set xs n x })
+    pub padded_more : IsRoomPadded (record { len = n + 1; words = set xs n x })
     padded_more = record {
       within = omega arith;
       whole = length-set xs n x ∙ whole;
@@ -54,7 +54,7 @@ module _ (n : ℕ) (xs : List ℕ) (within : n ≤ 156) (whole : length xs ≡ 1
         let all : n + (156 - n) ≡ 156 = omega arith in
         rw (front_zeros, rest_zeros) (replicate-append-replicate n (156 - n) 0 ∙ ap (λ k. replicate k 0) all)
 
-    pub padded_none : IsPadded (record { len = 0; words = front ++ drop n xs })
+    pub padded_none : IsRoomPadded (record { len = 0; words = front ++ drop n xs })
     padded_none = record {
       within = omega arith;
       whole = length-append front (drop n xs) ∙ omega (arith, length-drop n xs);

@@ -16,7 +16,8 @@ use Rattle.own_words.specs.Words.{header, row_words}
 -- the version cells, by the rows behind the place: one for each access that may change its row, in order
 abbrev pub cells : (ℕ → ℕ) → Form → Rows → List ℕ
 cells columns form rows =
-    flat_map (λ (access : Access). row_words (columns access.key.table) (rows access.key.table access.key.row)) (filter is_writing (accesses_of form))
+    flat_map (λ (access : Access). row_words (columns access.key.table) (rows access.key.table access.key.row))
+    (filter is_writing (accesses_of form))
 
 -- the own words of a place with this outcome, behind which this stands
 abbrev pub own_words : (ℕ → ℕ) → Form → Outcome × World → List ℕ
@@ -25,4 +26,6 @@ own_words columns form result = header form result.0 ++ cells columns form resul
 -- the own words of a place of a log, by the serial run of the whole log
 abbrev pub words_at : (ℕ → ℕ) → List Statement → ℕ → List ℕ
 words_at columns log place =
-    option_map_or (λ (statement : Statement). own_words columns statement.form (at_place (owners log) place (world_before log place) statement)) (slice_get log place) []
+    option_map_or
+    (λ (statement : Statement). own_words columns statement.form (at_place (owners log) place (world_before log place) statement))
+    (slice_get log place) []

@@ -6,6 +6,7 @@ use Rattle.std.specs.Prelude.{◌≡◌, ◌==◌, ◌&&◌, ◌+◌, ◌-◌, �
 use Rattle.std.specs.Int.{cast_signed, cast_unsigned, w64}
 use Rattle.std.specs.Int.RustNames.{FitsSigned}
 use Rattle.std.specs.List.{position_or_len}
+use Rattle.model_base.specs.declared.limits.TheConstants.{MOST_OUTPUTS}
 use Rattle.model_base.specs.declared.deed.Cause.{Cause}
 use Rattle.model_base.specs.declared.deed.Cause.TheVariants.{Never, Taken}
 use Rattle.model_base.specs.declared.deed.Need.{Need}
@@ -57,11 +58,11 @@ cause_word Never = 0
 cause_word (Taken place) = place + 1
 
 -- the word for why a body was aborted
-abbrev pub reason_word : Reason → ℕ
-reason_word NoRow = 0
-reason_word RowExists = 1
-reason_word Overflow = 2
-reason_word Check = 3
+abbrev pub reason_code : Reason → ℕ
+reason_code NoRow = 0
+reason_code RowExists = 1
+reason_code Overflow = 2
+reason_code Check = 3
 
 -- word 0: which kind of outcome it is
 abbrev pub outcome_word : Outcome → ℕ
@@ -84,7 +85,7 @@ abbrev pub second_detail : Outcome → ℕ
 second_detail (Outcome.Done outputs deed) = 0
 second_detail Outcome.Created = 0
 second_detail (Outcome.Denied need cause) = cause_word cause
-second_detail (Outcome.Aborted step reason) = reason_word reason
+second_detail (Outcome.Aborted step reason) = reason_code reason
 second_detail (Outcome.Undeclared step) = 0
 
 -- the outputs of a place; only a done one has any
@@ -131,10 +132,10 @@ deed_told ended None = DeedDone.None
 deed_told ended (Some (DeedForm.Grant kind table grantee option)) = DeedDone.Granted
 deed_told ended (Some (DeedForm.Revoke kind table grantee)) = DeedDone.Revoked ended
 
--- a completed transaction: of the words behind word 3 so many are outputs as that says, and eight at most
+-- a completed transaction: of the words behind word 3 so many are outputs as that says, and at most `MOST_OUTPUTS`
 abbrev pub done_from : Form → List ℕ → List ℕ → Outcome
 done_from form words ended =
-    Outcome.Done (numbers_from 4 (min (slice_index words 3) 8) words) (deed_told ended (deed_form form))
+    Outcome.Done (numbers_from 4 (min (slice_index words 3) MOST_OUTPUTS) words) (deed_told ended (deed_form form))
 
 -- the cause of this word
 abbrev pub cause_from : ℕ → Cause
@@ -183,14 +184,14 @@ is_created (Outcome.Aborted step reason) = false
 is_created (Outcome.Undeclared step) = false
 
 -- the places that a deed ended
-abbrev pub ended_by : DeedDone → List ℕ
-ended_by DeedDone.None = []
-ended_by DeedDone.Granted = []
-ended_by (DeedDone.Revoked places) = places
+abbrev pub places_ended_by : DeedDone → List ℕ
+places_ended_by DeedDone.None = []
+places_ended_by DeedDone.Granted = []
+places_ended_by (DeedDone.Revoked places) = places
 
 -- the places that the revocation of an outcome ended
 abbrev pub ended_in : Outcome → List ℕ
-ended_in (Outcome.Done outputs deed) = ended_by deed
+ended_in (Outcome.Done outputs deed) = places_ended_by deed
 ended_in Outcome.Created = []
 ended_in (Outcome.Denied need cause) = []
 ended_in (Outcome.Aborted step reason) = []
@@ -199,9 +200,9 @@ ended_in (Outcome.Undeclared step) = []
 -- a completed transaction has the statement's kind of deed, and outputs of 64 bits that its room and a place's words hold
 pub record FitsDone (form : Form) (outputs : List ℤ) (deed : DeedDone) : Type 0 where
   pub room : length outputs ≤ outputs_of form
-  pub eight : length outputs ≤ 8
+  pub few : length outputs ≤ MOST_OUTPUTS
   pub range : All (FitsSigned w64) outputs
-  pub kind : deed ≡ deed_told (ended_by deed) (deed_form form)
+  pub kind : deed ≡ deed_told (places_ended_by deed) (deed_form form)
 
 -- the row of a version cell, if there is one, has a number of 64 bits for each column
 abbrev pub FitsColumns : ℕ → Option (List ℤ) → Type 0

@@ -2,7 +2,7 @@
 
 ghost use Rattle.std.specs.Prelude.{◌≡◌, ◌<◌, ◌^◌, length};
 ghost use Rattle.model_base.specs.Outcomes.{needs};
-ghost use Rattle.own_words.specs.Words.{cause_word, first_detail, outcome_word, outputs_told, reason_word, second_detail};
+ghost use Rattle.own_words.specs.Words.{cause_word, first_detail, outcome_word, outputs_told, reason_code, second_detail};
 
 use crate::numbering::need_number;
 use model_base::{Cause, Form, Outcome, Outputs, Reason};
@@ -45,7 +45,7 @@ fn cause_word(cause: Cause) -> u64
 
 /// The word for why a body was aborted.
 fn reason_word(reason: Reason) -> u64
-    ensures { result ≡ reason_word reason }
+    ensures { result ≡ reason_code reason }
 {
     match reason {
         Reason::NoRow => 0,

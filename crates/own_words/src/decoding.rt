@@ -7,7 +7,10 @@ ghost use Rattle.own_words.specs.Words.{aborted_from, cause_from, deed_form, dee
 
 use crate::bits::value_of;
 use crate::numbering::need_at;
-use model_base::{Cause, DeedDone, DeedForm, Form, Items, Outcome, Place, Reason, Row, Values};
+use model_base::{
+    Cause, DeedDone, DeedForm, Form, Items, MOST_COLUMNS, MOST_OUTPUTS, MOST_VALUES, Outcome,
+    Place, Reason, Row, Values,
+};
 
 /// A word, or 0 past the last.
 fn word(words: &[u64], index: usize) -> u64
@@ -40,7 +43,7 @@ fn front(words: &[u64], count: usize) -> &[u64]
 
 /// So many whole numbers, from the words behind the first few.
 fn numbers_from(first: usize, count: usize, words: &[u64]) -> Values
-    requires { count ≤ 8 }
+    requires { count ≤ MOST_VALUES }
     ensures { result ≡ numbers_from first count words.now }
 {
     let mut numbers = Values::new();
@@ -54,7 +57,7 @@ fn numbers_from(first: usize, count: usize, words: &[u64]) -> Values
 /// The row of a version cell of a table with so many columns, of which a first word 0 says that it is absent. Words that are
 /// missing give no numbers. It takes no memory.
 pub fn row_of(columns: u8, words: &[u64]) -> Option<Row>
-    requires { columns ≤ 8 }
+    requires { columns ≤ MOST_COLUMNS }
     ensures { result ≡ row_of columns words.now }
 {
     if word(words, 0) == 0 {
@@ -90,7 +93,7 @@ fn deed_form(form: &Form) -> Option<DeedForm>
 fn done_from(form: &Form, words: &[u64], ended: Items<Place>) -> Outcome
     ensures { result ≡ done_from form.now words.now ended }
 {
-    let count = word(words, 3).min(8);
+    let count = word(words, 3).min(MOST_OUTPUTS as u64);
     Outcome::Done {
         outputs: numbers_from(4, count as usize, words),
         deed: deed_told(ended, deed_form(form)),
@@ -134,8 +137,8 @@ fn aborted_from(step: u64, word: u64) -> Outcome
 
 /// The outcome that a place's words tell; the places that its revocation ended are given, since the words don't have them.
 /// Words that are missing read as 0. Where word 0 is none of the five, where a denial has a number that no need of the
-/// statement has, and where an abortion has no reason, the outcome is undeclared at the step of word 1. More than eight
-/// outputs are cut to eight. It takes no memory.
+/// statement has, and where an abortion has no reason, the outcome is undeclared at the step of word 1. Of more than
+/// `MOST_OUTPUTS` outputs so many are told. It takes no memory.
 pub fn decoded(form: &Form, words: &[u64], ended: Items<Place>) -> Outcome
     ensures { result ≡ outcome_from form.now words.now ended }
 {

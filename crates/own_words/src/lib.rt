@@ -17,4 +17,4 @@ pub use bits::{bits_of, value_of};
 pub use decoding::{decoded, row_of};
 pub use laws::{decoding_undoes_coding, lengths, rows_are_told, words_fit};
 pub use numbering::outputs_of;
-pub use room::OwnWords;
+pub use room::{MOST_OWN_WORDS, OwnWords};

@@ -35,7 +35,8 @@ pub fn outputs_of(form: &Form) -> usize
 fn passes_kind(access: &Access, kind: Kind, need: &Need, number: &mut u64) -> bool
     requires { number.old + length (map (need_of access.now) (kind_if access.now.kinds kind)) < 2 ^ 64 }
     ensures found { result ≡ list_any (same_need need.now) (map (need_of access.now) (kind_if access.now.kinds kind)) }
-    ensures number { number.new ≡ number.old + position_or_len (same_need need.now) (map (need_of access.now) (kind_if access.now.kinds kind)) }
+    ensures number { number.new ≡ number.old + position_or_len (same_need need.now)
+        (map (need_of access.now) (kind_if access.now.kinds kind)) }
 {
     if !access.kinds.contains(kind) {
         return false;

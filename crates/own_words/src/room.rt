@@ -3,14 +3,18 @@
 use crate::bits::bits_of;
 use crate::coding::{first_detail, outcome_word, outputs_told, second_detail};
 use crate::numbering::outputs_of;
-use model_base::{Form, Outcome, Row};
+use model_base::{Form, MOST_ACCESSES, MOST_COLUMNS, MOST_OUTPUTS, Outcome, Row};
 use std::marker::Model;
 
-/// A place's own words, at most 156, kept in the value itself, so that they take no memory.
+/// Words of a place: four of its outcome, one for each output, and for each access a cell of one word and one for each column
+/// of its row.
+pub const MOST_OWN_WORDS: usize = 4 + MOST_OUTPUTS + MOST_ACCESSES * (1 + MOST_COLUMNS);
+
+/// A place's own words, at most `MOST_OWN_WORDS`, kept in the value itself, so that they take no memory.
 #[derive(Clone, Copy, PartialEq, Eq, Debug)]
 pub struct OwnWords {
     len: u8,
-    words: [u64; 156],
+    words: [u64; MOST_OWN_WORDS],
 }
 
 impl Model for OwnWords {
@@ -18,15 +22,15 @@ impl Model for OwnWords {
 
     ghost Value = { List ℕ };
 
-    ghost use Rattle.own_words.specs.Room.{words_in, IsPadded, padded, padded-undoes};
+    ghost use Rattle.own_words.specs.Room.{words_in, IsRoomPadded, padded_room, padded_room-undoes};
 
     ghost view = { words_in };
 
-    ghost invariant = { IsPadded };
+    ghost invariant = { IsRoomPadded };
 
-    ghost inverse = { padded };
+    ghost inverse = { padded_room };
 
-    ghost inverse_ok = { padded-undoes };
+    ghost inverse_ok = { padded_room-undoes };
 }
 
 impl OwnWords {
@@ -41,7 +45,7 @@ impl OwnWords {
     {
         OwnWords {
             len: 0,
-            words: [0; 156],
+            words: [0; MOST_OWN_WORDS],
         }
     }
 
@@ -67,9 +71,9 @@ impl OwnWords {
         &self.words[..self.len as usize]
     }
 
-    /// Puts a word behind the others, of which there are at most 155. It takes no memory.
+    /// Puts a word behind the others, of which there are fewer than `MOST_OWN_WORDS`. It takes no memory.
     pub fn push(&mut self, word: u64)
-        requires { length self.old < 156 }
+        requires { length self.old < MOST_OWN_WORDS }
         ensures { self.new ≡ self.old ++ word ∷ [] }
     {
         self.words[self.len as usize] = word;
@@ -78,7 +82,7 @@ impl OwnWords {
 
     /// Puts so many words 0 behind the others.
     pub(crate) fn push_zeros(&mut self, count: u8)
-        requires { length self.old + count ≤ 156 }
+        requires { length self.old + count ≤ MOST_OWN_WORDS }
         ensures { self.new ≡ self.old ++ replicate count 0 }
     {
         self.len += count;
@@ -86,7 +90,7 @@ impl OwnWords {
 
     /// Puts a word for each number behind the others.
     pub(crate) fn push_numbers(&mut self, numbers: &[i64])
-        requires { length self.old + length numbers.now ≤ 156 }
+        requires { length self.old + length numbers.now ≤ MOST_OWN_WORDS }
         ensures { self.new ≡ self.old ++ map bits numbers.now }
     {
         for number in numbers {
@@ -95,11 +99,11 @@ impl OwnWords {
     }
 
     /// Puts the words 0 to 3 of an outcome of a statement, where no word is yet, and behind them its outputs, with 0 in the room
-    /// for those that it didn't give. The statement has at most eight OUT steps, and the place of a revocation that took a need
+    /// for those that it didn't give. The statement has at most `MOST_OUTPUTS` OUT steps, and the place of a revocation that took a need
     /// lies below 2^64 - 1. A need is told only if it is one of the statement's. It takes no memory.
     pub fn put_header(&mut self, form: &Form, outcome: &Outcome)
         requires empty { self.old ≡ [] }
-        requires outputs { outputs_of form.now ≤ 8 }
+        requires outputs { outputs_of form.now ≤ MOST_OUTPUTS }
         requires needs { length (needs form.now) < 2 ^ 64 }
         requires detail { second_detail outcome.now < 2 ^ 64 }
         ensures { self.new ≡ header form.now outcome.now }
@@ -118,7 +122,7 @@ impl OwnWords {
     /// Puts a version cell behind the others: the row of a table with so many columns, or that there is none. There has to be
     /// room for it, and a row has a number for each column. It takes no memory.
     pub fn push_row(&mut self, columns: u8, row: Option<&Row>)
-        requires room { length self.old + (1 + columns) ≤ 156 }
+        requires room { length self.old + (1 + columns) ≤ MOST_OWN_WORDS }
         requires columns { ForSome row (λ numbers. length numbers.now ≡ columns) }
         ensures { self.new ≡ self.old ++ row_words columns (option_copied row.entry) }
     {

@@ -1,5 +1,5 @@
--- Where the first items are put behind the others, what was behind them comes first.
-use Rattle.std.proofs.Common.{◌≡◌, ◌≤◌, ◌-◌, ℕ, List, ◌++◌, arith, drop, length, take}
+-- Where the first items are appended to the others, what was behind them comes first.
+use Rattle.std.proofs.Common.{◌≡◌, ◌≤◌, ◌-◌, ℕ, List, ◌++◌, drop, length, take}
 use Rattle.std.proofs.lemmas.List.{length-drop, take_at}
 
 pub first_gone : {T : Type 0} (items : List T) (count : ℕ) → count ≤ length items → take (length items - count) (drop count items ++ take count items) ≡ drop count items

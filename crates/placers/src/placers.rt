@@ -44,7 +44,9 @@ fn parts_below<R: Threads + Sync>(
     requires partitions { 0 < partitions }
     requires kept { log.now.dropped ≤ range.start }
     requires within { range.end ≤ length log.now.log.statements }
-    ensures { IfOk result (λ parts. parts.items ≡ map (part_of partitions log.now.log.statements range.start (range.end - range.start)) (range_with_len 0 count)) }
+    ensures { IfOk result (λ parts. parts.items
+        ≡ map (part_of partitions log.now.log.statements range.start (range.end - range.start))
+        (range_with_len 0 count)) }
 {
     let (start, end) = (range.start, range.end);
     let last = count - 1;
@@ -61,7 +63,9 @@ fn parts_below<R: Threads + Sync>(
         { place_part(alloc, log, start, end, last, partitions) },
         move || -> Result<Vec<Part>, AllocError>
             requires { IsSync R.row × (0 < last) × (0 < partitions) × (log.now.dropped ≤ start) × (end ≤ length log.now.log.statements) }
-            ensures { IfOk result (λ parts. parts.items ≡ map (part_of partitions log.entry.now.log.statements start (end - start)) (range_with_len 0 last)) }
+            ensures { IfOk result (λ parts. parts.items
+                ≡ map (part_of partitions log.entry.now.log.statements start (end - start))
+                (range_with_len 0 last)) }
         { parts_below(rt, alloc, log, start..end, last, partitions) },
     );
     let mut parts = parts?;

@@ -1,16 +1,16 @@
 -- Where the references of each place end, and the pieces into which these ends cut the references of a batch.
 use Rattle.std.proofs.Common.{◌≡◌, ℕ, zero, suc, ◌<◌, ◌≤◌, ◌++◌, Some, List, [], ◌∷◌, length, refl, arith, ap, slice_get, slice_index_or, slice_range}
 use Rattle.model_base.specs.declared.reference.Reference.{Reference}
-use Rattle.placing.specs.Parts.{AreEnds}
+use Rattle.placing.specs.Parts.{AreRisingEnds}
 use Rattle.placing.specs.Refs.{pieces, start_at}
 
 -- the ends lie within more references too
-pub ends_more : (start count more : ℕ) (ends : List ℕ) → AreEnds start ends count → count ≤ more → AreEnds start ends more
+pub ends_more : (start count more : ℕ) (ends : List ℕ) → AreRisingEnds start ends count → count ≤ more → AreRisingEnds start ends more
 ends_more start count more [] sound fewer = omega arith
 ends_more start count more (end ∷ ends) sound fewer = (sound.0, ends_more end count more ends sound.1 fewer)
 
 -- a further place ends with the last reference
-pub ends_snoc : (start count : ℕ) (ends : List ℕ) → AreEnds start ends count → AreEnds start (ends ++ count ∷ []) count
+pub ends_snoc : (start count : ℕ) (ends : List ℕ) → AreRisingEnds start ends count → AreRisingEnds start (ends ++ count ∷ []) count
 ends_snoc start count [] sound = (sound, omega arith)
 ends_snoc start count (end ∷ ends) sound = (sound.0, ends_snoc end count ends sound.1)
 
@@ -19,7 +19,7 @@ length_pieces start [] references = refl
 length_pieces start (end ∷ ends) references = ap suc (length_pieces end ends references)
 
 -- a piece begins at or before its end, which lies within the references
-pub within : (start count : ℕ) (ends : List ℕ) (index : ℕ) → AreEnds start ends count → index < length ends → (start_at start ends index ≤ slice_index_or ends index 0) × (slice_index_or ends index 0 ≤ count) × (start ≤ count)
+pub within : (start count : ℕ) (ends : List ℕ) (index : ℕ) → AreRisingEnds start ends count → index < length ends → (start_at start ends index ≤ slice_index_or ends index 0) × (slice_index_or ends index 0 ≤ count) × (start ≤ count)
 within start count [] index sound below = absurd (omega arith)
 within start count (end ∷ []) zero sound below = (sound.0, sound.1, omega arith)
 within start count (end ∷ next ∷ ends) zero sound below =

@@ -98,7 +98,7 @@ old-one numbers number is x =
     (λ same. let e : x ≡ number = grind (arith, nat_tests) in rw (same, e, is) refl)
     (λ other. rw other refl)
 
-or-false : (b : Bool) → (b || false) ≡ b
+pub or-false : (b : Bool) → (b || false) ≡ b
 or-false true = refl
 or-false false = refl
 
@@ -110,7 +110,7 @@ new-one numbers number x =
     (λ same. let turned : (number == x) ≡ true = grind (arith, nat_tests) in rw (same, turned) (ap not (or-true (is_there numbers x))))
     (λ other. let turned : (number == x) ≡ false = grind (arith, nat_tests) in rw (other, turned) (ap not (or-false (is_there numbers x))))
 
--- the numbers put behind others are those that aren't there, each once
+-- the numbers appended to others are those that aren't there, each once
 pub put_once : (numbers more : List ℕ) → with_numbers numbers more ≡ numbers ++ filter (is_new numbers) (each_once more)
 put_once numbers [] = sym (append-nil numbers)
 put_once numbers (number ∷ more) =

@@ -21,33 +21,33 @@ abbrev pub table_partition : ℕ → ℕ → ℕ
 table_partition partitions table = table % partitions
 
 -- a reference, and the partition whose placer finds it
-pub record Slot : Type 0 where
+pub record Referral : Type 0 where
   pub partition : ℕ
   pub reference : Reference
 
 -- the reference of an access
-abbrev pub access_slot : ℕ → List Statement → ℕ → ℕ → Access → Slot
-access_slot partitions log first place access =
+abbrev pub access_referral : ℕ → List Statement → ℕ → ℕ → Access → Referral
+access_referral partitions log first place access =
     record { partition = key_partition partitions access.key.table access.key.row; reference = writer log first place access }
 
 -- the reference of a table
-abbrev pub table_slot : ℕ → List Statement → ℕ → ℕ → ℕ → Slot
-table_slot partitions log first place table =
+abbrev pub table_referral : ℕ → List Statement → ℕ → ℕ → ℕ → Referral
+table_referral partitions log first place table =
     record { partition = table_partition partitions table; reference = prior log first place table }
 
 -- the references of a statement at a place of the batch
-abbrev pub slots_of : ℕ → List Statement → ℕ → ℕ → Statement → List Slot
-slots_of partitions log first place statement =
-    map (access_slot partitions log first place) (accesses_of statement.form)
-    ++ map (table_slot partitions log first place) (tables_of statement.form)
+abbrev pub referrals_of : ℕ → List Statement → ℕ → ℕ → Statement → List Referral
+referrals_of partitions log first place statement =
+    map (access_referral partitions log first place) (accesses_of statement.form)
+    ++ map (table_referral partitions log first place) (tables_of statement.form)
 
 -- the references of a place of the batch
-abbrev pub slots_at : ℕ → List Statement → ℕ → ℕ → List Slot
-slots_at partitions log first place = option_map_or (slots_of partitions log first place) (slice_get log place) []
+abbrev pub referrals_at : ℕ → List Statement → ℕ → ℕ → List Referral
+referrals_at partitions log first place = option_map_or (referrals_of partitions log first place) (slice_get log place) []
 
 -- the reference, if the partition's placer finds it
-abbrev pub own_reference : ℕ → Slot → Reference
-own_reference partition slot = if slot.partition == partition then slot.reference else Base
+abbrev pub own_reference : ℕ → Referral → Reference
+own_reference partition referral = if referral.partition == partition then referral.reference else Base
 
 -- what one partition's placer gives: where each place's references end, in the list of all references of the batch; how many
 -- there are; and those that it found to be to places
@@ -80,7 +80,7 @@ with_place part references = with_end (fold with_reference part references)
 
 -- what the partition's placer finds at a place of the batch
 abbrev pub own_references : ℕ → List Statement → ℕ → ℕ → ℕ → List Reference
-own_references partitions log first partition place = map (own_reference partition) (slots_at partitions log first place)
+own_references partitions log first partition place = map (own_reference partition) (referrals_at partitions log first place)
 
 -- what the partition's placer gives for so many places of the batch, one after another
 abbrev pub part_of : ℕ → List Statement → ℕ → ℕ → ℕ → PartOf
@@ -93,6 +93,6 @@ ArePartsOf parts partitions log first places =
     (0 < partitions) × (parts ≡ map (part_of partitions log first places) (range_with_len 0 partitions))
 
 -- the ends don't fall, and the last is at most the count
-abbrev pub AreEnds : ℕ → List ℕ → ℕ → Type 0
-AreEnds start [] count = start ≤ count
-AreEnds start (end ∷ ends) count = (start ≤ end) × AreEnds end ends count
+abbrev pub AreRisingEnds : ℕ → List ℕ → ℕ → Type 0
+AreRisingEnds start [] count = start ≤ count
+AreRisingEnds start (end ∷ ends) count = (start ≤ end) × AreRisingEnds end ends count

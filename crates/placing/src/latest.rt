@@ -1,7 +1,6 @@
 //! The last writers of rows and the last deeds on tables, of one partition.
 
 ghost use Rattle.std.specs.Prelude.{◌≡◌, ◌<◌};
-ghost use Rattle.model_base.specs.Versions.{is_writing};
 
 use crate::partition::{partition_of, partition_of_table};
 use model_base::{Access, Key, Place, Reference, Statement, Table};
@@ -17,13 +16,6 @@ pub(crate) struct Latest {
     writers: BTreeMap<Key, Place>,
     deeds: BTreeMap<Table, Place>,
     ghost some: { 0 < partitions },
-}
-
-/// Whether the access declares a kind that changes rows.
-fn is_writing(access: &Access) -> bool
-    ensures { result ≡ is_writing access.now }
-{
-    access.kinds.insert || access.kinds.update || access.kinds.delete
 }
 
 impl Latest {
@@ -86,11 +78,12 @@ impl Latest {
         ensures partition { self.new.partition ≡ self.old.partition }
         ensures partitions { self.new.partitions ≡ self.old.partitions }
         ensures writers { OnOk result ((table row : ℕ) → writer_in self.new table row
-            ≡ (if is_own_row self.old table row && list_any (is_write_to table row) accesses.now then At place else writer_in self.old table row)) }
+            ≡ (if is_own_row self.old table row && list_any (is_write_to table row) accesses.now
+            then At place else writer_in self.old table row)) }
         ensures deeds { OnOk result ((table : ℕ) → prior_in self.new table ≡ prior_in self.old table) }
     {
         for access in accesses {
-            if is_writing(access) && partition_of(access.key, self.partitions) == self.partition {
+            if access.is_writing() && partition_of(access.key, self.partitions) == self.partition {
                 self.writers.insert(access.key, place)?;
             }
         }
@@ -103,7 +96,8 @@ impl Latest {
         ensures partitions { self.new.partitions ≡ self.old.partitions }
         ensures writers { OnOk result ((table row : ℕ) → writer_in self.new table row ≡ writer_in self.old table row) }
         ensures deeds { OnOk result ((on : ℕ) → prior_in self.new on
-            ≡ (if is_own_table self.old on && list_any (λ of_deed. of_deed == on) (option_to_list table) then At place else prior_in self.old on)) }
+            ≡ (if is_own_table self.old on && list_any (λ of_deed. of_deed == on) (option_to_list table)
+            then At place else prior_in self.old on)) }
     {
         if let Some(table) = table
             && partition_of_table(table, self.partitions) == self.partition

@@ -21,18 +21,18 @@ pub struct Part {
 }
 
 impl Model for Part {
-    ghost use Rattle.placing.specs.Parts.{AreEnds, PartOf};
+    ghost use Rattle.placing.specs.Parts.{AreRisingEnds, PartOf};
 
     ghost Value = { PartOf };
 
     ghost view = { λ part. record { ends = part.ends.items; count = part.count; found = part.found.items } };
 
-    ghost invariant = { λ part. AreEnds 0 part.ends.items part.count };
+    ghost invariant = { λ part. AreRisingEnds 0 part.ends.items part.count };
 }
 
 impl Part {
     ghost use Rattle.std.specs.Prelude.{◌≡◌, ◌<◌, ◌^◌, OnOk};
-    ghost use Rattle.placing.specs.Parts.{AreEnds, empty_part, with_end, with_reference};
+    ghost use Rattle.placing.specs.Parts.{AreRisingEnds, empty_part, with_end, with_reference};
 
     /// Of no place. It takes no memory.
     pub(crate) fn new(alloc: Global) -> Self
@@ -87,7 +87,7 @@ impl Part {
     /// Where the references of each place end.
     pub(crate) fn into_ends(self) -> Vec<usize>
         ensures ends { result.items ≡ self.ends }
-        ensures sound { AreEnds 0 self.ends self.count }
+        ensures sound { AreRisingEnds 0 self.ends self.count }
     {
         self.ends
     }

@@ -9,7 +9,7 @@ ghost use Rattle.placing.specs.Parts.{own_references, part_of, with_place, with_
 use crate::latest::Latest;
 use crate::part::Part;
 use crate::tables::find_tables;
-use model_base::{Access, Place, Statement, Table};
+use model_base::{Access, MOST_ACCESSES, Place, Statement, Table};
 use sequencer::LogTail;
 use std::alloc::{AllocError, Global};
 use std::ops::Range;
@@ -48,10 +48,11 @@ fn place_statement(
     statement: &Statement,
     place: Place,
 ) -> Result<(), AllocError>
-    requires few { length (accesses_of statement.now.form) ≤ 16 }
+    requires few { length (accesses_of statement.now.form) ≤ MOST_ACCESSES }
     requires room { part.old.count < 2 ^ 62 }
     ensures found { OnOk result (part.new
-        ≡ with_place part.old (map (own_writer latest.old) (accesses_of statement.now.form) ++ map (own_prior latest.old) (tables_of statement.now.form))) }
+        ≡ with_place part.old (map (own_writer latest.old) (accesses_of statement.now.form)
+        ++ map (own_prior latest.old) (tables_of statement.now.form))) }
     ensures count { OnOk result (part.new.count ≤ part.old.count + 33) }
     ensures notes { OnOk result (Notes latest.old latest.new statement.now place) }
 {

@@ -4,7 +4,7 @@ ghost use Rattle.std.specs.Prelude.{◌≡◌, ◌+◌, ◌<◌, ℕ, List, Some
 ghost use Rattle.model_base.specs.declared.reference.Reference.TheVariants.{Base};
 ghost use Rattle.model_base.specs.declared.statement.Statement.{Statement};
 ghost use Rattle.model_base.specs.References.{batch_references};
-ghost use Rattle.placing.specs.Parts.{ArePartsOf, AreEnds};
+ghost use Rattle.placing.specs.Parts.{ArePartsOf, AreRisingEnds};
 ghost use Rattle.placing.specs.Refs.{first_count, first_ends, pieces, start_at, with_found, with_part};
 
 use crate::part::{Found, Part};
@@ -23,14 +23,14 @@ pub struct Refs {
 impl Model for Refs {
     ghost use Rattle.std.specs.Prelude.{List, length};
     ghost use Rattle.model_base.specs.declared.reference.Reference.{Reference};
-    ghost use Rattle.placing.specs.Parts.{AreEnds};
+    ghost use Rattle.placing.specs.Parts.{AreRisingEnds};
     ghost use Rattle.placing.specs.Refs.{pieces};
 
     ghost Value = { List (List Reference) };
 
     ghost view = { λ refs. pieces 0 refs.ends.items refs.references.items };
 
-    ghost invariant = { λ refs. AreEnds 0 refs.ends.items (length refs.references.items) };
+    ghost invariant = { λ refs. AreRisingEnds 0 refs.ends.items (length refs.references.items) };
 }
 
 impl Refs {
@@ -64,7 +64,7 @@ fn start_at(ends: &[usize], index: usize) -> usize
 
 /// The piece of this index.
 fn piece<'a>(ends: &[usize], references: &'a [Reference], index: usize) -> &'a [Reference]
-    requires sound { AreEnds 0 ends.now (length references.now) }
+    requires sound { AreRisingEnds 0 ends.now (length references.now) }
     requires below { index < length ends.now }
     ensures { slice_get (pieces 0 ends.now references.now) index ≡ Some result.now }
 {
@@ -102,7 +102,7 @@ fn first_count(parts: &[Part]) -> usize
 /// Where the references of each place end, by the first part.
 fn first_ends(alloc: Global, mut parts: Vec<Part>) -> Vec<usize>
     ensures ends { result.items ≡ first_ends parts.items }
-    ensures sound { AreEnds 0 (first_ends parts.items) (first_count parts.items) }
+    ensures sound { AreRisingEnds 0 (first_ends parts.items) (first_count parts.items) }
 {
     if parts.is_empty() {
         Vec::new(alloc)

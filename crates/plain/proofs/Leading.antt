@@ -23,29 +23,30 @@ use Rattle.model_base.specs.Records.{deeds_below}
 use Rattle.model_base.proofs.Cuts.{deeds_below-whole}
 use Rattle.body.specs.RowMap.{rows_of}
 use Rattle.grants.specs.Book.{Entries, ShowsBook, owners_of, view_of, with_table}
-use Rattle.grants.specs.View.{Shows, covers, holds_in}
+use Rattle.grants.specs.View.{ShowsDeeds, covers, holds_in}
 use Rattle.grants.specs.declared.book.Creation.{Creation}
 use Rattle.checker.specs.Admission.{admission, admitted_if}
 use Rattle.checker.specs.Missing.{Covers}
 use Rattle.checker.specs.declared.admission.Admission.{Admission}
-use Rattle.plain.specs.State.{Finishes, IsMade, Leads, MayMake, NamesTables, Stands, table_of, world_of}
-use Rattle.plain.specs.declared.state.State.{State}
+use Rattle.plain.specs.State.{FinishesStatement, IsMade, Leads, MayMake, NamesTables, StateStands, world_with}
+use Rattle.plain.specs.declared.plain_state.State.{State}
+use Rattle.model_base.specs.References.{table_of}
 
 -- deeds that lie below a place lie below the next
 all_below : (place : ℕ) (deeds : List Deed) → All (λ deed. place_of deed < place) deeds → All (λ deed. place_of deed < place + 1) deeds
 all_below place deeds below = All-weaker (λ deed. place_of deed < place) (λ deed. place_of deed < place + 1) (λ deed less. omega arith) deeds below
 
 -- so a book stands for them one place later
-stands_later : (state other : State) (place : ℕ) (deeds : List Deed) → other.book ≡ state.book → Stands state place deeds → Stands other (place + 1) deeds
+stands_later : (state other : State) (place : ℕ) (deeds : List Deed) → other.book ≡ state.book → StateStands state place deeds → StateStands other (place + 1) deeds
 stands_later state other place deeds same stands = record {
   shown = λ more. rw same (stands.shown more);
   below = all_below place deeds stands.below;
 }
 
-module _ (state : State) (place : ℕ) (deeds : List Deed) (statement : Statement) (stands : Stands state place deeds) where
+module _ (state : State) (place : ℕ) (deeds : List Deed) (statement : Statement) (stands : StateStands state place deeds) where
   -- a body that is aborted, or ends as undeclared, changes nothing
   pub aborted_finishes : (step : ℕ) (reason : Reason) → body (rows_of state.rows) statement.form ≡ aborted step reason
-      → Finishes state state place deeds statement (Outcome.Aborted step reason)
+      → FinishesStatement state state place deeds statement (Outcome.Aborted step reason)
   aborted_finishes step reason ends = record {
     after = deeds;
     stands = stands_later state state place deeds refl stands;
@@ -53,7 +54,7 @@ module _ (state : State) (place : ℕ) (deeds : List Deed) (statement : Statemen
   }
 
   pub undeclared_finishes : (step : ℕ) → body (rows_of state.rows) statement.form ≡ undeclared step
-      → Finishes state state place deeds statement (Outcome.Undeclared step)
+      → FinishesStatement state state place deeds statement (Outcome.Undeclared step)
   undeclared_finishes step ends = record {
     after = deeds;
     stands = stands_later state state place deeds refl stands;
@@ -74,7 +75,7 @@ pub done_finishes : (old new : State) (place : ℕ) (deeds : List Deed) (stateme
     → body (rows_of old.rows) statement.form ≡ completed (rows_of new.rows) outputs
     → MayMake old.book place (deed_of place statement.user statement.form)
     → IsMade old.book new.book place (deed_of place statement.user statement.form) came
-    → Stands old place deeds → Finishes old new place deeds statement (Outcome.Done outputs came)
+    → StateStands old place deeds → FinishesStatement old new place deeds statement (Outcome.Done outputs came)
 done_finishes old new place deeds statement outputs came ends may made stands =
     let deed = deed_of place statement.user statement.form in
     let shown : (more : List ℕ) → ShowsBook old.book (owners_of new.book.tables ++ more) deeds = λ more. rw made.tables (stands.shown more) in
@@ -84,7 +85,7 @@ done_finishes old new place deeds statement outputs came ends may made stands =
         shown = λ more. made.shown (owners_of new.book.tables ++ more) deeds (shown more) stands.below;
         below = below_made old.book place deed deeds may stands.below;
       };
-      same = λ more. rw ends (ap (λ (d : DeedDone). (Outcome.Done outputs d, world_of new (deeds ++ option_map_or (λ m. m ∷ []) deed [])))
+      same = λ more. rw ends (ap (λ (d : DeedDone). (Outcome.Done outputs d, world_with new (deeds ++ option_map_or (λ m. m ∷ []) deed [])))
           (sym (made.told (owners_of new.book.tables ++ more) deeds (rows_of old.rows) (shown more) stands.below)));
     }
 
@@ -99,7 +100,7 @@ pub created_leads : (old new : State) (place : ℕ) (deeds : List Deed) (stateme
     → statement.form ≡ Form.Create table columns
     → new.rows ≡ old.rows → new.book ≡ with_table old.book (record { owner = statement.user; place = place })
     → ((owners more : List ℕ) (ds : List Deed) → ShowsBook old.book owners ds → owners ≡ owners_of new.book.tables ++ more → ShowsBook new.book owners ds)
-    → Stands old place deeds → Leads old new place deeds statement Outcome.Created
+    → StateStands old place deeds → Leads old new place deeds statement Outcome.Created
 created_leads old new place deeds statement table columns is rows book after stands = record {
   after = deeds;
   stands = record {
@@ -132,9 +133,9 @@ admitted_is owners deeds user None is = refl
 admitted_is owners deeds user (Some other) is = absurd (cc)
 
 module _ (old : State) (place : ℕ) (deeds : List Deed) (statement : Statement) (other : (table columns : ℕ) → statement.form ≡ Form.Create table columns → ⊥)
-    (stands : Stands old place deeds) (found : Admission)
-    (told : (owners : List ℕ) (ds : List Deed) → Shows (view_of old.book place) owners ds → found ≡ admission owners ds statement.user statement.form)
-    (shows : (owners : List ℕ) → ShowsBook old.book owners deeds → Shows (view_of old.book place) owners deeds) where
+    (stands : StateStands old place deeds) (found : Admission)
+    (told : (owners : List ℕ) (ds : List Deed) → ShowsDeeds (view_of old.book place) owners ds → found ≡ admission owners ds statement.user statement.form)
+    (shows : (owners : List ℕ) → ShowsBook old.book owners deeds → ShowsDeeds (view_of old.book place) owners deeds) where
   -- a denial changes nothing
   pub denied_leads : (need : Need) (why : Cause) → found ≡ Admission.Denied need why → Leads old old place deeds statement (Outcome.Denied need why)
   denied_leads need why is = record {
@@ -142,7 +143,7 @@ module _ (old : State) (place : ℕ) (deeds : List Deed) (statement : Statement)
     stands = stands_later old old place deeds refl stands;
     same = λ more.
         let owners = owners_of old.book.tables ++ more in
-        let world = world_of old deeds in
+        let world = world_with old deeds in
         let first = denied_is owners deeds statement.user _ need why (sym is ∙ told owners deeds (shows owners (stands.shown more))) in
         by_form owners place world statement statement.form other
         ∙ ap (judged owners place world statement) first.0
@@ -151,13 +152,13 @@ module _ (old : State) (place : ℕ) (deeds : List Deed) (statement : Statement)
 
   -- and a statement that is admitted leads where its body and its deed lead
   pub admitted_leads : (new : State) (outcome : Outcome) → found ≡ Admission.Admitted → new.book.tables ≡ old.book.tables
-      → Finishes old new place deeds statement outcome → Leads old new place deeds statement outcome
+      → FinishesStatement old new place deeds statement outcome → Leads old new place deeds statement outcome
   admitted_leads new outcome is tables finishes = record {
     after = finishes.after;
     stands = finishes.stands;
     same = λ more.
         let owners = owners_of new.book.tables ++ more in
-        let world = world_of old deeds in
+        let world = world_with old deeds in
         let shown : ShowsBook old.book owners deeds = rw tables (stands.shown more) in
         let first = admitted_is owners deeds statement.user _ (sym is ∙ told owners deeds (shows owners shown)) in
         by_form owners place world statement statement.form other
@@ -224,8 +225,8 @@ module _ (book : Entries) (place : ℕ) where
 
 -- the view of a book at a place above all of its deeds shows them
 pub shows_whole : (book : Entries) (place : ℕ) (owners : List ℕ) (deeds : List Deed) → All (λ deed. place_of deed < place) deeds
-    → ((os : List ℕ) (ds : List Deed) → ShowsBook book os ds → Shows (view_of book place) os (deeds_below place ds))
-    → ShowsBook book owners deeds → Shows (view_of book place) owners deeds
+    → ((os : List ℕ) (ds : List Deed) → ShowsBook book os ds → ShowsDeeds (view_of book place) os (deeds_below place ds))
+    → ShowsBook book owners deeds → ShowsDeeds (view_of book place) owners deeds
 shows_whole book place owners deeds below shows shown = rw (deeds_below-whole place deeds below) at (shows owners deeds shown)
 
 -- a statement that is no CREATE adds no owner

@@ -3,6 +3,6 @@
 #![tactic(auto)]
 
 mod deeds;
-mod state;
+mod plain_state;
 
-pub use state::State;
+pub use plain_state::State;

@@ -3,7 +3,7 @@ use Rattle.std.proofs.Common.{◌≡◌, ◌++◌, ◌<◌, ℕ, List, [], lengt
 use Rattle.std.proofs.lemmas.List.Elements.{All-nil}
 use Rattle.model_base.specs.declared.deed.Deed.{Deed}
 use Rattle.grants.specs.declared.book.Creation.{Creation}
-use Rattle.grants.specs.Book.{Entries, ShowsBook, owners_of, table_of}
+use Rattle.grants.specs.Book.{Entries, ShowsBook, owners_of, table_of_deed}
 
 -- an empty book shows that no deed was made, whatever tables are created later
 pub empty_book : (book : Entries) (owners : List ℕ) → book.tables ≡ [] → book.records ≡ [] → ShowsBook book owners []
@@ -11,6 +11,6 @@ empty_book book owners no_table no_record = record {
   more = owners;
   begins = sym (ap (λ (tables : List Creation). owners_of tables ++ owners) no_table);
   proper = record {};
-  told = All-nil (λ (deed : Deed). table_of deed < length book.tables);
+  told = All-nil (λ (deed : Deed). table_of_deed deed < length book.tables);
   same = no_record;
 }

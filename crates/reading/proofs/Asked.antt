@@ -5,10 +5,10 @@ use Rattle.model_base.specs.declared.deed.Grant.{Grant}
 use Rattle.model_base.proofs.Replay.{by_cases}
 use Rattle.grants.specs.Index.{AreAsked}
 use Rattle.grants.specs.View.{flatten, grant_in}
-use Rattle.bohm_core_base.specs.Batch.{is_listed, slots_of}
+use Rattle.bohm_core_base.specs.Batch.{is_listed, batch_slots}
 use Rattle.log_batch.specs.Laws.{IsOfLog}
 use Rattle.log_batch.specs.Supplied.{Ranged, batch_in, range_of}
-use Rattle.reading.specs.Seen.{seen_at, shown_of, slots_seen}
+use Rattle.reading.specs.Seen.{seen_at, seen_view, slots_seen}
 use Rattle.reading.specs.Told.{ends_whole, made_whole}
 use Rattle.reading.proofs.Slots.{slots-all}
 
@@ -24,10 +24,10 @@ each_asked tables place made (first ∷ grants) (end ∷ ends) zero grant is =
 each_asked tables place made (first ∷ grants) (end ∷ ends) (suc i) grant is = each_asked tables place made grants ends i grant is
 
 -- each slot asks for its grant
-pub asked_seen : (ranged : Ranged) (index : ℕ) → IsOfLog (range_of ranged) → AreAsked (shown_of (seen_at ranged index)) (slots_of (batch_in ranged))
+pub asked_seen : (ranged : Ranged) (index : ℕ) → IsOfLog (range_of ranged) → AreAsked (seen_view (seen_at ranged index)) (batch_slots (batch_in ranged))
 asked_seen ranged index of_log =
     let batch = batch_in ranged in
     record {
       long = sym (slots-all ranged of_log index);
-      each = each_asked (batch.tables index) (ranged.first + index) (made_whole batch) (slots_of batch) (ends_whole batch);
+      each = each_asked (batch.tables index) (ranged.first + index) (made_whole batch) (batch_slots batch) (ends_whole batch);
     }

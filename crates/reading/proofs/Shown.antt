@@ -1,18 +1,18 @@
 -- The rows that references show, word by word, and that they are those of the log.
-use Rattle.std.proofs.Common.{◌≡◌, ◌≢◌, ◌<◌, ◌+◌, ◌++◌, ℕ, zero, suc, List, [], ◌∷◌, Some, None, drop, get_or, length, map, take, refl, sym, ap, ◌∙◌, arith}
+use Rattle.std.proofs.Common.{◌≡◌, ◌<◌, ◌+◌, ◌++◌, ℕ, zero, suc, List, [], ◌∷◌, Some, drop, get_or, length, map, take, refl, sym, ap, ◌∙◌, arith}
 use Rattle.std.specs.Prelude.{slice_get}
-use Rattle.std.proofs.lemmas.List.{drop_more, get_or-map, get_or_append_left, length-append, length-map, map-append, take_more}
+use Rattle.std.proofs.lemmas.List.{get_or-map, get_or_append_left, length-append, length-map, map-append, take_more}
 use Rattle.model_base.specs.declared.reference.Reference.{Reference}
 use Rattle.model_base.specs.declared.reference.Reference.TheVariants.{Base}
 use Rattle.model_base.specs.declared.row.Key.{Key}
 use Rattle.model_base.specs.declared.statement.Access.{Access as Declared}
 use Rattle.model_base.specs.declared.statement.Statement.{Statement}
 use Rattle.model_base.specs.Outcomes.{rows_before}
-use Rattle.model_base.specs.References.{references as references_in}
+use Rattle.model_base.specs.References.{references}
 use Rattle.model_base.specs.Versions.{accesses_of}
 use Rattle.body.proofs.Shapes.{logs_have_shape}
 use Rattle.own_words.specs.Words.{signed}
-use Rattle.bohm_core_base.specs.Batch.{Access, Batch, prior, references, row_from, writer}
+use Rattle.bohm_core_base.specs.Batch.{Access, Batch, prior_reference, reference_words, writer_reference}
 use Rattle.bohm_core_base.proofs.Rows.{final_row, row-right}
 use Rattle.log_batch.specs.Laws.{IsOfLog, word_of}
 use Rattle.log_batch.specs.Shown.{access_of, row_bits, row_numbers}
@@ -22,22 +22,6 @@ use Rattle.log_batch.proofs.SerialNumbers.{numbers-bits}
 use Rattle.log_batch.proofs.SerialRuns.{serial_runs_agree}
 use Rattle.log_batch.proofs.SoundReferences.{references_same}
 use Rattle.reading.specs.Told.{IsReferred, Reader, row_referred}
-
--- a version cell whose first word is 0 has no row
-pub row-absent : (columns number : ℕ) (words : List ℕ) → number < length words → get_or words number 0 ≡ 0
-    → None ≡ row_numbers (row_from columns (drop number words))
-row-absent columns number words within is =
-    rw (drop_more words number 0 within, is) refl
-
--- any other has the numbers of the words behind it
-pub row-there : (columns number : ℕ) (words : List ℕ) → number < length words → get_or words number 0 ≢ 0
-    → Some (map signed (take columns (drop (number + 1) words))) ≡ row_numbers (row_from columns (drop number words))
-row-there columns number words within is = rw (drop_more words number 0 within) (by_word (get_or words number 0) is)
-  where
-    by_word : (word : ℕ) → word ≢ 0
-        → Some (map signed (take columns (drop (number + 1) words))) ≡ row_numbers (row_from columns (word ∷ drop (number + 1) words))
-    by_word zero is = absurd (is refl)
-    by_word (suc word) is = refl
 
 -- what stands behind the first few words
 pub get_or-drop : (words : List ℕ) (first number : ℕ) → get_or (drop first words) number 0 ≡ get_or words (first + number) 0
@@ -79,31 +63,31 @@ module _ (ranged : Ranged) (is : IsOfLog (range_of ranged)) (index : ℕ) (state
   batch = batch_in ranged
 
   abbrev listed : List Reference
-  listed = references_in ranged.log.statements ranged.first (ranged.first + index)
+  listed = references ranged.log.statements ranged.first (ranged.first + index)
 
   -- the references of the machine, first those of the accesses
-  by_access : (number < length (references batch index)) × (get_or (references batch index) number 0 ≡ writer batch index access.key)
-  unfolding references
+  by_access : (number < length (reference_words batch index)) × (get_or (reference_words batch index) number 0 ≡ writer_reference batch index access.key)
+  unfolding reference_words
   by_access =
       let declared : batch.accesses index ≡ map access_of (accesses_of statement.form) = rw at refl in
       let count : length (map access_of (accesses_of statement.form)) ≡ length (accesses_of statement.form) = length-map (accesses_of statement.form) access_of in
-      let first : List ℕ = map (λ (one : Access). writer batch index one.key) (map access_of (accesses_of statement.form)) in
-      let last : List ℕ = map (λ table. prior batch index table) (batch.tables index) in
-      let long : length first ≡ length (accesses_of statement.form) = length-map (map access_of (accesses_of statement.form)) (λ (one : Access). writer batch index one.key) ∙ count in
+      let first : List ℕ = map (λ (one : Access). writer_reference batch index one.key) (map access_of (accesses_of statement.form)) in
+      let last : List ℕ = map (λ table. prior_reference batch index table) (batch.tables index) in
+      let long : length first ≡ length (accesses_of statement.form) = length-map (map access_of (accesses_of statement.form)) (λ (one : Access). writer_reference batch index one.key) ∙ count in
       let both = length-append first last in
-      let same : references batch index ≡ first ++ last = ap (λ (accesses : List Access). map (λ (one : Access). writer batch index one.key) accesses ++ last) declared in (
+      let same : reference_words batch index ≡ first ++ last = ap (λ (accesses : List Access). map (λ (one : Access). writer_reference batch index one.key) accesses ++ last) declared in (
         rw same (omega arith),
         ap (λ (words : List ℕ). get_or words number 0) same
             ∙ get_or_append_left first last 0 number (omega arith)
-            ∙ get_or-map (λ (one : Access). writer batch index one.key) (map access_of (accesses_of statement.form)) number (access_of access) 0 (omega arith)
-            ∙ ap (λ (one : Access). writer batch index one.key) (get_or-map access_of (accesses_of statement.form) number access (access_of access) within ∙ ap access_of (sym here)),
+            ∙ get_or-map (λ (one : Access). writer_reference batch index one.key) (map access_of (accesses_of statement.form)) number (access_of access) 0 (omega arith)
+            ∙ ap (λ (one : Access). writer_reference batch index one.key) (get_or-map access_of (accesses_of statement.form) number access (access_of access) within ∙ ap access_of (sym here)),
       )
 
   -- those of the log are the same, as words
-  word-listed : word_of ranged.first (get_or listed number Base) ≡ get_or (references batch index) number 0
+  word-listed : word_of ranged.first (get_or listed number Base) ≡ get_or (reference_words batch index) number 0
   word-listed =
       let same = references_same (range_of ranged) index in
-      let count : length (references batch index) ≡ length listed = ap (λ (words : List ℕ). length words) same ∙ length-map listed (word_of ranged.first) in
+      let count : length (reference_words batch index) ≡ length listed = ap (λ (words : List ℕ). length words) same ∙ length-map listed (word_of ranged.first) in
       let low = by_access.0 in
       sym (ap (λ (words : List ℕ). get_or words number 0) same ∙ get_or-map (word_of ranged.first) listed number Base 0 (omega arith))
 
@@ -117,7 +101,7 @@ module _ (ranged : Ranged) (is : IsOfLog (range_of ranged)) (index : ℕ) (state
   row-by =
       ap (λ word. row_numbers (row_referred batch access.key word)) (word-listed ∙ by_access.1)
       ∙ ap row_numbers
-      (row-final batch access.key (writer batch index access.key)
+      (row-final batch access.key (writer_reference batch index access.key)
       ∙ sym (row-right batch (batches_are_sound (range_of ranged) is) index access.key)
       ∙ (serial_runs_agree (range_of ranged) is index).rows access.key)
       ∙ numbers-told ranged is (ranged.first + index) access.key

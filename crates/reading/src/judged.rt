@@ -9,7 +9,7 @@ ghost use Rattle.model_base.specs.Outcomes.{deed_of, deeds_before, owners};
 ghost use Rattle.own_words.specs.Places.{words_at};
 ghost use Rattle.answering.specs.Answering.{ended_by_deed};
 ghost use Rattle.sequencer.specs.Taken.{columns_by};
-ghost use Rattle.bohm_core_base.specs.Batch.{slots_of, was_done};
+ghost use Rattle.bohm_core_base.specs.Batch.{batch_slots, was_done};
 ghost use Rattle.bohm_core_base.specs.Serial.{serial_ends, serial_words};
 ghost use Rattle.log_batch.specs.Supplied.{batch_in};
 
@@ -76,7 +76,9 @@ fn judge_ends<T: Told, P: Pinned>(
     requires place { Some (T.told told) ≡ P.told }
     requires kept { Some (T.kept told) ≡ P.kept }
     ensures value { (statement : Statement) → slice_get batch.now.log.statements (batch.now.first + (T.told told).index) ≡ Some statement
-        → IfOk result.0 (λ places. places.items ≡ ended_by_deed (owners batch.now.log.statements) (deeds_before batch.now.log.statements (batch.now.first + (T.told told).index))
+        → IfOk result.0 (λ places. places.items
+        ≡ ended_by_deed (owners batch.now.log.statements)
+        (deeds_before batch.now.log.statements (batch.now.first + (T.told told).index))
         (deed_of (batch.now.first + (T.told told).index) statement.user statement.form)) }
     ensures place { Some (T.told result.1) ≡ P.told }
     ensures kept { Some (T.kept result.1) ≡ P.kept }
@@ -107,7 +109,7 @@ pub fn ends_told<T: Told>(
 ) -> (Result<Vec<Place>, AllocError>, T)
     requires batch { (T.told told).batch ≡ batch_in batch.now }
     requires done { was_done (serial_words (batch_in batch.now) (T.told told).index) ≡ true }
-    ensures ends { IfOk result.0 (λ places. (slot : ℕ) (grant : Grant) → slice_get (slots_of (batch_in batch.now)) slot ≡ Some grant
+    ensures ends { IfOk result.0 (λ places. (slot : ℕ) (grant : Grant) → slice_get (batch_slots (batch_in batch.now)) slot ≡ Some grant
         → list_any (λ place. place == grant.place) places.items ≡ serial_ends (batch_in batch.now) (T.told told).index slot) }
     ensures order { IfOk result.0 (λ places. IsStrictlyIncreasing places.items) }
     ensures same { (T.told result.1 ≡ T.told told) × (T.kept result.1 ≡ T.kept told) }

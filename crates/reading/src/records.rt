@@ -3,9 +3,9 @@
 ghost use Rattle.std.specs.Prelude.{◌≡◌, ◌<◌, None, Option, Some, length};
 ghost use Rattle.model_base.specs.Records.{end_below};
 ghost use Rattle.grants.specs.View.{end_in, grant_in, slot_at};
-ghost use Rattle.bohm_core_base.specs.Batch.{slots_of};
+ghost use Rattle.bohm_core_base.specs.Batch.{batch_slots};
 ghost use Rattle.log_batch.specs.Supplied.{batch_in};
-ghost use Rattle.reading.specs.Seen.{seen_at, shown_of};
+ghost use Rattle.reading.specs.Seen.{seen_at, seen_view};
 ghost use Rattle.reading.specs.Told.{Reader, Work};
 
 use crate::tables::is_on;
@@ -51,8 +51,8 @@ fn end_below(end: Option<Place>, place: Place) -> Option<Place>
 /// or by a place that was done.
 fn grant_shown<T: Told>(batch: &LogBatch, told: &mut T, slot: usize) -> Option<Grant>
     requires batch { (T.told told.old).batch ≡ batch_in batch.now }
-    requires within { slot < length (slots_of (batch_in batch.now)) }
-    ensures value { result ≡ grant_in (slot_at (shown_of (seen_at batch.now (T.told told.old).index)) slot) }
+    requires within { slot < length (batch_slots (batch_in batch.now)) }
+    ensures value { result ≡ grant_in (slot_at (seen_view (seen_at batch.now (T.told told.old).index)) slot) }
     ensures same { (T.told told.new ≡ T.told told.old) × (T.kept told.new ≡ T.kept told.old) }
 {
     let _log = batch.log();
@@ -72,8 +72,8 @@ fn grant_shown<T: Told>(batch: &LogBatch, told: &mut T, slot: usize) -> Option<G
 /// The end of the record of a slot, if the reader is shown its grant and it lies below the reader.
 fn end_shown<T: Told>(batch: &LogBatch, told: &mut T, slot: usize) -> Option<Place>
     requires batch { (T.told told.old).batch ≡ batch_in batch.now }
-    requires within { slot < length (slots_of (batch_in batch.now)) }
-    ensures value { result ≡ end_in (slot_at (shown_of (seen_at batch.now (T.told told.old).index)) slot) }
+    requires within { slot < length (batch_slots (batch_in batch.now)) }
+    ensures value { result ≡ end_in (slot_at (seen_view (seen_at batch.now (T.told told.old).index)) slot) }
     ensures same { (T.told told.new ≡ T.told told.old) × (T.kept told.new ≡ T.kept told.old) }
 {
     let _log = batch.log();
@@ -88,13 +88,13 @@ fn end_shown<T: Told>(batch: &LogBatch, told: &mut T, slot: usize) -> Option<Pla
 }
 
 impl<T: Told, P: Pinned> Records for ShownRecords<'_, T, P> {
-    ghost use Rattle.bohm_core_base.specs.Batch.{slots_of};
+    ghost use Rattle.bohm_core_base.specs.Batch.{batch_slots};
     ghost use Rattle.log_batch.specs.Supplied.{batch_in};
-    ghost use Rattle.reading.specs.Seen.{seen_at, shown_of};
+    ghost use Rattle.reading.specs.Seen.{seen_at, seen_view};
 
-    ghost shown = { λ records. shown_of (seen_at records.batch.now (T.told records.told).index) };
+    ghost shown = { λ records. seen_view (seen_at records.batch.now (T.told records.told).index) };
 
-    ghost asked = { λ records. slots_of (batch_in records.batch.now) };
+    ghost asked = { λ records. batch_slots (batch_in records.batch.now) };
 
     fn at(&self) -> Place {
         let _log = self.batch.log();

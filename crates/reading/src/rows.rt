@@ -4,9 +4,9 @@ ghost use Rattle.std.specs.Prelude.{◌≡◌, ◌<◌, ◌≤◌, ◌+◌, ◌*
 ghost use Rattle.model_base.specs.declared.reference.Reference.TheVariants.{Base};
 ghost use Rattle.model_base.specs.declared.statement.Statement.{Statement};
 ghost use Rattle.model_base.specs.Outcomes.{rows_before};
-ghost use Rattle.model_base.specs.Versions.{accesses_of, is_writing};
+ghost use Rattle.model_base.specs.Versions.{accesses_of};
 ghost use Rattle.body.specs.Premises.{IsRunnable};
-ghost use Rattle.body.specs.Shown.{Shows};
+ghost use Rattle.body.specs.Shown.{WindowShows};
 ghost use Rattle.own_words.specs.Words.{outputs_of};
 ghost use Rattle.sequencer.specs.Taken.{columns_by};
 ghost use Rattle.bohm_core_base.specs.Batch.{cell, cells_length, row_from, words_length};
@@ -19,20 +19,13 @@ ghost use Rattle.reading.specs.Told.{IsReferred, row_referred};
 use crate::told::Told;
 use body::Window;
 use log_batch::LogBatch;
-use model_base::{Access, Key, Reference, Row, Statement, Table};
-use own_words::outputs_of;
-
-/// Whether the access declares a kind that changes rows.
-fn is_writing(access: &Access) -> bool
-    ensures { result ≡ is_writing access.now }
-{
-    access.kinds.insert || access.kinds.update || access.kinds.delete
-}
+use model_base::{Access, Key, MOST_ACCESSES, MOST_COLUMNS, Reference, Row, Statement, Table};
+use own_words::{MOST_OWN_WORDS, outputs_of};
 
 /// How many columns a table of the log has; one that the log doesn't have has none.
 fn columns_of(batch: &LogBatch, table: Table) -> u8
     ensures value { result ≡ columns_by batch.now.log.names table }
-    ensures few { result ≤ 8 }
+    ensures few { result ≤ MOST_COLUMNS }
 {
     let columns = batch.log().all_columns();
     let table = table.0 as usize;
@@ -55,13 +48,13 @@ fn header_length(statement: &Statement) -> usize
 /// How many words the version cells of these accesses have: for each access that may change its row one, and one for each
 /// column.
 fn cells_length(batch: &LogBatch, accesses: &[Access]) -> usize
-    requires { length accesses.now ≤ 16 }
+    requires { length accesses.now ≤ MOST_ACCESSES }
     ensures value { result ≡ cells_length (batch_in batch.now).columns (map access_of accesses.now) }
     ensures few { result ≤ 144 }
 {
     let mut length = 0;
     for access in accesses {
-        if is_writing(access) {
+        if access.is_writing() {
             length += 1 + columns_of(batch, access.key.table) as usize;
         }
     }
@@ -69,12 +62,12 @@ fn cells_length(batch: &LogBatch, accesses: &[Access]) -> usize
 }
 
 /// How many own words a place has: four, one for each OUT step, and for each access that may change its row one and one for
-/// each column. They are at most 156.
+/// each column. They are at most `MOST_OWN_WORDS`.
 #[tactic(auto, using(crate::proofs::Cells::length_at))]
 pub fn words_length(batch: &LogBatch, index: usize) -> usize
     requires { index < batch.now.size }
     ensures value { result ≡ words_length (batch_in batch.now) index }
-    ensures few { result ≤ 156 }
+    ensures few { result ≤ MOST_OWN_WORDS }
 {
     let statement = batch.statement(index);
     header_length(statement) + cells_length(batch, statement.accesses())
@@ -84,8 +77,8 @@ pub fn words_length(batch: &LogBatch, index: usize) -> usize
 fn row_at<T: Told>(told: &mut T, index: usize, number: usize, columns: u8) -> Option<Row>
     requires referred { IsReferred (T.told told.old) index }
     requires within { number + columns < words_length (T.told told.old).batch index }
-    requires small { number < 156 }
-    requires few { columns ≤ 8 }
+    requires small { number < MOST_OWN_WORDS }
+    requires few { columns ≤ MOST_COLUMNS }
     ensures value { result ≡ row_numbers (row_from columns (drop number (serial_words (T.told told.old).batch index))) }
     ensures same { (T.told told.new ≡ T.told told.old) × (T.kept told.new ≡ T.kept told.old) }
 {
@@ -119,7 +112,7 @@ fn row_told<T: Told>(
 {
     let mut number = header_length(statement);
     for access in statement.accesses() {
-        if is_writing(access) {
+        if access.is_writing() {
             let columns = columns_of(batch, access.key.table);
             if access.key == key {
                 return row_at(told, index, number, columns);
@@ -178,10 +171,12 @@ fn reference_at(references: &[Reference], number: usize) -> Reference
 /// an output.
 pub(crate) fn show_rows<T: Told>(batch: &LogBatch, told: &mut T, window: &mut Window)
     requires batch { (T.told told.old).batch ≡ batch_in batch.now }
-    requires sixteen { length window.old.rows ≡ 16 }
+    requires whole { length window.old.rows ≡ MOST_ACCESSES }
     requires fresh { window.old.outputs ≡ [] }
-    ensures shows { (statement : Statement) → slice_get batch.now.log.statements (batch.now.first + (T.told told.old).index) ≡ Some statement
-        → Shows (accesses_of statement.form) window.new (rows_before batch.now.log.statements (batch.now.first + (T.told told.old).index)) }
+    ensures shows { (statement : Statement)
+        → slice_get batch.now.log.statements (batch.now.first + (T.told told.old).index) ≡ Some statement
+        → WindowShows (accesses_of statement.form) window.new
+        (rows_before batch.now.log.statements (batch.now.first + (T.told told.old).index)) }
     ensures fresh { window.new.outputs ≡ [] }
     ensures same { (T.told told.new ≡ T.told told.old) × (T.kept told.new ≡ T.kept told.old) }
 {

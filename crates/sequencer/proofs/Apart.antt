@@ -17,7 +17,7 @@ use Rattle.log_text.specs.declared.access.RawAccess.{RawAccess}
 use Rattle.log_text.specs.declared.statement.RawForm.{RawForm}
 use Rattle.sequencer.specs.Names.{is_known, number_of, with_name}
 use Rattle.sequencer.specs.Catalog.{Names, numbered, numbered_access, numbered_form}
-use Rattle.sequencer.specs.Refusal.{access_refusal, accesses_refusal, form_refusal, refusal, same_row, unless}
+use Rattle.sequencer.specs.Refusal.{access_refusal, accesses_refusal, form_refusal, refusal, same_row, refuse_unless}
 use Rattle.sequencer.specs.declared.refused.Refused.{Refused}
 use Rattle.sequencer.proofs.Passed.{both_none, form_passes, known-below, passes}
 
@@ -78,7 +78,7 @@ others names users first earlier (access ∷ accesses) among e =
     let test : Access → Bool = is_of (number_of names.tables first.table) (pos first.row) in
     let found : List Access = map (numbered_access named) accesses in
     let parts = both_none (access_refusal names earlier access) (accesses_refusal names (earlier ++ access ∷ []) accesses) e in
-    let here = both_none (unless (is_known names.tables access.table) Refused.UnknownTable) (unless (not (list_any (same_row access) earlier)) Refused.DuplicateAccess) parts.0 in
+    let here = both_none (refuse_unless (is_known names.tables access.table) Refused.UnknownTable) (refuse_unless (not (list_any (same_row access) earlier)) Refused.DuplicateAccess) parts.0 in
     let known = passes (is_known names.tables access.table) Refused.UnknownTable here.0 in
     let new = not-true (list_any (same_row access) earlier) (passes (not (list_any (same_row access) earlier)) Refused.DuplicateAccess here.1) in
     let other : test (numbered_access named access) ≡ false =

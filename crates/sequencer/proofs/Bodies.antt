@@ -8,45 +8,40 @@ use Rattle.std.proofs.lemmas.List.Elements.{All-from_recursion, All-weaker}
 use Rattle.std.proofs.lemmas.List.Sums.{sum_by-cons}
 use Rattle.model_base.specs.declared.statement.Form.{Form}
 use Rattle.model_base.specs.declared.statement.Step.{Step}
-use Rattle.model_base.specs.Body.{fits}
-use Rattle.body.specs.Premises.{IsNarrow, IsRunnable, outputs_of}
-use Rattle.body.specs.Shape.{FitsColumns, FormFits}
+use Rattle.model_base.specs.Body.{fits_64_bits}
+use Rattle.body.specs.Premises.{IsNarrow, IsRunnable, outputs_of_step}
+use Rattle.body.specs.Shape.{StepFits, FormFits}
 use Rattle.body.specs.Steps.{steps_of}
 use Rattle.log_text.specs.Statement.{IsFormInGrammar, IsInGrammar, IsStep, Sentence, outs_of}
-use Rattle.log_text.specs.Words.{fits_64_bits}
 use Rattle.log_text.specs.declared.statement.RawForm.{RawForm}
 use Rattle.log_text.specs.declared.statement.RawStep.{RawStep}
 use Rattle.sequencer.specs.Names.{is_known, with_name}
 use Rattle.sequencer.specs.Catalog.{Names, numbered, numbered_access, numbered_form, numbered_step}
-use Rattle.sequencer.specs.Refusal.{accesses_refusal, columns_of, deed_refusal, form_refusal, or_else, refusal, step_refusal, steps_refusal, unless}
+use Rattle.sequencer.specs.Refusal.{accesses_refusal, columns_of, deed_refusal, form_refusal, or_refused, refusal, step_refusal, steps_refusal, refuse_unless}
 use Rattle.sequencer.specs.Taken.{HasFilledRows, IsFilled, columns_by}
 use Rattle.sequencer.specs.declared.refused.Refused.{Refused}
 use Rattle.sequencer.proofs.Passed.{both_none, form_passes, passes}
 
 -- a number of 64 bits as a line has it is one as a body has it
-const_fits : (value : ℤ) → IsTrue (fits_64_bits value) → fits value ≡ true
+const_fits : (value : ℤ) → IsTrue (fits_64_bits value) → fits_64_bits value ≡ true
 const_fits (pos n) h = h
 const_fits (negsuc n) h = h
 
 -- a step fits a window and the columns of the tables, and inserts no row without columns
 record IsSound (names : Names) (step : Step) : Type 0 where
   narrow : IsNarrow step
-  fits : FitsColumns (columns_by names) step
+  fits : StepFits (columns_by names) step
   filled : IsFilled step
 
 width-is : (names : Names) (table : List ℕ) (width : ℕ)
-    → or_else (unless (is_known names.tables table) Refused.UnknownTable) (unless (width == columns_of names table) Refused.BadColumns) ≡ None → width ≡ columns_of names table
+    → or_refused (refuse_unless (is_known names.tables table) Refused.UnknownTable) (refuse_unless (width == columns_of names table) Refused.BadColumns) ≡ None → width ≡ columns_of names table
 width-is names table width e =
-    eqb-true width (columns_of names table) (passes (width == columns_of names table) Refused.BadColumns (both_none (unless (is_known names.tables table) Refused.UnknownTable) _ e).1)
+    eqb-true width (columns_of names table) (passes (width == columns_of names table) Refused.BadColumns (both_none (refuse_unless (is_known names.tables table) Refused.UnknownTable) _ e).1)
 
 step-sound : (names : Names) (users : List (List ℕ)) (later : ℕ) (step : RawStep) → IsStep step → step_refusal names later step ≡ None
     → IsSound names (numbered_step (record names { users = users }) step)
 step-sound names users later (RawStep.Const to value) h e = record { narrow = tt; fits = const_fits value h.1; filled = tt }
-step-sound names users later (RawStep.Add to left right) h e = record { narrow = tt; fits = tt; filled = tt }
-step-sound names users later (RawStep.Sub to left right) h e = record { narrow = tt; fits = tt; filled = tt }
-step-sound names users later (RawStep.Mul to left right) h e = record { narrow = tt; fits = tt; filled = tt }
-step-sound names users later (RawStep.Less to left right) h e = record { narrow = tt; fits = tt; filled = tt }
-step-sound names users later (RawStep.Same to left right) h e = record { narrow = tt; fits = tt; filled = tt }
+step-sound names users later (RawStep.Compute operation to left right) h e = record { narrow = tt; fits = tt; filled = tt }
 step-sound names users later (RawStep.Has to table row) h e = record { narrow = tt; fits = tt; filled = tt }
 step-sound names users later (RawStep.Load to table row column) h e = record { narrow = tt; fits = tt; filled = tt }
 step-sound names users later (RawStep.Store table row column from) h e = record { narrow = tt; fits = tt; filled = tt }
@@ -63,13 +58,9 @@ steps-sound names users (step ∷ steps) h e =
     let parts = both_none (step_refusal names (length steps) step) (steps_refusal names steps) e in
     (step-sound names users (length steps) step h.0 parts.0, steps-sound names users steps h.1 parts.1)
 
-step-outputs : (names : Names) (step : RawStep) → outputs_of (numbered_step names step) ≡ outs_of step
+step-outputs : (names : Names) (step : RawStep) → outputs_of_step (numbered_step names step) ≡ outs_of step
 step-outputs names (RawStep.Const to value) = refl
-step-outputs names (RawStep.Add to left right) = refl
-step-outputs names (RawStep.Sub to left right) = refl
-step-outputs names (RawStep.Mul to left right) = refl
-step-outputs names (RawStep.Less to left right) = refl
-step-outputs names (RawStep.Same to left right) = refl
+step-outputs names (RawStep.Compute operation to left right) = refl
 step-outputs names (RawStep.Has to table row) = refl
 step-outputs names (RawStep.Load to table row column) = refl
 step-outputs names (RawStep.Store table row column from) = refl
@@ -79,11 +70,11 @@ step-outputs names (RawStep.Check of) = refl
 step-outputs names (RawStep.Skip of steps) = refl
 step-outputs names (RawStep.Out of) = refl
 
-steps-outputs : (names : Names) (steps : List RawStep) → sum_by outputs_of (map (numbered_step names) steps) ≡ sum_by outs_of steps
+steps-outputs : (names : Names) (steps : List RawStep) → sum_by outputs_of_step (map (numbered_step names) steps) ≡ sum_by outs_of steps
 steps-outputs names [] = refl
 steps-outputs names (step ∷ steps) =
-    sum_by-cons outputs_of (numbered_step names step) (map (numbered_step names) steps)
-    ∙ ap (λ (n : ℕ). n + sum_by outputs_of (map (numbered_step names) steps)) (step-outputs names step)
+    sum_by-cons outputs_of_step (numbered_step names step) (map (numbered_step names) steps)
+    ∙ ap (λ (n : ℕ). n + sum_by outputs_of_step (map (numbered_step names) steps)) (step-outputs names step)
     ∙ ap (λ (n : ℕ). outs_of step + n) (steps-outputs names steps) ∙ sym (sum_by-cons outs_of step steps)
 
 -- the body of a statement that the log takes
@@ -109,7 +100,7 @@ form_sound names users user (RawForm.Run accesses steps deed) h e =
         outputs = omega (arith, h, steps-outputs named steps);
       };
       steps = omega (arith, h, length-map steps (numbered_step named));
-      fits = All-weaker (IsSound names) (FitsColumns (columns_by names)) (λ step is. is.fits) found sound;
+      fits = All-weaker (IsSound names) (StepFits (columns_by names)) (λ step is. is.fits) found sound;
       filled = All-weaker (IsSound names) IsFilled (λ step is. is.filled) found sound;
     }
 form_sound names users user (RawForm.Deed deed) h e = record { runnable = tt; steps = omega arith; fits = tt; filled = tt }

@@ -18,7 +18,7 @@ use Rattle.log_text.specs.declared.statement.RawDeed.{RawDeed}
 use Rattle.log_text.specs.declared.statement.RawForm.{RawForm}
 use Rattle.sequencer.specs.Names.{is_known, with_name}
 use Rattle.sequencer.specs.Catalog.{Names, numbered, numbered_access, numbered_deed, numbered_form}
-use Rattle.sequencer.specs.Refusal.{access_refusal, accesses_refusal, deed_refusal, form_refusal, refusal, steps_refusal, unless}
+use Rattle.sequencer.specs.Refusal.{access_refusal, accesses_refusal, deed_refusal, form_refusal, refusal, steps_refusal, refuse_unless}
 use Rattle.sequencer.specs.declared.refused.Refused.{Refused}
 use Rattle.sequencer.proofs.Passed.{both_none, form_passes, known-table}
 
@@ -39,7 +39,7 @@ accesses-below names users earlier [] e = All-nil (λ (access : Access). access.
 accesses-below names users earlier (access ∷ accesses) e =
     let named : Names = record names { users = users } in
     let parts = both_none (access_refusal names earlier access) (accesses_refusal names (earlier ++ access ∷ []) accesses) e in
-    let first = both_none (unless (is_known names.tables access.table) Refused.UnknownTable) (unless (not (list_any _ earlier)) Refused.DuplicateAccess) parts.0 in
+    let first = both_none (refuse_unless (is_known names.tables access.table) Refused.UnknownTable) (refuse_unless (not (list_any _ earlier)) Refused.DuplicateAccess) parts.0 in
     All-cons (λ (a : Access). a.key.table < length names.tables) (numbered_access named access) (map (numbered_access named) accesses)
     (known-table names access.table first.0) (accesses-below names users (earlier ++ access ∷ []) accesses parts.1)
 

@@ -3,7 +3,7 @@ use Rattle.std.proofs.Common.{◌≡◌, ℕ, ◌+◌, Bool, true, false, cond, 
 use Rattle.std.specs.Prelude.{bytes_eq, ◌||◌}
 use Rattle.std.proofs.lemmas.Slice.Eq.{bytes_eq-Decides}
 use Rattle.sequencer.specs.Names.{is_known, with_name}
-use Rattle.sequencer.specs.Refusal.{name_refusal, or_else, two_refusal, unless}
+use Rattle.sequencer.specs.Refusal.{name_refusal, or_refused, two_refusal, refuse_unless}
 use Rattle.sequencer.specs.declared.refused.Refused.{Refused}
 use Rattle.sequencer.specs.declared.refused.Refused.TheVariants.{TooManyNames}
 
@@ -23,25 +23,25 @@ known_behind (x ∷ xs) first second e = ap (λ (b : Bool). bytes_eq second x ||
 
 pub two_of_known : (names : List (List ℕ)) (first second : List ℕ) → name_refusal names first ≡ None → is_known names first ≡ true → two_refusal names first second ≡ name_refusal names second
 two_of_known names first second passes known =
-    ap (λ (r : Option Refused). or_else r (name_refusal (with_name names first) second)) passes
+    ap (λ (r : Option Refused). or_refused r (name_refusal (with_name names first) second)) passes
     ∙ ap (λ (b : Bool). name_refusal (cond b names (names ++ first ∷ [])) second) known
 
 -- a new name went last
 new_last : (names : List (List ℕ)) (first second : List ℕ) → name_refusal names first ≡ None → is_known names first ≡ false → two_refusal names first second ≡ name_refusal (names ++ first ∷ []) second
 new_last names first second passes new =
-    ap (λ (r : Option Refused). or_else r (name_refusal (with_name names first) second)) passes
+    ap (λ (r : Option Refused). or_refused r (name_refusal (with_name names first) second)) passes
     ∙ ap (λ (b : Bool). name_refusal (cond b names (names ++ first ∷ [])) second) new
 
 pub two_of_same : (names : List (List ℕ)) (first second : List ℕ) → name_refusal names first ≡ None → is_known names first ≡ false → bytes_eq second first ≡ true → two_refusal names first second ≡ None
 two_of_same names first second passes new same =
     new_last names first second passes new
     ∙ ap (name_refusal (names ++ first ∷ [])) ((bytes_eq-Decides second first).0 same)
-    ∙ ap (λ (b : Bool). unless (ltb (length (names ++ first ∷ [])) 65536 || b) TooManyNames) (last_known names first)
-    ∙ ap (λ (b : Bool). unless b TooManyNames) (or_true (ltb (length (names ++ first ∷ [])) 65536))
+    ∙ ap (λ (b : Bool). refuse_unless (ltb (length (names ++ first ∷ [])) 65536 || b) TooManyNames) (last_known names first)
+    ∙ ap (λ (b : Bool). refuse_unless b TooManyNames) (or_true (ltb (length (names ++ first ∷ [])) 65536))
 
 pub two_of_new : (names : List (List ℕ)) (first second : List ℕ) → name_refusal names first ≡ None → is_known names first ≡ false → bytes_eq second first ≡ false
-    → two_refusal names first second ≡ unless (ltb (length names + 1) 65536 || is_known names second) TooManyNames
+    → two_refusal names first second ≡ refuse_unless (ltb (length names + 1) 65536 || is_known names second) TooManyNames
 two_of_new names first second passes new other =
     new_last names first second passes new
-    ∙ ap (λ (n : ℕ). unless (ltb n 65536 || is_known (names ++ first ∷ []) second) TooManyNames) (length-append names (first ∷ []))
-    ∙ ap (λ (b : Bool). unless (ltb (length names + 1) 65536 || b) TooManyNames) (known_behind names first second other)
+    ∙ ap (λ (n : ℕ). refuse_unless (ltb n 65536 || is_known (names ++ first ∷ []) second) TooManyNames) (length-append names (first ∷ []))
+    ∙ ap (λ (b : Bool). refuse_unless (ltb (length names + 1) 65536 || b) TooManyNames) (known_behind names first second other)

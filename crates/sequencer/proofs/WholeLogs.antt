@@ -13,13 +13,13 @@ use Rattle.model_base.specs.declared.statement.Step.{Step}
 use Rattle.model_base.specs.Outcomes.{creator, needs, owners}
 use Rattle.model_base.specs.References.{tables_of}
 use Rattle.model_base.specs.Versions.{accesses_of}
-use Rattle.body.specs.Shape.{FitsColumns, FormFits}
+use Rattle.body.specs.Shape.{StepFits, FormFits}
 use Rattle.log_text.specs.Statement.{IsInGrammar, Sentence}
 use Rattle.log_text.specs.declared.statement.RawForm.{RawForm}
 use Rattle.sequencer.specs.Names.{is_known, number_of, with_name}
 use Rattle.sequencer.specs.Catalog.{Names, no_names, numbered, numbered_form, with_form, with_statement}
 use Rattle.sequencer.specs.Log.{Accepted, empty_log, with_accepted}
-use Rattle.sequencer.specs.Refusal.{create_refusal, form_refusal, refusal, unless}
+use Rattle.sequencer.specs.Refusal.{create_refusal, form_refusal, refusal, refuse_unless}
 use Rattle.sequencer.specs.Taken.{HasFilledRows, IsFilled, IsKept, IsTaken, columns_by}
 use Rattle.sequencer.specs.declared.refused.Refused.{Refused}
 use Rattle.sequencer.proofs.Apart.{apart_accesses}
@@ -51,16 +51,12 @@ columns_stay columns later table width filled is =
       | inr past ↦ absurd (omega (arith, filled, is, get_or_past columns table 0 past))
     ]
 
-step_stays : (names more : Names) → IsLonger names more → (step : Step) → IsFilled step → FitsColumns (columns_by names) step → FitsColumns (columns_by more) step
+step_stays : (names more : Names) → IsLonger names more → (step : Step) → IsFilled step → StepFits (columns_by names) step → StepFits (columns_by more) step
 step_stays names more longer (Step.Const to value) filled fits = fits
 step_stays names more longer (Step.Insert table row from) filled fits =
     let stay = columns_stay names.columns longer.columns.0 table (length from) filled fits in
     stay ∙ ap (λ (columns : List ℕ). slice_index_or columns table 0) (sym longer.columns.1)
-step_stays names more longer (Step.Add to left right) filled fits = tt
-step_stays names more longer (Step.Sub to left right) filled fits = tt
-step_stays names more longer (Step.Mul to left right) filled fits = tt
-step_stays names more longer (Step.Less to left right) filled fits = tt
-step_stays names more longer (Step.Same to left right) filled fits = tt
+step_stays names more longer (Step.Compute operation to left right) filled fits = tt
 step_stays names more longer (Step.Has to table row) filled fits = tt
 step_stays names more longer (Step.Load to table row column) filled fits = tt
 step_stays names more longer (Step.Store table row column from) filled fits = tt
@@ -69,12 +65,12 @@ step_stays names more longer (Step.Check of) filled fits = tt
 step_stays names more longer (Step.Skip of steps) filled fits = tt
 step_stays names more longer (Step.Out of) filled fits = tt
 
-steps_stay : (names more : Names) → IsLonger names more → (steps : List Step) → All IsFilled steps → All (FitsColumns (columns_by names)) steps
-    → All (FitsColumns (columns_by more)) steps
-steps_stay names more longer [] filled fits = All-nil (FitsColumns (columns_by more))
+steps_stay : (names more : Names) → IsLonger names more → (steps : List Step) → All IsFilled steps → All (StepFits (columns_by names)) steps
+    → All (StepFits (columns_by more)) steps
+steps_stay names more longer [] filled fits = All-nil (StepFits (columns_by more))
 steps_stay names more longer (step ∷ steps) filled fits =
-    let P : Step → Type 0 = FitsColumns (columns_by names) in
-    All-cons (FitsColumns (columns_by more)) step steps
+    let P : Step → Type 0 = StepFits (columns_by names) in
+    All-cons (StepFits (columns_by more)) step steps
     (step_stays names more longer step (All-head IsFilled step steps filled) (All-head P step steps fits))
     (steps_stay names more longer steps (All-tail IsFilled step steps filled) (All-tail P step steps fits))
 
@@ -155,7 +151,7 @@ taken_parts names after sentence user form result h users forms =
 -- a new table has at most eight columns
 few_columns : (names : Names) (table : List ℕ) (columns : ℕ) → create_refusal names table columns ≡ None → columns ≤ 8
 few_columns names table columns e =
-    let range = passes (nat_le 1 columns && nat_le columns 8) Refused.BadColumns (both_none (unless (not (is_known names.tables table)) Refused.TableExists) _ e).1 in
+    let range = passes (nat_le 1 columns && nat_le columns 8) Refused.BadColumns (both_none (refuse_unless (not (is_known names.tables table)) Refused.TableExists) _ e).1 in
     leb-true columns 8 (and_parts (nat_le 1 columns) (nat_le columns 8) range).1
 
 pub narrow_create : (names : Names) (user table : List ℕ) (columns : ℕ) → refusal names (record { user = user; form = RawForm.Create table columns }) ≡ None → columns ≤ 8

@@ -34,11 +34,7 @@ numbered_access names access =
 -- a step with its table by number
 abbrev pub numbered_step : Names → RawStep → Step
 numbered_step names (RawStep.Const to value) = Step.Const to value
-numbered_step names (RawStep.Add to left right) = Step.Add to left right
-numbered_step names (RawStep.Sub to left right) = Step.Sub to left right
-numbered_step names (RawStep.Mul to left right) = Step.Mul to left right
-numbered_step names (RawStep.Less to left right) = Step.Less to left right
-numbered_step names (RawStep.Same to left right) = Step.Same to left right
+numbered_step names (RawStep.Compute operation to left right) = Step.Compute operation to left right
 numbered_step names (RawStep.Has to table row) = Step.Has to (number_of names.tables table) row
 numbered_step names (RawStep.Load to table row column) = Step.Load to (number_of names.tables table) row column
 numbered_step names (RawStep.Store table row column from) = Step.Store (number_of names.tables table) row column from
@@ -72,9 +68,9 @@ numbered names sentence =
     record { user = number_of names.users sentence.user; form = numbered_form (with_user names sentence.user) sentence.form }
 
 -- the table that a deed names, and the grantee
-abbrev pub table_of : RawDeed → List ℕ
-table_of (RawDeed.Grant kind table grantee option) = table
-table_of (RawDeed.Revoke kind table grantee) = table
+abbrev pub named_table_of : RawDeed → List ℕ
+named_table_of (RawDeed.Grant kind table grantee option) = table
+named_table_of (RawDeed.Revoke kind table grantee) = table
 
 abbrev pub grantee_of : RawDeed → List ℕ
 grantee_of (RawDeed.Grant kind table grantee option) = grantee

@@ -1,5 +1,6 @@
 -- What a catalog shows, and room for a statement.
 use Rattle.std.specs.Prelude.{◌≡◌, ◌≤◌, [], All, length, vec_capacity}
+use Rattle.model_base.specs.declared.limits.TheConstants.{MOST_COLUMNS, MOST_PLACES}
 use Rattle.log_text.specs.declared.statement.RawForm.{RawForm}
 use Rattle.log_text.specs.declared.statement.RawForm.TheVariants.{Create, Run, Deed}
 use Rattle.sequencer.specs.Catalog.{Names}
@@ -16,16 +17,17 @@ names_of inside = record {
   places = inside.places;
 }
 
--- each table has an owner and a number of columns, which is eight at most
+-- each table has an owner and a number of columns, which is `MOST_COLUMNS` at most
 pub record IsConsistent (inside : Inside) : Type 0 where
   pub owners : length inside.owners.items ≡ length inside.tables
   pub columns : length inside.columns.items ≡ length inside.tables
-  pub narrow : All (λ count. count ≤ 8) inside.columns.items
-  pub places : inside.places ≤ 4294967295
+  pub narrow : All (λ count. count ≤ MOST_COLUMNS) inside.columns.items
+  pub places : inside.places ≤ MOST_PLACES
 
 -- the room is empty, and each access and step of the statement finds a place in it
 abbrev pub HasRoom : Room → RawForm → Type 0
 HasRoom room (Create table columns) = Unit {0}
 HasRoom room (Deed deed) = Unit {0}
 HasRoom room (Run accesses steps deed) =
-    (room.accesses.items ≡ []) × (room.steps.items ≡ []) × (length accesses ≤ vec_capacity room.accesses) × (length steps ≤ vec_capacity room.steps)
+    (room.accesses.items ≡ []) × (room.steps.items ≡ [])
+    × (length accesses ≤ vec_capacity room.accesses) × (length steps ≤ vec_capacity room.steps)

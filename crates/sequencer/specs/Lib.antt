@@ -5,3 +5,4 @@ pub mod Known
 pub mod Log
 pub mod Taken
 pub mod Tail
+pub mod Admitting

@@ -1,5 +1,6 @@
 -- What holds of each log: what its statements are, and the names behind them.
 use Rattle.std.specs.Prelude.{◌≡◌, ℕ, ◌<◌, ◌≤◌, All, length, slice_index_or}
+use Rattle.model_base.specs.declared.limits.TheConstants.{MOST_COLUMNS, MOST_STEPS}
 use Rattle.model_base.specs.declared.deed.Need.{Need}
 use Rattle.model_base.specs.declared.statement.Access.{Access}
 use Rattle.model_base.specs.declared.statement.Form.{Form}
@@ -19,11 +20,11 @@ use Rattle.sequencer.specs.Log.{Accepted}
 abbrev pub columns_by : Names → ℕ → ℕ
 columns_by names table = slice_index_or names.columns table 0
 
--- what an accepted statement is: its body fits a window and has at most 64 steps, its constants have 64 bits and its inserted
+-- what an accepted statement is: its body fits a window and has at most `MOST_STEPS` steps, its constants have 64 bits and its inserted
 -- rows the columns of their tables, what it names is of known tables, and no two of its accesses name one row
 pub record IsTaken (names : Names) (statement : Statement) : Type 0 where
   pub runnable : IsRunnable statement
-  pub steps : length (steps_of statement.form) ≤ 64
+  pub steps : length (steps_of statement.form) ≤ MOST_STEPS
   pub fits : FormFits (columns_by names) statement.form
   pub needs : All (λ (need : Need). need.table < length names.tables) (needs statement.form)
   pub accesses : All (λ (access : Access). access.key.table < length names.tables) (accesses_of statement.form)
@@ -36,7 +37,7 @@ pub record IsWhole (log : Accepted) : Type 0 where
   pub owners : log.names.owners ≡ owners log.statements
   pub owned : length log.names.owners ≡ length log.names.tables
   pub columns : length log.names.columns ≡ length log.names.tables
-  pub narrow : All (λ count. count ≤ 8) log.names.columns
+  pub narrow : All (λ count. count ≤ MOST_COLUMNS) log.names.columns
   pub taken : All (IsTaken log.names) log.statements
 
 -- a row that the step inserts has a column

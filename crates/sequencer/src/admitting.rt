@@ -1,18 +1,19 @@
 //! How a statement is taken.
 
 ghost use Rattle.std.specs.Prelude.{◌≡◌, ◌<◌, None, Some, option_map, IfOk, IfErr, OnOk, OnErr};
-ghost use Rattle.sequencer.specs.Names.{number_of, with_name};
-ghost use Rattle.sequencer.specs.Catalog.{numbered, numbered_deed, with_grantee, with_statement, with_user};
+ghost use Rattle.sequencer.specs.Names.{number_of};
+ghost use Rattle.sequencer.specs.Catalog.{numbered, numbered_deed, with_statement, with_user};
+ghost use Rattle.sequencer.specs.Admitting.{create_by, deed_by, entry_refusal, run_by, with_users};
 ghost use Rattle.sequencer.specs.Known.{HasRoom};
 ghost use Rattle.sequencer.specs.Taken.{HasFilledRows, IsTaken};
-ghost use Rattle.sequencer.specs.Refusal.{IsRefusal, deed_refusal, or_else, refusal, users_refusal};
+ghost use Rattle.sequencer.specs.Refusal.{IsRefusal, refusal};
 
-use crate::catalog::{Catalog, MOST_PLACES};
+use crate::catalog::Catalog;
 use crate::numbering::{Room, deed_form, room_for};
 use crate::refused::Refused;
 use crate::testing::{names_in, test_name};
 use log_text::{Name, RawAccess, RawDeed, RawForm, RawStatement, RawStep};
-use model_base::{DeedForm, Form, Items, Statement, Table, User};
+use model_base::{DeedForm, Form, Items, MOST_PLACES, Statement, Table, User};
 
 impl Catalog {
     /// Enters the user of a statement and then the grantee of its deed, and answers both by number. The deed's table has
@@ -21,9 +22,9 @@ impl Catalog {
     fn enter_deed(&mut self, user: &Name, deed: &RawDeed) -> Result<(User, DeedForm), Refused>
         ensures user { IfOk result (λ r. r.0 ≡ number_of self.old.users user.now) }
         ensures deed { IfOk result (λ r. r.1 ≡ numbered_deed (with_user self.old user.now) deed.now) }
-        ensures names { OnOk result (self.new ≡ record self.old { users = with_grantee (with_name self.old.users user.now) (Some deed.now) }) }
-        ensures passes { OnOk result (or_else (deed_refusal self.old (Some deed.now)) (users_refusal self.old.users user.now (Some deed.now)) ≡ None) }
-        ensures refused { IfErr result (λ r. IsRefusal r (or_else (deed_refusal self.old (Some deed.now)) (users_refusal self.old.users user.now (Some deed.now)))) }
+        ensures names { OnOk result (self.new ≡ with_users self.old user.now (Some deed.now)) }
+        ensures passes { OnOk result (entry_refusal self.old user.now (Some deed.now) ≡ None) }
+        ensures refused { IfErr result (λ r. IsRefusal r (entry_refusal self.old user.now (Some deed.now))) }
         ensures err { OnErr result (self.new ≡ self.old) }
     {
         let (table, grantee) = names_in(deed);
@@ -41,9 +42,9 @@ impl Catalog {
     ) -> Result<(User, Option<DeedForm>), Refused>
         ensures user { IfOk result (λ r. r.0 ≡ number_of self.old.users user.now) }
         ensures deed { IfOk result (λ r. r.1 ≡ option_map (numbered_deed (with_user self.old user.now)) deed.now) }
-        ensures names { OnOk result (self.new ≡ record self.old { users = with_grantee (with_name self.old.users user.now) deed.now }) }
-        ensures passes { OnOk result (or_else (deed_refusal self.old deed.now) (users_refusal self.old.users user.now deed.now) ≡ None) }
-        ensures refused { IfErr result (λ r. IsRefusal r (or_else (deed_refusal self.old deed.now) (users_refusal self.old.users user.now deed.now))) }
+        ensures names { OnOk result (self.new ≡ with_users self.old user.now deed.now) }
+        ensures passes { OnOk result (entry_refusal self.old user.now deed.now ≡ None) }
+        ensures refused { IfErr result (λ r. IsRefusal r (entry_refusal self.old user.now deed.now)) }
         ensures err { OnErr result (self.new ≡ self.old) }
     {
         match deed {
@@ -68,12 +69,12 @@ impl Catalog {
         deed: &Option<RawDeed>,
         room: Room,
     ) -> Result<Statement, Refused>
-        requires place { self.old.places < 4294967295 }
+        requires place { self.old.places < MOST_PLACES }
         requires room { HasRoom room (RawForm.Run accesses steps deed.now) }
-        ensures ok { IfOk result (λ s. s ≡ numbered self.old record { user = user.now; form = RawForm.Run accesses steps deed.now }) }
-        ensures passes { OnOk result (refusal self.old record { user = user.now; form = RawForm.Run accesses steps deed.now } ≡ None) }
-        ensures names { OnOk result (self.new ≡ with_statement self.old record { user = user.now; form = RawForm.Run accesses steps deed.now }) }
-        ensures refused { IfErr result (λ r. IsRefusal r (refusal self.old record { user = user.now; form = RawForm.Run accesses steps deed.now })) }
+        ensures ok { IfOk result (λ s. s ≡ numbered self.old (run_by user.now accesses steps deed.now)) }
+        ensures passes { OnOk result (refusal self.old (run_by user.now accesses steps deed.now) ≡ None) }
+        ensures names { OnOk result (self.new ≡ with_statement self.old (run_by user.now accesses steps deed.now)) }
+        ensures refused { IfErr result (λ r. IsRefusal r (refusal self.old (run_by user.now accesses steps deed.now))) }
         ensures err { OnErr result (self.new ≡ self.old) }
     {
         let mut recent = self.recent;
@@ -94,11 +95,11 @@ impl Catalog {
 
     /// Takes a deed by itself, as `admit`, where a place is left.
     fn admit_deed(&mut self, user: &Name, deed: &RawDeed) -> Result<Statement, Refused>
-        requires { self.old.places < 4294967295 }
-        ensures ok { IfOk result (λ s. s ≡ numbered self.old record { user = user.now; form = RawForm.Deed deed.now }) }
-        ensures passes { OnOk result (refusal self.old record { user = user.now; form = RawForm.Deed deed.now } ≡ None) }
-        ensures names { OnOk result (self.new ≡ with_statement self.old record { user = user.now; form = RawForm.Deed deed.now }) }
-        ensures refused { IfErr result (λ r. IsRefusal r (refusal self.old record { user = user.now; form = RawForm.Deed deed.now })) }
+        requires { self.old.places < MOST_PLACES }
+        ensures ok { IfOk result (λ s. s ≡ numbered self.old (deed_by user.now deed.now)) }
+        ensures passes { OnOk result (refusal self.old (deed_by user.now deed.now) ≡ None) }
+        ensures names { OnOk result (self.new ≡ with_statement self.old (deed_by user.now deed.now)) }
+        ensures refused { IfErr result (λ r. IsRefusal r (refusal self.old (deed_by user.now deed.now))) }
         ensures err { OnErr result (self.new ≡ self.old) }
     {
         let (user, deed) = self.enter_deed(user, deed)?;
@@ -114,9 +115,9 @@ impl Catalog {
         table: &Name,
         columns: u32,
     ) -> Result<Statement, Refused>
-        requires { refusal self.old record { user = user.now; form = RawForm.Create table.now columns } ≡ None }
-        ensures ok { IfOk result (λ s. s ≡ numbered self.old record { user = user.now; form = RawForm.Create table.now columns }) }
-        ensures names { OnOk result (self.new ≡ with_statement self.old record { user = user.now; form = RawForm.Create table.now columns }) }
+        requires { refusal self.old (create_by user.now table.now columns) ≡ None }
+        ensures ok { IfOk result (λ s. s ≡ numbered self.old (create_by user.now table.now columns)) }
+        ensures names { OnOk result (self.new ≡ with_statement self.old (create_by user.now table.now columns)) }
         ensures refused { IfErr result (λ r. r ≡ Refused.NoMemory) }
         ensures err { OnErr result (self.new ≡ self.old) }
     {
@@ -151,11 +152,11 @@ impl Catalog {
         table: &Name,
         columns: u32,
     ) -> Result<Statement, Refused>
-        requires { self.old.places < 4294967295 }
-        ensures ok { IfOk result (λ s. s ≡ numbered self.old record { user = user.now; form = RawForm.Create table.now columns }) }
-        ensures passes { OnOk result (refusal self.old record { user = user.now; form = RawForm.Create table.now columns } ≡ None) }
-        ensures names { OnOk result (self.new ≡ with_statement self.old record { user = user.now; form = RawForm.Create table.now columns }) }
-        ensures refused { IfErr result (λ r. IsRefusal r (refusal self.old record { user = user.now; form = RawForm.Create table.now columns })) }
+        requires { self.old.places < MOST_PLACES }
+        ensures ok { IfOk result (λ s. s ≡ numbered self.old (create_by user.now table.now columns)) }
+        ensures passes { OnOk result (refusal self.old (create_by user.now table.now columns) ≡ None) }
+        ensures names { OnOk result (self.new ≡ with_statement self.old (create_by user.now table.now columns)) }
+        ensures refused { IfErr result (λ r. IsRefusal r (refusal self.old (create_by user.now table.now columns))) }
         ensures err { OnErr result (self.new ≡ self.old) }
     {
         self.test_create(table, columns)?;

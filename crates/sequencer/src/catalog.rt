@@ -1,7 +1,7 @@
 //! What a log knows of names.
 
 use crate::names::NameTable;
-use model_base::{Table, User};
+use model_base::{MOST_COLUMNS, MOST_PLACES, Table, User};
 use std::alloc::Global;
 use std::marker::Model;
 
@@ -19,9 +19,6 @@ pub struct Catalog {
     pub(crate) recent: Table,
     pub(crate) alloc: Global,
 }
-
-/// How many places a log can have.
-pub const MOST_PLACES: u64 = 4_294_967_295;
 
 impl Model for Catalog {
     ghost use Rattle.sequencer.specs.Catalog.{Names};
@@ -58,7 +55,7 @@ impl Catalog {
     /// How many statements were accepted, which is the place of the next one.
     pub fn places(&self) -> u64
         ensures count { result ≡ self.now.places }
-        ensures most { self.now.places ≤ 4294967295 }
+        ensures most { self.now.places ≤ MOST_PLACES }
     {
         self.places
     }
@@ -91,7 +88,7 @@ impl Catalog {
     pub fn columns(&self, table: Table) -> u8
         requires { table < length self.now.tables }
         ensures value { slice_get self.now.columns table ≡ Some result }
-        ensures most { result ≤ 8 }
+        ensures most { result ≤ MOST_COLUMNS }
     {
         self.columns[table.0 as usize]
     }
@@ -99,7 +96,7 @@ impl Catalog {
     /// How many columns each table has, by the tables' numbers.
     pub fn all_columns(&self) -> &[u8]
         ensures value { result.now ≡ self.now.columns }
-        ensures narrow { All (λ count. count ≤ 8) self.now.columns }
+        ensures narrow { All (λ count. count ≤ MOST_COLUMNS) self.now.columns }
         ensures each { length self.now.columns ≡ length self.now.tables }
     {
         self.columns.as_slice()

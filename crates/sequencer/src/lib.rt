@@ -10,8 +10,8 @@ mod refused;
 mod tail;
 mod testing;
 
-pub use catalog::{Catalog, MOST_PLACES};
+pub use catalog::Catalog;
 pub use log::Log;
-pub use names::{MOST_NAMES, NameTable};
+pub use names::NameTable;
 pub use refused::Refused;
 pub use tail::LogTail;

@@ -3,7 +3,7 @@
 use crate::catalog::Catalog;
 use crate::refused::Refused;
 use log_text::RawStatement;
-use model_base::{Place, Statement, Table, User};
+use model_base::{MOST_COLUMNS, MOST_PLACES, Place, Statement, Table, User};
 use std::alloc::Global;
 use std::marker::Model;
 
@@ -69,7 +69,7 @@ impl Log {
     /// How many statements were accepted, which is the place of the next one.
     pub fn len(&self) -> Place
         ensures count { result ≡ length self.now.statements }
-        ensures most { length self.now.statements ≤ 4294967295 }
+        ensures most { length self.now.statements ≤ MOST_PLACES }
     {
         self.catalog.places()
     }
@@ -102,7 +102,7 @@ impl Log {
     pub fn columns(&self, table: Table) -> u8
         requires { table < length self.now.names.tables }
         ensures value { slice_get self.now.names.columns table ≡ Some result }
-        ensures most { result ≤ 8 }
+        ensures most { result ≤ MOST_COLUMNS }
     {
         self.catalog.columns(table)
     }
@@ -110,7 +110,7 @@ impl Log {
     /// How many columns each table has, by the tables' numbers.
     pub fn all_columns(&self) -> &[u8]
         ensures value { result.now ≡ self.now.names.columns }
-        ensures narrow { All (λ count. count ≤ 8) self.now.names.columns }
+        ensures narrow { All (λ count. count ≤ MOST_COLUMNS) self.now.names.columns }
         ensures each { length self.now.names.columns ≡ length self.now.names.tables }
     {
         self.catalog.all_columns()

@@ -3,6 +3,7 @@
 use crate::refused::Refused;
 use crate::testing::test_two;
 use indexmap::IndexSet;
+use model_base::MOST_NAMES;
 use std::alloc::{AllocError, Global};
 use std::marker::Model;
 
@@ -13,17 +14,15 @@ pub struct NameTable {
     alloc: Global,
 }
 
-/// How many users, and how many tables, a log can have.
-pub const MOST_NAMES: usize = 65_536;
-
 impl Model for NameTable {
     ghost use Rattle.std.specs.Prelude.{List, ℕ, ◌≤◌, map, length, string_bytes};
+    ghost use Rattle.model_base.specs.declared.limits.TheConstants.{MOST_NAMES};
 
     ghost Value = { List (List ℕ) };
 
     ghost view = { λ table. map string_bytes table.names.keys };
 
-    ghost invariant = { λ table. length table.names.keys ≤ 65536 };
+    ghost invariant = { λ table. length table.names.keys ≤ MOST_NAMES };
 }
 
 impl NameTable {
@@ -44,7 +43,7 @@ impl NameTable {
     /// How many names there are.
     pub fn len(&self) -> usize
         ensures count { result ≡ length self.now }
-        ensures most { length self.now ≤ 65536 }
+        ensures most { length self.now ≤ MOST_NAMES }
     {
         self.names.len()
     }
@@ -83,7 +82,7 @@ impl NameTable {
 
     /// Enters a name that isn't there last, and answers its number. On `Err` memory was refused, and nothing has changed.
     pub(crate) fn add(&mut self, name: &str) -> Result<u32, AllocError>
-        requires room { length self.old < 65536 }
+        requires room { length self.old < MOST_NAMES }
         requires is_new { is_known self.old name.now ≡ false }
         ensures number { IfOk result (λ number. number ≡ number_of self.old name.now) }
         ensures added { OnOk result (self.new ≡ with_name self.old name.now) }
@@ -95,7 +94,7 @@ impl NameTable {
     }
 
     /// The number of a name that is there already or is entered last. It says too whether it is new. A new name is
-    /// refused where there are 65,536, or for want of memory; then nothing has changed.
+    /// refused where there are `MOST_NAMES`, or for want of memory; then nothing has changed.
     pub fn enter(&mut self, name: &str) -> Result<(u32, bool), Refused>
         ensures number { IfOk result (λ r. r.0 ≡ number_of self.old name.now) }
         ensures is_new { IfOk result (λ r. r.1 ≡ not (is_known self.old name.now)) }

@@ -1,7 +1,7 @@
 //! Names become numbers, where they pass the tests.
 
 ghost use Rattle.std.specs.Prelude.{◌≡◌, ◌≤◌, [], length, map, IfOk, vec_capacity};
-ghost use Rattle.sequencer.specs.Catalog.{Names, grantee_of, numbered_access, numbered_deed, numbered_step, table_of};
+ghost use Rattle.sequencer.specs.Catalog.{Names, grantee_of, numbered_access, numbered_deed, numbered_step, named_table_of};
 ghost use Rattle.sequencer.specs.Names.{number_of};
 ghost use Rattle.sequencer.specs.Refusal.{IsAnswerOf, access_refusal, accesses_refusal, column_refusal, step_refusal, steps_refusal};
 ghost use Rattle.model_base.specs.declared.statement.Step.{Step};
@@ -41,7 +41,9 @@ pub(crate) fn room_for(alloc: Global, form: &RawForm) -> Result<Room, AllocError
 
 /// The deed with its table and its grantee by number.
 pub(crate) fn deed_form(deed: &RawDeed, table: Table, grantee: User) -> DeedForm
-    ensures { (names : Names) → table ≡ number_of names.tables (table_of deed.now) → grantee ≡ number_of names.users (grantee_of deed.now) → result ≡ numbered_deed names deed.now }
+    ensures { (names : Names)
+        → table ≡ number_of names.tables (named_table_of deed.now) → grantee ≡ number_of names.users (grantee_of deed.now)
+        → result ≡ numbered_deed names deed.now }
 {
     match deed {
         RawDeed::Grant { kind, option, .. } => DeedForm::Grant {
@@ -107,7 +109,8 @@ impl Catalog {
         row: RowName,
         column: u32,
     ) -> Result<Step, Refused>
-        ensures { IsAnswerOf result (column_refusal self.now table.now column) (Step.Load to (number_of self.now.tables table.now) row column) }
+        ensures { IsAnswerOf result (column_refusal self.now table.now column)
+            (Step.Load to (number_of self.now.tables table.now) row column) }
     {
         let table = self.table_with_column(recent, table, column)?;
         Ok(Step::Load {
@@ -127,7 +130,8 @@ impl Catalog {
         column: u32,
         from: Register,
     ) -> Result<Step, Refused>
-        ensures { IsAnswerOf result (column_refusal self.now table.now column) (Step.Store (number_of self.now.tables table.now) row column from) }
+        ensures { IsAnswerOf result (column_refusal self.now table.now column)
+            (Step.Store (number_of self.now.tables table.now) row column from) }
     {
         let table = self.table_with_column(recent, table, column)?;
         Ok(Step::Store {
@@ -150,11 +154,17 @@ impl Catalog {
     {
         Ok(match step {
             RawStep::Const { to, value } => Step::Const { to, value },
-            RawStep::Add { to, left, right } => Step::Add { to, left, right },
-            RawStep::Sub { to, left, right } => Step::Sub { to, left, right },
-            RawStep::Mul { to, left, right } => Step::Mul { to, left, right },
-            RawStep::Less { to, left, right } => Step::Less { to, left, right },
-            RawStep::Same { to, left, right } => Step::Same { to, left, right },
+            RawStep::Compute {
+                operation,
+                to,
+                left,
+                right,
+            } => Step::Compute {
+                operation,
+                to,
+                left,
+                right,
+            },
             RawStep::Has { to, table, row } => {
                 let table = self.known_table(recent, &table)?;
                 Step::Has { to, table, row }

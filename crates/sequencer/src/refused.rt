@@ -9,7 +9,7 @@ pub enum Refused {
     UnknownTable = 1,
     /// A CREATE of a table that is there.
     TableExists = 2,
-    /// A CREATE with no column or more than eight, or an INSERT whose registers are not as many as its table's columns.
+    /// A CREATE with no column or more than `MOST_COLUMNS`, or an INSERT whose registers are not as many as its table's columns.
     BadColumns = 3,
     /// An access to the table and row of an earlier one.
     DuplicateAccess = 4,
@@ -17,7 +17,7 @@ pub enum Refused {
     BadColumnNumber = 5,
     /// A SKIP past the last step.
     SkipPastEnd = 6,
-    /// The log has 4,294,967,295 places.
+    /// The log has `MOST_PLACES` places.
     LogFull = 7,
     /// A name that would be the 65,537th user or table.
     TooManyNames = 8,

@@ -9,7 +9,7 @@ ghost use Rattle.sequencer.specs.Taken.{IsWhole};
 use crate::catalog::Catalog;
 use crate::refused::Refused;
 use log_text::RawStatement;
-use model_base::{Place, Statement, Table, User};
+use model_base::{MOST_COLUMNS, MOST_PLACES, Place, Statement, Table, User};
 use past::{Past, forget_first};
 use std::alloc::Global;
 use std::marker::Model;
@@ -30,7 +30,10 @@ impl Model for LogTail {
 
     ghost Value = { Tail };
 
-    ghost view = { λ tail. record { log = record { names = tail.catalog; statements = tail.past.items ++ tail.kept.items }; dropped = length tail.past.items } };
+    ghost view = { λ tail. record {
+      log = record { names = tail.catalog; statements = tail.past.items ++ tail.kept.items };
+      dropped = length tail.past.items;
+    } };
 
     ghost invariant = { λ tail. IsKept record { names = tail.catalog; statements = tail.past.items ++ tail.kept.items } };
 }
@@ -73,7 +76,7 @@ impl LogTail {
     /// How many statements were accepted, which is the place of the next one.
     pub fn len(&self) -> Place
         ensures count { result ≡ length self.now.log.statements }
-        ensures most { length self.now.log.statements ≤ 4294967295 }
+        ensures most { length self.now.log.statements ≤ MOST_PLACES }
     {
         self.catalog.places()
     }
@@ -128,7 +131,7 @@ impl LogTail {
     /// How many columns each table has, by the tables' numbers.
     pub fn all_columns(&self) -> &[u8]
         ensures value { result.now ≡ self.now.log.names.columns }
-        ensures narrow { All (λ count. count ≤ 8) self.now.log.names.columns }
+        ensures narrow { All (λ count. count ≤ MOST_COLUMNS) self.now.log.names.columns }
         ensures each { length self.now.log.names.columns ≡ length self.now.log.names.tables }
     {
         self.catalog.all_columns()

@@ -3,14 +3,14 @@
 ghost use Rattle.std.specs.Prelude.{◌≡◌, ◌<◌, [], length, nat_le, Some, IfOk};
 ghost use Rattle.std.specs.List.{list_any};
 ghost use Rattle.sequencer.specs.Names.{is_known, number_of};
-ghost use Rattle.sequencer.specs.Catalog.{deed_in, grantee_of, table_of};
-ghost use Rattle.sequencer.specs.Refusal.{IsAnswer, IsAnswerOf, IsRefusal, accesses_refusal, column_refusal, create_refusal, deed_refusal, form_refusal, name_refusal, or_else, refusal, same_row, step_refusal, steps_refusal, table_refusal, two_refusal, unless, users_refusal, width_refusal};
+ghost use Rattle.sequencer.specs.Catalog.{deed_in, grantee_of, named_table_of};
+ghost use Rattle.sequencer.specs.Refusal.{IsAnswer, IsAnswerOf, IsRefusal, accesses_refusal, column_refusal, create_refusal, deed_refusal, form_refusal, name_refusal, or_refused, refusal, same_row, step_refusal, steps_refusal, table_refusal, two_refusal, refuse_unless, users_refusal, width_refusal};
 
-use crate::catalog::{Catalog, MOST_PLACES};
-use crate::names::{MOST_NAMES, NameTable};
+use crate::catalog::Catalog;
+use crate::names::NameTable;
 use crate::refused::Refused;
 use log_text::{Name, RawAccess, RawDeed, RawForm, RawStatement, RawStep};
-use model_base::Table;
+use model_base::{MOST_COLUMNS, MOST_NAMES, MOST_PLACES, Table};
 
 /// Whether the two accesses are to one row.
 fn is_same_row(access: &RawAccess, other: &RawAccess) -> bool
@@ -59,7 +59,7 @@ pub(crate) fn test_two(names: &NameTable, first: &str, second: &str) -> Result<(
 
 /// The table and the grantee that a deed names.
 pub(crate) fn names_in(deed: &RawDeed) -> (&Name, &Name)
-    ensures table { result.0.now ≡ table_of deed.now }
+    ensures table { result.0.now ≡ named_table_of deed.now }
     ensures grantee { result.1.now ≡ grantee_of deed.now }
 {
     match deed {
@@ -71,7 +71,7 @@ pub(crate) fn names_in(deed: &RawDeed) -> (&Name, &Name)
 
 /// A SKIP has to pass over no more steps than there are behind it.
 pub(crate) fn test_skip(steps: u32, later: usize) -> Result<(), Refused>
-    ensures { IsAnswer result (unless (nat_le steps later) Refused.SkipPastEnd) }
+    ensures { IsAnswer result (refuse_unless (nat_le steps later) Refused.SkipPastEnd) }
 {
     if steps as usize <= later {
         return Ok(());
@@ -83,7 +83,8 @@ impl Catalog {
     /// The table of a name that has to be known. The recent table is tried first, and the one that is answered is the
     /// recent one then.
     pub(crate) fn known_table(&self, recent: &mut Table, name: &Name) -> Result<Table, Refused>
-        ensures answer { IsAnswerOf result (unless (is_known self.now.tables name.now) Refused.UnknownTable) (number_of self.now.tables name.now) }
+        ensures answer { IsAnswerOf result (refuse_unless (is_known self.now.tables name.now) Refused.UnknownTable)
+            (number_of self.now.tables name.now) }
         ensures known { IfOk result (λ t. t < length self.now.tables) }
     {
         match self.tables().find_near(recent.0, name.as_str()) {
@@ -172,14 +173,14 @@ impl Catalog {
         Ok(())
     }
 
-    /// A new table has to have a new name and one to eight columns.
+    /// A new table has to have a new name and one to `MOST_COLUMNS` columns.
     pub(crate) fn test_create(&self, table: &Name, columns: u32) -> Result<(), Refused>
         ensures { IsAnswer result (create_refusal self.now table.now columns) }
     {
         if self.tables().find(table.as_str()).is_some() {
             return Err(Refused::TableExists);
         }
-        if columns < 1 || columns > 8 {
+        if columns < 1 || columns > MOST_COLUMNS as u32 {
             return Err(Refused::BadColumns);
         }
         Ok(())
@@ -218,7 +219,8 @@ impl Catalog {
 
     /// The names of a new user, of a new grantee and of a new table have to find room.
     fn test_names(&self, user: &str, form: &RawForm) -> Result<(), Refused>
-        ensures { IsAnswer result (or_else (users_refusal self.now.users user.now (deed_in form.now)) (table_refusal self.now form.now)) }
+        ensures { IsAnswer result (or_refused (users_refusal self.now.users user.now (deed_in form.now))
+            (table_refusal self.now form.now)) }
     {
         match form {
             RawForm::Create { table, .. } => {

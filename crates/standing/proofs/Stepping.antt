@@ -4,7 +4,6 @@ use Rattle.std.specs.Prelude.{All, slice_get}
 use Rattle.std.specs.Option.{option_map, option_map_or, option_to_list}
 use Rattle.std.proofs.lemmas.List.{append-nil, length-append, length-map, map-append, take-append-drop}
 use Rattle.std.proofs.lemmas.List.Elements.{All-cons, All-head, All-nil}
-use Rattle.std.proofs.lemmas.Grind.{flat_map-append}
 use Rattle.model_base.specs.declared.deed.Deed.{Deed}
 use Rattle.model_base.specs.declared.deed.Need.{Need}
 use Rattle.model_base.specs.declared.outcome.Outcome.{Outcome}
@@ -16,15 +15,13 @@ use Rattle.model_base.specs.Outcomes.{World, at_place, body, changed, creator, d
 use Rattle.model_base.specs.Privileges.{place_of}
 use Rattle.model_base.specs.References.{deed_tables}
 use Rattle.model_base.proofs.Growth.{deed_of-place}
-use Rattle.grants.specs.Book.{Entries, IsLater, ShowsBook, owners_of, table_of, with_table}
+use Rattle.grants.specs.Book.{Entries, IsLater, ShowsBook, owners_of, table_of_deed, with_table}
 use Rattle.grants.specs.declared.book.Creation.{Creation}
 use Rattle.own_words.specs.Words.{creates}
 use Rattle.taking.proofs.CellsTold.{took, world-next}
 use Rattle.standing.specs.Known.{AreKnown, AreKnownFrom, IsKnown}
-use Rattle.standing.specs.Stands.{BookStands, is_done, made_of}
-
-owners-append : (xs ys : List Statement) → owners (xs ++ ys) ≡ owners xs ++ owners ys
-owners-append xs ys = flat_map-append (λ (s : Statement). creator s.user s.form) xs ys
+use Rattle.standing.specs.Stands.{BookStands, is_completed, made_of}
+use Rattle.model_base.proofs.Growing.{owners-append}
 
 -- a deed or none, as a list
 listed : (deed : Option Deed) → option_map_or (λ made. made ∷ []) deed [] ≡ option_to_list deed
@@ -35,21 +32,21 @@ module _ (own : List ℕ) (place : ℕ) (world : World) (statement : Statement) 
   abbrev deed_here : Option Deed
   deed_here = deed_of place statement.user statement.form
 
-  deeds-changed : (ending : Ending) → (changed world deed_here ending).deeds ≡ world.deeds ++ option_to_list (made_of (is_done (ended own world deed_here ending)) deed_here)
+  deeds-changed : (ending : Ending) → (changed world deed_here ending).deeds ≡ world.deeds ++ option_to_list (made_of (is_completed (ended own world deed_here ending)) deed_here)
   deeds-changed (completed rows outputs) = ap (λ ds. world.deeds ++ ds) (listed deed_here)
   deeds-changed (aborted step reason) = sym (append-nil world.deeds)
   deeds-changed (undeclared step) = sym (append-nil world.deeds)
 
-  deeds-judged : (lack : Option Need) → (judged own place world statement lack).1.deeds ≡ world.deeds ++ option_to_list (made_of (is_done (judged own place world statement lack).0) deed_here)
+  deeds-judged : (lack : Option Need) → (judged own place world statement lack).1.deeds ≡ world.deeds ++ option_to_list (made_of (is_completed (judged own place world statement lack).0) deed_here)
   deeds-judged (Some need) = sym (append-nil world.deeds)
   deeds-judged None = deeds-changed (body world.rows statement.form)
 
-  deeds-form : (form : Form) → (step_form own place world statement form).1.deeds ≡ world.deeds ++ option_to_list (made_of (is_done (step_form own place world statement form).0) deed_here)
+  deeds-form : (form : Form) → (step_form own place world statement form).1.deeds ≡ world.deeds ++ option_to_list (made_of (is_completed (step_form own place world statement form).0) deed_here)
   deeds-form (Form.Create table columns) = sym (append-nil world.deeds)
   deeds-form (Form.Run accesses steps deed) = deeds-judged (missing own world statement.user (Form.Run accesses steps deed))
   deeds-form (Form.Deed deed) = deeds-judged (missing own world statement.user (Form.Deed deed))
 
-  deeds-place : (at_place own place world statement).1.deeds ≡ world.deeds ++ option_to_list (made_of (is_done (at_place own place world statement).0) deed_here)
+  deeds-place : (at_place own place world statement).1.deeds ≡ world.deeds ++ option_to_list (made_of (is_completed (at_place own place world statement).0) deed_here)
   deeds-place = deeds-form statement.form
 
 -- where so many tables are known, those before a place
@@ -66,17 +63,17 @@ known-at tables (first ∷ log) (suc place) statement known at =
     subst (λ (n : ℕ). IsKnown n statement.form) count (known-at (tables + length made) log place statement known.1 at)
 
 -- the deeds of a form, on known tables
-deed-table : (tables place user : ℕ) (deed : DeedForm) → All (λ table. table < tables) (deed_tables (Form.Deed deed)) → table_of (deed_at place user deed) < tables
+deed-table : (tables place user : ℕ) (deed : DeedForm) → All (λ table. table < tables) (deed_tables (Form.Deed deed)) → table_of_deed (deed_at place user deed) < tables
 deed-table tables place user (DeedForm.Grant kind table grantee option) known = All-head (λ t. t < tables) table [] known
 deed-table tables place user (DeedForm.Revoke kind table grantee) known = All-head (λ t. t < tables) table [] known
 
-deed-known : (tables place user : ℕ) (form : Form) → IsKnown tables form → All (λ made. table_of made < tables) (option_to_list (deed_of place user form))
-deed-known tables place user (Form.Create table columns) known = All-nil (λ made. table_of made < tables)
-deed-known tables place user (Form.Run accesses steps None) known = All-nil (λ made. table_of made < tables)
+deed-known : (tables place user : ℕ) (form : Form) → IsKnown tables form → All (λ made. table_of_deed made < tables) (option_to_list (deed_of place user form))
+deed-known tables place user (Form.Create table columns) known = All-nil (λ made. table_of_deed made < tables)
+deed-known tables place user (Form.Run accesses steps None) known = All-nil (λ made. table_of_deed made < tables)
 deed-known tables place user (Form.Run accesses steps (Some deed)) known =
-    All-cons (λ made. table_of made < tables) (deed_at place user deed) [] (deed-table tables place user deed known) (All-nil (λ made. table_of made < tables))
+    All-cons (λ made. table_of_deed made < tables) (deed_at place user deed) [] (deed-table tables place user deed known) (All-nil (λ made. table_of_deed made < tables))
 deed-known tables place user (Form.Deed deed) known =
-    All-cons (λ made. table_of made < tables) (deed_at place user deed) [] (deed-table tables place user deed known) (All-nil (λ made. table_of made < tables))
+    All-cons (λ made. table_of_deed made < tables) (deed_at place user deed) [] (deed-table tables place user deed known) (All-nil (λ made. table_of_deed made < tables))
 
 deed-here : (place user : ℕ) (form : Form) → All (λ made. place_of made ≡ place) (option_to_list (deed_of place user form))
 deed-here place user form = by_deed (deed_of place user form) refl
@@ -126,14 +123,14 @@ module _ (log : List Statement) (place : ℕ) (statement : Statement) (at : slic
 
   -- the deeds behind the place
   deeds-next : (came : Outcome) → outcome log place ≡ Some came
-      → deeds_before log (place + 1) ≡ deeds_before log place ++ option_to_list (made_of (is_done came) (deed_of place statement.user statement.form))
+      → deeds_before log (place + 1) ≡ deeds_before log place ++ option_to_list (made_of (is_completed came) (deed_of place statement.user statement.form))
   deeds-next came is =
       let here = (at_place (owners log) place (world_before log place) statement).0 in
       let both : Some here ≡ Some came = sym (ap (option_map (λ s. (at_place (owners log) place (world_before log place) s).0)) at) ∙ is in
       let same : here ≡ came = cc in
       ap (λ (w : World). w.deeds) (world-next log place statement at)
       ∙ deeds-place (owners log) place (world_before log place) statement
-      ∙ ap (λ (o : Outcome). deeds_before log place ++ option_to_list (made_of (is_done o) (deed_of place statement.user statement.form))) same
+      ∙ ap (λ (o : Outcome). deeds_before log place ++ option_to_list (made_of (is_completed o) (deed_of place statement.user statement.form))) same
 
   module _ (book : Entries) (stands : BookStands log place book) (known : AreKnown log) where
     counted : length (owners (take place log)) ≡ length book.tables
@@ -144,7 +141,7 @@ module _ (log : List Statement) (place : ℕ) (statement : Statement) (at : slic
         let same : 0 + length (owners (take place log)) ≡ length book.tables = omega (arith, counted) in
         subst (λ (n : ℕ). IsKnown n statement.form) same (known-at 0 log place statement known at)
 
-    pub make_next : (came : Outcome) (deed : Option Deed) → outcome log place ≡ Some came → deed ≡ made_of (is_done came) (deed_of place statement.user statement.form)
+    pub make_next : (came : Outcome) (deed : Option Deed) → outcome log place ≡ Some came → deed ≡ made_of (is_completed came) (deed_of place statement.user statement.form)
         → deeds_before log (place + 1) ≡ deeds_before log place ++ option_to_list deed
     make_next came deed is made = deeds-next came is ∙ ap (λ (d : Option Deed). deeds_before log place ++ option_to_list d) (sym made)
 
@@ -157,10 +154,10 @@ module _ (log : List Statement) (place : ℕ) (statement : Statement) (at : slic
         subst (λ (d : Option Deed). All (λ one. place_of one ≡ place) (option_to_list d)) (sym made)
         (made-all (λ one. place_of one ≡ place) done (deed_of place statement.user statement.form) (deed-here place statement.user statement.form))
 
-    pub make_table : (done : Bool) (deed : Option Deed) → deed ≡ made_of done (deed_of place statement.user statement.form) → All (λ made. table_of made < length book.tables) (option_to_list deed)
+    pub make_table : (done : Bool) (deed : Option Deed) → deed ≡ made_of done (deed_of place statement.user statement.form) → All (λ made. table_of_deed made < length book.tables) (option_to_list deed)
     make_table done deed made =
-        subst (λ (d : Option Deed). All (λ one. table_of one < length book.tables) (option_to_list d)) (sym made)
-        (made-all (λ one. table_of one < length book.tables) done (deed_of place statement.user statement.form)
+        subst (λ (d : Option Deed). All (λ one. table_of_deed one < length book.tables) (option_to_list d)) (sym made)
+        (made-all (λ one. table_of_deed one < length book.tables) done (deed_of place statement.user statement.form)
         (deed-known (length book.tables) place statement.user statement.form known-here))
 
     module _ (creating : creates statement.form ≡ true) where
@@ -184,7 +181,7 @@ module _ (log : List Statement) (place : ℕ) (statement : Statement) (at : slic
           ∙ ap (λ os. os ++ owners (drop (place + 1) log)) (sym owned) in
           let stay : deeds_before log (place + 1) ≡ deeds_before log place =
           deeds-next here came
-          ∙ ap (λ (d : Option Deed). deeds_before log place ++ option_to_list d) (made-nothing (is_done here) (deed_of place statement.user statement.form) (no-deed place statement.user statement.form creating))
+          ∙ ap (λ (d : Option Deed). deeds_before log place ++ option_to_list d) (made-nothing (is_completed here) (deed_of place statement.user statement.form) (no-deed place statement.user statement.form creating))
           ∙ append-nil (deeds_before log place) in
           record {
             shown = subst (ShowsBook after (owners log)) (sym stay) (shows (owners log) (owners (drop (place + 1) log)) (deeds_before log place) stands.shown begins);

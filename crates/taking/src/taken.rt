@@ -74,7 +74,8 @@ pub fn take<C: Closed>(
     requires kept { log.now.dropped ≤ range.start }
     requires within { range.end ≤ length log.now.log.statements }
     requires span { C.span closed.now ≡ record { log = log.now.log; first = range.start; size = range.end - range.start } }
-    ensures outcomes { IfOk result (λ taken. AreOutcomes log.now.log.statements range.start (range.end - range.start) taken.outcomes.items) }
+    ensures outcomes { IfOk result (λ taken. AreOutcomes log.now.log.statements range.start
+        (range.end - range.start) taken.outcomes.items) }
     ensures versions { IfOk result (λ taken. taken.versions.items ≡ versions_between log.now.log.statements range.start range.end) }
 {
     let _len = log.len();

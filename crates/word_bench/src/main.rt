@@ -4,13 +4,13 @@
 #![tactic(auto)]
 
 mod fault;
-mod filling;
 mod layout;
+mod rounds;
 mod table;
 
 use fault::BenchFault;
-use filling::fill_by_four;
 use layout::{Layout, Taking};
+use rounds::fill_by_four;
 use std::env;
 use std::process::ExitCode;
 use std::rt::Env;

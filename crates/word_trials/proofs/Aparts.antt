@@ -3,7 +3,7 @@ use Rattle.std.proofs.Common.{◌≡◌, ◌<◌, ℕ, suc, zero, false, [], len
 use Rattle.std.proofs.lemmas.List.{append-nil, length-replicate}
 use Rattle.std.proofs.lemmas.List.Elements.{All-nil}
 use Rattle.model_base.specs.Privileges.{place_of}
-use Rattle.bohm_core_base.specs.Batch.{IsSound, references, slots_of, words_by, words_length, deeds_of}
+use Rattle.bohm_core_base.specs.Batch.{IsSoundBatch, reference_words, batch_slots, words_by, words_length, deeds_of}
 use Rattle.bohm_core_base.specs.Deeds.{named_before, slots}
 use Rattle.bohm_core_base.specs.Serial.{serial_words}
 use Rattle.words.specs.Layout.{IsListed}
@@ -12,8 +12,8 @@ use Rattle.words.specs.Views.{Holds, KnowsReferences}
 use Rattle.words.specs.declared.view.View.{View}
 use Rattle.word_trials.specs.Apart.{apart}
 
-pub apart_sound : (size width : ℕ) → 0 < width → IsSound (apart size width)
-unfolding references
+pub apart_sound : (size width : ℕ) → 0 < width → IsSoundBatch (apart size width)
+unfolding reference_words
 apart_sound size width some = record {
   header = λ index rows entries. length-replicate width 1;
   outcome = λ index. some;
@@ -39,8 +39,8 @@ no_slots : (size width n : ℕ) → slots (deeds_of (apart size width) (λ _. fa
 no_slots size width zero = refl
 no_slots size width (suc n) = rw (append-nil (named_before (deeds_of (apart size width) (λ _. false)) n)) (no_slots size width n)
 
-pub apart_slots : (size width : ℕ) → length (slots_of (apart size width)) ≡ 0
-unfolding slots_of
+pub apart_slots : (size width : ℕ) → length (batch_slots (apart size width)) ≡ 0
+unfolding batch_slots
 apart_slots size width = ap length (no_slots size width size)
 
 pub apart_listed : (size width : ℕ) → IsListed (apart size width) []
@@ -63,7 +63,7 @@ apart_serial size width index number less = rw (append-nil {A = ℕ} (replicate 
 
 -- a place refers to nothing, so all of it is known
 pub apart_references : (size width index : ℕ) (view : View) → KnowsReferences (apart size width) view index
-unfolding references
+unfolding reference_words
 apart_references size width index view other has = absurd has
 
 -- with all words stored it may be finished

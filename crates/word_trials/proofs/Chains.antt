@@ -5,14 +5,13 @@ use Rattle.std.proofs.Common.{inl, inr}
 use Rattle.bohm_core_base.specs.declared.event.Event.{Event}
 use Rattle.bohm_core_base.specs.declared.event.Event.TheVariants.{Claim, Fill, Finish}
 use Rattle.words.specs.declared.view.View.{View}
-use Rattle.words.specs.Tells.{FoundHeld}
-use Rattle.words.specs.Views.{Holds, HoldsNone, is_about, with_event, with_known}
+use Rattle.words.specs.Views.{Holds, HoldsNone, is_event_at, with_event, with_known}
 use Rattle.word_trials.specs.Chained.{HoldsOnly}
 
 -- an event about another place leaves what is held
 abbrev pub LeavesOthers : Type 0
 LeavesOthers = (view : View) (event : Event) (index count : ℕ) (ended : List ℕ)
-    → is_about index event ≡ false → Holds (with_event view event) index count ended → Holds view index count ended
+    → is_event_at index event ≡ false → Holds (with_event view event) index count ended → Holds view index count ended
 
 pub claimed : LeavesOthers → (view : View) (actor index : ℕ) → HoldsNone view → Holds (with_event view (Claim actor index)) index 0 []
     → HoldsOnly (with_event view (Claim actor index)) index 0
@@ -45,10 +44,3 @@ finished leaves none view actor index count only other stored ended has =
           none view actor index stored ended
           (subst At (only.only other stored ended (leaves view (Finish actor index) other stored ended differs has)) has)
     ]
-
--- who found a place held, or done, holds what it held
-pub found_held : (view after : View) (index : ℕ) → FoundHeld index view after → HoldsNone view → HoldsNone after
-found_held view after index found idle other stored ended has = elim found [
-  | inl same ↦ idle other stored ended (rw same.0 at has)
-  | inr sighted ↦ idle other stored ended (let is = sighted.0 in rw is at has)
-]

@@ -1,17 +1,17 @@
 -- What the reader and the revocation compute to.
-use Rattle.std.proofs.Common.{◌≡◌, ◌<◌, ◌+◌, subst, ℕ, suc, zero, true, false, Some, None, List, [], ◌∷◌, length, get_or, refl, arith, inl, ⊎_elim}
+use Rattle.std.proofs.Common.{◌≡◌, ◌<◌, ◌+◌, subst, ℕ, suc, zero, true, Some, None, List, [], ◌∷◌, length, get_or, refl, arith, inl, ⊎_elim}
 use Rattle.std.specs.Prelude.{All}
 use Rattle.model_base.specs.declared.deed.Kind.TheVariants.{Read}
 use Rattle.std.proofs.lemmas.List.Elements.{All-nil, All-push}
 use Rattle.model_base.specs.declared.deed.Deed.{Deed}
 use Rattle.model_base.specs.declared.deed.Deed.TheVariants.{Granting, Revoking}
 use Rattle.model_base.specs.Privileges.{MayFollow, has, names, owns, place_of}
-use Rattle.bohm_core_base.specs.Batch.{IsSound, is_deed_on, is_listed, references, slots_of, was_done, words_by, words_length}
+use Rattle.bohm_core_base.specs.Batch.{IsSoundBatch, is_deed_on, is_listed, reference_words, batch_slots, was_done, words_by, words_length}
 use Rattle.bohm_core_base.specs.Machine.{end_of, start}
-use Rattle.bohm_core_base.specs.Serial.{serial_ends, serial_words, whole_end, world_before}
-use Rattle.words.specs.Layout.{IsListed, slot_at}
+use Rattle.bohm_core_base.specs.Serial.{serial_ends, serial_words, whole_end, batch_world_before}
+use Rattle.words.specs.Layout.{IsListed, listed_slot_at}
 use Rattle.words.specs.Views.{In}
-use Rattle.word_trials.specs.Late.{late, late_deed, late_length, late_partitions, late_words, old_grant}
+use Rattle.word_trials.specs.Late.{late, late_deed, late_length, late_partitions, late_words, late_grant}
 
 late-deed : (index : ℕ) (deed : Deed) → late_deed index ≡ Some deed → place_of deed ≡ 3 + index
 late-deed zero deed is = absurd (cc)
@@ -42,8 +42,8 @@ late-table zero table on = absurd (cc)
 late-table (suc zero) table on = rw on refl
 late-table (suc (suc index)) table on = absurd (cc)
 
-late-same : (index : ℕ) → length (late_partitions index) ≡ length (references late index)
-unfolding references
+late-same : (index : ℕ) → length (late_partitions index) ≡ length (reference_words late index)
+unfolding reference_words
 late-same zero = refl
 late-same (suc index) = refl
 
@@ -54,7 +54,7 @@ late-within zero (suc (suc reference)) low = absurd (omega arith)
 late-within (suc index) zero low = omega arith
 late-within (suc index) (suc reference) low = absurd (omega arith)
 
-pub late_sound : IsSound late
+pub late_sound : IsSoundBatch late
 unfolding has owns
 late_sound = record {
   header = λ index rows entries. late-header index;
@@ -63,7 +63,7 @@ late_sound = record {
   new_rows = λ index rows entries same fit. (same, fit);
   deed_table = λ index table on. late-table index table on;
   placed = record {
-    earlier = All-push (λ deed. place_of deed < 3) [] (Granting old_grant) (All-nil (λ deed. place_of deed < 3)) (omega arith);
+    earlier = All-push (λ deed. place_of deed < 3) [] (Granting late_grant) (All-nil (λ deed. place_of deed < 3)) (omega arith);
     here = λ index deed is. late-deed index deed is;
   };
   proper = ((All-nil (λ deed. place_of deed < 2), refl), tt);
@@ -73,14 +73,14 @@ late_sound = record {
 }
 
 -- there is one slot
-pub late_slots : (slot : ℕ) → slot < length (slots_of late) → slot ≡ 0
-unfolding slots_of
+pub late_slots : (slot : ℕ) → slot < length (batch_slots late) → slot ≡ 0
+unfolding batch_slots
 late_slots zero within = refl
 late_slots (suc slot) within = absurd (omega arith)
 
 -- the one slot has no end before the batch
 pub late_listed : IsListed late (0 ∷ [])
-unfolding slots_of
+unfolding batch_slots
 late_listed = record {
   within = λ end has. one end has;
   unended = λ end has. none end;
@@ -88,11 +88,11 @@ late_listed = record {
   every = λ index slot below ends. inl (late_slots slot below);
 }
   where
-    one : (end : ℕ) → end < 1 → slot_at (0 ∷ []) end < 1
+    one : (end : ℕ) → end < 1 → listed_slot_at (0 ∷ []) end < 1
     one zero has = omega arith
     one (suc end) has = absurd (omega arith)
 
-    none : (end : ℕ) → end_of (start late) (slot_at (0 ∷ []) end) ≡ None
+    none : (end : ℕ) → end_of (start late) (listed_slot_at (0 ∷ []) end) ≡ None
     none zero = refl
     none (suc end) = refl
 
@@ -104,24 +104,19 @@ late_counts (suc zero) low = refl
 late_counts (suc (suc index)) low = absurd (omega arith)
 
 pub late_serial : (index : ℕ) → index < 2 → serial_words late index ≡ late_words index
-unfolding serial_words world_before words_by was_done
+unfolding serial_words batch_world_before words_by was_done
 late_serial zero low = refl
 late_serial (suc zero) low = refl
 late_serial (suc (suc index)) low = absurd (omega arith)
 
 -- the second place ends the record of the one slot, and the first ends none
 pub late_ends : serial_ends late 1 0 ≡ true
-unfolding serial_ends whole_end world_before words_by was_done slots_of has owns names
+unfolding serial_ends whole_end batch_world_before words_by was_done batch_slots has owns names
 late_ends = refl
 
-pub late_ends_none : (slot : ℕ) → serial_ends late 0 slot ≡ false
-unfolding serial_ends whole_end world_before words_by was_done slots_of has owns names
-late_ends_none zero = refl
-late_ends_none (suc slot) = refl
-
 -- they refer to nothing in the batch
-pub late_references : (index other : ℕ) → index < 2 → ¬ (In (suc other) (references late index))
-unfolding references
+pub late_references : (index other : ℕ) → index < 2 → ¬ (In (suc other) (reference_words late index))
+unfolding reference_words
 late_references zero other low = λ has. ⊎_elim (λ (is : suc other ≡ 0). absurd (omega arith)) (λ more. ⊎_elim (λ (is : suc other ≡ 0). absurd (omega arith)) (λ no. no) more) has
 late_references (suc zero) other low = λ has. ⊎_elim (λ (is : suc other ≡ 0). absurd (omega arith)) (λ no. no) has
 late_references (suc (suc index)) other low = absurd (omega arith)

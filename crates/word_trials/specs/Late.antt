@@ -8,8 +8,8 @@ use Rattle.model_base.specs.declared.deed.Grant.{Grant}
 use Rattle.bohm_core_base.specs.Batch.{Access, Batch}
 
 -- user 0 owns table 0, and at place 2 of the log granted user 1 to read it
-abbrev pub old_grant : Grant
-old_grant = record { place = 2; grantor = 0; grantee = 1; kind = Read; table = 0; option = false }
+abbrev pub late_grant : Grant
+late_grant = record { place = 2; grantor = 0; grantee = 1; kind = Read; table = 0; option = false }
 
 -- at place 4 user 0 revokes it
 abbrev pub late_deed : ℕ → Option Deed
@@ -48,6 +48,6 @@ late =
       answer = λ index rows _. record { header = late_words index; rows = Some rows };
       owners = 0 ∷ [];
       first = 3;
-      before = Granting old_grant ∷ [];
+      before = Granting late_grant ∷ [];
       deed = late_deed;
     }

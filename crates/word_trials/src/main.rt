@@ -5,13 +5,13 @@
 mod apart;
 mod claiming;
 mod fault;
-mod filling;
+mod halves;
 mod late;
 mod row;
 
 use claiming::tell_claiming;
 use fault::TrialFault;
-use filling::tell_filling;
+use halves::tell_filling;
 use row::tell_row;
 use std::alloc::Global;
 use std::process::ExitCode;

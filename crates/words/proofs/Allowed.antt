@@ -10,24 +10,26 @@ use Rattle.bohm_core_base.specs.declared.event.Event.{Event}
 use Rattle.bohm_core_base.specs.declared.event.Event.TheVariants.{Claim, Fill, End, Finish, GiveBack}
 use Rattle.bohm_core_base.specs.declared.hold.Hold.{Hold}
 use Rattle.bohm_core_base.specs.declared.hold.Hold.TheVariants.{Free, Held, Done}
-use Rattle.bohm_core_base.specs.Batch.{Batch, slots_of, words_length}
+use Rattle.bohm_core_base.specs.Batch.{Batch, batch_slots, words_length}
 use Rattle.bohm_core_base.specs.Serial.{is_end, serial_ends, serial_words}
 use Rattle.bohm_core_base.specs.Laws.{actor_of}
 use Rattle.bohm_core_base.specs.Machine.{State, all_below, all_ended, all_filled, all_ready, change, end_of, guard, hold_of, is_free, is_held_by, must_end, next_word, none_ended, own_of, with_hold}
 use Rattle.bohm_core_base.proofs.Reach.{done-right, ends-right, shown-serial, word-rests}
 use Rattle.words.specs.declared.view.View.{View}
-use Rattle.words.specs.Layout.{claim_word, own_word, end_word, claim_code, end_code, slot_at, position, shown, Shows}
+use Rattle.words.specs.Layout.{claim_word, own_word, end_word, claim_code, end_code, listed_slot_at, position, shown, ShowsState}
 use Rattle.words.specs.Legal.{Fits, Lawful, events_by, legal, placings, reached}
 use Rattle.words.specs.Tells.{HoldsWhole}
 use Rattle.words.specs.Views.{Holds, In, IsSettled, KnowsReferences, with_event, with_known}
 use Rattle.words.proofs.Plays.{claim_then, look_then, makes, finishes, reads, end_then}
-use Rattle.words.proofs.Members.{by-append, by-one, by_cases, in_one}
+use Rattle.words.proofs.Members.{by-append, by-one, in_one}
 use Rattle.words.proofs.Placings.{has-all, past, reached-more, works-more}
-use Rattle.words.proofs.Reached.{ends-whole, is_end-some, words-some}
+use Rattle.words.proofs.Reached.{ends-whole, words-some}
 use Rattle.words.proofs.Taking.{claimed-holds}
 use Rattle.words.proofs.Showing.{end-others, hold-others, own-others, push-at, shows-store}
 use Rattle.words.proofs.Keeping.{changes, goes_on}
 use Rattle.words.proofs.Knowing.{held_from, known-done, known-ready, known-shown, knows_more, read_done, read_held, read_same, settled-done, tells-end}
+use Rattle.bohm_core_base.proofs.Whole.{is_end-some}
+use Rattle.model_base.proofs.Replay.{by_cases}
 
 all-below : (test : ℕ → Bool) (n : ℕ) → ((k : ℕ) → k < n → test k ≡ true) → all_below test n ≡ true
 all-below test zero each = refl
@@ -53,15 +55,15 @@ module _ (b : Batch) (listed words : List ℕ) (views : List View) (es : List Ev
     pub fits_then : Fits b es' by (with_event v e)
     fits_then = goes_on b law.sound listed es es' (e ∷ []) refl by is_mine words words views v v law at alive (v.events ++ e ∷ []) own_list
 
-    pub acts : (words' : List ℕ) (w : View) → Shows b listed words' (change b here e) → Fits b es' by w → w.kept ≡ v.kept → w.spent ≡ false → w.sole ≡ v.sole → legal b listed words' (set views by w)
+    pub acts : (words' : List ℕ) (w : View) → ShowsState b listed words' (change b here e) → Fits b es' by w → w.kept ≡ v.kept → w.spent ≡ false → w.sole ≡ v.sole → legal b listed words' (set views by w)
     acts words' w shows fit kept alive' sole = (
       es',
       changes b law.sound listed es es' (e ∷ []) refl by is_mine words words' views v w law at alive
-          (works-more b law.sound es (e ∷ []) law.works (ok, tt)) (subst (Shows b listed words') (sym then_state) shows) fit kept alive' sole,
+          (works-more b law.sound es (e ∷ []) law.works (ok, tt)) (subst (ShowsState b listed words') (sym then_state) shows) fit kept alive' sole,
     )
 
     -- the step makes this event and nothing else
-    pub makes_event : (words' : List ℕ) → Shows b listed words' (change b here e) → legal b listed words' (set views by (with_event v e))
+    pub makes_event : (words' : List ℕ) → ShowsState b listed words' (change b here e) → legal b listed words' (set views by (with_event v e))
     makes_event words' shows = acts words' (with_event v e) shows fits_then refl alive refl
 
   -- it may give back what it holds with nothing stored
@@ -84,7 +86,7 @@ module _ (b : Batch) (listed words : List ℕ) (views : List View) (es : List Ev
       let ended : all_ended b here i ≡ true = all-below (λ slot. if must_end b here i slot then is_end (b.first + i) (end_of here slot) else true) (length here.ends) (λ slot less.
       by_cases (must_end b here i slot)
       (λ must.
-      let within : slot < length (slots_of b) = (let len = (has-all b law.sound es).ends in omega arith) in
+      let within : slot < length (batch_slots b) = (let len = (has-all b law.sound es).ends in omega arith) in
       let rests = word-rests b law.sound (placings b ++ es) i some in
       let shows = shown-serial b law.sound (placings b ++ es) i below rests.0.placed rests.1 in
       let serial : serial_ends b i slot ≡ true = sym (shows.ends slot within some) ∙ must in
@@ -109,7 +111,7 @@ module _ (b : Batch) (listed words : List ℕ) (views : List View) (es : List Ev
       ap (λ (ws : List ℕ). get_or ws (length (own_of here i)) 0) shows.words ∙ ap (λ (n : ℕ). get_or (serial_words b i) n 0) t.1
 
   -- it may end a record that the serial run ends there
-  may-end : (i slot : ℕ) (js : List ℕ) → i < b.size → slot < length (slots_of b) → Holds v i (words_length b i) js → ¬ (In slot js) → KnowsReferences b v i
+  may-end : (i slot : ℕ) (js : List ℕ) → i < b.size → slot < length (batch_slots b) → Holds v i (words_length b i) js → ¬ (In slot js) → KnowsReferences b v i
       → serial_ends b i slot ≡ true → guard b here (End by i slot) ≡ true
   may-end i slot js below within holds out knows serial =
       let t = held_from b listed words views es by v law at alive i (words_length b i) js holds in
@@ -149,7 +151,7 @@ module _ (b : Batch) (listed : List ℕ) (slots by : ℕ) (me : Me ℕ View) (al
     code s r g e = r.1.shows.at (claim_word i) below ∙ ap claim_code e
 
     -- the claim is stored
-    claim_stored : (s : Table ℕ View) (r : Rule s) (hold : Hold) → Shows b listed (set s.words spot (claim_code hold)) (with_hold (behind s r) i hold)
+    claim_stored : (s : Table ℕ View) (r : Rule s) (hold : Hold) → ShowsState b listed (set s.words spot (claim_code hold)) (with_hold (behind s r) i hold)
     claim_stored s r hold =
         let within : i < length (behind s r).holds = (let len = (has-all b r.1.sound r.0).holds in omega arith) in
         shows-store b listed s.words (behind s r) (with_hold (behind s r) i hold) (claim_word i) (claim_code hold) below r.1.shows
@@ -249,12 +251,12 @@ module _ (b : Batch) (listed : List ℕ) (slots by : ℕ) (me : Me ℕ View) (al
           ((refl, refl), refl),
         )
 
-    pub ends : (end : ℕ) (js : List ℕ) → end < length listed → Holds me.0 i (words_length b i) js → ¬ (In (slot_at listed end) js) → KnowsReferences b me.0 i
-        → serial_ends b i (slot_at listed end) ≡ true
-        → Allows Rule slots by me (position b (end_word end)) (λ _. suc (b.first + i)) (λ _. makes (End by i (slot_at listed end)) me (suc (b.first + i)))
+    pub ends : (end : ℕ) (js : List ℕ) → end < length listed → Holds me.0 i (words_length b i) js → ¬ (In (listed_slot_at listed end) js) → KnowsReferences b me.0 i
+        → serial_ends b i (listed_slot_at listed end) ≡ true
+        → Allows Rule slots by me (position b (end_word end)) (λ _. suc (b.first + i)) (λ _. makes (End by i (listed_slot_at listed end)) me (suc (b.first + i)))
     ends end js has h out knows serial s r _ at _ =
         let state = behind s r in
-        let slot = slot_at listed end in
+        let slot = listed_slot_at listed end in
         let slot_within = r.1.slots.within end has in
         let ok = may-end b listed s.words s.views r.0 by me.0 r.1 at alive i slot js below slot_within h out knows serial in
         let within : slot < length state.ends = (let len = (has-all b r.1.sound r.0).ends in omega arith) in
@@ -277,11 +279,11 @@ module _ (b : Batch) (listed : List ℕ) (slots by : ℕ) (me : Me ℕ View) (al
         (me.0, keeps, tt, read_same b listed s.words s.views r.0 by me.0 r.1 at alive (position b (own_word i m)), (refl, found))
 
   -- an end
-  pub end_reads : (end : ℕ) → end < length listed → Allows Rule slots by me (position b (end_word end)) (λ n. n) (end_then b (slot_at listed end) me)
+  pub end_reads : (end : ℕ) → end < length listed → Allows Rule slots by me (position b (end_word end)) (λ n. n) (end_then b (listed_slot_at listed end) me)
   end_reads end has s r _ at _ = (
     me.0,
     keeps,
     tt,
     read_same b listed s.words s.views r.0 by me.0 r.1 at alive (position b (end_word end)),
-    (refl, tells-end b listed s.words s.views r.0 by me.0 r.1 at alive (slot_at listed end) (get_or s.words (position b (end_word end)) 0) (r.1.slots.within end has) (r.1.shows.at (end_word end) has)),
+    (refl, tells-end b listed s.words s.views r.0 by me.0 r.1 at alive (listed_slot_at listed end) (get_or s.words (position b (end_word end)) 0) (r.1.slots.within end has) (r.1.shows.at (end_word end) has)),
   )

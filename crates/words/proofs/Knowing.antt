@@ -9,7 +9,7 @@ use lib.ListN.{get_elem?}
 use Rattle.model_base.specs.Records.{end_below}
 use Rattle.bohm_core_base.specs.declared.event.Event.{Event}
 use Rattle.bohm_core_base.specs.declared.hold.Hold.TheVariants.{Held, Done}
-use Rattle.bohm_core_base.specs.Batch.{Batch, references, slots_of}
+use Rattle.bohm_core_base.specs.Batch.{Batch, reference_words, batch_slots}
 use Rattle.bohm_core_base.specs.Serial.{whole_end}
 use Rattle.bohm_core_base.specs.Laws.{ShowsSerial}
 use Rattle.bohm_core_base.specs.Machine.{State, all_ready, end_of, hold_of, is_held_by, is_ready, own_of}
@@ -19,11 +19,13 @@ use Rattle.words.specs.Layout.{end_code, end_told as told}
 use Rattle.words.specs.Legal.{Fits, IsSighted, Lawful, legal, placings, reached}
 use Rattle.words.specs.Tells.{EndTells, FoundHeld}
 use Rattle.words.specs.Views.{Holds, In, IsSettled, KnowsReferences, track, with_known, with_sighting}
-use Rattle.words.proofs.Members.{by-none, by_cases, contrary, in_cases, in_one}
+use Rattle.words.proofs.Members.{by-none, in_cases, in_one}
 use Rattle.words.proofs.Placings.{past, refs}
 use Rattle.words.proofs.Reached.{serial-ends-from}
 use Rattle.words.proofs.Tracking.{TracksIn, some-of-own, tracked}
 use Rattle.words.proofs.Keeping.{no_event}
+use Rattle.model_base.proofs.Replay.{by_cases}
+use Rattle.model_base.proofs.Covered.{contrary}
 
 -- all pass where each does
 pub all-in : {A : Type 0} (test : A → Bool) (l : List A) → ((x : A) → In x l → test x ≡ true) → list_all test l ≡ true
@@ -62,12 +64,12 @@ module _ (b : Batch) (listed words : List ℕ) (views : List View) (es : List Ev
   known-done i known = mine.knows i known
 
   -- the places that a place refers to are done where it knows them
-  each-ready : (i word : ℕ) → KnowsReferences b v i → In word (references b i) → is_ready now word ≡ true
+  each-ready : (i word : ℕ) → KnowsReferences b v i → In word (reference_words b i) → is_ready now word ≡ true
   each-ready i zero knows has = refl
   each-ready i (suc j) knows has = rw (mine.knows j (knows j has)) refl
 
   pub known-ready : (i : ℕ) → i < b.size → KnowsReferences b v i → all_ready now i ≡ true
-  known-ready i below knows = rw (refs b law.sound es i below) (all-in (is_ready now) (references b i) (λ word has. each-ready i word knows has))
+  known-ready i below knows = rw (refs b law.sound es i below) (all-in (is_ready now) (reference_words b i) (λ word has. each-ready i word knows has))
 
   -- so what it is shown is what the serial run shows it
   pub known-shown : (i : ℕ) → i < b.size → KnowsReferences b v i → ShowsSerial b now i
@@ -81,7 +83,7 @@ module _ (b : Batch) (listed words : List ℕ) (views : List View) (es : List Ev
       (known-ready later settled.3 settled.4) settled.5 settled.2 settled.6
 
   -- what an end tells
-  pub tells-end : (slot word : ℕ) → slot < length (slots_of b) → word ≡ end_code (end_of now slot) → EndTells b slot v word
+  pub tells-end : (slot word : ℕ) → slot < length (batch_slots b) → word ≡ end_code (end_of now slot) → EndTells b slot v word
   tells-end slot word within is = record {
     none_or = by_end (end_of now slot) refl;
     ended = λ i whole known.

@@ -1,23 +1,16 @@
 -- Tests, membership in lists, repeated elements, and the events of one actor.
-use Rattle.std.proofs.Common.{◌≡◌, ◌≢◌, ◌⊎◌, ℕ, zero, suc, ◌<◌, Bool, true, false, List, [], ◌∷◌, ◌++◌, length, get_or, refl, sym, ap, ◌∙◌, inl, inr, ⊎_elim, arith, eq-eqb, replicate}
+use Rattle.std.proofs.Common.{◌≡◌, ◌≢◌, ◌⊎◌, ℕ, zero, suc, ◌<◌, Bool, true, false, List, [], ◌∷◌, ◌++◌, length, get_or, refl, sym, ap, inl, inr, ⊎_elim, arith, eq-eqb, replicate}
 use Rattle.std.specs.Prelude.{Some}
 use Rattle.std.specs.List.{list_all}
-use Rattle.std.proofs.lemmas.Bool.{cases_Bool, eqb-true, true≢false}
+use Rattle.std.proofs.lemmas.Bool.{eqb-true}
 use mathlib.Core.Option.{some, some-ne-none, some-injective}
 use lib.ListN.{get_elem?}
 use Rattle.bohm_core_base.specs.declared.event.Event.{Event}
 use Rattle.bohm_core_base.specs.declared.event.Event.TheVariants.{Place, Claim, Fill, End, Finish, GiveBack}
 use Rattle.bohm_core_base.specs.Laws.{actor_of}
-use Rattle.words.specs.Legal.{events_by, is_by}
+use Rattle.words.specs.Legal.{events_by, is_event_of}
 use Rattle.words.specs.Views.{In}
-
--- by what a test says
-pub by_cases : {G : Type 0} (test : Bool) → (test ≡ true → G) → (test ≡ false → G) → G
-by_cases test passes fails = elim (cases_Bool test) [ inl e ↦ passes e | inr e ↦ fails e ]
-
--- no test passes and fails
-pub contrary : {G : Type 0} (test : Bool) → test ≡ true → test ≡ false → G
-contrary test passes fails = absurd (true≢false (sym passes ∙ fails))
+use Rattle.model_base.proofs.Replay.{by_cases}
 
 -- each element of a repeated one is that
 pub replicate-same : {A : Type 0} (n i : ℕ) (x : A) → get_or (replicate n x) i x ≡ x
@@ -57,7 +50,7 @@ read_at (y ∷ l) zero x e = sym (some-injective y x e)
 read_at (y ∷ l) (suc i) x e = read_at l i x e
 
 -- whose event it is
-pub by-actor : (a : ℕ) (e : Event) → actor_of e ≡ Some a → is_by a e ≡ true
+pub by-actor : (a : ℕ) (e : Event) → actor_of e ≡ Some a → is_event_of a e ≡ true
 by-actor a (Place p) of = cc
 by-actor a (Claim b i) of = let same : b ≡ a = cc in eq-eqb b a same
 by-actor a (Fill b i) of = let same : b ≡ a = cc in eq-eqb b a same
@@ -65,7 +58,7 @@ by-actor a (End b i j) of = let same : b ≡ a = cc in eq-eqb b a same
 by-actor a (Finish b i) of = let same : b ≡ a = cc in eq-eqb b a same
 by-actor a (GiveBack b i) of = let same : b ≡ a = cc in eq-eqb b a same
 
-pub actor-by : (a : ℕ) (e : Event) → is_by a e ≡ true → actor_of e ≡ Some a
+pub actor-by : (a : ℕ) (e : Event) → is_event_of a e ≡ true → actor_of e ≡ Some a
 actor-by a (Place p) by = cc
 actor-by a (Claim b i) by = ap Some (eqb-true b a by)
 actor-by a (Fill b i) by = ap Some (eqb-true b a by)
@@ -73,13 +66,13 @@ actor-by a (End b i j) by = ap Some (eqb-true b a by)
 actor-by a (Finish b i) by = ap Some (eqb-true b a by)
 actor-by a (GiveBack b i) by = ap Some (eqb-true b a by)
 
-pub not-by : (a : ℕ) (e : Event) → actor_of e ≢ Some a → is_by a e ≡ false
-not-by a e other = by_cases (is_by a e) (λ by. absurd (other (actor-by a e by))) (λ no. no)
+pub not-by : (a : ℕ) (e : Event) → actor_of e ≢ Some a → is_event_of a e ≡ false
+not-by a e other = by_cases (is_event_of a e) (λ by. absurd (other (actor-by a e by))) (λ no. no)
 
 pub by-append : (a : ℕ) (es fs : List Event) → events_by a (es ++ fs) ≡ events_by a es ++ events_by a fs
 by-append a [] fs = refl
 by-append a (e ∷ es) fs =
-    by_cases (is_by a e)
+    by_cases (is_event_of a e)
     (λ by. rw (by, by-append a es fs) refl)
     (λ no. rw (no, by-append a es fs) refl)
 

@@ -7,17 +7,19 @@ use Rattle.bohm_core_base.specs.declared.event.Event.{Event}
 use Rattle.bohm_core_base.specs.declared.event.Event.TheVariants.{Place, Claim, Fill, End, Finish, GiveBack}
 use Rattle.bohm_core_base.specs.declared.hold.Hold.{Hold}
 use Rattle.bohm_core_base.specs.declared.hold.Hold.TheVariants.{Free, Held, Done}
-use Rattle.bohm_core_base.specs.Batch.{Batch, IsSound}
+use Rattle.bohm_core_base.specs.Batch.{Batch, IsSoundBatch}
 use Rattle.bohm_core_base.specs.Machine.{State, all_past, change, effect, guard, hold_of, is_done, is_free, is_held_by, run_from, start}
 use Rattle.words.specs.Legal.{IsEffective, finishes_of, is_finish_of, placings, reached}
-use Rattle.words.proofs.Members.{by_cases, replicate-same}
-use Rattle.words.proofs.Reached.{IsReached, free-not_done, held-not_done, held-not_free, held-within as holder-within, reached-effect, reached-start, sizes}
+use Rattle.words.proofs.Members.{replicate-same}
+use Rattle.words.proofs.Reached.{IsReached, held-not_free, held-within as holder-within, reached-effect, reached-start, sizes}
+use Rattle.bohm_core_base.proofs.Steps.{free-not_done, held-not_done}
+use Rattle.model_base.proofs.Replay.{by_cases}
 
 abbrev count_of : Bool → ℕ
 count_of true = 1
 count_of false = 0
 
-module _ (b : Batch) (sound : IsSound b) where
+module _ (b : Batch) (sound : IsSoundBatch b) where
   -- where a place changes hands, and isn't done before
   hands : (s : State) (n i : ℕ) (hold : Hold) (x : ℕ) → n < length s.holds → is_done (hold_of s n) ≡ false
       → count_of (is_done hold) ≡ x

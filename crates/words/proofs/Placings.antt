@@ -6,9 +6,9 @@ use Rattle.std.proofs.lemmas.List.{get_or-set_other}
 use Rattle.bohm_core_base.specs.declared.event.Event.{Event}
 use Rattle.bohm_core_base.specs.declared.event.Event.TheVariants.{Place}
 use Rattle.bohm_core_base.specs.declared.hold.Hold.TheVariants.{Free}
-use Rattle.bohm_core_base.specs.Batch.{Batch, IsSound, references}
-use Rattle.bohm_core_base.specs.Laws.{HasSizes, Stands}
-use Rattle.bohm_core_base.specs.Machine.{State, all_past, change, effect, end_of, front_of, guard, hold_of, own_of, references_of, run_from, start, reach}
+use Rattle.bohm_core_base.specs.Batch.{Batch, IsSoundBatch, reference_words}
+use Rattle.bohm_core_base.specs.Laws.{HasSizes, KeepsStored}
+use Rattle.bohm_core_base.specs.Machine.{State, all_past, change, effect, end_of, front_of, guard, hold_of, own_of, stored_references_of, run_from, start, reach}
 use Rattle.bohm_core_base.proofs.Reach.{past-references, stored-stands}
 use Rattle.words.specs.Legal.{IsEffective, placings, placings_of, reached}
 use Rattle.words.proofs.Members.{all-of, replicate-same}
@@ -35,7 +35,7 @@ record IsPassed (b : Batch) (s t : State) (es : List Event) (p front : ℕ) : Ty
   pub own : t.own ≡ s.own
   pub ends : t.ends ≡ s.ends
 
-module _ (b : Batch) (sound : IsSound b) where
+module _ (b : Batch) (sound : IsSoundBatch b) where
   -- a placer with places left may place
   may-place : (s : State) (p : ℕ) → IsReached b s → p < b.partitions → front_of s p < b.size → guard b s (Place p) ≡ true
   may-place s p leads partition left =
@@ -142,7 +142,7 @@ module _ (b : Batch) (sound : IsSound b) where
     pub past : (i : ℕ) → i < b.size → all_past (reached b es) i ≡ true
     past i below = (stored-stands b sound (placings b) es).placed i (placed-past i below)
 
-    pub refs : (i : ℕ) → i < b.size → references_of (reached b es) i ≡ references b i
+    pub refs : (i : ℕ) → i < b.size → stored_references_of (reached b es) i ≡ reference_words b i
     refs i below = past-references b sound (placings b ++ es) i below (past i below)
 
     pub from-placed : reached b es ≡ run_from b placed es
@@ -157,9 +157,9 @@ module _ (b : Batch) (sound : IsSound b) where
         ap (λ list. run_from b (start b) list) (sym (append_assoc (placings b) es fs))
         ∙ run-append b (start b) (placings b ++ es) fs
 
-    pub stays : (fs : List Event) → Stands (reached b es) (reached b (es ++ fs))
+    pub stays : (fs : List Event) → KeepsStored (reached b es) (reached b (es ++ fs))
     stays fs =
-        subst (λ list. Stands (reached b es) (reach b list)) (append_assoc (placings b) es fs)
+        subst (λ list. KeepsStored (reached b es) (reach b list)) (append_assoc (placings b) es fs)
         (stored-stands b sound (placings b ++ es) fs)
 
     pub works-more : (fs : List Event) → IsEffective b (start b) (placings b ++ es) → IsEffective b (reached b es) fs → IsEffective b (start b) (placings b ++ (es ++ fs))

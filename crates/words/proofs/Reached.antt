@@ -1,17 +1,17 @@
 -- What the machine's law says of a state that some events reach, and what follows of the definitions alone.
 use Rattle.std.proofs.Common.{◌≡◌, ◌≢◌, ℕ, ◌+◌, ◌<◌, true, false, List, [], ◌∷◌, ◌++◌, length, refl, sym, ap, ◌∙◌, subst, arith, eq-eqb}
-use Rattle.std.specs.Prelude.{Option, Some, None}
-use Rattle.std.proofs.lemmas.Bool.{eqb-true}
+use Rattle.std.specs.Prelude.{Some}
 use Rattle.std.proofs.lemmas.List.{length-append}
 use Rattle.bohm_core_base.specs.declared.event.Event.{Event}
 use Rattle.bohm_core_base.specs.declared.hold.Hold.{Hold}
 use Rattle.bohm_core_base.specs.declared.hold.Hold.TheVariants.{Free, Held, Done}
-use Rattle.bohm_core_base.specs.Batch.{Batch, IsSound, words_by, words_length}
+use Rattle.bohm_core_base.specs.Batch.{Batch, IsSoundBatch, words_by, words_length}
 use Rattle.bohm_core_base.specs.Laws.{HasReferences, HasSizes}
-use Rattle.bohm_core_base.specs.Machine.{State, effect, end_of, hold_of, is_done, is_free, is_held_by, own_of, reach, run_from, start}
-use Rattle.bohm_core_base.specs.Serial.{is_end, records_in, rows_at, serial_ends, serial_words, whole_end, world_before}
+use Rattle.bohm_core_base.specs.Machine.{State, effect, end_of, hold_of, is_free, is_held_by, own_of, reach, run_from, start}
+use Rattle.bohm_core_base.specs.Serial.{records_in, rows_at, serial_ends, serial_words, whole_end, batch_world_before}
 use Rattle.bohm_core_base.proofs.Reach.{ender-words, has-references, has-sizes, word-busy}
-use Rattle.words.proofs.Members.{contrary}
+use Rattle.bohm_core_base.proofs.Whole.{is_end-some}
+use Rattle.model_base.proofs.Covered.{contrary}
 
 -- some events lead to the state
 pub record IsReached (b : Batch) (s : State) : Type 0 where
@@ -36,30 +36,10 @@ reached-effect b s e r = record {
 pub held-not_free : (actor : ℕ) (hold : Hold) → is_held_by actor hold ≡ true → hold ≢ Free
 held-not_free actor hold held free = contrary (is_held_by actor hold) held (rw free refl)
 
-pub held-not_done : (actor : ℕ) (hold : Hold) → is_held_by actor hold ≡ true → is_done hold ≡ false
-held-not_done actor Free held = refl
-held-not_done actor (Held other) held = refl
-held-not_done actor Done held = contrary false held refl
-
-pub free-not_done : (hold : Hold) → is_free hold ≡ true → is_done hold ≡ false
-free-not_done Free free = refl
-free-not_done (Held other) free = refl
-free-not_done Done free = contrary false free refl
-
-pub done-is : (hold : Hold) → is_done hold ≡ true → hold ≡ Done
-done-is Free done = contrary false done refl
-done-is (Held other) done = contrary false done refl
-done-is Done done = refl
-
 pub free-is : (hold : Hold) → is_free hold ≡ true → hold ≡ Free
 free-is Free free = refl
 free-is (Held other) free = contrary false free refl
 free-is Done free = contrary false free refl
-
--- an end that is this place
-pub is_end-some : (place : ℕ) (end : Option ℕ) → is_end place end ≡ true → end ≡ Some place
-is_end-some place None is = contrary false is refl
-is_end-some place (Some q) is = ap Some (eqb-true q place is)
 
 -- the serial run ends the record of a slot at one place
 pub serial-ends-from : (b : Batch) (i k q : ℕ) → whole_end b k ≡ Some q → b.first + i ≡ q → serial_ends b i k ≡ true
@@ -70,7 +50,7 @@ pub ends-whole : (b : Batch) (n k : ℕ) → serial_ends b n k ≡ true → whol
 unfolding serial_ends
 ends-whole b n k ends = is_end-some (b.first + n) (whole_end b k) ends
 
-module _ (b : Batch) (sound : IsSound b) where
+module _ (b : Batch) (sound : IsSoundBatch b) where
   -- each place has a word, one at least
   pub words-some : (n : ℕ) → 0 < words_length b n
   unfolding words_length
@@ -79,8 +59,8 @@ module _ (b : Batch) (sound : IsSound b) where
   pub serial-some : (n : ℕ) → 0 < length (serial_words b n)
   unfolding serial_words words_by
   serial-some n =
-      let rows = rows_at (b.accesses n) (world_before b n).rows in
-      let entries = records_in b n (world_before b n) in
+      let rows = rows_at (b.accesses n) (batch_world_before b n).rows in
+      let entries = records_in b n (batch_world_before b n) in
       let some = sound.outcome n in
       let wide = sound.header n rows entries in
       rw (length-append (b.answer n rows entries).header _) (omega arith)

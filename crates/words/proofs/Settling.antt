@@ -11,11 +11,12 @@ use Rattle.bohm_core_base.specs.Machine.{end_of, hold_of, own_of}
 use Rattle.bohm_core_base.specs.Serial.{serial_words, whole_end}
 use Rattle.bohm_core_base.proofs.Reach.{done-right, ends-right, words-begun}
 use Rattle.words.specs.declared.view.View.{View}
-use Rattle.words.specs.Closing.{HasBeginning, IsSettledBy, Standing, claim_in, end_in, own_in}
-use Rattle.words.specs.Layout.{block_begin, claim_code, claim_word, end_begin, end_code, end_word, own_word, slot_at}
+use Rattle.words.specs.Closing.{HasBeginning, IsSettledBy, ClosedLayout, claim_in, end_word_in, own_in}
+use Rattle.words.specs.Layout.{block_begin, claim_code, claim_word, end_begin, end_code, end_word, own_word, listed_slot_at}
 use Rattle.words.specs.Legal.{Lawful, placings, reached}
-use Rattle.words.proofs.Members.{by_cases, contrary}
 use Rattle.words.proofs.Showing.{position-below}
+use Rattle.model_base.proofs.Replay.{by_cases}
+use Rattle.model_base.proofs.Covered.{contrary}
 
 two-is-done : (hold : Hold) → claim_code hold ≡ 2 → hold ≡ Done
 two-is-done Free two = absurd (omega arith)
@@ -38,7 +39,7 @@ beginning own rest all m is =
       | inr past ↦ past-end own m (omega arith)
     ]))
 
-module _ (b : Batch) (listed : List ℕ) (standing : Standing) (views : List View) (es : List Event) (law : Lawful b listed standing.words views es)
+module _ (b : Batch) (listed : List ℕ) (standing : ClosedLayout) (views : List View) (es : List Event) (law : Lawful b listed standing.words views es)
     (every : length standing.begins ≡ b.size) (begin : (i : ℕ) → i < b.size → get_or standing.begins i 0 ≡ block_begin b i) (end : standing.ends ≡ end_begin b) where
   claim-at : (i : ℕ) → i < b.size → claim_in standing i ≡ claim_code (hold_of (reached b es) i)
   claim-at i below = ap (λ (n : ℕ). get_or standing.words n 0) (begin i below) ∙ law.shows.at (claim_word i) below
@@ -46,7 +47,7 @@ module _ (b : Batch) (listed : List ℕ) (standing : Standing) (views : List Vie
   own-at : (i m : ℕ) → i < b.size → m < words_length b i → own_in standing i m ≡ get_or (own_of (reached b es) i) m 0
   own-at i m below within = ap (λ (n : ℕ). get_or standing.words (n + suc m) 0) (begin i below) ∙ law.shows.at (own_word i m) (below, within)
 
-  end-at : (r : ℕ) → r < length listed → end_in standing r ≡ end_code (end_of (reached b es) (slot_at listed r))
+  end-at : (r : ℕ) → r < length listed → end_word_in standing r ≡ end_code (end_of (reached b es) (listed_slot_at listed r))
   end-at r has = ap (λ (n : ℕ). get_or standing.words (n + r) 0) end ∙ law.shows.at (end_word r) has
 
   done-at : (i : ℕ) → i < b.size → claim_in standing i ≡ 2 → hold_of (reached b es) i ≡ Done
@@ -57,10 +58,10 @@ module _ (b : Batch) (listed : List ℕ) (standing : Standing) (views : List Vie
       let begun = words-begun b law.sound (placings b ++ es) i in
       own-at i m below within ∙ beginning (own_of (reached b es) i) begun.0 (serial_words b i) m begun.1
 
-  by_end : (r : ℕ) (seen : Option ℕ) → end_of (reached b es) (slot_at listed r) ≡ seen → end_in standing r ≡ end_code seen
-      → (end_in standing r ≡ 0) ⊎ ((place : ℕ) × (end_in standing r ≡ suc place) × (whole_end b (slot_at listed r) ≡ Some place))
+  by_end : (r : ℕ) (seen : Option ℕ) → end_of (reached b es) (listed_slot_at listed r) ≡ seen → end_word_in standing r ≡ end_code seen
+      → (end_word_in standing r ≡ 0) ⊎ ((place : ℕ) × (end_word_in standing r ≡ suc place) × (whole_end b (listed_slot_at listed r) ≡ Some place))
   by_end r None is shows = inl shows
-  by_end r (Some q) is shows = inr (q, shows, ends-right b law.sound (placings b ++ es) (slot_at listed r) q is)
+  by_end r (Some q) is shows = inr (q, shows, ends-right b law.sound (placings b ++ es) (listed_slot_at listed r) q is)
 
   pub settled : IsSettledBy b listed standing
   settled = record {
@@ -71,7 +72,7 @@ module _ (b : Batch) (listed : List ℕ) (standing : Standing) (views : List Vie
     own = λ i m below within two. own-at i m below within
         ∙ ap (λ (own : List ℕ). get_or own m 0) (done-right b law.sound (placings b ++ es) i (done-at i below two)).words;
     ended = λ i r below has ends two. end-at r has
-        ∙ ap end_code ((done-right b law.sound (placings b ++ es) i (done-at i below two)).ends (slot_at listed r) (law.slots.within r has) ends);
+        ∙ ap end_code ((done-right b law.sound (placings b ++ es) i (done-at i below two)).ends (listed_slot_at listed r) (law.slots.within r has) ends);
     begun = λ i below. (length (own_of (reached b es) i), begun-at i below);
-    end = λ r has. by_end r (end_of (reached b es) (slot_at listed r)) refl (end-at r has);
+    end = λ r has. by_end r (end_of (reached b es) (listed_slot_at listed r)) refl (end-at r has);
   }

@@ -7,9 +7,9 @@ use mathlib.Core.Logic.{dite}
 use native.Mathlib.Decide.{ℕ_discrete}
 use Rattle.bohm_core_base.specs.declared.hold.Hold.{Hold}
 use Rattle.bohm_core_base.specs.declared.hold.Hold.TheVariants.{Free}
-use Rattle.bohm_core_base.specs.Batch.{Batch, IsSound, words_length}
+use Rattle.bohm_core_base.specs.Batch.{Batch, IsSoundBatch, words_length}
 use Rattle.bohm_core_base.specs.Machine.{State, own_of, with_hold}
-use Rattle.words.specs.Layout.{Meaning, claim_word, own_word, end_word, claim_code, end_code, slot_at, IsListed, block_begin, block_length, end_begin, total, Has, position, shown, Shows}
+use Rattle.words.specs.Layout.{Meaning, claim_word, own_word, end_word, claim_code, end_code, listed_slot_at, IsListed, block_begin, block_length, end_begin, total, Has, position, shown, ShowsState}
 use Rattle.words.proofs.Members.{replicate-same}
 use Rattle.words.proofs.Placings.{placed, placed-blank, placed-ends, placed-free}
 
@@ -72,8 +72,8 @@ module _ (b : Batch) where
     position-apart (end_word q) (end_word r) has has' same = ap end_word (omega arith)
 
     -- one word is stored, and the state changes in what that word shows
-    pub shows-store : (words : List ℕ) (s s' : State) (m : Meaning) (word : ℕ) → Has b listed m → Shows b listed words s → word ≡ shown listed s' m
-        → ((o : Meaning) → Has b listed o → o ≢ m → shown listed s' o ≡ shown listed s o) → Shows b listed (set words (position b m) word) s'
+    pub shows-store : (words : List ℕ) (s s' : State) (m : Meaning) (word : ℕ) → Has b listed m → ShowsState b listed words s → word ≡ shown listed s' m
+        → ((o : Meaning) → Has b listed o → o ≢ m → shown listed s' o ≡ shown listed s o) → ShowsState b listed (set words (position b m) word) s'
     shows-store words s s' m word has shows is others = record {
       wide = length-set words (position b m) word ∙ shows.wide;
       at = λ o here. dite (ℕ_discrete (position b o) (position b m))
@@ -111,14 +111,14 @@ module _ (b : Batch) where
 
     -- a listed end is set
     pub end-others : (s : State) (r : ℕ) (end : Option ℕ) → IsListed b listed → r < length listed → (o : Meaning) → Has b listed o → o ≢ end_word r
-        → shown listed (record s { ends = set s.ends (slot_at listed r) end }) o ≡ shown listed s o
+        → shown listed (record s { ends = set s.ends (listed_slot_at listed r) end }) o ≡ shown listed s o
     end-others s r end apart within (claim_word j) has other = refl
     end-others s r end apart within (own_word j m) has other = refl
     end-others s r end apart within (end_word q) has other =
-        ap end_code (get_or-set_other s.ends (slot_at listed r) (slot_at listed q) end None (λ same. other (ap end_word (apart.apart q r has within same))))
+        ap end_code (get_or-set_other s.ends (listed_slot_at listed r) (listed_slot_at listed q) end None (λ same. other (ap end_word (apart.apart q r has within same))))
 
     -- at first all words are 0
-    pub shows-placed : (sound : IsSound b) → IsListed b listed → Shows b listed (replicate (total b listed) 0) (placed b sound)
+    pub shows-placed : (sound : IsSoundBatch b) → IsListed b listed → ShowsState b listed (replicate (total b listed) 0) (placed b sound)
     shows-placed sound apart = record {
       wide = length-replicate (total b listed) 0;
       at = λ m has. replicate-same (total b listed) (position b m) 0 ∙ sym (zero-shown m has);
@@ -127,7 +127,7 @@ module _ (b : Batch) where
         zero-shown : (m : Meaning) → Has b listed m → shown listed (placed b sound) m ≡ 0
         zero-shown (claim_word i) has = ap claim_code (placed-free b sound i)
         zero-shown (own_word i m) has = ap (λ (own : List ℕ). get_or own m 0) (placed-blank b sound i)
-        zero-shown (end_word r) has = ap end_code (placed-ends b sound (slot_at listed r) ∙ apart.unended r has)
+        zero-shown (end_word r) has = ap end_code (placed-ends b sound (listed_slot_at listed r) ∙ apart.unended r has)
 
 pub push-at : (l : List ℕ) (x : ℕ) → get_or (l ++ x ∷ []) (length l) 0 ≡ x
 push-at [] x = refl

@@ -7,13 +7,15 @@ use Rattle.bohm_core_base.specs.declared.event.Event.{Event}
 use Rattle.bohm_core_base.specs.declared.event.Event.TheVariants.{Place, Claim, Fill, End, Finish, GiveBack}
 use Rattle.bohm_core_base.specs.declared.hold.Hold.{Hold}
 use Rattle.bohm_core_base.specs.declared.hold.Hold.TheVariants.{Free, Held, Done}
-use Rattle.bohm_core_base.specs.Batch.{Batch, IsSound}
+use Rattle.bohm_core_base.specs.Batch.{Batch, IsSoundBatch}
 use Rattle.bohm_core_base.specs.Machine.{State, all_past, all_ready, all_filled, change, effect, end_of, guard, hold_of, is_free, is_held_by, must_end, next_word, own_of, run_from, start}
-use Rattle.words.specs.Legal.{IsEffective, events_by, is_by, placings, reached}
-use Rattle.words.specs.Views.{In, Stored, is_about, one_end, one_more, track, turn}
-use Rattle.words.proofs.Members.{by_cases, contrary, in_cases, in_front, in_back, in_one}
+use Rattle.words.specs.Legal.{IsEffective, events_by, is_event_of, placings, reached}
+use Rattle.words.specs.Views.{In, Stored, is_event_at, one_end, one_more, track, turn}
+use Rattle.words.proofs.Members.{in_cases, in_front, in_back, in_one}
 use Rattle.words.proofs.Reached.{IsReached, blank-ends, blank-words, free-is, held-not_free, held-within, reached-effect, sizes}
 use Rattle.words.proofs.Placings.{from-placed, placed, placed-free, works-placed}
+use Rattle.model_base.proofs.Replay.{by_cases}
+use Rattle.model_base.proofs.Covered.{contrary}
 
 -- what stands of a place, if the actor holds it
 abbrev pub Tracks : ℕ → ℕ → Hold → List ℕ → (ℕ → Option ℕ) → Stored → Type 0
@@ -74,7 +76,7 @@ about P x n i u t here away =
       | inr differ ↦ rw (ne_eqb n i (λ is. differ (sym is)), same-if x t) (away differ)
     ]
 
-module _ (b : Batch) (sound : IsSound b) where
+module _ (b : Batch) (sound : IsSoundBatch b) where
   holder-within : (s : State) (c n : ℕ) → IsReached b s → is_held_by c (hold_of s n) ≡ true → n < b.size
   holder-within s c n leads held = held-within b sound s leads n (held-not_free c (hold_of s n) held)
 
@@ -96,7 +98,7 @@ module _ (b : Batch) (sound : IsSound b) where
 
   -- an event that may happen changes what it says
   tracks-step : (s : State) (e : Event) (a i : ℕ) (t : Stored) → IsReached b s → guard b s e ≡ true → TracksIn b s a i t
-      → TracksIn b (change b s e) a i (if is_by a e then (if is_about i e then turn t e else t) else t)
+      → TracksIn b (change b s e) a i (if is_event_of a e then (if is_event_at i e then turn t e else t) else t)
   tracks-step s (Place p) a i t leads may tracks = tracks
   tracks-step s (Finish c n) a i t leads may tracks =
       gives-up s (Finish c n) c n a i Done t leads (and_parts (is_held_by c (hold_of s n)) _ may).0 (λ x. refl) (λ stored. refl) tracks
@@ -184,11 +186,11 @@ module _ (b : Batch) (sound : IsSound b) where
   tracks (e ∷ es) s a i t leads works so =
       let step = tracks-step s e a i t leads works.0 so in
       let is : effect b s e ≡ change b s e = rw (works.0) refl in
-      let after : TracksIn b (effect b s e) a i (if is_by a e then (if is_about i e then turn t e else t) else t) = rw is step in
-      by_cases (is_by a e)
+      let after : TracksIn b (effect b s e) a i (if is_event_of a e then (if is_event_at i e then turn t e else t) else t) = rw is step in
+      by_cases (is_event_of a e)
       (λ by.
       rw by
-      (tracks es (effect b s e) a i (if is_about i e then turn t e else t) (reached-effect b s e leads) works.1 (rw by at after)))
+      (tracks es (effect b s e) a i (if is_event_at i e then turn t e else t) (reached-effect b s e leads) works.1 (rw by at after)))
       (λ no. rw no (tracks es (effect b s e) a i t (reached-effect b s e leads) works.1 (rw no at after)))
 
   -- a pass's own events tell what it holds

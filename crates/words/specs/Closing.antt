@@ -5,24 +5,24 @@ use lib.ListN.{get_elem?}
 use Rattle.bohm_core_base.specs.Batch.{Batch, words_length}
 use Rattle.bohm_core_base.specs.Serial.{serial_ends, serial_words, whole_end}
 use Rattle.words.specs.declared.view.View.{View}
-use Rattle.words.specs.Layout.{slot_at}
+use Rattle.words.specs.Layout.{listed_slot_at}
 use Rattle.words.specs.Legal.{legal}
 
 -- the words of a closed batch, with where the block of each place begins, and where the ends begin
-pub record Standing : Type 0 where
+pub record ClosedLayout : Type 0 where
   pub begins : List ℕ
   pub ends : ℕ
   pub words : List ℕ
 
 -- the claim of a place, its own word of a number, and a listed end
-abbrev pub claim_in : Standing → ℕ → ℕ
+abbrev pub claim_in : ClosedLayout → ℕ → ℕ
 claim_in standing index = slice_index standing.words (slice_index standing.begins index)
 
-abbrev pub own_in : Standing → ℕ → ℕ → ℕ
+abbrev pub own_in : ClosedLayout → ℕ → ℕ → ℕ
 own_in standing index number = slice_index standing.words (slice_index standing.begins index + suc number)
 
-abbrev pub end_in : Standing → ℕ → ℕ
-end_in standing end = slice_index standing.words (standing.ends + end)
+abbrev pub end_word_in : ClosedLayout → ℕ → ℕ
+end_word_in standing end = slice_index standing.words (standing.ends + end)
 
 -- the rule holds of these words and of the last views, and one of them is this pass's
 abbrev pub LastWith : Batch → List ℕ → List ℕ → ℕ → View → Type 0
@@ -30,12 +30,12 @@ LastWith batch listed words number view =
     (views : List View) × legal batch listed words views × (get_elem? views number ≡ some view)
 
 -- the own words of a place are so many first ones of the serial run, and 0 behind them
-abbrev pub HasBeginning : Batch → Standing → ℕ → ℕ → Type 0
+abbrev pub HasBeginning : Batch → ClosedLayout → ℕ → ℕ → Type 0
 HasBeginning batch standing index count =
     (number : ℕ) → number < words_length batch index
     → own_in standing index number ≡ (if nat_lt number count then slice_index_or (serial_words batch index) number 0 else 0)
 
-pub record IsSettledBy (batch : Batch) (listed : List ℕ) (standing : Standing) : Type 0 where
+pub record IsSettledBy (batch : Batch) (listed : List ℕ) (standing : ClosedLayout) : Type 0 where
   -- there is a word for each claim, own word and listed end
   pub begins : (index : ℕ) → index < batch.size → index < length standing.begins
   pub claims : (index : ℕ) → index < batch.size → slice_index standing.begins index < length standing.words
@@ -45,9 +45,10 @@ pub record IsSettledBy (batch : Batch) (listed : List ℕ) (standing : Standing)
   -- a place whose claim is done has the own words of the serial run, and has set the ends that it sets there
   pub own : (index number : ℕ) → index < batch.size → number < words_length batch index → claim_in standing index ≡ 2
       → own_in standing index number ≡ slice_index_or (serial_words batch index) number 0
-  pub ended : (index end : ℕ) → index < batch.size → end < length listed → serial_ends batch index (slot_at listed end) ≡ true
-      → claim_in standing index ≡ 2 → end_in standing end ≡ suc (batch.first + index)
+  pub ended : (index end : ℕ) → index < batch.size → end < length listed → serial_ends batch index (listed_slot_at listed end) ≡ true
+      → claim_in standing index ≡ 2 → end_word_in standing end ≡ suc (batch.first + index)
   -- the own words of any place are a beginning of the serial run's, and no end is another than the serial run's
   pub begun : (index : ℕ) → index < batch.size → (count : ℕ) × HasBeginning batch standing index count
   pub end : (end : ℕ) → end < length listed
-      → (end_in standing end ≡ 0) ⊎ ((place : ℕ) × (end_in standing end ≡ suc place) × (whole_end batch (slot_at listed end) ≡ Some place))
+      → (end_word_in standing end ≡ 0) ⊎ ((place : ℕ) × (end_word_in standing end ≡ suc place)
+      × (whole_end batch (listed_slot_at listed end) ≡ Some place))

@@ -5,7 +5,7 @@
 use Rattle.std.specs.Prelude.{◌≡◌, ◌<◌, ◌+◌, ◌*◌, ◌/◌, ℕ, zero, suc, true, Option, Some, None, List, length, slice_index, slice_index_or}
 use Rattle.bohm_core_base.specs.declared.hold.Hold.{Hold}
 use Rattle.bohm_core_base.specs.declared.hold.Hold.TheVariants.{Free, Held, Done}
-use Rattle.bohm_core_base.specs.Batch.{Batch, slots_of, words_length}
+use Rattle.bohm_core_base.specs.Batch.{Batch, batch_slots, words_length}
 use Rattle.bohm_core_base.specs.Machine.{State, end_of, hold_of, own_of, start}
 use Rattle.bohm_core_base.specs.Serial.{serial_ends}
 use Rattle.words.specs.Views.{In}
@@ -33,16 +33,17 @@ end_told zero = None
 end_told (suc place) = Some place
 
 -- the slot of a listed end
-abbrev pub slot_at : List ℕ → ℕ → ℕ
-slot_at listed end = slice_index_or listed end 0
+abbrev pub listed_slot_at : List ℕ → ℕ → ℕ
+listed_slot_at listed end = slice_index_or listed end 0
 
 -- the listed slots are slots of the batch without an end before it, each once, and every slot whose record a place of the
 -- batch ends by the serial run is among them
 pub record IsListed (batch : Batch) (listed : List ℕ) : Type 0 where
-  pub within : (end : ℕ) → end < length listed → slot_at listed end < length (slots_of batch)
-  pub unended : (end : ℕ) → end < length listed → end_of (start batch) (slot_at listed end) ≡ None
-  pub apart : (end other : ℕ) → end < length listed → other < length listed → slot_at listed end ≡ slot_at listed other → end ≡ other
-  pub every : (index slot : ℕ) → slot < length (slots_of batch) → serial_ends batch index slot ≡ true → In slot listed
+  pub within : (end : ℕ) → end < length listed → listed_slot_at listed end < length (batch_slots batch)
+  pub unended : (end : ℕ) → end < length listed → end_of (start batch) (listed_slot_at listed end) ≡ None
+  pub apart : (end other : ℕ) → end < length listed → other < length listed
+      → listed_slot_at listed end ≡ listed_slot_at listed other → end ≡ other
+  pub every : (index slot : ℕ) → slot < length (batch_slots batch) → serial_ends batch index slot ≡ true → In slot listed
 
 -- how many words the block of a place has: its claim, its own words, and as many more as make whole groups of eight
 abbrev pub block_length : Batch → ℕ → ℕ
@@ -77,9 +78,9 @@ position batch (end_word end) = end_begin batch + end
 abbrev pub shown : List ℕ → State → Meaning → ℕ
 shown listed state (claim_word index) = claim_code (hold_of state index)
 shown listed state (own_word index number) = slice_index_or (own_of state index) number 0
-shown listed state (end_word end) = end_code (end_of state (slot_at listed end))
+shown listed state (end_word end) = end_code (end_of state (listed_slot_at listed end))
 
 -- the words show the state
-pub record Shows (batch : Batch) (listed words : List ℕ) (state : State) : Type 0 where
+pub record ShowsState (batch : Batch) (listed words : List ℕ) (state : State) : Type 0 where
   pub wide : length words ≡ total batch listed
   pub at : (meaning : Meaning) → Has batch listed meaning → slice_index words (position batch meaning) ≡ shown listed state meaning

@@ -24,8 +24,8 @@ abbrev pub IsPassOf : {K : Type 0} → Words K → Passing → Type 0
 IsPassOf words pass = pass.table ≡ words.table
 
 -- the pass has gone on to this view
-abbrev pub goes_on : Passing → View → Passing
-goes_on pass view = record pass { view = view }
+abbrev pub gone_on : Passing → View → Passing
+gone_on pass view = record pass { view = view }
 
 -- no other took it in, and it has no slot of the table
 pub record IsAlive (me : Me ℕ View) : Type 0 where

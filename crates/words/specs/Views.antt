@@ -5,7 +5,7 @@
 use Rattle.std.specs.Prelude.{◌≡◌, ◌⊎◌, ◌==◌, ℕ, suc, ◌<◌, Bool, true, false, Option, Some, None, List, [], ◌∷◌, ◌++◌, length, if◌then◌else◌}
 use Rattle.bohm_core_base.specs.declared.event.Event.{Event}
 use Rattle.bohm_core_base.specs.declared.event.Event.TheVariants.{Place, Claim, Fill, End, Finish, GiveBack}
-use Rattle.bohm_core_base.specs.Batch.{Batch, has_deed_on, is_listed, references}
+use Rattle.bohm_core_base.specs.Batch.{Batch, place_has_deed_on, is_listed, reference_words}
 use Rattle.words.specs.declared.view.View.{View}
 
 -- x is among these
@@ -51,13 +51,13 @@ abbrev pub with_sighting : View → ℕ → View
 with_sighting view index = record view { sightings = view.sightings ++ (index, length view.events) ∷ [] }
 
 -- whether the event is about the place; a placer's is about none
-abbrev pub is_about : ℕ → Event → Bool
-is_about index (Place partition) = false
-is_about index (Claim actor other) = other == index
-is_about index (Fill actor other) = other == index
-is_about index (End actor other slot) = other == index
-is_about index (Finish actor other) = other == index
-is_about index (GiveBack actor other) = other == index
+abbrev pub is_event_at : ℕ → Event → Bool
+is_event_at index (Place partition) = false
+is_event_at index (Claim actor other) = other == index
+is_event_at index (Fill actor other) = other == index
+is_event_at index (End actor other slot) = other == index
+is_event_at index (Finish actor other) = other == index
+is_event_at index (GiveBack actor other) = other == index
 
 -- what is stored of a place that a pass holds: how many own words, and the slots whose ends are set
 abbrev pub Stored : Type 0
@@ -84,7 +84,7 @@ turn stored (GiveBack actor index) = None
 -- and after a list of events, of which those about the place count
 abbrev pub track : ℕ → Stored → List Event → Stored
 track index stored [] = stored
-track index stored (event ∷ events) = track index (if is_about index event then turn stored event else stored) events
+track index stored (event ∷ events) = track index (if is_event_at index event then turn stored event else stored) events
 
 -- by its own events the pass holds the place, and has stored so many of its own words and the ends of these slots
 abbrev pub Holds : View → ℕ → ℕ → List ℕ → Type 0
@@ -96,11 +96,11 @@ HoldsNone view = (index count : ℕ) (ended : List ℕ) → ¬ (Holds view index
 
 -- the pass knows each place done that this one is referred to
 abbrev pub KnowsReferences : Batch → View → ℕ → Type 0
-KnowsReferences batch view index = (other : ℕ) → In (suc other) (references batch index) → In other view.known
+KnowsReferences batch view index = (other : ℕ) → In (suc other) (reference_words batch index) → In other view.known
 
 -- the place has a deed on a table of a later place, of which the pass knows done all that it is referred to: so all deeds on
 -- that table before the later place are done
 abbrev pub IsSettled : Batch → View → ℕ → Type 0
 IsSettled batch view index =
     (later : ℕ) × (table : ℕ) × (index < later) × (later < batch.size) × KnowsReferences batch view later
-    × (is_listed (batch.tables later) table ≡ true) × (has_deed_on batch index table ≡ true)
+    × (is_listed (batch.tables later) table ≡ true) × (place_has_deed_on batch index table ≡ true)

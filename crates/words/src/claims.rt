@@ -2,7 +2,7 @@
 
 ghost use Rattle.std.specs.Prelude.{◌≡◌, ◌<◌, []};
 ghost use Rattle.bohm_core_base.specs.declared.event.Event.TheVariants.{GiveBack};
-ghost use Rattle.words.specs.Passes.{IsPassOf, goes_on};
+ghost use Rattle.words.specs.Passes.{IsPassOf, gone_on};
 ghost use Rattle.words.specs.Tells.{ClaimTells, LookTells};
 ghost use Rattle.words.specs.Views.{Holds, In, IsSettled, with_event};
 
@@ -38,7 +38,7 @@ impl<K: Placed> BatchWords<K> {
     pub fn claim(&self, pass: &mut Holding, index: usize) -> Claimed
         requires ours { IsPassOf self.now pass.old }
         requires within { index < (K.batch self.now.key).size }
-        ensures same { pass.new ≡ goes_on pass.old pass.new.view }
+        ensures same { pass.new ≡ gone_on pass.old pass.new.view }
         ensures tells { ClaimTells pass.old.number index pass.old.view result pass.new.view }
         ensures known { In index pass.old.view.known → result ≡ Claimed.Done }
         ensures settled { IsSettled (K.batch self.now.key) pass.old.view index → result ≡ Claimed.Done }
@@ -57,7 +57,7 @@ impl<K: Placed> BatchWords<K> {
     pub fn look(&self, pass: &mut Holding, index: usize) -> Seen
         requires ours { IsPassOf self.now pass.old }
         requires within { index < (K.batch self.now.key).size }
-        ensures same { pass.new ≡ goes_on pass.old pass.new.view }
+        ensures same { pass.new ≡ gone_on pass.old pass.new.view }
         ensures tells { LookTells index pass.old.view result pass.new.view }
         ensures known { In index pass.old.view.known → result ≡ Seen.Done }
         ensures settled { IsSettled (K.batch self.now.key) pass.old.view index → result ≡ Seen.Done }
@@ -76,7 +76,7 @@ impl<K: Placed> BatchWords<K> {
         requires ours { IsPassOf self.now pass.old }
         requires within { index < (K.batch self.now.key).size }
         requires blank { Holds pass.old.view index 0 [] }
-        ensures { pass.new ≡ goes_on pass.old (with_event pass.old.view (GiveBack pass.old.number index)) }
+        ensures { pass.new ≡ gone_on pass.old (with_event pass.old.view (GiveBack pass.old.number index)) }
     {
         let at = self.claim_at(index);
         self.put::<Brand>(&mut pass.seat, at, 0, index, 0);

@@ -2,7 +2,7 @@
 
 ghost use Rattle.std.specs.Prelude.{◌≡◌, ◌<◌, ◌+◌, suc, length, slice_index};
 ghost use Rattle.std.specs.Mem.Slots.{slots_len, IsFull};
-ghost use Rattle.words.specs.Closing.{IsSettledBy, LastWith, claim_in, end_in, own_in};
+ghost use Rattle.words.specs.Closing.{IsSettledBy, LastWith, claim_in, end_word_in, own_in};
 ghost use Rattle.words.specs.Passes.{IsPassOf};
 
 use crate::placed::Placed;
@@ -22,9 +22,9 @@ pub struct Closed {
 
 impl Model for Closed {
     ghost use Rattle.std.specs.Mem.Slots.{slots_items};
-    ghost use Rattle.words.specs.Closing.{Standing};
+    ghost use Rattle.words.specs.Closing.{ClosedLayout};
 
-    ghost Value = { Standing };
+    ghost Value = { ClosedLayout };
 
     ghost view = { λ closed. record { begins = closed.begins.items; ends = closed.ends; words = slots_items closed.stood.words } };
 }
@@ -77,7 +77,7 @@ impl Closed {
     /// A listed end: 0, or one more than the place that ended the record.
     pub fn end(&self, end: usize) -> u64
         requires { self.now.ends + end < length self.now.words }
-        ensures { result ≡ end_in self.now end }
+        ensures { result ≡ end_word_in self.now end }
     {
         self.stood.word(self.ends + end)
     }

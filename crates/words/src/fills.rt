@@ -4,8 +4,8 @@ ghost use Rattle.std.specs.Prelude.{◌≡◌, ◌<◌, ◌+◌, ◌^◌, true, 
 ghost use Rattle.bohm_core_base.specs.declared.event.Event.TheVariants.{End, Fill, Finish};
 ghost use Rattle.bohm_core_base.specs.Batch.{words_length};
 ghost use Rattle.bohm_core_base.specs.Serial.{serial_ends, serial_words};
-ghost use Rattle.words.specs.Layout.{slot_at};
-ghost use Rattle.words.specs.Passes.{IsPassOf, goes_on};
+ghost use Rattle.words.specs.Layout.{listed_slot_at};
+ghost use Rattle.words.specs.Passes.{IsPassOf, gone_on};
 ghost use Rattle.words.specs.Tells.{EndTells, HoldsWhole};
 ghost use Rattle.words.specs.Views.{Holds, In, KnowsReferences, with_event, with_known};
 
@@ -24,7 +24,7 @@ impl<K: Placed> BatchWords<K> {
         requires held { (ended : _) × Holds pass.old.view index number ended }
         requires ready { KnowsReferences (K.batch self.now.key) pass.old.view index }
         requires right { word ≡ slice_index_or (serial_words (K.batch self.now.key) index) number 0 }
-        ensures { pass.new ≡ goes_on pass.old (with_event pass.old.view (Fill pass.old.number index)) }
+        ensures { pass.new ≡ gone_on pass.old (with_event pass.old.view (Fill pass.old.number index)) }
     {
         let at = self.own_at(index, number);
         self.put::<Brand>(&mut pass.seat, at, word, index, 0);
@@ -36,12 +36,15 @@ impl<K: Placed> BatchWords<K> {
         requires ours { IsPassOf self.now pass.old }
         requires within { index < (K.batch self.now.key).size }
         requires listed { end < length (K.listed self.now.key) }
-        requires held { (ended : _) × Holds pass.old.view index (words_length (K.batch self.now.key) index) ended × ¬ (In (slot_at (K.listed self.now.key) end) ended) }
+        requires held { (ended : _)
+            × Holds pass.old.view index (words_length (K.batch self.now.key) index) ended
+            × ¬ (In (listed_slot_at (K.listed self.now.key) end) ended) }
         requires ready { KnowsReferences (K.batch self.now.key) pass.old.view index }
-        requires right { serial_ends (K.batch self.now.key) index (slot_at (K.listed self.now.key) end) ≡ true }
+        requires right { serial_ends (K.batch self.now.key) index (listed_slot_at (K.listed self.now.key) end) ≡ true }
         requires place { place ≡ (K.batch self.now.key).first + index }
         requires small { place < 2 ^ 63 }
-        ensures { pass.new ≡ goes_on pass.old (with_event pass.old.view (End pass.old.number index (slot_at (K.listed self.now.key) end))) }
+        ensures { pass.new ≡ gone_on pass.old (with_event pass.old.view
+            (End pass.old.number index (listed_slot_at (K.listed self.now.key) end))) }
     {
         let at = self.end_at(end);
         self.put::<Brand>(&mut pass.seat, at, place + 1, index, end);
@@ -53,7 +56,7 @@ impl<K: Placed> BatchWords<K> {
         requires ours { IsPassOf self.now pass.old }
         requires within { index < (K.batch self.now.key).size }
         requires whole { HoldsWhole (K.batch self.now.key) pass.old.view index }
-        ensures { pass.new ≡ goes_on pass.old (with_known (with_event pass.old.view (Finish pass.old.number index)) index) }
+        ensures { pass.new ≡ gone_on pass.old (with_known (with_event pass.old.view (Finish pass.old.number index)) index) }
     {
         let at = self.claim_at(index);
         self.put::<Brand>(&mut pass.seat, at, 2, index, 0);
@@ -78,7 +81,7 @@ impl<K: Placed> BatchWords<K> {
         requires ours { IsPassOf self.now pass.old }
         requires listed { end < length (K.listed self.now.key) }
         ensures same { pass.new ≡ pass.old }
-        ensures tells { EndTells (K.batch self.now.key) (slot_at (K.listed self.now.key) end) pass.old.view result }
+        ensures tells { EndTells (K.batch self.now.key) (listed_slot_at (K.listed self.now.key) end) pass.old.view result }
     {
         let at = self.end_at(end);
         self.get::<Brand>(&mut pass.seat, at, 0, end)

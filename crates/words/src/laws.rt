@@ -6,12 +6,12 @@ ghost use lib.ListN.{get_elem?};
 ghost use Rattle.bohm_core_base.specs.declared.event.Event.{Event};
 ghost use Rattle.bohm_core_base.specs.declared.event.Event.TheVariants.{Claim, End, Fill, Finish, GiveBack};
 ghost use Rattle.bohm_core_base.specs.declared.hold.Hold.TheVariants.{Done, Held};
-ghost use Rattle.bohm_core_base.specs.Batch.{Batch, IsSound};
+ghost use Rattle.bohm_core_base.specs.Batch.{Batch, IsSoundBatch};
 ghost use Rattle.bohm_core_base.specs.Laws.{actor_of};
 ghost use Rattle.bohm_core_base.specs.Machine.{hold_of, is_done, own_of, start};
 ghost use Rattle.words.specs.declared.view.View.{View};
-ghost use Rattle.words.specs.Legal.{IsEffective, Lawful, events_by, finishes_of, is_by, placings, reached};
-ghost use Rattle.words.specs.Views.{Holds, In, IsSettled, KnowsReferences, is_about, joined, split_left, split_right, with_event, with_known};
+ghost use Rattle.words.specs.Legal.{IsEffective, Lawful, events_by, finishes_of, is_event_of, placings, reached};
+ghost use Rattle.words.specs.Views.{Holds, In, IsSettled, KnowsReferences, is_event_at, joined, split_left, split_right, with_event, with_known};
 
 /// A pass that claims a place holds it with nothing stored; each word that it stores counts as one more, and each end that it
 /// sets is listed behind the others; it holds no more what it finished or gave back. Its events about other places change
@@ -22,21 +22,24 @@ pub fn own_events_tell_what_is_held()
         → Holds view index count ended → Holds (with_event view (Fill actor index)) index (suc count) ended }
     ensures ended { (view : View) (actor index slot count : ℕ) (ended : List ℕ)
         → Holds view index count ended → Holds (with_event view (End actor index slot)) index count (ended ++ slot ∷ []) }
-    ensures finished { (view : View) (actor index count : ℕ) (ended : List ℕ) → ¬ (Holds (with_event view (Finish actor index)) index count ended) }
-    ensures given_back { (view : View) (actor index count : ℕ) (ended : List ℕ) → ¬ (Holds (with_event view (GiveBack actor index)) index count ended) }
+    ensures finished { (view : View) (actor index count : ℕ) (ended : List ℕ)
+        → ¬ (Holds (with_event view (Finish actor index)) index count ended) }
+    ensures given_back { (view : View) (actor index count : ℕ) (ended : List ℕ)
+        → ¬ (Holds (with_event view (GiveBack actor index)) index count ended) }
     ensures others { (view : View) (event : Event) (index count : ℕ) (ended : List ℕ)
-        → is_about index event ≡ false → Holds view index count ended → Holds (with_event view event) index count ended }
+        → is_event_at index event ≡ false → Holds view index count ended → Holds (with_event view event) index count ended }
     ensures no_others { (view : View) (event : Event) (index count : ℕ) (ended : List ℕ)
-        → is_about index event ≡ false → Holds (with_event view event) index count ended → Holds view index count ended }
+        → is_event_at index event ≡ false → Holds (with_event view event) index count ended → Holds view index count ended }
     ensures once { (view : View) (index count other : ℕ) (ended others : List ℕ)
         → Holds view index count ended → Holds view index other others → (count ≡ other) × (ended ≡ others) }
 {}
 
 /// An event is its actor's, and the events of an actor in two lists are those of the first, and then those of the second.
 pub fn events_are_their_actors()
-    ensures theirs { (actor : ℕ) (event : Event) → actor_of event ≡ Some actor → is_by actor event ≡ true }
-    ensures nobody_elses { (actor : ℕ) (event : Event) → is_by actor event ≡ true → actor_of event ≡ Some actor }
-    ensures in_order { (actor : ℕ) (first later : List Event) → events_by actor (first ++ later) ≡ events_by actor first ++ events_by actor later }
+    ensures theirs { (actor : ℕ) (event : Event) → actor_of event ≡ Some actor → is_event_of actor event ≡ true }
+    ensures nobody_elses { (actor : ℕ) (event : Event) → is_event_of actor event ≡ true → actor_of event ≡ Some actor }
+    ensures in_order { (actor : ℕ) (first later : List Event)
+        → events_by actor (first ++ later) ≡ events_by actor first ++ events_by actor later }
 {}
 
 /// A pass knows the place that it just found done, and keeps all that it knew; both parts of a split know what the whole knew,
@@ -48,7 +51,8 @@ pub fn passes_keep_what_they_know()
     ensures first { (view other : View) (number index : ℕ) → In index view.known → In index (joined view number other).known }
     ensures second { (view other : View) (number index : ℕ) → In index other.known → In index (joined view number other).known }
     ensures references { (batch : Batch) (view after : View) (index : ℕ)
-        → ((other : ℕ) → In other view.known → In other after.known) → KnowsReferences batch view index → KnowsReferences batch after index }
+        → ((other : ℕ) → In other view.known → In other after.known) → KnowsReferences batch view index
+        → KnowsReferences batch after index }
     ensures settled { (batch : Batch) (view after : View) (index : ℕ)
         → ((other : ℕ) → In other view.known → In other after.known) → IsSettled batch view index → IsSettled batch after index }
 {}
@@ -56,7 +60,8 @@ pub fn passes_keep_what_they_know()
 /// Wherever the rule holds: what a pass's own events say that it holds, it holds, with as many own words stored; what it knows
 /// done is done; and so is a place with a deed on a table of a later place of which it knows all references done.
 pub fn views_tell_the_state()
-    ensures held { (batch : Batch) (listed words : List ℕ) (views : List View) (events : List Event) (number index count : ℕ) (view : View) (ended : List ℕ)
+    ensures held { (batch : Batch) (listed words : List ℕ) (views : List View) (events : List Event)
+        (number index count : ℕ) (view : View) (ended : List ℕ)
         → Lawful batch listed words views events → get_elem? views number ≡ some view → view.spent ≡ false → Holds view index count ended
         → (hold_of (reached batch events) index ≡ Held number) × (length (own_of (reached batch events) index) ≡ count) }
     ensures known { (batch : Batch) (listed words : List ℕ) (views : List View) (events : List Event) (number index : ℕ) (view : View)
@@ -70,6 +75,6 @@ pub fn views_tell_the_state()
 /// In a list of events each of which may happen where it happens, a place is finished once if it is done, and else never.
 pub fn places_are_finished_once()
     ensures { (batch : Batch) (events : List Event) (index : ℕ)
-        → IsSound batch → IsEffective batch (start batch) (placings batch ++ events)
+        → IsSoundBatch batch → IsEffective batch (start batch) (placings batch ++ events)
         → finishes_of index (placings batch ++ events) ≡ (if is_done (hold_of (reached batch events) index) then 1 else 0) }
 {}

@@ -1,7 +1,7 @@
 //! The batch whose words are shared.
 
 ghost use Rattle.std.specs.Prelude.{◌≡◌, ◌<◌, ℕ, List, length};
-ghost use Rattle.bohm_core_base.specs.Batch.{Batch, IsSound, words_length};
+ghost use Rattle.bohm_core_base.specs.Batch.{Batch, IsSoundBatch, words_length};
 ghost use Rattle.words.specs.Layout.{IsListed};
 
 /// The constant data of a batch: which batch it is, and which slots have a word for their record's end. These are slots without
@@ -15,7 +15,7 @@ pub trait Placed {
     fn places(&self) -> usize
         ensures value { result ≡ (batch self.now).size }
         ensures some { 0 < result }
-        ensures sound { IsSound (batch self.now) };
+        ensures sound { IsSoundBatch (batch self.now) };
 
     /// How many own words a place has.
     fn words_length(&self, index: usize) -> usize

@@ -57,7 +57,11 @@ impl<K: Placed> BatchWords<K> {
     ) -> u64
         requires ours { seat.old.table_id ≡ self.now.table }
         requires within { at < self.now.table.words }
-        requires allows { Allows (λ state. legal (K.batch self.now.key) (K.listed self.now.key) state.words state.views) self.now.table.slots seat.old.id seat.old.me at (λ found. either (found == 0) 1 found) (M.then (step self.now.table.slots at 0 1 none) seat.old.me) }
+        requires allows { Allows
+            (λ state. legal (K.batch self.now.key) (K.listed self.now.key) state.words state.views)
+            self.now.table.slots seat.old.id seat.old.me at
+            (λ found. either (found == 0) 1 found)
+            (M.then (step self.now.table.slots at 0 1 none) seat.old.me) }
         ensures same { (seat.new.table_id ≡ seat.old.table_id) × (seat.new.id ≡ seat.old.id) }
         ensures then { M.then (step self.now.table.slots at 0 1 none) seat.old.me result seat.new.me }
     {
@@ -75,7 +79,10 @@ impl<K: Placed> BatchWords<K> {
     )
         requires ours { seat.old.table_id ≡ self.now.table }
         requires within { at < self.now.table.words }
-        requires allows { Allows (λ state. legal (K.batch self.now.key) (K.listed self.now.key) state.words state.views) self.now.table.slots seat.old.id seat.old.me at (λ _. word) (λ _. M.then (step self.now.table.slots at word 0 none) seat.old.me word) }
+        requires allows { Allows
+            (λ state. legal (K.batch self.now.key) (K.listed self.now.key) state.words state.views)
+            self.now.table.slots seat.old.id seat.old.me at
+            (λ _. word) (λ _. M.then (step self.now.table.slots at word 0 none) seat.old.me word) }
         ensures same { (seat.new.table_id ≡ seat.old.table_id) × (seat.new.id ≡ seat.old.id) }
         ensures then { M.then (step self.now.table.slots at word 0 none) seat.old.me word seat.new.me }
     {
@@ -92,7 +99,11 @@ impl<K: Placed> BatchWords<K> {
     ) -> u64
         requires ours { seat.old.table_id ≡ self.now.table }
         requires within { at < self.now.table.words }
-        requires allows { Allows (λ state. legal (K.batch self.now.key) (K.listed self.now.key) state.words state.views) self.now.table.slots seat.old.id seat.old.me at (λ found. found) (M.then (step self.now.table.slots at 0 0 none) seat.old.me) }
+        requires allows { Allows
+            (λ state. legal (K.batch self.now.key) (K.listed self.now.key) state.words state.views)
+            self.now.table.slots seat.old.id seat.old.me at
+            (λ found. found)
+            (M.then (step self.now.table.slots at 0 0 none) seat.old.me) }
         ensures same { (seat.new.table_id ≡ seat.old.table_id) × (seat.new.id ≡ seat.old.id) }
         ensures then { M.then (step self.now.table.slots at 0 0 none) seat.old.me result seat.new.me }
     {

@@ -39,7 +39,8 @@ impl<K: Placed> Model for BatchWords<K> {
 
     ghost view = { λ words. record { table = words.table.shared.table_id; key = words.table.shared.key } };
 
-    ghost invariant = { λ words. IsLaid (K.batch words.table.shared.key) (K.listed words.table.shared.key) words.table.shared.table_id words.places words.begins.items words.ends words.count };
+    ghost invariant = { λ words. IsLaid (K.batch words.table.shared.key) (K.listed words.table.shared.key)
+        words.table.shared.table_id words.places words.begins.items words.ends words.count };
 }
 
 /// A pass of one batch, which holds no place. It may be handed to any thread.

@@ -1,7 +1,7 @@
 //! How the words of a batch and its passes are made, cut and joined.
 
 ghost use Rattle.std.specs.Prelude.{◌≡◌, ◌+◌, ◌*◌, ◌/◌, [], replicate, IfOk};
-ghost use Rattle.bohm_core_base.specs.Batch.{IsSound};
+ghost use Rattle.bohm_core_base.specs.Batch.{IsSoundBatch};
 ghost use Rattle.words.specs.Layout.{end_begin, total};
 ghost use Rattle.words.specs.Passes.{AreBlocks, IsPassOf, cut_first, cut_second, first_pass, joined_pass};
 ghost use Rattle.words.specs.Views.{first_view};
@@ -61,7 +61,7 @@ fn table_of<K: Placed>(
     key: &K,
     ends: usize,
 ) -> Result<(Table<u8, View, K, Rule, Global>, Seat<u8, View>), AllocError>
-    requires sound { IsSound (K.batch key.now) }
+    requires sound { IsSoundBatch (K.batch key.now) }
     requires end { ends ≡ end_begin (K.batch key.now) }
     ensures table { IfOk result (λ made.
         (made.0.shared.table_id.words ≡ total (K.batch key.now) (K.listed key.now)) × (made.0.shared.table_id.slots ≡ 0)

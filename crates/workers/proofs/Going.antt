@@ -8,7 +8,7 @@ use Rattle.bohm_core_base.specs.Batch.{Batch}
 use Rattle.filling_base.specs.declared.run.Tried.{Tried}
 use Rattle.filling_base.specs.declared.run.Tried.TheVariants.{Done, Busy, NoMemory}
 use Rattle.filling_base.specs.Goings.{IsSamePass}
-use Rattle.filling_base.specs.Tries.{Tells}
+use Rattle.filling_base.specs.Tries.{TriedTells}
 use Rattle.workers.specs.Working.{GoesOn, KnowsAll, KnowsRange}
 
 pub stays : (pass : Passing) → GoesOn pass pass
@@ -54,17 +54,17 @@ pub joined_all : (size : ℕ) (middle other : Passing) → KnowsAll size middle.
 joined_all size middle other all index less = in_first index middle.view.known other.view.known (all index less)
 
 -- whatever came of a place that was asked for, the pass knows what it knew; and the place, if it is done
-pub tells_on : (batch : Batch) (index : ℕ) (view after : View) (tried : Tried) → Tells batch index view tried after
+pub tells_on : (batch : Batch) (index : ℕ) (view after : View) (tried : Tried) → TriedTells batch index view tried after
     → (other : ℕ) → In other view.known → In other after.known
 tells_on batch index view after Done tells = tells.0.knows
 tells_on batch index view after (Busy held) tells = tells.0.knows
 tells_on batch index view after NoMemory tells = tells.0.knows
 
-pub tells_done : (batch : Batch) (index : ℕ) (view after : View) (tried : Tried) → Tells batch index view tried after → tried ≡ Done
+pub tells_done : (batch : Batch) (index : ℕ) (view after : View) (tried : Tried) → TriedTells batch index view tried after → tried ≡ Done
     → In index after.known
-tells_done batch index view after tried tells is = (subst (λ (came : Tried). Tells batch index view came after) is tells).2
+tells_done batch index view after tried tells is = (subst (λ (came : Tried). TriedTells batch index view came after) is tells).2
 
-pub asked_on : (batch : Batch) (index : ℕ) (pass after : Passing) (tried : Tried) → IsSamePass pass after → Tells batch index pass.view tried after.view
+pub asked_on : (batch : Batch) (index : ℕ) (pass after : Passing) (tried : Tried) → IsSamePass pass after → TriedTells batch index pass.view tried after.view
     → GoesOn pass after
 asked_on batch index pass after tried same tells =
     record { table = same.table; number = same.number; knows = tells_on batch index pass.view after.view tried tells }

@@ -10,6 +10,7 @@ ghost use Rattle.log_text.specs.Parsing.{fault_behind};
 use crate::access::{RawAccess, access_of};
 use crate::fault::LineFault;
 use crate::word_list::Words;
+use model_base::MOST_ACCESSES;
 use std::alloc::Global;
 
 /// Takes the first access.
@@ -29,8 +30,9 @@ pub(crate) fn accesses(
     alloc: Global,
     words: &mut Words<'_>,
 ) -> Result<(Vec<RawAccess>, bool), LineFault>
-    ensures ok { IfOk result (λ r. MatchBool r.1 (words.old ≡ map access_word r.0.items ++ codes "|" ∷ words.new) (words.old ≡ map access_word r.0.items)
-        × (1 ≤ vec_len r.0) × (vec_len r.0 ≤ 16) × AllByRecursion IsAccess r.0.items) }
+    ensures ok { IfOk result (λ r. MatchBool r.1 (words.old ≡ map access_word r.0.items
+        ++ codes "|" ∷ words.new) (words.old ≡ map access_word r.0.items)
+        × (1 ≤ vec_len r.0) × (vec_len r.0 ≤ MOST_ACCESSES) × AllByRecursion IsAccess r.0.items) }
     ensures fits { IfOk result (λ r. fault_from (OfAccess ∷ OfNext 1 ∷ []) words.old ≡ fault_behind r.1 0 0 words.new) }
     ensures fault { IfErr result (λ f. IsFault f (fault_from (OfAccess ∷ OfNext 1 ∷ []) words.old)) }
 {
@@ -44,7 +46,7 @@ pub(crate) fn accesses(
         if word == b"|".as_slice() {
             return Ok((found, true));
         }
-        if found.len() >= 16 {
+        if found.len() >= MOST_ACCESSES {
             return Err(LineFault::TooManyAccesses);
         }
         let access = access_of(word)?;

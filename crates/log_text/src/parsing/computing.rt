@@ -2,18 +2,20 @@
 ghost use Rattle.std.specs.Prelude.{◌≡◌, ◌∷◌, ◌+◌, Some, ℕ, IfOk, IfErr};
 ghost use Rattle.log_text.specs.Statement.{IsStep, outs_of};
 ghost use Rattle.log_text.specs.Fault.{expected_in, fault_from};
-ghost use Rattle.log_text.specs.Parsing.{Goes, fault_behind, step_word};
-ghost use Rattle.log_text.specs.declared.step_name.StepName.TheVariants.{Const, Add, Sub, Mul, Less, Same, Check, Skip, Out};
+ghost use Rattle.log_text.specs.Parsing.{TakesStep, fault_behind, step_word};
+ghost use Rattle.log_text.specs.declared.step_name.StepName.TheVariants.{Const, Compute, Check, Skip, Out};
 
 use super::places::{bar_or_end, number, register, whole_number};
 use crate::fault::LineFault;
 use crate::statement::RawStep;
 use crate::word_list::Words;
+use model_base::Operation;
 
 /// What stands behind CONST, up to the next step or the end.
 pub(super) fn constant(words: &mut Words<'_>) -> Result<(RawStep, bool), LineFault>
-    ensures ok { IfOk result (λ r. Goes (step_word Const ∷ words.old) r.0 r.1 words.new × IsStep r.0 × (outs_of r.0 ≡ 0)) }
-    ensures fits { IfOk result (λ r. (steps outs : ℕ) → fault_from (expected_in (Some Const) steps outs) words.old ≡ fault_behind r.1 (steps + 1) outs words.new) }
+    ensures ok { IfOk result (λ r. TakesStep (step_word Const ∷ words.old) r.0 r.1 words.new × IsStep r.0 × (outs_of r.0 ≡ 0)) }
+    ensures fits { IfOk result (λ r. (steps outs : ℕ)
+        → fault_from (expected_in (Some Const) steps outs) words.old ≡ fault_behind r.1 (steps + 1) outs words.new) }
     ensures fault { IfErr result (λ f. (steps outs : ℕ) → fault_from (expected_in (Some Const) steps outs) words.old ≡ Some f) }
 {
     let to = register(words)?;
@@ -22,75 +24,36 @@ pub(super) fn constant(words: &mut Words<'_>) -> Result<(RawStep, bool), LineFau
     Ok((RawStep::Const { to, value }, more))
 }
 
-/// What stands behind ADD, up to the next step or the end.
-pub(super) fn add(words: &mut Words<'_>) -> Result<(RawStep, bool), LineFault>
-    ensures ok { IfOk result (λ r. Goes (step_word Add ∷ words.old) r.0 r.1 words.new × IsStep r.0 × (outs_of r.0 ≡ 0)) }
-    ensures fits { IfOk result (λ r. (steps outs : ℕ) → fault_from (expected_in (Some Add) steps outs) words.old ≡ fault_behind r.1 (steps + 1) outs words.new) }
-    ensures fault { IfErr result (λ f. (steps outs : ℕ) → fault_from (expected_in (Some Add) steps outs) words.old ≡ Some f) }
+/// What stands behind the word of an operation, up to the next step or the end.
+pub(super) fn compute(
+    operation: Operation,
+    words: &mut Words<'_>,
+) -> Result<(RawStep, bool), LineFault>
+    ensures ok { IfOk result (λ r. TakesStep (step_word (Compute operation) ∷ words.old) r.0 r.1 words.new
+        × IsStep r.0 × (outs_of r.0 ≡ 0)) }
+    ensures fits { IfOk result (λ r. (steps outs : ℕ)
+        → fault_from (expected_in (Some (Compute operation)) steps outs) words.old ≡ fault_behind r.1 (steps + 1) outs words.new) }
+    ensures fault { IfErr result (λ f. (steps outs : ℕ)
+        → fault_from (expected_in (Some (Compute operation)) steps outs) words.old ≡ Some f) }
 {
     let to = register(words)?;
     let left = register(words)?;
     let right = register(words)?;
     let more = bar_or_end(words)?;
-    Ok((RawStep::Add { to, left, right }, more))
-}
-
-/// What stands behind SUB, up to the next step or the end.
-pub(super) fn sub(words: &mut Words<'_>) -> Result<(RawStep, bool), LineFault>
-    ensures ok { IfOk result (λ r. Goes (step_word Sub ∷ words.old) r.0 r.1 words.new × IsStep r.0 × (outs_of r.0 ≡ 0)) }
-    ensures fits { IfOk result (λ r. (steps outs : ℕ) → fault_from (expected_in (Some Sub) steps outs) words.old ≡ fault_behind r.1 (steps + 1) outs words.new) }
-    ensures fault { IfErr result (λ f. (steps outs : ℕ) → fault_from (expected_in (Some Sub) steps outs) words.old ≡ Some f) }
-{
-    let to = register(words)?;
-    let left = register(words)?;
-    let right = register(words)?;
-    let more = bar_or_end(words)?;
-    Ok((RawStep::Sub { to, left, right }, more))
-}
-
-/// What stands behind MUL, up to the next step or the end.
-pub(super) fn mul(words: &mut Words<'_>) -> Result<(RawStep, bool), LineFault>
-    ensures ok { IfOk result (λ r. Goes (step_word Mul ∷ words.old) r.0 r.1 words.new × IsStep r.0 × (outs_of r.0 ≡ 0)) }
-    ensures fits { IfOk result (λ r. (steps outs : ℕ) → fault_from (expected_in (Some Mul) steps outs) words.old ≡ fault_behind r.1 (steps + 1) outs words.new) }
-    ensures fault { IfErr result (λ f. (steps outs : ℕ) → fault_from (expected_in (Some Mul) steps outs) words.old ≡ Some f) }
-{
-    let to = register(words)?;
-    let left = register(words)?;
-    let right = register(words)?;
-    let more = bar_or_end(words)?;
-    Ok((RawStep::Mul { to, left, right }, more))
-}
-
-/// What stands behind LESS, up to the next step or the end.
-pub(super) fn less(words: &mut Words<'_>) -> Result<(RawStep, bool), LineFault>
-    ensures ok { IfOk result (λ r. Goes (step_word Less ∷ words.old) r.0 r.1 words.new × IsStep r.0 × (outs_of r.0 ≡ 0)) }
-    ensures fits { IfOk result (λ r. (steps outs : ℕ) → fault_from (expected_in (Some Less) steps outs) words.old ≡ fault_behind r.1 (steps + 1) outs words.new) }
-    ensures fault { IfErr result (λ f. (steps outs : ℕ) → fault_from (expected_in (Some Less) steps outs) words.old ≡ Some f) }
-{
-    let to = register(words)?;
-    let left = register(words)?;
-    let right = register(words)?;
-    let more = bar_or_end(words)?;
-    Ok((RawStep::Less { to, left, right }, more))
-}
-
-/// What stands behind SAME, up to the next step or the end.
-pub(super) fn same(words: &mut Words<'_>) -> Result<(RawStep, bool), LineFault>
-    ensures ok { IfOk result (λ r. Goes (step_word Same ∷ words.old) r.0 r.1 words.new × IsStep r.0 × (outs_of r.0 ≡ 0)) }
-    ensures fits { IfOk result (λ r. (steps outs : ℕ) → fault_from (expected_in (Some Same) steps outs) words.old ≡ fault_behind r.1 (steps + 1) outs words.new) }
-    ensures fault { IfErr result (λ f. (steps outs : ℕ) → fault_from (expected_in (Some Same) steps outs) words.old ≡ Some f) }
-{
-    let to = register(words)?;
-    let left = register(words)?;
-    let right = register(words)?;
-    let more = bar_or_end(words)?;
-    Ok((RawStep::Same { to, left, right }, more))
+    let step = RawStep::Compute {
+        operation,
+        to,
+        left,
+        right,
+    };
+    Ok((step, more))
 }
 
 /// What stands behind CHECK, up to the next step or the end.
 pub(super) fn check(words: &mut Words<'_>) -> Result<(RawStep, bool), LineFault>
-    ensures ok { IfOk result (λ r. Goes (step_word Check ∷ words.old) r.0 r.1 words.new × IsStep r.0 × (outs_of r.0 ≡ 0)) }
-    ensures fits { IfOk result (λ r. (steps outs : ℕ) → fault_from (expected_in (Some Check) steps outs) words.old ≡ fault_behind r.1 (steps + 1) outs words.new) }
+    ensures ok { IfOk result (λ r. TakesStep (step_word Check ∷ words.old) r.0 r.1 words.new × IsStep r.0 × (outs_of r.0 ≡ 0)) }
+    ensures fits { IfOk result (λ r. (steps outs : ℕ)
+        → fault_from (expected_in (Some Check) steps outs) words.old ≡ fault_behind r.1 (steps + 1) outs words.new) }
     ensures fault { IfErr result (λ f. (steps outs : ℕ) → fault_from (expected_in (Some Check) steps outs) words.old ≡ Some f) }
 {
     let of = register(words)?;
@@ -100,8 +63,9 @@ pub(super) fn check(words: &mut Words<'_>) -> Result<(RawStep, bool), LineFault>
 
 /// What stands behind SKIP, up to the next step or the end.
 pub(super) fn skip(words: &mut Words<'_>) -> Result<(RawStep, bool), LineFault>
-    ensures ok { IfOk result (λ r. Goes (step_word Skip ∷ words.old) r.0 r.1 words.new × IsStep r.0 × (outs_of r.0 ≡ 0)) }
-    ensures fits { IfOk result (λ r. (steps outs : ℕ) → fault_from (expected_in (Some Skip) steps outs) words.old ≡ fault_behind r.1 (steps + 1) outs words.new) }
+    ensures ok { IfOk result (λ r. TakesStep (step_word Skip ∷ words.old) r.0 r.1 words.new × IsStep r.0 × (outs_of r.0 ≡ 0)) }
+    ensures fits { IfOk result (λ r. (steps outs : ℕ)
+        → fault_from (expected_in (Some Skip) steps outs) words.old ≡ fault_behind r.1 (steps + 1) outs words.new) }
     ensures fault { IfErr result (λ f. (steps outs : ℕ) → fault_from (expected_in (Some Skip) steps outs) words.old ≡ Some f) }
 {
     let of = register(words)?;
@@ -112,8 +76,9 @@ pub(super) fn skip(words: &mut Words<'_>) -> Result<(RawStep, bool), LineFault>
 
 /// What stands behind OUT, up to the next step or the end.
 pub(super) fn out(words: &mut Words<'_>) -> Result<(RawStep, bool), LineFault>
-    ensures ok { IfOk result (λ r. Goes (step_word Out ∷ words.old) r.0 r.1 words.new × IsStep r.0 × (outs_of r.0 ≡ 1)) }
-    ensures fits { IfOk result (λ r. (steps outs : ℕ) → fault_from (expected_in (Some Out) steps outs) words.old ≡ fault_behind r.1 (steps + 1) (outs + 1) words.new) }
+    ensures ok { IfOk result (λ r. TakesStep (step_word Out ∷ words.old) r.0 r.1 words.new × IsStep r.0 × (outs_of r.0 ≡ 1)) }
+    ensures fits { IfOk result (λ r. (steps outs : ℕ)
+        → fault_from (expected_in (Some Out) steps outs) words.old ≡ fault_behind r.1 (steps + 1) (outs + 1) words.new) }
     ensures fault { IfErr result (λ f. (steps outs : ℕ) → fault_from (expected_in (Some Out) steps outs) words.old ≡ Some f) }
 {
     let of = register(words)?;

@@ -9,6 +9,7 @@ use super::form::parts;
 use crate::fault::LineFault;
 use crate::statement::RawStatement;
 use crate::word_list::Words;
+use log_text_base::MOST_LINE_BYTES;
 use std::alloc::Global;
 
 /// Whether each byte is a printable one of ASCII. It looks at all of them, so that many are tested at once.
@@ -27,7 +28,7 @@ fn line_statement(alloc: Global, line: &[u8]) -> Result<RawStatement, LineFault>
     ensures read { IfOk result (λ s. Reads line.now s) }
     ensures fault { IfErr result (λ f. IsFault f (line_fault line.now)) }
 {
-    if line.len() > 4096 {
+    if line.len() > MOST_LINE_BYTES {
         return Err(LineFault::TooLong);
     }
     if line.is_empty() {

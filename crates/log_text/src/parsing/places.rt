@@ -1,16 +1,17 @@
 //! What stands in one place of a line: a name, a number, a register, a row, a kind, a bar.
 ghost use Rattle.std.specs.Prelude.{MatchBool, ◌≡◌, ◌∷◌, ◌<◌, ◌^◌, [], Some, None, List, ℕ, IfOk, IfErr, IsTrue, OnOk, codes};
 ghost use Rattle.std.specs.Fmt.{decimal, signed_decimal};
-ghost use Rattle.log_text.specs.Words.{is_name, plain, whole, fits_64_bits, first_word};
-ghost use Rattle.log_text.specs.Statement.{kind_word, row_word, IsRow};
+ghost use Rattle.log_text.specs.Words.{is_name, plain, signed_of, first_word};
+ghost use Rattle.log_text.specs.Statement.{kind_word, row_word, IsRowNumber};
 ghost use Rattle.log_text.specs.Fault.{OfName, OfPlain, OfWhole, OfRegister, OfRow, OfKind, OfBar, misfit, fault_from};
+ghost use Rattle.model_base.specs.Body.{fits_64_bits};
 
 use crate::fault::LineFault;
 use crate::kind::kind_of;
 use crate::name::Name;
 use crate::number::{plain_value, whole_value};
 use crate::word_list::Words;
-use model_base::{Kind, Register, RowName};
+use model_base::{Kind, MOST_REGISTERS, Register, RowName};
 
 /// Takes a name.
 pub(crate) fn name(words: &mut Words<'_>) -> Result<Name, LineFault>
@@ -38,7 +39,8 @@ pub(crate) fn number(words: &mut Words<'_>) -> Result<u32, LineFault>
 /// Takes a whole number.
 #[tactic(auto, using(crate::proofs::Whole::whole_some, crate::proofs::Whole::whole_of_decimal, crate::proofs::Whole::whole_missing))]
 pub(crate) fn whole_number(words: &mut Words<'_>) -> Result<i64, LineFault>
-    ensures ok { IfOk result (λ z. (words.old ≡ signed_decimal z ∷ words.new) × IsTrue (fits_64_bits z) × (whole (signed_decimal z) ≡ Some z)) }
+    ensures ok { IfOk result (λ z. (words.old ≡ signed_decimal z ∷ words.new) × IsTrue (fits_64_bits z)
+        × (signed_of (signed_decimal z) ≡ Some z)) }
     ensures fault { IfErr result (λ f. misfit OfWhole (first_word words.old) ≡ Some f) }
 {
     match words.next() {
@@ -50,14 +52,14 @@ pub(crate) fn whole_number(words: &mut Words<'_>) -> Result<i64, LineFault>
 /// The register that a word spells.
 #[tactic(auto, using(crate::proofs::Plain::plain_some))]
 pub(crate) fn register_of(word: &[u8]) -> Result<Register, LineFault>
-    ensures ok { IfOk result (λ n. (word.now ≡ decimal n) × (n < 16)) }
+    ensures ok { IfOk result (λ n. (word.now ≡ decimal n) × (n < MOST_REGISTERS)) }
     ensures fault { IfErr result (λ f. misfit OfRegister word.now ≡ Some f) }
     ensures fits { OnOk result (misfit OfRegister word.now ≡ None) }
 {
     let Some(number) = plain_value(word) else {
         return Err(LineFault::BadNumber);
     };
-    if number > 15 {
+    if number >= MOST_REGISTERS as u32 {
         return Err(LineFault::BadRegister);
     }
     Ok(Register::new(number as u8))
@@ -66,7 +68,7 @@ pub(crate) fn register_of(word: &[u8]) -> Result<Register, LineFault>
 /// Takes a register.
 #[tactic(auto, using(crate::proofs::Plain::plain_empty))]
 pub(crate) fn register(words: &mut Words<'_>) -> Result<Register, LineFault>
-    ensures ok { IfOk result (λ n. (words.old ≡ decimal n ∷ words.new) × (n < 16) × (misfit OfRegister (decimal n) ≡ None)) }
+    ensures ok { IfOk result (λ n. (words.old ≡ decimal n ∷ words.new) × (n < MOST_REGISTERS) × (misfit OfRegister (decimal n) ≡ None)) }
     ensures fault { IfErr result (λ f. misfit OfRegister (first_word words.old) ≡ Some f) }
 {
     match words.next() {
@@ -78,7 +80,7 @@ pub(crate) fn register(words: &mut Words<'_>) -> Result<Register, LineFault>
 /// Takes a row.
 #[tactic(auto, using(crate::proofs::Plain::plain_empty, crate::proofs::Plain::plain_some, crate::proofs::Rows::row_fits))]
 pub(crate) fn row(words: &mut Words<'_>) -> Result<RowName, LineFault>
-    ensures ok { IfOk result (λ r. (words.old ≡ row_word r ∷ words.new) × IsRow r × (misfit OfRow (row_word r) ≡ None)) }
+    ensures ok { IfOk result (λ r. (words.old ≡ row_word r ∷ words.new) × IsRowNumber r × (misfit OfRow (row_word r) ≡ None)) }
     ensures fault { IfErr result (λ f. misfit OfRow (first_word words.old) ≡ Some f) }
 {
     let Some(word) = words.next() else {

@@ -4,30 +4,32 @@ ghost use Rattle.std.specs.List.{AllByRecursion, sum_by};
 ghost use Rattle.log_text.specs.Statement.{body_words, IsLastDeed, IsStep, outs_of};
 ghost use Rattle.log_text.specs.Faults.{IsFault};
 ghost use Rattle.log_text.specs.Fault.{OfStep, step_fault, step_name, fault_from, is_deed};
-ghost use Rattle.log_text.specs.Parsing.{Goes, fault_behind, step_word};
+ghost use Rattle.log_text.specs.Parsing.{TakesStep, fault_behind, step_word};
 
-use super::computing::{add, check, constant, less, mul, out, same, skip, sub};
+use super::computing::{check, compute, constant, out, skip};
 use super::deeds::deed_from;
 use super::touching::{delete, has, insert, load, store};
 use crate::fault::LineFault;
 use crate::statement::{RawDeed, RawStep};
 use crate::step_name::StepName;
 use crate::word_list::Words;
+use model_base::{MOST_OUTPUTS, MOST_STEPS};
 use std::alloc::Global;
 
 /// The step that a word names, when there are so many steps and outs before it.
 #[tactic(auto, using(crate::proofs::StepNames::named_word, crate::proofs::StepNames::no_step_fault))]
 fn named_step(word: &[u8], steps: usize, outs: usize) -> Result<StepName, LineFault>
-    ensures ok { IfOk result (λ s. (word.now ≡ step_word s) × (step_name (step_word s) ≡ Some s) × (step_fault (Some s) steps outs ≡ None)) }
+    ensures ok { IfOk result (λ s. (word.now ≡ step_word s) × (step_name (step_word s) ≡ Some s)
+        × (step_fault (Some s) steps outs ≡ None)) }
     ensures fault { IfErr result (λ f. step_fault (step_name word.now) steps outs ≡ Some f) }
 {
     let Some(name) = StepName::of(word) else {
         return Err(LineFault::UnknownWord);
     };
-    if steps >= 64 {
+    if steps >= MOST_STEPS {
         return Err(LineFault::TooManySteps);
     }
-    if matches!(name, StepName::Out) && outs >= 8 {
+    if matches!(name, StepName::Out) && outs >= MOST_OUTPUTS {
         return Err(LineFault::TooManySteps);
     }
     Ok(name)
@@ -42,19 +44,17 @@ fn step(
     steps: usize,
     outs: usize,
 ) -> Result<(RawStep, bool), LineFault>
-    requires few { outs ≤ 8 }
+    requires few { outs ≤ MOST_OUTPUTS }
     requires step { is_deed word.now ≡ false }
-    ensures ok { IfOk result (λ r. Goes (word.now ∷ words.old) r.0 r.1 words.new × IsStep r.0 × (steps < 64) × (outs + outs_of r.0 ≤ 8)) }
-    ensures fits { IfOk result (λ r. fault_from (OfStep steps outs ∷ []) (word.now ∷ words.old) ≡ fault_behind r.1 (steps + 1) (outs + outs_of r.0) words.new) }
+    ensures ok { IfOk result (λ r. TakesStep (word.now ∷ words.old) r.0 r.1 words.new × IsStep r.0
+        × (steps < MOST_STEPS) × (outs + outs_of r.0 ≤ MOST_OUTPUTS)) }
+    ensures fits { IfOk result (λ r. fault_from (OfStep steps outs ∷ []) (word.now ∷ words.old)
+        ≡ fault_behind r.1 (steps + 1) (outs + outs_of r.0) words.new) }
     ensures fault { IfErr result (λ f. IsFault f (fault_from (OfStep steps outs ∷ []) (word.now ∷ words.old))) }
 {
     match named_step(word, steps, outs)? {
         StepName::Const => Ok(constant(words)?),
-        StepName::Add => Ok(add(words)?),
-        StepName::Sub => Ok(sub(words)?),
-        StepName::Mul => Ok(mul(words)?),
-        StepName::Less => Ok(less(words)?),
-        StepName::Same => Ok(same(words)?),
+        StepName::Compute(operation) => Ok(compute(operation, words)?),
         StepName::Has => Ok(has(words)?),
         StepName::Load => Ok(load(words)?),
         StepName::Store => Ok(store(words)?),
@@ -82,7 +82,7 @@ pub(crate) fn steps(
     words: &mut Words<'_>,
 ) -> Result<(Vec<RawStep>, Option<RawDeed>), LineFault>
     ensures ok { IfOk result (λ r. (codes "|" ∷ words.old ≡ body_words r.0.items r.1)
-        × (vec_len r.0 ≤ 64) × (sum_by outs_of r.0.items ≤ 8) × AllByRecursion IsStep r.0.items × IsLastDeed r.1) }
+        × (vec_len r.0 ≤ MOST_STEPS) × (sum_by outs_of r.0.items ≤ MOST_OUTPUTS) × AllByRecursion IsStep r.0.items × IsLastDeed r.1) }
     ensures fault { IfErr result (λ f. IsFault f (fault_from (OfStep 0 0 ∷ []) words.old)) }
 {
     let mut found = Vec::with_capacity(alloc, 8)?;

@@ -1,12 +1,11 @@
 //! The steps that touch a row.
-ghost use Rattle.std.specs.Prelude.{MatchBool, ◌≡◌, ◌∷◌, ◌++◌, ◌+◌, ◌≤◌, ◌<◌, [], vec_len, Some, List, ℕ, IfOk, IfErr, IsTrue, ◌^◌, codes, map};
+ghost use Rattle.std.specs.Prelude.{◌≡◌, ◌∷◌, ◌+◌, ◌<◌, vec_len, Some, List, ℕ, IfOk, IfErr, IsTrue, ◌^◌};
 ghost use Rattle.std.specs.Fmt.{decimal};
-ghost use Rattle.std.specs.List.{AllByRecursion};
 ghost use Rattle.log_text.specs.Words.{is_name};
-ghost use Rattle.log_text.specs.Statement.{row_word, IsStep, IsRow, IsRegister, outs_of};
+ghost use Rattle.log_text.specs.Statement.{row_word, IsStep, IsRowNumber, outs_of};
 ghost use Rattle.log_text.specs.Faults.{IsFault};
-ghost use Rattle.log_text.specs.Fault.{Expected, OfName, OfRow, OfPlain, OfMore, expected_in, fault_from};
-ghost use Rattle.log_text.specs.Parsing.{Goes, fault_behind, step_word};
+ghost use Rattle.log_text.specs.Fault.{Expected, OfName, OfRow, OfPlain, expected_in, fault_from};
+ghost use Rattle.log_text.specs.Parsing.{AreInsertable, FailAsRegisters, FitAsRegisters, TakesStep, TakesRegisters, fault_behind, step_word};
 ghost use Rattle.log_text.specs.declared.step_name.StepName.TheVariants.{Has, Load, Store, Insert, Delete};
 
 use super::places::{bar_or_end, name, number, register, register_of, row};
@@ -14,13 +13,14 @@ use crate::fault::LineFault;
 use crate::name::Name;
 use crate::statement::RawStep;
 use crate::word_list::Words;
-use model_base::{Items, Register, RowName};
+use model_base::{Items, MOST_COLUMNS, Register, RowName};
 use std::alloc::Global;
 
 /// What stands behind HAS, up to the next step or the end.
 pub(super) fn has(words: &mut Words<'_>) -> Result<(RawStep, bool), LineFault>
-    ensures ok { IfOk result (λ r. Goes (step_word Has ∷ words.old) r.0 r.1 words.new × IsStep r.0 × (outs_of r.0 ≡ 0)) }
-    ensures fits { IfOk result (λ r. (steps outs : ℕ) → fault_from (expected_in (Some Has) steps outs) words.old ≡ fault_behind r.1 (steps + 1) outs words.new) }
+    ensures ok { IfOk result (λ r. TakesStep (step_word Has ∷ words.old) r.0 r.1 words.new × IsStep r.0 × (outs_of r.0 ≡ 0)) }
+    ensures fits { IfOk result (λ r. (steps outs : ℕ)
+        → fault_from (expected_in (Some Has) steps outs) words.old ≡ fault_behind r.1 (steps + 1) outs words.new) }
     ensures fault { IfErr result (λ f. (steps outs : ℕ) → fault_from (expected_in (Some Has) steps outs) words.old ≡ Some f) }
 {
     let to = register(words)?;
@@ -32,8 +32,10 @@ pub(super) fn has(words: &mut Words<'_>) -> Result<(RawStep, bool), LineFault>
 
 /// Takes a table's name, a row and a column.
 fn cell(words: &mut Words<'_>) -> Result<(Name, RowName, u32), LineFault>
-    ensures ok { IfOk result (λ r. (words.old ≡ r.0 ∷ row_word r.1 ∷ decimal r.2 ∷ words.new) × IsTrue (is_name r.0) × IsRow r.1 × (r.2 < 2 ^ 32)) }
-    ensures fits { IfOk result (λ r. (others : List Expected) → fault_from (OfName ∷ OfRow ∷ OfPlain ∷ others) words.old ≡ fault_from others words.new) }
+    ensures ok { IfOk result (λ r. (words.old ≡ r.0 ∷ row_word r.1 ∷ decimal r.2 ∷ words.new)
+        × IsTrue (is_name r.0) × IsRowNumber r.1 × (r.2 < 2 ^ 32)) }
+    ensures fits { IfOk result (λ r. (others : List Expected)
+        → fault_from (OfName ∷ OfRow ∷ OfPlain ∷ others) words.old ≡ fault_from others words.new) }
     ensures fault { IfErr result (λ f. (others : List Expected) → fault_from (OfName ∷ OfRow ∷ OfPlain ∷ others) words.old ≡ Some f) }
 {
     let table = name(words)?;
@@ -44,8 +46,9 @@ fn cell(words: &mut Words<'_>) -> Result<(Name, RowName, u32), LineFault>
 
 /// What stands behind LOAD, up to the next step or the end.
 pub(super) fn load(words: &mut Words<'_>) -> Result<(RawStep, bool), LineFault>
-    ensures ok { IfOk result (λ r. Goes (step_word Load ∷ words.old) r.0 r.1 words.new × IsStep r.0 × (outs_of r.0 ≡ 0)) }
-    ensures fits { IfOk result (λ r. (steps outs : ℕ) → fault_from (expected_in (Some Load) steps outs) words.old ≡ fault_behind r.1 (steps + 1) outs words.new) }
+    ensures ok { IfOk result (λ r. TakesStep (step_word Load ∷ words.old) r.0 r.1 words.new × IsStep r.0 × (outs_of r.0 ≡ 0)) }
+    ensures fits { IfOk result (λ r. (steps outs : ℕ)
+        → fault_from (expected_in (Some Load) steps outs) words.old ≡ fault_behind r.1 (steps + 1) outs words.new) }
     ensures fault { IfErr result (λ f. (steps outs : ℕ) → fault_from (expected_in (Some Load) steps outs) words.old ≡ Some f) }
 {
     let to = register(words)?;
@@ -62,8 +65,9 @@ pub(super) fn load(words: &mut Words<'_>) -> Result<(RawStep, bool), LineFault>
 
 /// What stands behind STORE, up to the next step or the end.
 pub(super) fn store(words: &mut Words<'_>) -> Result<(RawStep, bool), LineFault>
-    ensures ok { IfOk result (λ r. Goes (step_word Store ∷ words.old) r.0 r.1 words.new × IsStep r.0 × (outs_of r.0 ≡ 0)) }
-    ensures fits { IfOk result (λ r. (steps outs : ℕ) → fault_from (expected_in (Some Store) steps outs) words.old ≡ fault_behind r.1 (steps + 1) outs words.new) }
+    ensures ok { IfOk result (λ r. TakesStep (step_word Store ∷ words.old) r.0 r.1 words.new × IsStep r.0 × (outs_of r.0 ≡ 0)) }
+    ensures fits { IfOk result (λ r. (steps outs : ℕ)
+        → fault_from (expected_in (Some Store) steps outs) words.old ≡ fault_behind r.1 (steps + 1) outs words.new) }
     ensures fault { IfErr result (λ f. (steps outs : ℕ) → fault_from (expected_in (Some Store) steps outs) words.old ≡ Some f) }
 {
     let (table, row, column) = cell(words)?;
@@ -80,17 +84,11 @@ pub(super) fn store(words: &mut Words<'_>) -> Result<(RawStep, bool), LineFault>
 
 /// The further registers of an INSERT, up to the next step or the end.
 fn more_registers(words: &mut Words<'_>, registers: &mut Vec<Register>) -> Result<bool, LineFault>
-    requires some { 1 ≤ vec_len registers.old }
-    requires room { vec_len registers.old ≤ 8 }
-    requires each { AllByRecursion IsRegister registers.old.items }
-    ensures ok { IfOk result (λ more. MatchBool more
-        (map decimal registers.old.items ++ words.old ≡ map decimal registers.new.items ++ codes "|" ∷ words.new)
-        (map decimal registers.old.items ++ words.old ≡ map decimal registers.new.items)) }
-    ensures each { AllByRecursion IsRegister registers.new.items }
-    ensures some { 1 ≤ vec_len registers.new }
-    ensures room { vec_len registers.new ≤ 8 }
-    ensures fits { IfOk result (λ more. (steps outs : ℕ) → fault_from (OfMore (vec_len registers.old) steps outs ∷ []) words.old ≡ fault_behind more steps outs words.new) }
-    ensures fault { IfErr result (λ f. (steps outs : ℕ) → IsFault f (fault_from (OfMore (vec_len registers.old) steps outs ∷ []) words.old)) }
+    requires { AreInsertable registers.old.items }
+    ensures ok { IfOk result (λ more. TakesRegisters registers.old.items words.old registers.new.items more words.new) }
+    ensures registers { AreInsertable registers.new.items }
+    ensures fits { IfOk result (λ more. FitAsRegisters (vec_len registers.old) words.old more words.new) }
+    ensures fault { IfErr result (λ fault. FailAsRegisters (vec_len registers.old) words.old fault) }
 {
     'registers: loop {
         let Some(word) = words.next() else {
@@ -99,7 +97,7 @@ fn more_registers(words: &mut Words<'_>, registers: &mut Vec<Register>) -> Resul
         if word == b"|".as_slice() {
             return Ok(true);
         }
-        if registers.len() >= 8 {
+        if registers.len() >= MOST_COLUMNS {
             return Err(LineFault::UnknownWord);
         }
         let register = register_of(word)?;
@@ -109,14 +107,15 @@ fn more_registers(words: &mut Words<'_>, registers: &mut Vec<Register>) -> Resul
 
 /// What stands behind INSERT, up to the next step or the end.
 pub(super) fn insert(alloc: Global, words: &mut Words<'_>) -> Result<(RawStep, bool), LineFault>
-    ensures ok { IfOk result (λ r. Goes (step_word Insert ∷ words.old) r.0 r.1 words.new × IsStep r.0 × (outs_of r.0 ≡ 0)) }
-    ensures fits { IfOk result (λ r. (steps outs : ℕ) → fault_from (expected_in (Some Insert) steps outs) words.old ≡ fault_behind r.1 (steps + 1) outs words.new) }
+    ensures ok { IfOk result (λ r. TakesStep (step_word Insert ∷ words.old) r.0 r.1 words.new × IsStep r.0 × (outs_of r.0 ≡ 0)) }
+    ensures fits { IfOk result (λ r. (steps outs : ℕ)
+        → fault_from (expected_in (Some Insert) steps outs) words.old ≡ fault_behind r.1 (steps + 1) outs words.new) }
     ensures fault { IfErr result (λ f. (steps outs : ℕ) → IsFault f (fault_from (expected_in (Some Insert) steps outs) words.old)) }
 {
     let table = name(words)?;
     let row = row(words)?;
     let first = register(words)?;
-    let mut from = Vec::with_capacity(alloc, 8)?;
+    let mut from = Vec::with_capacity(alloc, MOST_COLUMNS)?;
     from.push(first)?;
     let more = more_registers(words, &mut from)?;
     let step = RawStep::Insert {
@@ -129,8 +128,9 @@ pub(super) fn insert(alloc: Global, words: &mut Words<'_>) -> Result<(RawStep, b
 
 /// What stands behind DELETE, up to the next step or the end.
 pub(super) fn delete(words: &mut Words<'_>) -> Result<(RawStep, bool), LineFault>
-    ensures ok { IfOk result (λ r. Goes (step_word Delete ∷ words.old) r.0 r.1 words.new × IsStep r.0 × (outs_of r.0 ≡ 0)) }
-    ensures fits { IfOk result (λ r. (steps outs : ℕ) → fault_from (expected_in (Some Delete) steps outs) words.old ≡ fault_behind r.1 (steps + 1) outs words.new) }
+    ensures ok { IfOk result (λ r. TakesStep (step_word Delete ∷ words.old) r.0 r.1 words.new × IsStep r.0 × (outs_of r.0 ≡ 0)) }
+    ensures fits { IfOk result (λ r. (steps outs : ℕ)
+        → fault_from (expected_in (Some Delete) steps outs) words.old ≡ fault_behind r.1 (steps + 1) outs words.new) }
     ensures fault { IfErr result (λ f. (steps outs : ℕ) → fault_from (expected_in (Some Delete) steps outs) words.old ≡ Some f) }
 {
     let table = name(words)?;

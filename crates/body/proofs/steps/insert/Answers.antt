@@ -9,7 +9,7 @@ use Rattle.body.proofs.steps.insert.Goals as goal
 
 pub returns-in-Some-row-clause-effect : goal.returns-in-Some-row-clause-effect
 returns-in-Some-row-clause-effect c = λ rows.
-    let within : c.in-Some.place < length c.args.window.now.rows = omega (arith, c.row.ensures.sixteen, c.requires, c.in-Some.ensures.within) in
+    let within : c.in-Some.place < length c.args.window.now.rows = omega (arith, c.row.ensures.whole, c.requires, c.in-Some.ensures.within) in
     let m = seen c.args.accesses.now rows c.args.window.now c.args.registers.now in
     sym (touch_any rows c.args.window.now.rows c.args.registers.now c.args.window.now.outputs c.args.accesses.now Insert c.args.table (row_number c.args.registers.now c.args.row)
     (insert_row m c.args.table c.args.from.now)
@@ -18,7 +18,7 @@ returns-in-Some-row-clause-effect c = λ rows.
 pub returns-in-None-row-clause-effect : goal.returns-in-None-row-clause-effect
 returns-in-None-row-clause-effect c = λ rows.
     let m = seen c.args.accesses.now rows c.args.window.now c.args.registers.now in
-    let within : c.in-Some.place < length c.args.window.now.rows = omega (arith, c.row.ensures.sixteen, c.requires, c.in-Some.ensures.within) in
+    let within : c.in-Some.place < length c.args.window.now.rows = omega (arith, c.row.ensures.whole, c.requires, c.in-Some.ensures.within) in
     let e = rw c.as_slice.ensures at c.gathered.ensures in
     touch_write rows c.args.window.now.rows c.args.registers.now c.args.window.now.outputs c.args.accesses.now Insert c.args.table (row_number c.args.registers.now c.args.row)
     (insert_row m c.args.table c.args.from.now)

@@ -10,7 +10,7 @@ use Rattle.body.proofs.steps.store.Goals as goal
 
 pub returns-in-None-row-clause-effect : goal.returns-in-None-row-clause-effect
 returns-in-None-row-clause-effect c = λ rows.
-    let within : c.in-Some.place < length c.args.window.now.rows = omega (arith, c.row.ensures.sixteen, c.requires, c.in-Some.ensures.within) in
+    let within : c.in-Some.place < length c.args.window.now.rows = omega (arith, c.row.ensures.whole, c.requires, c.in-Some.ensures.within) in
     let m = seen c.args.accesses.now rows c.args.window.now c.args.registers.now in
     sym (touch_any rows c.args.window.now.rows c.args.registers.now c.args.window.now.outputs c.args.accesses.now Update c.args.table (row_number c.args.registers.now c.args.row)
     (store_column m c.args.table c.args.column c.args.from)
@@ -19,7 +19,7 @@ returns-in-None-row-clause-effect c = λ rows.
 pub returns-in-Some-row-clause-effect : goal.returns-in-Some-row-clause-effect
 returns-in-Some-row-clause-effect c = λ rows.
     let m = seen c.args.accesses.now rows c.args.window.now c.args.registers.now in
-    let within : c.in-Some.place < length c.args.window.now.rows = omega (arith, c.row.ensures.sixteen, c.requires, c.in-Some.ensures.within) in
+    let within : c.in-Some.place < length c.args.window.now.rows = omega (arith, c.row.ensures.whole, c.requires, c.in-Some.ensures.within) in
     let e = c.set_column.ensures ∙ ap (set c.in-Some-row.found c.args.column) (to_z-of_z w64 c.read.result (record { sfits = c.read.type_inv }) ∙ c.read.ensures) in
     touch_write rows c.args.window.now.rows c.args.registers.now c.args.window.now.outputs c.args.accesses.now Update c.args.table (row_number c.args.registers.now c.args.row)
     (store_column m c.args.table c.args.column c.args.from)

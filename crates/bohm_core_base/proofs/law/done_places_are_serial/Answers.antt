@@ -4,19 +4,25 @@ use Rattle.bohm_core_base.proofs.law.done_places_are_serial.Goals as goal
 pub returns : goal.returns
 returns c = record {
   done = λ batch events index sound. done-right batch sound events index;
-  begun = λ batch events index sound. words-begun batch sound events index;
   ended = λ batch events slot end sound. ends-right batch sound events slot end;
   ender = λ batch events slot index sound. ender-words batch sound events slot index;
-  kept_ends = λ batch events slot sound. ends-kept batch sound events slot;
-  finished = λ batch events count sound. whole-right batch sound events count;
+  placed = λ batch events index sound. has-references batch sound events index;
+  stored = λ batch events sound. record {
+    begun = words-begun batch sound events;
+    kept_ends = ends-kept batch sound events;
+    finished = whole-right batch sound events;
+  };
   stands = λ batch events later sound. stored-stands batch sound events later;
   sized = λ batch events sound. has-sizes batch sound events;
-  referred = λ batch events index sound. past-references batch sound events index;
-  placed = λ batch events index sound. has-references batch sound events index;
-  busy = λ batch events index sound. word-busy batch sound events index;
-  rested = λ batch events index sound. word-rests batch sound events index;
-  settled = λ batch events index earlier table sound. deeds-settled batch sound events index earlier table;
-  end_told = λ batch events index slot sound. end-told batch sound events index slot;
-  shown = λ batch events index sound. shown-serial batch sound events index;
+  taken = λ batch events sound. record {
+    referred = past-references batch sound events;
+    busy = word-busy batch sound events;
+    rested = word-rests batch sound events;
+  };
+  settled = λ batch events index sound run. record {
+    settled = λ earlier table. deeds-settled batch sound events index earlier table run.within run.placed run.ready;
+    end_told = λ slot. end-told batch sound events index slot run.within run.placed run.ready;
+    shown = shown-serial batch sound events index run.within run.placed run.ready;
+  };
   steady = λ batch events later actor index sound. task-stands batch sound events later actor index;
 }

@@ -7,7 +7,7 @@ use Rattle.command_line.proofs.options.with_options.Goals as goal
 pub returns : goal.returns
 returns c =
     let one = c.in_ok-run.ensures in
-    let two = c.in_ok-run-2.ensures ∙ ap (λ (a : App). with_rule a (number_rule (codes "partitions") 1 64 (codes "1"))) one in
+    let two = c.in_ok-run-2.ensures ∙ ap (λ (a : App). with_rule a (number_rule (codes "partitions") 1 64 (codes "4"))) one in
     let three = c.in_ok-run-3.ensures ∙ ap (λ (a : App). with_rule a (number_rule (codes "batch") 1 65536 (codes "1024"))) two in
     IfOk-weaker c.with_number-4.result _ _
     (λ made is. is ∙ ap (λ (a : App). with_rule a (number_rule (codes "keep") 0 65535 (codes "1"))) three) c.with_number-4.ensures

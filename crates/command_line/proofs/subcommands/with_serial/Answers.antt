@@ -1,7 +1,7 @@
 use Rattle.std.proofs.Common.{rules, ap, codes, ◌∙◌, ◌≡◌}
 use Rattle.std.proofs.lemmas.Result.{IfOk-weaker}
-use Rattle.clap.specs.Words.{App, app_of, new_app, new_rule, with_rule, with_subcommand}
-use Rattle.command_line.specs.Shapes.{flag_rule, place_rule, required_rule}
+use Rattle.clap.specs.Words.{App, app_of, new_app, with_rule, with_subcommand}
+use Rattle.command_line.specs.Shapes.{required_rule}
 use Rattle.command_line.proofs.Telling.{plain_is_local}
 use Rattle.command_line.proofs.subcommands.with_serial.Goals as goal
 

@@ -11,8 +11,8 @@ use Rattle.sequencer.specs.Log.{Accepted}
 use Rattle.sequencer.specs.Taken.{IsWhole}
 use Rattle.engine.specs.Engine.{finished}
 use Rattle.engine.proofs.Named.{named_in}
-use Rattle.explain_base.specs.Explained.{lines_of}
-use Rattle.explain.specs.Explained.{AreNamed, explained}
+use Rattle.explain_base.specs.Explained.{explaining_lines}
+use Rattle.explain.specs.Explained.{LinesAreNamed, explained}
 use Rattle.explain.proofs.Lines.{lines_told, named_told}
 use Rattle.explain.proofs.explaining.lines_at.Goals as goal
 
@@ -45,7 +45,7 @@ returns-clause-lines c =
     let less : place ≤ end = omega (arith, c.requires.finished) in
     IfOk-weaker c.explain_needs.result
     (λ (lines : Vec Line Global). (owned : List ℕ) (deeds : List Deed) → ShowsBook c.book.result.now owned deeds
-    → lines.items ≡ lines_of owned deeds place statement.user c.deref.result.now)
+    → lines.items ≡ explaining_lines owned deeds place statement.user c.deref.result.now)
     (λ (lines : Vec Line Global). explained log place ≡ Some lines.items)
     (λ lines told. lines_told place statement.user c.deref.result.now lines.items log end statement less there refl same (told (owners log) (deeds_before log end) shows))
     c.explain_needs.ensures
@@ -65,8 +65,8 @@ returns-clause-named c =
     subst (λ (book : Entries). ShowsBook book (owners log) (deeds_before log end)) (sym c.book.ensures.value) c.book.ensures.shows in
     IfOk-weaker c.explain_needs.result
     (λ (lines : Vec Line Global). (owned : List ℕ) (deeds : List Deed) → ShowsBook c.book.result.now owned deeds
-    → lines.items ≡ lines_of owned deeds place statement.user c.deref.result.now)
-    (λ (lines : Vec Line Global). AreNamed (length run.log.names.tables) lines.items)
+    → lines.items ≡ explaining_lines owned deeds place statement.user c.deref.result.now)
+    (λ (lines : Vec Line Global). LinesAreNamed (length run.log.names.tables) lines.items)
     (λ lines told. named_told place statement.user c.deref.result.now lines.items run.log statement (owners log) (deeds_before log end) whole there same
     (told (owners log) (deeds_before log end) shows))
     c.explain_needs.ensures

@@ -2,10 +2,10 @@ use Rattle.std.proofs.Common.{◌≡◌, ◌==◌, ℕ, Some, Vec, Global, true,
 use Rattle.std.specs.Prelude.{IfOk, slice_get}
 use Rattle.std.specs.List.{list_any}
 use Rattle.model_base.specs.declared.deed.Grant.{Grant}
-use Rattle.bohm_core_base.specs.Batch.{slots_of, was_done}
+use Rattle.bohm_core_base.specs.Batch.{batch_slots, was_done}
 use Rattle.bohm_core_base.specs.Serial.{serial_ends, serial_words}
 use Rattle.log_batch.specs.Supplied.{Ranged, batch_in}
-use Rattle.filling.specs.Readings.{Reading}
+use Rattle.filling.specs.Readings.{PlaceReading}
 use Rattle.filling.proofs.Telling.{named-words}
 use Rattle.filling.proofs.ends.judge_places.Goals as goal
 
@@ -28,7 +28,7 @@ ends_told-places-requires-clause-done g c =
 
 pub returns-clause-ends : goal.returns-clause-ends
 returns-clause-ends g c =
-    subst (λ (r : Ranged). IfOk c.ends_told-places.result.0 (λ (places : Vec ℕ Global). (slot : ℕ) (grant : Grant) → slice_get (slots_of (batch_in r)) slot ≡ Some grant
+    subst (λ (r : Ranged). IfOk c.ends_told-places.result.0 (λ (places : Vec ℕ Global). (slot : ℕ) (grant : Grant) → slice_get (batch_slots (batch_in r)) slot ≡ Some grant
     → list_any (λ place. place == grant.place) places.items ≡ serial_ends (batch_in r) c.args.index slot)) c.batch-2.ensures
     c.ends_told-places.ensures.ends
 
@@ -43,4 +43,4 @@ pub returns-clause-knows : goal.returns-clause-knows
 returns-clause-knows g c = c.reader.invariant.knows
 
 pub returns-clause-work : goal.returns-clause-work
-returns-clause-work g c = ap (λ (r : Reading). r.work) c.reader.view_is ∙ c.ends_told-places.ensures.same.1
+returns-clause-work g c = ap (λ (r : PlaceReading). r.work) c.reader.view_is ∙ c.ends_told-places.ensures.same.1

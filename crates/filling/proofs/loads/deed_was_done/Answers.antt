@@ -1,8 +1,8 @@
 use Rattle.std.proofs.Common.{◌==◌, sym, ap, ◌∙◌, subst, arith}
-use Rattle.bohm_core_base.specs.Batch.{IsSound, was_done}
+use Rattle.bohm_core_base.specs.Batch.{IsSoundBatch, was_done}
 use Rattle.reading.proofs.Referred.{word-there}
 use Rattle.words.specs.declared.claims.Seen.{Seen}
-use Rattle.words.specs.Passes.{goes_on}
+use Rattle.words.specs.Passes.{gone_on}
 use Rattle.words.specs.Tells.{LookTells}
 use Rattle.words.specs.Views.{In}
 use Rattle.words.specs.declared.view.View.{View}
@@ -16,7 +16,7 @@ pub own-requires-clause-within : goal.own-requires-clause-within
 own-requires-clause-within g c =
     let before = c.requires.deed.before in
     let within = c.requires.within in
-    let sound = subst (λ key. IsSound (g.K.Placed.batch key)) (sym c.requires.key) c.places-places.ensures.sound in
+    let sound = subst (λ key. IsSoundBatch (g.K.Placed.batch key)) (sym c.requires.key) c.places-places.ensures.sound in
     (omega arith, word-there (g.K.Placed.batch c.args.words.now.key) sound c.args.index)
 
 pub own-requires-clause-known : goal.own-requires-clause-known
@@ -33,7 +33,7 @@ returns-clause-same g c =
     let view = c.args.holding.now.view in
     let done = c.look-seen.ensures.settled (deed-settled b view c.args.reader c.args.index c.requires.within c.requires.ready c.requires.deed) in
     let found = subst (λ (seen : Seen). LookTells c.args.index view seen c.look-seen.new.pass.view) done c.look-seen.ensures.tells in
-    c.own.ensures.same ∙ c.look-seen.ensures.same ∙ ap (goes_on c.args.holding.now) found
+    c.own.ensures.same ∙ c.look-seen.ensures.same ∙ ap (gone_on c.args.holding.now) found
 
 pub returns-clause-value : goal.returns-clause-value
 unfolding was_done

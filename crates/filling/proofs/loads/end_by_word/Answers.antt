@@ -1,7 +1,7 @@
 use Rattle.std.proofs.Common.{None, ◌∙◌, subst}
 use Rattle.log_batch.specs.Supplied.{batch_in}
 use Rattle.log_words.specs.Keys.{Key}
-use Rattle.words.specs.Layout.{slot_at}
+use Rattle.words.specs.Layout.{listed_slot_at}
 use Rattle.words.specs.Tells.{EndTells}
 use Rattle.filling.proofs.Telling.{end-early, end-unlisted, end-word}
 use Rattle.filling.proofs.loads.end_by_word.Goals as goal
@@ -11,8 +11,8 @@ returns-in-Some-clause-told c =
     let b = batch_in c.args.key.now.batch in
     let view = c.args.holding.now.view in
     let told = c.end_loaded.ensures.told in
-    let tells = subst (λ (k : Key). EndTells (batch_in k.batch) (slot_at k.slots c.in-Some.end) view told.0) c.requires.key told.1 in
-    end-word b view c.args.slot (slot_at c.args.key.now.slots c.in-Some.end) told.0 c.end_loaded.result c.in-Some.ensures.1 tells told.2
+    let tells = subst (λ (k : Key). EndTells (batch_in k.batch) (listed_slot_at k.slots c.in-Some.end) view told.0) c.requires.key told.1 in
+    end-word b view c.args.slot (listed_slot_at c.args.key.now.slots c.in-Some.end) told.0 c.end_loaded.result c.in-Some.ensures.1 tells told.2
 
 pub returns-in-None-clause-told : goal.returns-in-None-clause-told
 returns-in-None-clause-told c =

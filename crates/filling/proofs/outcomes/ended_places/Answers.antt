@@ -2,7 +2,7 @@ use Rattle.std.proofs.Common.{ℕ, List, length, ◌∙◌, sym, ap, subst, arit
 use Rattle.log_batch.specs.Supplied.{batch_in}
 use Rattle.words.specs.Passes.{IsPassOf, Passing}
 use Rattle.words.specs.Views.{In}
-use Rattle.filling.specs.Outcomes.{ended_at}
+use Rattle.filling.specs.Outcomes.{ended_places_at}
 use Rattle.filling.proofs.Endings.{ended-more}
 use Rattle.filling.proofs.outcomes.ended_places.Goals as goal
 
@@ -19,6 +19,6 @@ loop-number-preserved c =
     let wide = ap (λ (list : List ℕ). length list) c.slots-number-end.ensures.value in
     let test = c.loop-number-test.true in record {
       same = c.put_ended.ensures.same ∙ c.loop-number.invariant.same;
-      all = ended-more b c.args.index slots c.loop-number.places.items c.put_ended.new.places.items (ended_at b slots c.args.index) c.loop-number.number (omega arith)
+      all = ended-more b c.args.index slots c.loop-number.places.items c.put_ended.new.places.items (ended_places_at b slots c.args.index) c.loop-number.number (omega arith)
           c.in_ok-put_ended.ensures.put c.loop-number.invariant.all;
     }

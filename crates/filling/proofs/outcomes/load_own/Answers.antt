@@ -1,7 +1,7 @@
 use Rattle.std.proofs.Common.{◌≡◌, length, take, sym, ◌∙◌, subst, arith}
 use Rattle.std.proofs.lemmas.Grind.{same_number_lists}
 use Rattle.std.proofs.lemmas.List.{get_or-take, length-take-le}
-use Rattle.bohm_core_base.specs.Batch.{IsSound}
+use Rattle.bohm_core_base.specs.Batch.{IsSoundBatch}
 use Rattle.bohm_core_base.specs.Serial.{serial_words}
 use Rattle.bohm_core_base.proofs.Kept.{serial-length}
 use Rattle.words.specs.Passes.{IsPassOf, Passing}
@@ -22,7 +22,7 @@ returns-clause-value g c =
     let invariant = c.loop-number.invariant in
     let wide = invariant.long in
     let few = c.requires.few in
-    let sound = subst (λ key. IsSound (g.K.Placed.batch key)) (sym c.requires.key) c.places-places.ensures.sound in
+    let sound = subst (λ key. IsSoundBatch (g.K.Placed.batch key)) (sym c.requires.key) c.places-places.ensures.sound in
     let long : length (take count own) ≡ count = length-take-le count own (omega arith) in
     same_number_lists (take count own) (serial_words b c.args.index) (long ∙ c.requires.count ∙ sym (serial-length b sound c.args.index))
     (λ k low. get_or-take count own k 0 (omega arith) ∙ invariant.own k (omega arith))

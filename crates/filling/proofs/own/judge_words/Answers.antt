@@ -1,7 +1,7 @@
 use Rattle.std.proofs.Common.{sym, ap, ◌∙◌}
 use Rattle.bohm_core_base.specs.Serial.{serial_words}
 use Rattle.log_batch.specs.Supplied.{Ranged, batch_in}
-use Rattle.filling.specs.Readings.{Reading}
+use Rattle.filling.specs.Readings.{PlaceReading}
 use Rattle.filling.proofs.Telling.{named-words}
 use Rattle.filling.proofs.own.judge_words.Goals as goal
 
@@ -30,4 +30,4 @@ pub returns-clause-knows : goal.returns-clause-knows
 returns-clause-knows g c = c.reader.invariant.knows
 
 pub returns-clause-work : goal.returns-clause-work
-returns-clause-work g c = ap (λ (r : Reading). r.work) c.reader.view_is ∙ c.words_told-reader.ensures.same.1
+returns-clause-work g c = ap (λ (r : PlaceReading). r.work) c.reader.view_is ∙ c.words_told-reader.ensures.same.1

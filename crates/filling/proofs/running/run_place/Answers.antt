@@ -1,7 +1,6 @@
-use Rattle.std.proofs.Common.{◌≡◌, ◌+◌, ◌-◌, ℕ, sym, ap, ◌∙◌, subst}
+use Rattle.std.proofs.Common.{◌≡◌, ◌+◌, ◌-◌, ℕ, ap, ◌∙◌, subst}
 use Rattle.log_batch.specs.Supplied.{Ranged}
 use Rattle.log_words.specs.Keys.{Key}
-use Rattle.words.specs.declared.view.View.{View}
 use Rattle.filling.specs.declared.running.Ran.TheVariants.{Busy, NoMemory}
 use Rattle.filling.specs.Bodies.{runs_at}
 use Rattle.filling.specs.Runs.{RanTells}

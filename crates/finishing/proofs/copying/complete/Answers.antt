@@ -1,7 +1,7 @@
 use Rattle.std.proofs.Common.{arith}
 use Rattle.std.proofs.lemmas.Result.{on_ok_weaker}
 use Rattle.log_batch.specs.Supplied.{batch_in}
-use Rattle.finishing.specs.Ends.{Keeps}
+use Rattle.finishing.specs.Ends.{KeepsTold}
 use Rattle.finishing.specs.Standing.{TellsDone}
 use Rattle.finishing.proofs.Telling.{tells-kept}
 use Rattle.finishing.proofs.copying.complete.Goals as goal
@@ -11,7 +11,7 @@ returns-then-claim-ne-DONE-clause-done c =
     let b = batch_in c.args.batch.now in
     let old = c.args.standing.now.ends in
     let new = c.judge.new.standing.ends in
-    on_ok_weaker {P = Keeps old new} {Q = TellsDone b c.args.closed.now new} c.judge.result
+    on_ok_weaker {P = KeepsTold old new} {Q = TellsDone b c.args.closed.now new} c.judge.result
     (λ keeps index within done. tells-kept b index old new keeps (c.requires.done index within done)) c.judge.ensures.kept
 
 pub copy_words-requires-clause-done : goal.copy_words-requires-clause-done

@@ -1,7 +1,7 @@
 use Rattle.std.proofs.Common.{◌≡◌, ◌<◌, ◌≤◌, ℕ, List, get_or, length, ap, subst, arith}
 use Rattle.log_batch.specs.Supplied.{batch_in}
-use Rattle.words.specs.Layout.{slot_at}
-use Rattle.finishing.specs.Ends.{IsTaken}
+use Rattle.words.specs.Layout.{listed_slot_at}
+use Rattle.finishing.specs.Ends.{TellsWord}
 use Rattle.finishing.proofs.Kept.{Told, told-done, told-next}
 use Rattle.finishing.proofs.copying.take_ends.Goals as goal
 
@@ -13,8 +13,8 @@ loop-number-preserved c =
     let items = c.slots-slot-items.ensures in
     let long : length c.slots-slot-items.result.now ≡ length listed = ap (λ (list : List ℕ). length list) items in
     let within : n < length listed = omega arith in
-    let same : get_or c.slots-slot-items.result.now n 0 ≡ slot_at listed n = ap (λ (list : List ℕ). get_or list n 0) items in
-    let takes = subst (λ slot. IsTaken slot c.end.result c.loop-number.ends c.take_end.new.ends) same c.in_ok-take_end.ensures in
+    let same : get_or c.slots-slot-items.result.now n 0 ≡ listed_slot_at listed n = ap (λ (list : List ℕ). get_or list n 0) items in
+    let takes = subst (λ slot. TellsWord slot c.end.result c.loop-number.ends c.take_end.new.ends) same c.in_ok-take_end.ensures in
     let next : Told b listed c.args.closed.now c.requires.settled c.ends-listed.ensures.listed _ c.take_end.new.ends =
     told-next b listed c.args.closed.now c.requires.settled c.ends-listed.ensures.listed n c.end.result c.loop-number.ends c.take_end.new.ends within c.end.ensures
     (record { told = c.loop-number.invariant.told; taken = c.loop-number.invariant.taken }) takes in

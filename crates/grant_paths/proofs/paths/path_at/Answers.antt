@@ -4,7 +4,7 @@ use Rattle.grants.specs.Book.{Entries, owners_of, view_of}
 use Rattle.model_base.specs.Paths.{path}
 use Rattle.model_base.specs.Records.{in_force}
 use Rattle.grants.specs.View.{View, entries}
-use Rattle.grant_paths.specs.Lines.{places_of}
+use Rattle.grant_paths.specs.Lines.{made_places}
 use Rattle.grant_paths.proofs.Showing.{owner_at, path_shown}
 use Rattle.grant_paths.proofs.paths.path_at.Goals as goal
 
@@ -16,5 +16,5 @@ returns c = λ owners deeds shows.
     let owned : slice_get owners need.table ≡ view.owner need.table =
     owner_at c.args.book.now owners deeds need.table shows c.requires.covered ∙ ap (λ (b : Entries). slice_get (owners_of b.tables) need.table) (sym c.at-view.ensures.book) in
     c.in_ok-places.ensures.value owners owned
-    ∙ ap (λ (v : View). places_of (path owners (in_force (entries v)) c.args.user need)) same
+    ∙ ap (λ (v : View). made_places (path owners (in_force (entries v)) c.args.user need)) same
     ∙ path_shown c.args.book.now owners deeds c.args.place c.args.user need shows

@@ -5,7 +5,7 @@ use Rattle.std.proofs.lemmas.List.{append-nil}
 use Rattle.std.proofs.Math.ListN.{drop_of_length-le}
 use Rattle.grants.specs.Pass.{cascade, concerned_grants}
 use Rattle.grants.specs.Work.{AllPassed, AreDue, AreEnds, AreWalked, keepers, slots_of}
-use Rattle.grants.specs.View.{Shows, View}
+use Rattle.grants.specs.View.{ShowsDeeds, View}
 use Rattle.grants.proofs.SlotLaws.{pass_ends}
 use Rattle.grants.proofs.Worklist.{IsFirstDue, ends_from, first_due, none_due, nothing, over_free, walked_rest}
 use Rattle.grants.proofs.Borne.{shows_borne}
@@ -99,7 +99,7 @@ returns-clause-ended g c = λ owners deeds shows.
     let revocation = c.args.revocation.now in
     let owner = c.owner-owner.result in
     let same = c.in_ok-due.ensures.same in
-    let here = subst (λ (v : View). Shows v owners deeds) (sym same) shows in
+    let here = subst (λ (v : View). ShowsDeeds v owners deeds) (sym same) shows in
     let owned : view.owner revocation.table ≡ Some owner = ap (λ (v : View). v.owner revocation.table) same ∙ c.owner-owner.ensures in
     let borne = shows_borne view owners deeds revocation owner here owned in
     let end = length view.slots in

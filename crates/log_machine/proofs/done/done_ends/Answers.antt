@@ -1,6 +1,6 @@
 use Rattle.std.proofs.Common.{rules, ◌≡◌, ◌<◌, ◌≤◌, ◌+◌, ◌^◌, length, ap, arith, subst, sym, ◌∙◌}
 use Rattle.bohm_core_base.specs.declared.hold.Hold.TheVariants.{Done}
-use Rattle.bohm_core_base.specs.Batch.{slots_of}
+use Rattle.bohm_core_base.specs.Batch.{batch_slots}
 use Rattle.bohm_core_base.specs.Machine.{State, hold_of}
 use Rattle.log_batch.specs.Laws.{IsOfLog, ended_places}
 use Rattle.log_batch.specs.Supplied.{Ranged, batch_in, range_of}
@@ -36,9 +36,9 @@ returns-in_ok-places-in-Done-clause-told c found comes =
     ap (λ (s : State). hold_of s index) (sym c.state-state.ensures.value) ∙ sym c.hold.ensures ∙ c.in-Done.is in
     let first : c.first_place.result ≡ ranged.first = c.first_place.ensures.value ∙ ap (λ (r : Ranged). r.first) same in
     c.in_ok-places-in-Done.ensures.value
-    ∙ ap (λ (r : Ranged). ended_places (slots_of (batch_in r)) c.state-state.result.now.ends (c.first_place.result + index)) same
-    ∙ ap (λ (s : State). ended_places (slots_of (batch_in ranged)) s.ends (c.first_place.result + index)) c.state-state.ensures.value
-    ∙ ap (λ at. ended_places (slots_of (batch_in ranged)) state.ends (at + index)) first
+    ∙ ap (λ (r : Ranged). ended_places (batch_slots (batch_in r)) c.state-state.result.now.ends (c.first_place.result + index)) same
+    ∙ ap (λ (s : State). ended_places (batch_slots (batch_in ranged)) s.ends (c.first_place.result + index)) c.state-state.ensures.value
+    ∙ ap (λ at. ended_places (batch_slots (batch_in ranged)) state.ends (at + index)) first
     ∙ ends-done ranged is within state c.state-state.ensures.reached index found done comes
 
 pub returns-in_err-places-in-Done-clause-memory : goal.returns-in_err-places-in-Done-clause-memory
@@ -52,10 +52,10 @@ returns-in_err-places-in-Done-clause-memory c =
     let done : hold_of state index ≡ Done =
     ap (λ (s : State). hold_of s index) (sym c.state-state.ensures.value) ∙ sym c.hold.ensures ∙ c.in-Done.is in
     let first : c.first_place.result ≡ ranged.first = c.first_place.ensures.value ∙ ap (λ (r : Ranged). r.first) same in
-    let here : ended_places (slots_of (batch_in c.batch-batch.result.now)) c.state-state.result.now.ends (c.first_place.result + index)
-    ≡ ended_places (slots_of (batch_in ranged)) state.ends (ranged.first + index) =
-    ap (λ (r : Ranged). ended_places (slots_of (batch_in r)) c.state-state.result.now.ends (c.first_place.result + index)) same
-    ∙ ap (λ (s : State). ended_places (slots_of (batch_in ranged)) s.ends (c.first_place.result + index)) c.state-state.ensures.value
-    ∙ ap (λ at. ended_places (slots_of (batch_in ranged)) state.ends (at + index)) first in
+    let here : ended_places (batch_slots (batch_in c.batch-batch.result.now)) c.state-state.result.now.ends (c.first_place.result + index)
+    ≡ ended_places (batch_slots (batch_in ranged)) state.ends (ranged.first + index) =
+    ap (λ (r : Ranged). ended_places (batch_slots (batch_in r)) c.state-state.result.now.ends (c.first_place.result + index)) same
+    ∙ ap (λ (s : State). ended_places (batch_slots (batch_in ranged)) s.ends (c.first_place.result + index)) c.state-state.ensures.value
+    ∙ ap (λ at. ended_places (batch_slots (batch_in ranged)) state.ends (at + index)) first in
     on_err c.from_residual.result
     (ended-done ranged is within state c.state-state.ensures.reached index done (λ none. c.in_err-places-in-Done.ensures.memory (here ∙ none)))

@@ -1,6 +1,6 @@
 use Rattle.std.proofs.Common.{arith, sym, ap, ◌∙◌, ◌∷◌, Some, w64}
 use Rattle.std.proofs.lemmas.Int.{to_z_pos}
-use Rattle.log_text.specs.Words.{whole}
+use Rattle.log_text.specs.Words.{signed_of}
 use Rattle.log_text.proofs.Whole.{plain_unnatural, plain_large, whole_natural, whole_nothing, no_minus}
 use Rattle.log_text.proofs.number.whole_value.Goals as goal
 
@@ -14,7 +14,7 @@ returns-in_default-natural c =
 
 pub returns-then-first-eq45 : goal.returns-then-first-eq45
 returns-then-first-eq45 c =
-    c.negative_value.ensures ∙ sym (ap whole (c.in-Some.ensures.cases.0 ∙ ap (λ b. b ∷ c.in-Some.others.now) c.if-first-eq45.true))
+    c.negative_value.ensures ∙ sym (ap signed_of (c.in-Some.ensures.cases.0 ∙ ap (λ b. b ∷ c.in-Some.others.now) c.if-first-eq45.true))
 
 pub returns-then-value-gt9223372036854775807 : goal.returns-then-value-gt9223372036854775807
 returns-then-value-gt9223372036854775807 c =

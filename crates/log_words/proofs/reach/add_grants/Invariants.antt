@@ -1,7 +1,7 @@
 use Rattle.std.proofs.Common.{◌-◌, ◌≡◌, ◌≤◌}
 use Rattle.log_batch.specs.Earlier.{earlier_count}
 use Rattle.log_batch.specs.Supplied.{batch_in}
-use Rattle.log_words.specs.Reach.{Adds, is_of}
+use Rattle.log_words.specs.Reach.{Adds, has_party}
 use Rattle.log_words.proofs.reach.add_grants.Given as goal
 
 -- the slots below the next one are added
@@ -9,7 +9,7 @@ abbrev pub invariant-loop-from : goal.invariant-loop-from
 invariant-loop-from l = record {
   end : l.end ≡ earlier_count (batch_in l.batch);
   start : l.start ≤ l.from;
-  adds : Adds (batch_in l.batch) (is_of l.party l.user l.kind l.table) l.start l.from l.initial.due.keys l.due.keys;
+  adds : Adds (batch_in l.batch) (has_party l.party l.user l.kind l.table) l.start l.from l.initial.due.keys l.due.keys;
 }
 
 abbrev pub decreases-loop-from : goal.decreases-loop-from

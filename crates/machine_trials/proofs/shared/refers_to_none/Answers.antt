@@ -2,8 +2,8 @@ use Rattle.std.proofs.Common.{◌≡◌, ◌==◌, ◌≢◌, true, ℕ, List, s
 use Rattle.std.specs.List.{list_all}
 use Rattle.bohm_core_base.specs.declared.hold.Hold.{Hold}
 use Rattle.bohm_core_base.specs.declared.hold.Hold.TheVariants.{Done, Free}
-use Rattle.bohm_core_base.specs.Batch.{references}
-use Rattle.bohm_core_base.specs.Machine.{State, hold_of, references_of}
+use Rattle.bohm_core_base.specs.Batch.{reference_words}
+use Rattle.bohm_core_base.specs.Machine.{State, hold_of, stored_references_of}
 use Rattle.log_batch.specs.Supplied.{batch_in}
 use Rattle.machine_trials.proofs.Sharing.{none-in}
 use Rattle.machine_trials.proofs.shared.refers_to_none.Goals as goal
@@ -16,11 +16,11 @@ returns c told =
     let b = batch_in c.args.machine.now.statements in
     let index = c.args.index in
     let here = c.state.ensures.reached in
-    let P : State → Type 0 = λ s. hold_of s index ≡ Done → references_of s index ≡ references b index in
+    let P : State → Type 0 = λ s. hold_of s index ≡ Done → stored_references_of s index ≡ reference_words b index in
     let is = subst P (sym here.reached)
     (λ done. (c.done_places_are_serial.ensures.placed b here.events index here.sound (done-not_free _ done)).references) c.requires in
-    let all : list_all (λ reference. reference == 0) (references b index) ≡ true
+    let all : list_all (λ reference. reference == 0) (reference_words b index) ≡ true
     = subst (λ (l : List ℕ). list_all (λ reference. reference == 0) l ≡ true)
-    (c.references.ensures ∙ ap (λ (s : State). references_of s index) c.state.ensures.value ∙ is)
+    (c.references.ensures ∙ ap (λ (s : State). stored_references_of s index) c.state.ensures.value ∙ is)
     (sym c.are_base.ensures ∙ told) in
-    none-in (references b index) all
+    none-in (reference_words b index) all

@@ -5,7 +5,7 @@ use Rattle.std.proofs.lemmas.Result.{IfOk-weaker}
 use Rattle.model_base.specs.declared.deed.Grant.{Grant}
 use Rattle.model_base.specs.Outcomes.{deed_of, deeds_before, owners}
 use Rattle.answering.specs.Answering.{ended_by_deed}
-use Rattle.bohm_core_base.specs.Batch.{Batch, slots_of}
+use Rattle.bohm_core_base.specs.Batch.{Batch, batch_slots}
 use Rattle.bohm_core_base.specs.Serial.{serial_ends}
 use Rattle.log_batch.specs.Supplied.{batch_in}
 use Rattle.model_base.proofs.Growth.{deeds_before-stands}
@@ -26,7 +26,7 @@ returns-clause-ends g c =
     let within : index < ranged.size = omega (arith, c.reader.ensures.within, c.reader.ensures.value, size) in
     IfOk-weaker c.judge_ends.result.0
     (λ (places : Vec ℕ Global). places.items ≡ ended_by_deed (owners log) (deeds_before log place) (deed_of place statement.user statement.form))
-    (λ (places : Vec ℕ Global). (slot : ℕ) (grant : Grant) → slice_get (slots_of (batch_in ranged)) slot ≡ Some grant
+    (λ (places : Vec ℕ Global). (slot : ℕ) (grant : Grant) → slice_get (batch_slots (batch_in ranged)) slot ≡ Some grant
     → list_any (λ at. at == grant.place) places.items ≡ serial_ends (batch_in ranged) index slot)
     (λ places is slot grant found.
     ap (λ list. list_any (λ at. at == grant.place) list) is

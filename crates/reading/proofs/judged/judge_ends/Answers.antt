@@ -5,10 +5,10 @@ use Rattle.model_base.specs.declared.deed.Deed.{Deed}
 use Rattle.model_base.specs.declared.statement.Statement.{Statement}
 use Rattle.model_base.specs.Outcomes.{deed_of, deeds_before, owners}
 use Rattle.model_base.specs.References.{tables_of}
-use Rattle.grants.specs.View.{Shows}
+use Rattle.grants.specs.View.{ShowsDeeds}
 use Rattle.answering.specs.Answering.{ended_by_deed}
 use Rattle.bohm_core_base.specs.Batch.{Batch}
-use Rattle.reading.specs.Seen.{seen_at, shown_of}
+use Rattle.reading.specs.Seen.{seen_at, seen_view}
 use Rattle.reading.proofs.Comes.{deed-covered}
 use Rattle.reading.proofs.Slots.{all-covered, shows_seen}
 use Rattle.reading.proofs.judged.judge_ends.Goals as goal
@@ -19,8 +19,8 @@ ended-places-requires g c =
     let statement = c.statement-statement.result.now in
     record {
       covered =
-          deed-covered (shown_of (seen_at ranged (g.T.Told.told c.args.told).index)).owner statement.form
-          (subst (λ index. All (λ table. IsSome ((shown_of (seen_at ranged index)).owner table)) (tables_of statement.form)) c.reader.ensures.value
+          deed-covered (seen_view (seen_at ranged (g.T.Told.told c.args.told).index)).owner statement.form
+          (subst (λ index. All (λ table. IsSome ((seen_view (seen_at ranged index)).owner table)) (tables_of statement.form)) c.reader.ensures.value
           (all-covered ranged c.log-log.ensures.whole c.reader.result statement c.statement-statement.ensures.at));
     }
 
@@ -36,7 +36,7 @@ returns-clause-value g c statement at =
     let size = ap (λ (batch : Batch). batch.size) c.requires.batch in
     let shows = shows_seen ranged c.log-log.ensures.of_log index (omega (arith, c.reader.ensures.within, c.reader.ensures.value, size)) in
     IfOk-weaker c.ended-places.result
-    (λ (places : Vec ℕ Global). (users : List ℕ) (deeds : List Deed) → Shows (shown_of (seen_at ranged index)) users deeds
+    (λ (places : Vec ℕ Global). (users : List ℕ) (deeds : List Deed) → ShowsDeeds (seen_view (seen_at ranged index)) users deeds
     → places.items ≡ ended_by_deed users deeds (deed_of place c.statement-statement.result.now.user c.statement-statement.result.now.form))
     (λ (places : Vec ℕ Global). places.items ≡ ended_by_deed (owners log) (deeds_before log place) (deed_of place statement.user statement.form))
     (λ places told.

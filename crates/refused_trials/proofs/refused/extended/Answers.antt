@@ -7,7 +7,7 @@ use Rattle.model_base.specs.declared.deed.Record.{Record}
 use Rattle.model_base.specs.Privileges.{option_of}
 use Rattle.grants.specs.View.{has_by, holds_in}
 use Rattle.model_base.specs.Records.{ended_at}
-use Rattle.grants.specs.Book.{Entries, IsLater, IsSound, end_slot, owners_of, unended, view_of, with_grant, with_table}
+use Rattle.grants.specs.Book.{Entries, IsLater, IsSoundBook, end_slot, owners_of, unended, view_of, with_grant, with_table}
 use Rattle.grants.specs.declared.book.Creation.{Creation}
 use Rattle.grants.specs.declared.book.End.{End}
 use Rattle.grants.proofs.BookLaws.{sound_table}
@@ -47,8 +47,8 @@ later_still book creation place later less = record {
       (λ entry below. end_below_more creation.place place entry.end less below) book.records later.ends;
 }
 
-sound_more : (book : Entries) (creation : Creation) (grant : Grant) → IsSound book → IsLater book creation.place → length book.tables < 65536
-    → grant.table ≡ length book.tables → grant.grantor ≡ creation.owner → creation.place < grant.place → IsSound (with_grant (with_table book creation) grant)
+sound_more : (book : Entries) (creation : Creation) (grant : Grant) → IsSoundBook book → IsLater book creation.place → length book.tables < 65536
+    → grant.table ≡ length book.tables → grant.grantor ≡ creation.owner → creation.place < grant.place → IsSoundBook (with_grant (with_table book creation) grant)
 sound_more book creation grant sound later room table grantor less =
     sound_grant (with_table book creation) grant (sound_table book creation sound later room) (later_still book creation grant.place later less)
     (omega (arith, length-append book.tables (creation ∷ []), table)) (owner_holds book creation grant table grantor)
@@ -58,8 +58,8 @@ last_is [] entry = refl
 last_is (first ∷ entries) entry = last_is entries entry
 
 -- the last grant may end behind all
-last_ended : (book : Entries) (grant : Grant) (slot place : ℕ) → IsSound (with_grant book grant) → IsLater (with_grant book grant) place → slot ≡ length book.records
-    → IsSound (record { tables = book.tables; records = end_slot (book.records ++ unended grant ∷ []) slot place })
+last_ended : (book : Entries) (grant : Grant) (slot place : ℕ) → IsSoundBook (with_grant book grant) → IsLater (with_grant book grant) place → slot ≡ length book.records
+    → IsSoundBook (record { tables = book.tables; records = end_slot (book.records ++ unended grant ∷ []) slot place })
 last_ended book grant slot place sound later is =
     let entries = book.records ++ unended grant ∷ [] in
     let end : End = record { slot = slot; place = place } in
@@ -67,7 +67,7 @@ last_ended book grant slot place sound later is =
     record { entry = unended grant; there = ap (slice_get entries) is ∙ last_is book.records (unended grant); unended = refl; made_at = refl; same = refl } in
     let ended : end_slot entries slot place ≡ map (ended_at place (grant.place ∷ [])) entries =
     ap (λ (es : List Record). end_slot es slot place) (ended_none place entries) ∙ ends_open entries sound.rising place [] end grant.place last in
-    subst (λ (es : List Record). IsSound (record { tables = book.tables; records = es })) (sym ended) (sound_revoke (with_grant book grant) place (grant.place ∷ []) sound later)
+    subst (λ (es : List Record). IsSoundBook (record { tables = book.tables; records = es })) (sym ended) (sound_revoke (with_grant book grant) place (grant.place ∷ []) sound later)
 
 pub extend-requires-clause-sound : goal.extend-requires-clause-sound
 extend-requires-clause-sound c =

@@ -2,7 +2,7 @@ use Rattle.std.proofs.Common.{◌≡◌, ◌<◌, ◌^◌, Some, arith, slice_ge
 use Rattle.model_base.specs.declared.statement.Statement.{Statement}
 use Rattle.own_words.specs.Words.{outcome_from}
 use Rattle.sequencer.specs.Log.{Accepted}
-use Rattle.taking.proofs.Told.{looked, outcome_told}
+use Rattle.taking.proofs.Told.{outcome_told}
 use Rattle.taking.proofs.taken.outcome_of.Goals as goal
 
 pub returns : goal.returns

@@ -9,7 +9,6 @@ use Rattle.own_words.specs.Words.{outputs_of}
 use Rattle.sequencer.specs.Log.{Accepted}
 use Rattle.sequencer.specs.Taken.{columns_by}
 use Rattle.taking.specs.Cells.{versions_told}
-use Rattle.taking.proofs.Told.{looked}
 use Rattle.taking.proofs.CellsTold.{versions_left}
 use Rattle.taking.proofs.taken.push_left.Goals as goal
 

@@ -1,6 +1,6 @@
-use Rattle.std.proofs.Common.{◌≡◌, ◌≤◌, ◌<◌, ℕ, ◌+◌, ◌*◌, ◌/◌, ◌∷◌, ◌++◌, [], vec_capacity, vec_len, add-one, subst, arith}
+use Rattle.std.proofs.Common.{◌≡◌, ℕ, ◌+◌, ◌*◌, ◌/◌, ◌∷◌, ◌++◌, [], add-one, subst, arith}
 use Rattle.words.specs.Layout.{block_length}
-use Rattle.words.proofs.Begun.{IsBegun, all-begun, one-more}
+use Rattle.words.proofs.Begun.{all-begun, one-more}
 use Rattle.words.proofs.words.blocks.Goals as goal
 
 pub loop-index-preserved : goal.loop-index-preserved

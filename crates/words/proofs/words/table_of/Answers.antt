@@ -1,5 +1,5 @@
-use Rattle.std.proofs.Common.{◌≡◌, ℕ, ◌+◌, ◌∷◌, [], List, length, replicate, ◌∙◌, sym, ap, subst, arith}
-use Rattle.words.specs.Layout.{end_begin, total}
+use Rattle.std.proofs.Common.{◌≡◌, ℕ, ◌∷◌, [], List, replicate, ◌∙◌, sym, ap, subst, arith}
+use Rattle.words.specs.Layout.{total}
 use Rattle.words.specs.Legal.{legal}
 use Rattle.words.specs.Views.{first_view}
 use Rattle.words.proofs.Cutting.{begins as begins-right}

@@ -7,8 +7,8 @@ use Rattle.chains.proofs.Right.{append-gains, gains-right}
 use Rattle.chains.proofs.Sweeping.{noted-put}
 use Rattle.chains.specs.declared.version.Version.{Version}
 use Rattle.chains.specs.declared.writes.Written.{Written}
-use Rattle.chains.specs.Kept.{AreRising, is_absent, newest_is_noted, written_by, written_to}
-use Rattle.chains.specs.Store.{AreBetween, Gains, Store, is_of, of_key}
+use Rattle.chains.specs.Kept.{AreWrittenInOrder, is_absent, newest_is_noted, written_by, written_to}
+use Rattle.chains.specs.Store.{AreBetween, Gains, Store, is_version_of, of_key}
 use Rattle.chains.proofs.store.Chains.append.Goals as goal
 
 -- each key's versions are the old ones and the cells
@@ -30,21 +30,21 @@ invariant_of-self-2 c =
       within = omega (arith, c.self.invariant.within, later);
       ordered = λ key.
           subst (λ (versions : List Version). AreBetween 0 c.args.new_end versions)
-          (sym (added key ∙ filter-append (is_of key) inside.rows cells))
+          (sym (added key ∙ filter-append (is_version_of key) inside.rows cells))
           (between-append 0 inside.end c.args.new_end (of_key key inside.rows) (of_key key cells) (c.self.invariant.ordered key)
           (between-of_key key inside.end c.args.new_end cells more));
       replacing = λ key.
           c.in_ok-put_all.ensures.replacing key (ap (written_to key) c.in_ok-reserve.ensures.items ∙ c.self.invariant.replacing key);
       rising =
           c.in_ok-put_all.ensures.rising inside.mark c.args.new_end
-          (subst (λ (writes : List Written). AreRising inside.mark c.args.new_end (writes ++ map written_by c.as_slice-versions.result.now)) (sym c.in_ok-reserve.ensures.items)
-          (subst (λ (versions : List Version). AreRising inside.mark c.args.new_end (inside.replacing.items ++ map written_by versions)) (sym c.as_slice-versions.ensures.value)
+          (subst (λ (writes : List Written). AreWrittenInOrder inside.mark c.args.new_end (writes ++ map written_by c.as_slice-versions.result.now)) (sym c.in_ok-reserve.ensures.items)
+          (subst (λ (versions : List Version). AreWrittenInOrder inside.mark c.args.new_end (inside.replacing.items ++ map written_by versions)) (sym c.as_slice-versions.ensures.value)
           (rising-append inside.mark inside.end c.args.new_end inside.replacing.items cells c.self.invariant.rising more)));
       noted = λ key.
           ap (λ (notes : List Written). newest_is_noted notes (of_key key c.put_all.new.self)) absent_is
-          ∙ noted-put key inside.rows cells c.put_all.new.self inside.absent.items (added key ∙ filter-append (is_of key) inside.rows cells) (c.self.invariant.noted key);
+          ∙ noted-put key inside.rows cells c.put_all.new.self inside.absent.items (added key ∙ filter-append (is_version_of key) inside.rows cells) (c.self.invariant.noted key);
       falling =
-          subst (AreRising 0 c.args.new_end) (sym absent_is)
+          subst (AreWrittenInOrder 0 c.args.new_end) (sym absent_is)
           (rising-append 0 inside.end c.args.new_end inside.absent.items (filter is_absent cells) c.self.invariant.falling
           (between-filter is_absent inside.end c.args.new_end cells more));
     }

@@ -6,7 +6,7 @@ use Rattle.log_words.specs.Keys.{Key}
 use Rattle.reading.specs.Told.{IsDeedBefore}
 use Rattle.words.specs.Passes.{Passing}
 use Rattle.words.specs.Views.{KnowsReferences}
-use Rattle.filling.specs.Readings.{Reading, reader_of, work_of}
+use Rattle.filling.specs.Readings.{PlaceReading, reader_in, work_of}
 use Rattle.filling.proofs.Telling.{reading-found}
 use Rattle.filling.proofs.reader.PassReaderTold.was_done.Goals as goal
 
@@ -21,7 +21,7 @@ deed_was_done-requires-clause-ready g c =
 pub deed_was_done-requires-clause-deed : goal.deed_was_done-requires-clause-deed
 deed_was_done-requires-clause-deed g c =
     let s = c.self.inside in
-    let is = subst (λ (reading : Reading). IsDeedBefore (reader_of reading) c.args.index) (sym c.self.view_is) c.requires.deed in
+    let is = subst (λ (reading : PlaceReading). IsDeedBefore (reader_in reading) c.args.index) (sym c.self.view_is) c.requires.deed in
     subst (λ (k : Key). IsDeedBefore (record { batch = batch_in k.batch; index = s.index }) c.args.index) (sym c.self.invariant.key) is
 
 pub invariant_of-self : goal.invariant_of-self
@@ -33,11 +33,11 @@ pub returns-clause-value : goal.returns-clause-value
 returns-clause-value g c =
     c.deed_was_done.ensures.value
     ∙ ap (λ (k : Key). was_done (serial_words (batch_in k.batch) c.args.index)) c.self.invariant.key
-    ∙ ap (λ (reading : Reading). was_done (serial_words (batch_in reading.ranged) c.args.index)) c.self.view_is
+    ∙ ap (λ (reading : PlaceReading). was_done (serial_words (batch_in reading.ranged) c.args.index)) c.self.view_is
 
 pub returns-clause-same : goal.returns-clause-same
 returns-clause-same g c =
     let s = c.self.inside in
-    let reading : Passing → Reading = λ pass. record { ranged = s.key.now.batch; index = s.index; work = work_of pass } in
+    let reading : Passing → PlaceReading = λ pass. record { ranged = s.key.now.batch; index = s.index; work = work_of pass } in
     let same = ap reading c.deed_was_done.ensures.same ∙ c.self.view_is in
-    (ap reader_of same, ap (λ (r : Reading). r.work) same)
+    (ap reader_in same, ap (λ (r : PlaceReading). r.work) same)

@@ -1,7 +1,7 @@
 use Rattle.std.proofs.Common.{sym, ◌∙◌, subst}
 use Rattle.words.specs.Passes.{Passing}
 use Rattle.filling_base.specs.declared.run.Tried.TheVariants.{Done}
-use Rattle.filling_base.specs.Tries.{Tells}
+use Rattle.filling_base.specs.Tries.{TriedTells}
 use Rattle.filling_base.specs.Walks.{spot}
 use Rattle.filling_base.proofs.Counting.{counts-self, counts-then, counts-to}
 use Rattle.filling_base.proofs.Going.{same-self, same-then}
@@ -32,7 +32,7 @@ returns-in-Over-clause-tells g c =
     let b = g.K.Placed.batch c.args.self.now.key in
     let v = c.args.holding.view in
     let stepped = rw c.in-Over.is at c.step-next.ensures.stepped in
-    subst (λ (p : Passing). Tells b c.args.index v Done p.view) (sym c.end.ensures)
+    subst (λ (p : Passing). TriedTells b c.args.index v Done p.view) (sym c.end.ensures)
     (over b c.args.index v (spot c.steps.walk) (spot c.step-next.result.0) c.steps.invariant.runs stepped)
 
 pub returns-in-Busy-clause-tells : goal.returns-in-Busy-clause-tells

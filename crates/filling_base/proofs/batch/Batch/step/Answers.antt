@@ -1,5 +1,5 @@
 use Rattle.std.proofs.Common.{◌≡◌, ◌<◌, suc, ◌+◌, length, refl, sym, ap, ◌∙◌, subst, arith}
-use Rattle.bohm_core_base.specs.Batch.{Batch, references}
+use Rattle.bohm_core_base.specs.Batch.{Batch, reference_words}
 use Rattle.filling_base.specs.References.{reference, reference_word}
 use Rattle.words.specs.declared.view.View.{View}
 use Rattle.words.specs.Views.{IsSettled}
@@ -39,9 +39,9 @@ look-requires-clause-within g c =
     let words : g.K.Placed.batch c.args.self.now.key ≡ g.K.Placed.batch c.self.inside.words.key = cc in
     let s = spot c.args.walk in
     let b = g.K.Placed.batch c.args.self.now.key in
-    let long : c.references_length.result ≡ length (references b s.at) = c.references_length.ensures ∙ ap (λ (x : Batch). length (references x s.at)) (sym same) in
+    let long : c.references_length.result ≡ length (reference_words b s.at) = c.references_length.ensures ∙ ap (λ (x : Batch). length (reference_words x s.at)) (sym same) in
     let test = c.if-walk-references_length.false in
-    let short : s.next < length (references b s.at) = omega arith in
+    let short : s.next < length (reference_words b s.at) = omega arith in
     let names : reference b s.at s.next ≡ suc c.in-Some.index = ap (λ (x : Batch). reference x s.at s.next) same ∙ sym c.reference.ensures ∙ ap reference_word c.in-Some.is in
     let below = falls-at b s.at s.next c.in-Some.index short names in
     let top = path-top b s.view.known s.frames s.at c.requires.walks.path in
@@ -55,7 +55,7 @@ returns-in-None-clause-stepped g c =
     let same : g.K.Placed.batch c.args.self.now.key ≡ g.K.Placed.batch c.self.inside.key = cc in
     let s = spot c.args.walk in
     let b = g.K.Placed.batch c.args.self.now.key in
-    let long : c.references_length.result ≡ length (references b s.at) = c.references_length.ensures ∙ ap (λ (x : Batch). length (references x s.at)) (sym same) in
+    let long : c.references_length.result ≡ length (reference_words b s.at) = c.references_length.ensures ∙ ap (λ (x : Batch). length (reference_words x s.at)) (sym same) in
     let test = c.if-walk-references_length.false in
     let names : reference b s.at s.next ≡ 0 = ap (λ (x : Batch). reference x s.at s.next) same ∙ sym c.reference.ensures ∙ ap reference_word c.in-None.is in
     went-base b s.view s.at s.next (s.next + 1) s.frames c.requires.walks (omega arith) names (omega arith)
@@ -68,7 +68,7 @@ returns-in-Held-clause-stepped g c =
     let words : g.K.Placed.batch c.args.self.now.key ≡ g.K.Placed.batch c.self.inside.words.key = cc in
     let s = spot c.args.walk in
     let b = g.K.Placed.batch c.args.self.now.key in
-    let long : c.references_length.result ≡ length (references b s.at) = c.references_length.ensures ∙ ap (λ (x : Batch). length (references x s.at)) (sym same) in
+    let long : c.references_length.result ≡ length (reference_words b s.at) = c.references_length.ensures ∙ ap (λ (x : Batch). length (reference_words x s.at)) (sym same) in
     let test = c.if-walk-references_length.false in
     let names : reference b s.at s.next ≡ suc c.in-Some.index = ap (λ (x : Batch). reference x s.at s.next) same ∙ sym c.reference.ensures ∙ ap reference_word c.in-Some.is in
     let untold : ¬ (IsToldDone b s.view c.in-Some.index) =
@@ -94,7 +94,7 @@ returns-in-Done-clause-stepped g c =
     let same : g.K.Placed.batch c.args.self.now.key ≡ g.K.Placed.batch c.self.inside.key = cc in
     let s = spot c.args.walk in
     let b = g.K.Placed.batch c.args.self.now.key in
-    let long : c.references_length.result ≡ length (references b s.at) = c.references_length.ensures ∙ ap (λ (x : Batch). length (references x s.at)) (sym same) in
+    let long : c.references_length.result ≡ length (reference_words b s.at) = c.references_length.ensures ∙ ap (λ (x : Batch). length (reference_words x s.at)) (sym same) in
     let test = c.if-walk-references_length.false in
     let names : reference b s.at s.next ≡ suc c.in-Some.index = ap (λ (x : Batch). reference x s.at s.next) same ∙ sym c.reference.ensures ∙ ap reference_word c.in-Some.is in
     went-next b s.view c.look.new.pass.view s.at s.next (s.next + 1) c.in-Some.index s.frames c.requires.walks (omega arith) names c.in-Done.ensures.tells (omega arith)

@@ -6,7 +6,7 @@ use Rattle.words.specs.Passes.{Passing}
 use Rattle.words.specs.Views.{IsSettled, with_event, with_known}
 use Rattle.filling_base.specs.declared.run.Tried.TheVariants.{Busy}
 use Rattle.filling_base.specs.Goings.{HoldsJust}
-use Rattle.filling_base.specs.Tries.{IsToldDone, Tells}
+use Rattle.filling_base.specs.Tries.{IsToldDone, TriedTells}
 use Rattle.filling_base.proofs.Counting.{counts-claim, counts-from, counts-look, counts-then}
 use Rattle.filling_base.proofs.Holding.{holds-nothing}
 use Rattle.filling_base.proofs.Seeing.{untold-claimed, untold-free, untold-held}
@@ -51,7 +51,7 @@ returns-in-Held-clause-tells g c =
     let begun-is : v ≡ c.args.pass.view = ap (λ (p : Passing). p.view) c.begin-holding.ensures.same in
     let untold = untold-held b v i c.look.result c.in-Held.is c.look.ensures.known (λ settled. c.look.ensures.settled (subst (λ (x : Batch). IsSettled x v i) words settled)) in
     let told = found-held b i v c.look.new.pass.view (holds-nothing v c.begin-holding.ensures.idle) untold c.in-Held.ensures.tells in
-    subst (λ (p : Passing). Tells b i c.args.pass.view (Busy i) p.view) (sym c.end-in-Held.ensures) (subst (λ (u : View). Tells b i u (Busy i) c.look.new.pass.view) begun-is told)
+    subst (λ (p : Passing). TriedTells b i c.args.pass.view (Busy i) p.view) (sym c.end-in-Held.ensures) (subst (λ (u : View). TriedTells b i u (Busy i) c.look.new.pass.view) begun-is told)
 
 pub returns-in-Held-clause-told : goal.returns-in-Held-clause-told
 returns-in-Held-clause-told g c told =
@@ -77,7 +77,7 @@ returns-in-Held-claim-clause-tells g c =
     let same : u ≡ c.args.pass.view = seen-is ∙ ap (λ (p : Passing). p.view) c.begin-holding.ensures.same in
     let untold = untold-claimed b u i c.claim.result c.in-Held-claim.is c.claim.ensures.known (λ settled. c.claim.ensures.settled (subst (λ (x : Batch). IsSettled x u i) words settled)) in
     let told = found-held b i u c.claim.new.pass.view (subst (λ (w : View). HoldsJust w []) (sym seen-is) (holds-nothing v c.begin-holding.ensures.idle)) untold c.in-Held-claim.ensures.tells in
-    subst (λ (p : Passing). Tells b i c.args.pass.view (Busy i) p.view) (sym c.end-in-Held-claim.ensures) (subst (λ (w : View). Tells b i w (Busy i) c.claim.new.pass.view) same told)
+    subst (λ (p : Passing). TriedTells b i c.args.pass.view (Busy i) p.view) (sym c.end-in-Held-claim.ensures) (subst (λ (w : View). TriedTells b i w (Busy i) c.claim.new.pass.view) same told)
 
 pub returns-in-Held-claim-clause-told : goal.returns-in-Held-claim-clause-told
 returns-in-Held-claim-clause-told g c told =

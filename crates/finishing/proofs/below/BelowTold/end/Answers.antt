@@ -1,6 +1,6 @@
 use Rattle.std.proofs.Common.{◌≡◌, ◌<◌, ◌+◌, length, sym, ap, ◌∙◌, subst}
 use Rattle.model_base.specs.Records.{end_below}
-use Rattle.bohm_core_base.specs.Batch.{slots_of}
+use Rattle.bohm_core_base.specs.Batch.{batch_slots}
 use Rattle.bohm_core_base.specs.Serial.{whole_end}
 use Rattle.log_batch.specs.Supplied.{batch_in}
 use Rattle.log_batch.proofs.Counted.{sound_batch}
@@ -16,7 +16,7 @@ returns-clause-value c =
     let b = batch_in s.batch.now in
     let place = s.batch.now.first + s.index in
     let stands = c.self.invariant.0 in
-    let within : slot < length (slots_of b) = subst (λ (place : Indexed). slot < length (slots_of (batch_in place.ranged))) (sym c.self.view_is) c.requires.slot in
+    let within : slot < length (batch_slots b) = subst (λ (place : Indexed). slot < length (batch_slots (batch_in place.ranged))) (sym c.self.view_is) c.requires.slot in
     let here : end_below place c.match-of.result ≡ end_below place (whole_end b slot) =
     elim c.match-of.branch [
       | in-Some w ↦

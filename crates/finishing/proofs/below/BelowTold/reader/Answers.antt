@@ -1,5 +1,5 @@
 use Rattle.std.proofs.Common.{subst}
-use Rattle.bohm_core_base.specs.Batch.{IsSound}
+use Rattle.bohm_core_base.specs.Batch.{IsSoundBatch}
 use Rattle.log_batch.specs.Supplied.{batch_in}
 use Rattle.log_batch.proofs.Counted.{sound_batch}
 use Rattle.reading.specs.Closed.{Indexed}
@@ -7,4 +7,4 @@ use Rattle.finishing.proofs.below.BelowTold.reader.Goals as goal
 
 pub returns-clause-sound : goal.returns-clause-sound
 returns-clause-sound c =
-    subst (λ (place : Indexed). IsSound (batch_in place.ranged)) c.self.view_is (sound_batch c.self.inside.batch.now c.self.invariant.2)
+    subst (λ (place : Indexed). IsSoundBatch (batch_in place.ranged)) c.self.view_is (sound_batch c.self.inside.batch.now c.self.invariant.2)

@@ -1,6 +1,6 @@
 use Rattle.std.proofs.Common.{◌≡◌, map, length, refl, sym, ◌∙◌, ap, subst, vec_len}
 use Rattle.std.proofs.lemmas.List.{with_items_is, length-map}
-use Rattle.grants.specs.Book.{Entries, IsSound, reopened}
+use Rattle.grants.specs.Book.{Entries, IsSoundBook, reopened}
 use Rattle.grants.proofs.CutLaws.{cut-filter, cut_now, shows_now, sound_cut}
 use Rattle.grants.proofs.plain_book.PlainBook.cut.Goals as goal
 
@@ -11,7 +11,7 @@ invariant_of-self c =
     let records = with_items_is c.retain_records.new.records c.reopen.new.records long ∙ c.reopen.ensures
     ∙ ap (map (reopened place)) (c.deref_mut.ensures.value ∙ c.retain_records.ensures) ∙ cut-filter place c.self.inside.records.items in
     let inside : Entries = record { tables = c.self.inside.tables.items; records = c.self.inside.records.items } in
-    subst IsSound (sym (cut_now inside inside place _ _ refl c.retain_tables.ensures records)) (sound_cut inside place c.self.invariant)
+    subst IsSoundBook (sym (cut_now inside inside place _ _ refl c.retain_tables.ensures records)) (sound_cut inside place c.self.invariant)
 
 pub returns-clause-cut : goal.returns-clause-cut
 returns-clause-cut c =

@@ -1,6 +1,6 @@
 use Rattle.std.proofs.Common.{◌≡◌, ◌≤◌, List, ℕ, length, ap, sym, ◌∙◌, subst}
 use Rattle.model_base.specs.declared.deed.Record.{Record}
-use Rattle.bohm_core_base.specs.Batch.{slots_of}
+use Rattle.bohm_core_base.specs.Batch.{batch_slots}
 use Rattle.log_batch.specs.Earlier.{earlier_count}
 use Rattle.log_batch.specs.Supplied.{Ranged, batch_in, range_of}
 use Rattle.log_batch.proofs.Earlier.{book-count, count-within}
@@ -15,6 +15,6 @@ returns c =
     record {
       value = subst (λ (ranged : Ranged). found ≡ earlier_count (batch_in ranged)) c.self.view_is count;
       within =
-          subst (λ (ranged : Ranged). found ≤ length (slots_of (batch_in ranged))) c.self.view_is
-          (subst (λ (n : ℕ). n ≤ length (slots_of (batch_in (record { log = s.log.now.log; first = s.first; size = s.size; partitions = s.partitions })))) (sym count) (count-within range));
+          subst (λ (ranged : Ranged). found ≤ length (batch_slots (batch_in ranged))) c.self.view_is
+          (subst (λ (n : ℕ). n ≤ length (batch_slots (batch_in (record { log = s.log.now.log; first = s.first; size = s.size; partitions = s.partitions })))) (sym count) (count-within range));
     }

@@ -1,6 +1,6 @@
-use Rattle.std.proofs.Common.{◌≡◌, ◌-◌, ◌+◌, ℕ, Option, None, Some, ap, sym, subst, ◌∙◌}
+use Rattle.std.proofs.Common.{◌-◌, ◌+◌, ℕ, Option, None, Some, ap, sym, subst, ◌∙◌}
 use Rattle.grants.specs.Index.{IsNext, is_by}
-use Rattle.bohm_core_base.specs.Batch.{slots_of}
+use Rattle.bohm_core_base.specs.Batch.{batch_slots}
 use Rattle.log_batch.specs.Earlier.{earlier_count, earlier_grants, own_grants}
 use Rattle.log_batch.specs.Supplied.{batch_in}
 use Rattle.log_batch.proofs.Passed.{first-behind, first-taken, none-behind}
@@ -9,7 +9,7 @@ use Rattle.log_batch.proofs.batch.LogBatch.next_by.Goals as goal
 pub returns-in-Some : goal.returns-in-Some
 returns-in-Some c =
     let batch = batch_in c.args.self.now in
-    first-taken (is_by c.args.user c.args.kind c.args.table) (slots_of batch) (earlier_count batch) c.args.from c.in-Some.slot c.in-Some.ensures
+    first-taken (is_by c.args.user c.args.kind c.args.table) (batch_slots batch) (earlier_count batch) c.args.from c.in-Some.slot c.in-Some.ensures
 
 pub returns-in-None : goal.returns-in-None
 returns-in-None c =
@@ -17,7 +17,7 @@ returns-in-None c =
     let passes = is_by c.args.user c.args.kind c.args.table in
     let none = subst (λ (found : Option ℕ). IsNext passes (earlier_grants batch) c.args.from found) c.in_default.is c.earlier_by.ensures in
     let from = c.saturating_sub.ensures ∙ ap (λ (count : ℕ). c.args.from - count) c.earlier_count-earlier.ensures.value in
-    none-behind passes (slots_of batch) (earlier_count batch) c.args.from none
+    none-behind passes (batch_slots batch) (earlier_count batch) c.args.from none
     (subst (λ (first : ℕ). IsNext passes (own_grants batch) first None) from c.in-None.ensures.next)
 
 pub returns-in-Some-own_by : goal.returns-in-Some-own_by
@@ -26,6 +26,6 @@ returns-in-Some-own_by c =
     let passes = is_by c.args.user c.args.kind c.args.table in
     let none = subst (λ (found : Option ℕ). IsNext passes (earlier_grants batch) c.args.from found) c.in_default.is c.earlier_by.ensures in
     let from = c.saturating_sub.ensures ∙ ap (λ (count : ℕ). c.args.from - count) c.earlier_count-earlier.ensures.value in
-    subst (λ (count : ℕ). IsNext passes (slots_of batch) c.args.from (Some (count + c.in-Some-own_by.slot))) (sym c.earlier_count-earlier.ensures.value)
-    (first-behind passes (slots_of batch) (earlier_count batch) c.args.from c.in-Some-own_by.slot none
+    subst (λ (count : ℕ). IsNext passes (batch_slots batch) c.args.from (Some (count + c.in-Some-own_by.slot))) (sym c.earlier_count-earlier.ensures.value)
+    (first-behind passes (batch_slots batch) (earlier_count batch) c.args.from c.in-Some-own_by.slot none
     (subst (λ (first : ℕ). IsNext passes (own_grants batch) first (Some c.in-Some-own_by.slot)) from c.in-Some-own_by.ensures.next))

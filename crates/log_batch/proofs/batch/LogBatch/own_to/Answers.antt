@@ -1,4 +1,4 @@
-use Rattle.std.proofs.Common.{◌≡◌, ◌<◌, ◌+◌, ◌^◌, List, length, subst, sym, ap, ◌∙◌, arith}
+use Rattle.std.proofs.Common.{List, subst}
 use Rattle.model_base.specs.declared.deed.Grant.{Grant}
 use Rattle.grants.specs.Index.{IsNext, is_to}
 use Rattle.log_batch.specs.Earlier.{own_grants}

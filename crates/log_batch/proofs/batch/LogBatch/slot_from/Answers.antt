@@ -1,7 +1,7 @@
 use Rattle.std.proofs.Common.{◌≡◌, ◌<◌, ◌≤◌, ◌+◌, ◌-◌, ◌/◌, Some, arith, inl, inr, ap, sym, ◌∙◌}
 use Rattle.std.specs.Prelude.{slice_get}
 use Rattle.std.proofs.lemmas.Bool.{cases_lt}
-use Rattle.bohm_core_base.specs.Batch.{slots_of}
+use Rattle.bohm_core_base.specs.Batch.{batch_slots}
 use Rattle.log_batch.specs.Supplied.{batch_in}
 use Rattle.log_batch.proofs.Counted.{sound_batch}
 use Rattle.log_batch.proofs.batch.LogBatch.slot_from.Goals as goal
@@ -22,7 +22,7 @@ loop-low-preserved-then-grant-place c =
             | inl earlier ↦ let before = c.slots_stand_in_order.ensures batch slot middle grant c.grant.result sound earlier at c.grant.ensures in omega (arith, before, below)
             | inr later ↦
                 let here : slot ≡ middle = omega (arith, later, within) in
-                let both : Some grant ≡ Some c.grant.result = sym at ∙ ap (slice_get (slots_of batch)) here ∙ c.grant.ensures in
+                let both : Some grant ≡ Some c.grant.result = sym at ∙ ap (slice_get (batch_slots batch)) here ∙ c.grant.ensures in
                 let same : grant ≡ c.grant.result = cc in
                 rw same below
           ]),
@@ -46,7 +46,7 @@ loop-low-preserved c =
             | inl later ↦ let behind = c.slots_stand_in_order.ensures batch middle slot c.grant.result grant sound later c.grant.ensures at in omega (arith, behind, from)
             | inr earlier ↦
                 let here : slot ≡ middle = omega (arith, earlier, within) in
-                let both : Some grant ≡ Some c.grant.result = sym at ∙ ap (slice_get (slots_of batch)) here ∙ c.grant.ensures in
+                let both : Some grant ≡ Some c.grant.result = sym at ∙ ap (slice_get (batch_slots batch)) here ∙ c.grant.ensures in
                 let same : grant ≡ c.grant.result = cc in
                 rw same from
           ]),

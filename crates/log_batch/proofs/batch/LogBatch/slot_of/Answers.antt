@@ -2,7 +2,7 @@ use Rattle.std.proofs.Common.{◌≡◌, Some, length, ap, sym, ◌∙◌, arith
 use Rattle.std.specs.Prelude.{slice_get}
 use Rattle.std.proofs.lemmas.Option.{slice_get_within}
 use Rattle.model_base.specs.declared.deed.Grant.{Grant}
-use Rattle.bohm_core_base.specs.Batch.{slots_of}
+use Rattle.bohm_core_base.specs.Batch.{batch_slots}
 use Rattle.log_batch.specs.Supplied.{batch_in}
 use Rattle.log_batch.proofs.Counted.{sound_batch}
 use Rattle.log_batch.proofs.OnlySlot.{only-slot}
@@ -13,7 +13,7 @@ pub returns-then-grant-place-clause-only : goal.returns-then-grant-place-clause-
 returns-then-grant-place-clause-only c slot grant at same =
     let batch = batch_in c.args.self.now in
     let sound = sound_batch c.args.self.now c.log-log.ensures.of_log in
-    ap Some (sym (only-slot (slots_of batch) c.slot_from-slot.result c.args.place
+    ap Some (sym (only-slot (batch_slots batch) c.slot_from-slot.result c.args.place
     (λ k j first later less here behind. c.slots_stand_in_order.ensures batch k j first later sound less here behind)
     c.slot_from-slot.ensures.below c.slot_from-slot.ensures.from slot grant at same))
 
@@ -22,18 +22,18 @@ returns-else-slot-slot_count-clause-found c slot grant at same =
     let batch = batch_in c.args.self.now in
     let sound = sound_batch c.args.self.now c.log-log.ensures.of_log in
     let here : slot ≡ c.slot_from-slot.result =
-    only-slot (slots_of batch) c.slot_from-slot.result c.args.place
+    only-slot (batch_slots batch) c.slot_from-slot.result c.args.place
     (λ k j first later less here behind. c.slots_stand_in_order.ensures batch k j first later sound less here behind)
     c.slot_from-slot.ensures.below c.slot_from-slot.ensures.from slot grant at same in
-    let within = slice_get_within (slots_of batch) slot grant at in
+    let within = slice_get_within (batch_slots batch) slot grant at in
     elim c.else-slot-slot_count.branch [
       | else-slot-slot_count-via-then-slot-slot_count+else-grant-place w ↦
-          let both : Some grant ≡ Some w.grant.result = sym at ∙ ap (slice_get (slots_of batch)) here ∙ w.grant.ensures in
+          let both : Some grant ≡ Some w.grant.result = sym at ∙ ap (slice_get (batch_slots batch)) here ∙ w.grant.ensures in
           let one : grant ≡ w.grant.result = cc in
           let place : w.grant.result.place ≡ c.args.place = ap (λ (g : Grant). g.place) (sym one) ∙ same in
           omega (arith, place, w.if-grant-place.false)
       | else-slot-slot_count-via-else-slot-slot_count w ↦
-          let count : c.slot_count.result ≡ length (slots_of batch) = c.slot_count.ensures in
+          let count : c.slot_count.result ≡ length (batch_slots batch) = c.slot_count.ensures in
           omega (arith, here, within, count, w.if-slot-slot_count.false)
     ]
 

@@ -1,16 +1,13 @@
-use Rattle.std.proofs.Common.{◌≡◌, ℕ, ◌≤◌, vec_len, length, map, [], ◌∷◌, ◌++◌}
+use Rattle.std.proofs.Common.{◌≡◌, ℕ, vec_len, length, map, [], ◌∷◌, ◌++◌}
 use Rattle.std.specs.Prelude.{decimal}
-use Rattle.std.specs.List.{AllByRecursion}
-use Rattle.log_text.specs.Statement.{IsRegister}
 use Rattle.log_text.specs.Fault.{OfMore, fault_from}
+use Rattle.log_text.specs.Parsing.{AreInsertable}
 use Rattle.log_text.proofs.parsing.touching.more_registers.Given as goal
 
 abbrev pub invariant-registers : goal.invariant-registers
 invariant-registers l = record {
   same : map decimal l.initial.registers.items ++ l.initial.words ≡ map decimal l.registers.items ++ l.words;
-  each : AllByRecursion IsRegister l.registers.items;
-  some : 1 ≤ vec_len l.registers;
-  room : vec_len l.registers ≤ 8;
+  insertable : AreInsertable l.registers.items;
   fits : (steps outs : ℕ) → fault_from (OfMore (vec_len l.initial.registers) steps outs ∷ []) l.initial.words ≡ fault_from (OfMore (vec_len l.registers) steps outs ∷ []) l.words;
 }
 

@@ -8,8 +8,8 @@ pub returns-then-self-end-ne32 : goal.returns-then-self-end-ne32
 returns-then-self-end-ne32 c =
     foreign_word c.self.inside.line.now c.self.inside.start c.name_end-end.result c.args.self.now c.self.view_is (omega arith) c.name_end-end.ensures.value (omega arith) c.if-self-end-ne32.true
 
-pub returns-then-word-gt32 : goal.returns-then-word-gt32
-returns-then-word-gt32 c =
+pub returns-then-word-gt-MOST_NAME_BYTES : goal.returns-then-word-gt-MOST_NAME_BYTES
+returns-then-word-gt-MOST_NAME_BYTES c =
     let line = c.self.inside.line.now in
     let start = c.self.inside.start in
     let end = c.name_end-end.result in

@@ -4,9 +4,10 @@ use Rattle.std.proofs.lemmas.Bool.{true≢false}
 use Rattle.log_batch.specs.Earlier.{earlier_count}
 use Rattle.log_batch.specs.Supplied.{batch_in}
 use Rattle.log_words.specs.Listing.{is_reached}
-use Rattle.log_words.proofs.HolderSets.{by_cases}
-use Rattle.log_words.proofs.Reaching.{IsFirst, first-due, none-due, nothing, skip}
+use Rattle.log_words.proofs.Reaching.{IsFirst, first-due, none-due, skip}
 use Rattle.log_words.proofs.reach.Reach.take_all_earlier.Goals as goal
+use Rattle.grants.proofs.Worklist.{nothing}
+use Rattle.model_base.proofs.Replay.{by_cases}
 
 pub overflow_add-low : goal.overflow_add-low
 overflow_add-low c =

@@ -2,7 +2,7 @@ use Rattle.std.proofs.Common.{◌≡◌, ◌==◌, ℕ, sym, ◌∙◌, subst, a
 use prog.Atomic.{either}
 use Rattle.atomic_table.specs.Table.{Allows}
 use Rattle.words.specs.Legal.{legal}
-use Rattle.words.specs.Passes.{Passing, goes_on}
+use Rattle.words.specs.Passes.{Passing, gone_on}
 use Rattle.words.specs.Tells.{ClaimTells}
 use Rattle.words.specs.Views.{In, IsSettled}
 use Rattle.words.proofs.Plays.{claim_then}
@@ -28,7 +28,7 @@ pub returns-clause-same : goal.returns-clause-same
 returns-clause-same g c =
     let same = c.exchange-found.ensures.same in
     let passed : Passing = record { table = c.exchange-found.new.seat.table_id; number = c.exchange-found.new.seat.id; view = c.exchange-found.new.seat.me.0; bodies = c.pass.inside.bodies } in
-    subst (λ (p : Passing). passed ≡ goes_on p c.exchange-found.new.seat.me.0) c.pass.view_is
+    subst (λ (p : Passing). passed ≡ gone_on p c.exchange-found.new.seat.me.0) c.pass.view_is
     (λ t. record { table = same.0 t; number = same.1 t; view = c.exchange-found.new.seat.me.0; bodies = c.pass.inside.bodies })
 
 pub returns-clause-tells : goal.returns-clause-tells

@@ -1,6 +1,6 @@
 use Rattle.std.proofs.Common.{◌≡◌, ℕ, sym, ap, ◌∙◌, subst}
 use Rattle.atomic_table.specs.Table.{Allows}
-use Rattle.words.specs.Layout.{slot_at}
+use Rattle.words.specs.Layout.{listed_slot_at}
 use Rattle.words.specs.Legal.{legal}
 use Rattle.words.specs.Passes.{Passing}
 use Rattle.words.specs.Tells.{EndTells}
@@ -14,7 +14,7 @@ get-requires-clause-allows g c =
     let b = g.K.Placed.batch key in
     let listed = g.K.Placed.listed key in
     let seat = c.pass.inside.seat in
-    subst (λ (w : ℕ). Allows (λ s. legal b listed s.words s.views) c.args.self.now.table.slots seat.id seat.me w (λ n. n) (end_then b (slot_at listed c.args.end) seat.me)) (sym c.end_at-at.ensures.value)
+    subst (λ (w : ℕ). Allows (λ s. legal b listed s.words s.views) c.args.self.now.table.slots seat.id seat.me w (λ n. n) (end_then b (listed_slot_at listed c.args.end) seat.me)) (sym c.end_at-at.ensures.value)
     (end_reads b listed c.args.self.now.table.slots seat.id seat.me c.pass.invariant.alive c.args.end c.requires.listed)
 
 pub invariant_of-pass : goal.invariant_of-pass
@@ -32,4 +32,4 @@ returns-clause-same g c =
 
 pub returns-clause-tells : goal.returns-clause-tells
 returns-clause-tells g c =
-    subst (λ (p : Passing). EndTells (g.K.Placed.batch c.args.self.now.key) (slot_at (g.K.Placed.listed c.args.self.now.key) c.args.end) p.view c.get.result) c.pass.view_is c.get.ensures.then.1
+    subst (λ (p : Passing). EndTells (g.K.Placed.batch c.args.self.now.key) (listed_slot_at (g.K.Placed.listed c.args.self.now.key) c.args.end) p.view c.get.result) c.pass.view_is c.get.ensures.then.1

@@ -2,7 +2,7 @@ use Rattle.std.proofs.Common.{◌≡◌, ℕ, List, sym, ◌∙◌, subst}
 use Rattle.atomic_table.specs.Table.{Allows}
 use Rattle.bohm_core_base.specs.declared.event.Event.TheVariants.{Fill}
 use Rattle.words.specs.Legal.{legal}
-use Rattle.words.specs.Passes.{Passing, goes_on}
+use Rattle.words.specs.Passes.{Passing, gone_on}
 use Rattle.words.specs.Views.{Holds, KnowsReferences, with_event}
 use Rattle.words.proofs.Plays.{makes}
 use Rattle.words.proofs.Allowed.{fills}
@@ -28,5 +28,5 @@ returns g c =
     let same = c.put.ensures.same in
     let then = c.put.ensures.then in
     let passed : Passing = record { table = c.put.new.seat.table_id; number = c.put.new.seat.id; view = c.put.new.seat.me.0; bodies = c.pass.inside.bodies } in
-    subst (λ (p : Passing). passed ≡ goes_on p (with_event p.view (Fill p.number c.args.index))) c.pass.view_is
+    subst (λ (p : Passing). passed ≡ gone_on p (with_event p.view (Fill p.number c.args.index))) c.pass.view_is
     (λ t. record { table = same.0 t; number = same.1 t; view = then.1 t; bodies = c.pass.inside.bodies })

@@ -1,7 +1,7 @@
 use Rattle.std.proofs.Common.{◌≡◌, ℕ, sym, ◌∙◌, subst, arith, rules}
 use Rattle.atomic_table.specs.Table.{Allows}
 use Rattle.words.specs.Legal.{legal}
-use Rattle.words.specs.Passes.{Passing, goes_on}
+use Rattle.words.specs.Passes.{Passing, gone_on}
 use Rattle.words.specs.Tells.{LookTells}
 use Rattle.words.specs.Views.{In, IsSettled}
 use Rattle.words.proofs.Plays.{look_then}
@@ -27,7 +27,7 @@ pub returns-clause-same : goal.returns-clause-same
 returns-clause-same g c =
     let same = c.get-found.ensures.same in
     let passed : Passing = record { table = c.get-found.new.seat.table_id; number = c.get-found.new.seat.id; view = c.get-found.new.seat.me.0; bodies = c.pass.inside.bodies } in
-    subst (λ (p : Passing). passed ≡ goes_on p c.get-found.new.seat.me.0) c.pass.view_is
+    subst (λ (p : Passing). passed ≡ gone_on p c.get-found.new.seat.me.0) c.pass.view_is
     (λ t. record { table = same.0 t; number = same.1 t; view = c.get-found.new.seat.me.0; bodies = c.pass.inside.bodies })
 
 pub returns-clause-tells : goal.returns-clause-tells

@@ -2,9 +2,9 @@ use Rattle.std.proofs.Common.{◌≡◌, ℕ, ◌+◌, suc, List, sym, ◌∙◌
 use Rattle.atomic_table.specs.Table.{Allows}
 use Rattle.bohm_core_base.specs.declared.event.Event.TheVariants.{End}
 use Rattle.bohm_core_base.specs.Batch.{words_length}
-use Rattle.words.specs.Layout.{slot_at}
+use Rattle.words.specs.Layout.{listed_slot_at}
 use Rattle.words.specs.Legal.{legal}
-use Rattle.words.specs.Passes.{Passing, goes_on}
+use Rattle.words.specs.Passes.{Passing, gone_on}
 use Rattle.words.specs.Views.{Holds, In, KnowsReferences, with_event}
 use Rattle.words.proofs.Plays.{makes}
 use Rattle.words.proofs.Allowed.{ends}
@@ -16,7 +16,7 @@ put-requires-clause-allows g c =
     let b = g.K.Placed.batch key in
     let listed = g.K.Placed.listed key in
     let seat = c.pass.inside.seat in
-    let slot = slot_at listed c.args.end in
+    let slot = listed_slot_at listed c.args.end in
     let held = subst (λ (p : Passing). (ended : List ℕ) × Holds p.view c.args.index (words_length b c.args.index) ended × ¬ (In slot ended)) (sym c.pass.view_is) c.requires.held in
     let ready = subst (λ (p : Passing). KnowsReferences b p.view c.args.index) (sym c.pass.view_is) c.requires.ready in
     let is = c.requires.place in
@@ -35,5 +35,5 @@ returns g c =
     let same = c.put.ensures.same in
     let then = c.put.ensures.then in
     let passed : Passing = record { table = c.put.new.seat.table_id; number = c.put.new.seat.id; view = c.put.new.seat.me.0; bodies = c.pass.inside.bodies } in
-    subst (λ (p : Passing). passed ≡ goes_on p (with_event p.view (End p.number c.args.index (slot_at (g.K.Placed.listed c.args.self.now.key) c.args.end)))) c.pass.view_is
+    subst (λ (p : Passing). passed ≡ gone_on p (with_event p.view (End p.number c.args.index (listed_slot_at (g.K.Placed.listed c.args.self.now.key) c.args.end)))) c.pass.view_is
     (λ t. record { table = same.0 t; number = same.1 t; view = then.1 t; bodies = c.pass.inside.bodies })

@@ -1,0 +1,16 @@
+//! How much is read and kept at once: each limit once.
+
+/// Bytes of a line of a log, without its LF; a longer line is refused.
+pub const MOST_LINE_BYTES: usize = 4_096;
+
+/// Bytes that are kept of a line: one more than a line may have, so that a longer one shows.
+pub const KEPT_BYTES: usize = MOST_LINE_BYTES + 1;
+
+/// Bytes that are read ahead at most.
+pub const BUFFER_BYTES: usize = 65_536;
+
+/// Bytes that a counted reader gives; a read behind so many is answered by an error.
+pub const MOST_GIVEN_BYTES: u64 = 1 << 62;
+
+/// Bytes for which there is room where a report waits to be written.
+pub const PENDING_BYTES: usize = 65_536;

@@ -1,0 +1,31 @@
+-- What the statements of src/admitting.rt ask for, and what entering their users asks of names.
+use Rattle.std.specs.Prelude.{ℕ, Option, List}
+use Rattle.log_text.specs.Statement.{Sentence}
+use Rattle.log_text.specs.declared.access.RawAccess.{RawAccess}
+use Rattle.log_text.specs.declared.statement.RawDeed.{RawDeed}
+use Rattle.log_text.specs.declared.statement.RawForm.{RawForm}
+use Rattle.log_text.specs.declared.statement.RawStep.{RawStep}
+use Rattle.sequencer.specs.Names.{with_name}
+use Rattle.sequencer.specs.Catalog.{Names, with_grantee}
+use Rattle.sequencer.specs.Refusal.{deed_refusal, or_refused, users_refusal}
+use Rattle.sequencer.specs.declared.refused.Refused.{Refused}
+
+-- a user asks for a table of this name with so many columns
+abbrev pub create_by : List ℕ → List ℕ → ℕ → Sentence
+create_by user table columns = record { user = user; form = RawForm.Create table columns }
+
+-- a user asks for a RUN of these accesses and steps, with this deed if there is one
+abbrev pub run_by : List ℕ → List RawAccess → List RawStep → Option RawDeed → Sentence
+run_by user accesses steps deed = record { user = user; form = RawForm.Run accesses steps deed }
+
+-- a user asks for a deed by itself
+abbrev pub deed_by : List ℕ → RawDeed → Sentence
+deed_by user deed = record { user = user; form = RawForm.Deed deed }
+
+-- the names once the user of a statement is named, and then the grantee of its deed
+abbrev pub with_users : Names → List ℕ → Option RawDeed → Names
+with_users names user deed = record names { users = with_grantee (with_name names.users user) deed }
+
+-- the first test of a deed's table, and then of the users, that isn't passed
+abbrev pub entry_refusal : Names → List ℕ → Option RawDeed → Option Refused
+entry_refusal names user deed = or_refused (deed_refusal names deed) (users_refusal names.users user deed)
