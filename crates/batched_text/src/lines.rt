@@ -24,10 +24,10 @@ use std::sync::Wait;
 use std::thread::Threads;
 
 /// Takes a statement into the log if it is not refused, and says what its line became.
-fn take_statement(engine: &mut Engine, statement: RawStatement) -> Result<Became, EngineFault>
+fn take_statement(engine: &mut Engine, statement: RawStatement<'_>) -> Result<Became, EngineFault>
     requires { IsInGrammar statement }
-    ensures line { IfOk result (λ line. line ≡ became engine.old.log.names (read statement)) }
-    ensures engine { OnOk result (engine.new ≡ record engine.old { log = with_reading engine.old.log (read statement) }) }
+    ensures line { IfOk result (λ line. line ≡ became engine.old.log.names (read statement.entry)) }
+    ensures engine { OnOk result (engine.new ≡ record engine.old { log = with_reading engine.old.log (read statement.entry) }) }
     ensures err { IfErr result (λ f. f ≡ EngineFault.NoMemory) }
 {
     match engine.push(statement) {
@@ -42,12 +42,12 @@ fn take_statement(engine: &mut Engine, statement: RawStatement) -> Result<Became
 /// Takes the statement that a line was read as into the log if it is one that is not refused, and says what the line became.
 pub(crate) fn take_read(
     engine: &mut Engine,
-    found: Result<RawStatement, LineFault>,
+    found: Result<RawStatement<'_>, LineFault>,
 ) -> Result<Became, EngineFault>
     requires { ForOk found IsInGrammar }
-    ensures line { IfOk result (λ line. line ≡ became engine.old.log.names (reading_of found)) }
-    ensures engine { OnOk result (engine.new ≡ record engine.old { log = with_reading engine.old.log (reading_of found) }) }
-    ensures told { OnOk result (found ≢ Err LineFault.NoMemory) }
+    ensures line { IfOk result (λ line. line ≡ became engine.old.log.names (reading_of found.entry)) }
+    ensures engine { OnOk result (engine.new ≡ record engine.old { log = with_reading engine.old.log (reading_of found.entry) }) }
+    ensures told { OnOk result (found.entry ≢ Err LineFault.NoMemory) }
     ensures err { IfErr result (λ f. f ≡ EngineFault.NoMemory) }
 {
     match found {

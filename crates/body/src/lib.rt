@@ -25,7 +25,7 @@ pub use laws::{
 use model_base::{Form, Statement};
 pub use row_map::RowMap;
 pub use row_store::{
-    RowSource, RowStore, filled, put_rows, release_absent, release_rows, reserve_rows, run_on,
+    RowSource, RowStore, fill, put_rows, release_absent, release_rows, reserve_rows, run_on,
     write_back,
 };
 use steps::run_steps;

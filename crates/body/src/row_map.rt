@@ -36,7 +36,10 @@ impl RowSource for RowMap {
     ghost rows = { rows_of };
 
     fn row(&self, key: Key) -> Option<Row> {
-        self.entries.get(&key).copied().flatten()
+        match self.entries.get(&key) {
+            Some(row) => *row,
+            None => None,
+        }
     }
 }
 
@@ -52,9 +55,9 @@ impl RowStore for RowMap {
         Ok(())
     }
 
-    fn put_row(&mut self, key: Key, row: Option<Row>) {
+    fn put_row(&mut self, key: Key, row: &Option<Row>) {
         if let Some(entry) = self.entries.get_mut(&key) {
-            *entry = row;
+            *entry = *row;
         }
     }
 

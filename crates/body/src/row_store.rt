@@ -48,9 +48,9 @@ pub trait RowStore: RowSource {
             → has_room self.new table row → has_room self.old table row };
 
     /// Puts a row, or its absence, at a key. It takes no memory, since a row goes where room was made.
-    fn put_row(&mut self, key: Key, row: Option<Row>)
-        requires { IsSome row → has_room self.old key.table key.row }
-        ensures rows { Self.rows self.new ≡ with_row (Self.rows self.old) key.table key.row row }
+    fn put_row(&mut self, key: Key, row: &Option<Row>)
+        requires { IsSome row.now → has_room self.old key.table key.row }
+        ensures rows { Self.rows self.new ≡ with_row (Self.rows self.old) key.table key.row row.now }
         ensures keeps_room { (table row : ℕ) → has_room self.old table row → has_room self.new table row }
         ensures no_more { (table row : ℕ) → has_room self.new table row → has_room self.old table row };
 
@@ -61,18 +61,17 @@ pub trait RowStore: RowSource {
         ensures no_more { (table row : ℕ) → has_room self.new table row → has_room self.old table row };
 }
 
-/// The window of the rows that the statement's accesses have in the source. It has no output.
-pub fn filled<S: RowSource>(statement: &Statement, source: &S) -> Window
+/// Fills a window, whatever it held, with the rows that the statement's accesses have in the source. It has no output then.
+pub fn fill<S: RowSource>(statement: &Statement, source: &S, window: &mut Window)
     requires { length (accesses_of statement.now.form) ≤ MOST_ACCESSES }
-    ensures shows { WindowShows (accesses_of statement.now.form) result (S.rows source.now) }
-    ensures fresh { result.outputs ≡ [] }
+    ensures shows { WindowShows (accesses_of statement.now.form) window.new (S.rows source.now) }
+    ensures fresh { window.new.outputs ≡ [] }
 {
     let accesses = statement.accesses();
-    let mut window = Window::new(statement);
+    window.clear_outputs();
     for (place, access) in accesses.iter().enumerate() {
         window.set(place, source.row(access.key));
     }
-    window
 }
 
 /// Makes room for each row that the window has, at the keys of the accesses. It changes no row. On `Err` memory was
@@ -173,7 +172,8 @@ pub fn run_on<S: RowStore>(
     ensures err { OnErr result (S.rows store.new ≡ S.rows store.old) }
     ensures lean { IsLean (S.has_room store.old) (S.rows store.old) → IsLean (S.has_room store.new) (S.rows store.new) }
 {
-    let mut window = filled(statement, store);
+    let mut window = Window::new();
+    fill(statement, store, &mut window);
     let end = run(statement, &mut window);
     if end != BodyEnd::Completed {
         return Ok((end, Outputs::new()));

@@ -136,7 +136,7 @@ fn store(
         Some(place) => match window.row(place) {
             None => StepEnd::Aborts(Reason::NoRow),
             Some(found) => {
-                let mut changed = found;
+                let mut changed = *found;
                 changed.set_column(column, read(registers, from));
                 window.set(place, Some(changed));
                 StepEnd::GoesOn(0)

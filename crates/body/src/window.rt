@@ -2,7 +2,7 @@
 
 ghost use Rattle.std.specs.Prelude.{◌≡◌, ◌<◌, ◌++◌, ◌∷◌, [], length, replicate, slice_index_or, slice_set};
 
-use model_base::{MOST_ACCESSES, MOST_OUTPUTS, Outputs, Row, Statement};
+use model_base::{MOST_ACCESSES, MOST_OUTPUTS, Outputs, Row};
 
 /// The row of each access of a statement, or its absence, by the access's place; and the outputs so far.
 #[derive(Clone, Copy)]
@@ -13,7 +13,7 @@ pub struct Window {
 
 impl Window {
     /// The window of a body that hasn't begun: its rows are all absent, and there is no output.
-    pub fn new(_statement: &Statement) -> Self
+    pub fn new() -> Self
         ensures rows { result.rows ≡ replicate MOST_ACCESSES None }
         ensures outputs { result.outputs ≡ [] }
     {
@@ -24,12 +24,12 @@ impl Window {
     }
 
     /// The row of the access at this place, from 0.
-    pub fn row(&self, access: usize) -> Option<Row>
+    pub fn row(&self, access: usize) -> &Option<Row>
         requires { access < MOST_ACCESSES }
-        ensures row { result ≡ slice_index_or self.now.rows access None }
+        ensures row { result.now ≡ slice_index_or self.now.rows access None }
         ensures whole { length self.now.rows ≡ MOST_ACCESSES }
     {
-        self.rows[access]
+        &self.rows[access]
     }
 
     /// Puts a row, or its absence, at this place, from 0.
@@ -46,6 +46,14 @@ impl Window {
         ensures { result ≡ self.now.outputs }
     {
         self.outputs
+    }
+
+    /// Forgets the outputs.
+    pub(crate) fn clear_outputs(&mut self)
+        ensures outputs { self.new.outputs ≡ [] }
+        ensures rows { self.new.rows ≡ self.old.rows }
+    {
+        self.outputs = Outputs::new();
     }
 
     /// Puts an output after the others, of which there are fewer than `MOST_OUTPUTS`.

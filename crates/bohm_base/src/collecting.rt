@@ -71,12 +71,12 @@ pub fn faulty_line(fault: LineFault) -> Result<Became, EngineFault>
 
 /// Takes a statement into the log if it is not refused, and says what its line became. After an error the log is as it
 /// was, and the statement is not refused.
-fn take_statement(log: &mut Log, statement: RawStatement) -> Result<Became, EngineFault>
+fn take_statement(log: &mut Log, statement: RawStatement<'_>) -> Result<Became, EngineFault>
     requires { IsInGrammar statement }
-    ensures line { IfOk result (λ line. line ≡ became log.old.names (read statement)) }
-    ensures log { OnOk result (log.new ≡ with_reading log.old (read statement)) }
+    ensures line { IfOk result (λ line. line ≡ became log.old.names (read statement.entry)) }
+    ensures log { OnOk result (log.new ≡ with_reading log.old (read statement.entry)) }
     ensures err { IfErr result (λ f. f ≡ EngineFault.NoMemory) }
-    ensures want { OnErr result (LineMayLackMemory (became log.old.names (read statement))) }
+    ensures want { OnErr result (LineMayLackMemory (became log.old.names (read statement.entry))) }
 {
     match log.push(statement) {
         Ok(_) => Ok(Became::Accepted),
@@ -89,13 +89,16 @@ fn take_statement(log: &mut Log, statement: RawStatement) -> Result<Became, Engi
 
 /// Takes the statement that a line was read as into the log if it is one that is not refused, and says what the line
 /// became. After an error the log is as it was, and the line is neither a faulty nor a refused one.
-fn take_read(log: &mut Log, found: Result<RawStatement, LineFault>) -> Result<Became, EngineFault>
+fn take_read(
+    log: &mut Log,
+    found: Result<RawStatement<'_>, LineFault>,
+) -> Result<Became, EngineFault>
     requires { ForOk found IsInGrammar }
-    ensures line { IfOk result (λ line. line ≡ became log.old.names (reading_of found)) }
-    ensures log { OnOk result (log.new ≡ with_reading log.old (reading_of found)) }
-    ensures told { OnOk result (found ≢ Err LineFault.NoMemory) }
+    ensures line { IfOk result (λ line. line ≡ became log.old.names (reading_of found.entry)) }
+    ensures log { OnOk result (log.new ≡ with_reading log.old (reading_of found.entry)) }
+    ensures told { OnOk result (found.entry ≢ Err LineFault.NoMemory) }
     ensures err { IfErr result (λ f. f ≡ EngineFault.NoMemory) }
-    ensures want { OnErr result (LineMayLackMemory (became log.old.names (reading_of found))) }
+    ensures want { OnErr result (LineMayLackMemory (became log.old.names (reading_of found.entry))) }
 {
     match found {
         Ok(statement) => {

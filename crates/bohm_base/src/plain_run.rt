@@ -26,7 +26,7 @@ use log_text_base::{
 use model_base::{Place, Statement};
 use plain::State;
 use report::{put_fault, put_outcome, put_refused};
-use sequencer::{Catalog, Refused};
+use sequencer::{Catalog, Refused, Room};
 use std::alloc::{AllocError, Global};
 use std::io::{Read, Write};
 
@@ -69,21 +69,23 @@ fn put_statement(
     catalog: &mut Catalog,
     state: &mut State,
     number: u64,
-    statement: RawStatement,
+    statement: RawStatement<'_>,
+    room: &mut Room,
     text: &mut Vec<u8>,
 ) -> Result<(), EngineFault>
     requires grammar { IsInGrammar statement }
     requires at { IsAt catalog.old state.old }
-    ensures ok { OnOk result (Advances catalog.old state.old number (read statement) text.old.items state.new text.new.items) }
-    ensures names { OnOk result (catalog.new ≡ names_with catalog.old (read statement)) }
+    ensures ok { OnOk result (Advances catalog.old state.old number (read statement.entry) text.old.items state.new text.new.items) }
+    ensures names { OnOk result (catalog.new ≡ names_with catalog.old (read statement.entry)) }
     ensures at { OnOk result (IsAt catalog.new state.new) }
     ensures err { IfErr result (λ f. f ≡ EngineFault.NoMemory) }
-    ensures want { OnErr result (MayLackRoom number text.old (became catalog.old (read statement))) }
+    ensures want { OnErr result (MayLackRoom number text.old (became catalog.old (read statement.entry))) }
 {
     let place = catalog.places();
-    match catalog.admit(statement) {
+    match catalog.admit(statement, room) {
         Ok(statement) => {
             put_accepted(alloc, catalog, state, place, &statement, text)?;
+            room.take_back(statement);
             Ok(())
         }
         Err(refused) => {
@@ -112,21 +114,22 @@ fn put_read(
     catalog: &mut Catalog,
     state: &mut State,
     number: u64,
-    found: Result<RawStatement, LineFault>,
+    found: Result<RawStatement<'_>, LineFault>,
+    room: &mut Room,
     text: &mut Vec<u8>,
 ) -> Result<(), EngineFault>
     requires grammar { ForOk found IsInGrammar }
     requires at { IsAt catalog.old state.old }
-    ensures ok { OnOk result (Advances catalog.old state.old number (reading_of found) text.old.items state.new text.new.items) }
-    ensures names { OnOk result (catalog.new ≡ names_with catalog.old (reading_of found)) }
+    ensures ok { OnOk result (Advances catalog.old state.old number (reading_of found.entry) text.old.items state.new text.new.items) }
+    ensures names { OnOk result (catalog.new ≡ names_with catalog.old (reading_of found.entry)) }
     ensures at { OnOk result (IsAt catalog.new state.new) }
-    ensures told { OnOk result (found ≢ Err LineFault.NoMemory) }
+    ensures told { OnOk result (found.entry ≢ Err LineFault.NoMemory) }
     ensures err { IfErr result (λ f. f ≡ EngineFault.NoMemory) }
-    ensures want { OnErr result (MayLackRoom number text.old (became catalog.old (reading_of found))) }
+    ensures want { OnErr result (MayLackRoom number text.old (became catalog.old (reading_of found.entry))) }
 {
     match found {
         Ok(statement) => {
-            put_statement(alloc, catalog, state, number, statement, text)?;
+            put_statement(alloc, catalog, state, number, statement, room, text)?;
             Ok(())
         }
         Err(fault) => {
@@ -144,6 +147,7 @@ struct Dealt {
     state: State,
     /// The number of the next line.
     number: u64,
+    room: Room,
     text: Vec<u8>,
 }
 
@@ -162,6 +166,7 @@ impl Dealt {
             catalog,
             state,
             number: 1,
+            room: Room::new(alloc),
             text: Vec::new(alloc),
         }
     }
@@ -182,6 +187,7 @@ fn put_line(alloc: Global, dealt: &mut Dealt, line: &[u8]) -> Result<(), EngineF
         &mut dealt.state,
         dealt.number,
         found,
+        &mut dealt.room,
         &mut dealt.text,
     )?;
     dealt.number += 1;

@@ -41,7 +41,7 @@ fn over_sixteen_rows(alloc: Global) -> Result<Statement, AllocError> {
 #[test]
 fn refused_memory_leaves_the_store(rt: HostRuntime) -> Result<(), Fail> {
     let statement = over_sixteen_rows(rt.alloc())?;
-    let mut window = Window::new(&statement);
+    let mut window = Window::new();
     for place in 0..16 {
         window.set(place, Some(Row::new()));
     }

@@ -159,11 +159,11 @@ impl Engine {
     }
 
     /// Takes a statement as the next place, as the log does. After a refusal the engine is as it was.
-    pub fn push(&mut self, statement: RawStatement) -> Result<Place, Refused>
+    pub fn push(&mut self, statement: RawStatement<'_>) -> Result<Place, Refused>
         ensures place { IfOk result (λ place. place ≡ length self.old.log.statements) }
-        ensures accepted { OnOk result (self.new ≡ record self.old { log = with_accepted self.old.log statement }) }
-        ensures passes { OnOk result (refusal self.old.log.names statement ≡ None) }
-        ensures refused { IfErr result (λ r. IsRefusal r (refusal self.old.log.names statement)) }
+        ensures accepted { OnOk result (self.new ≡ record self.old { log = with_accepted self.old.log statement.entry }) }
+        ensures passes { OnOk result (refusal self.old.log.names statement.entry ≡ None) }
+        ensures refused { IfErr result (λ r. IsRefusal r (refusal self.old.log.names statement.entry)) }
         ensures err { OnErr result (self.new ≡ self.old) }
     {
         let _dropped = self.log.dropped();

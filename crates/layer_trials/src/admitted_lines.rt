@@ -4,11 +4,11 @@
 use crate::telling::tell;
 use log_text::{LineFault, RawStatement, parse_line};
 use model_base::{Place, Table, User};
-use sequencer::{Catalog, Log, NameTable, Refused};
+use sequencer::{Catalog, Log, NameTable, Refused, Room};
 use std::alloc::Global;
 
 /// The statement that a line spells.
-fn parsed(alloc: Global, line: &str) -> Result<RawStatement, LineFault> {
+fn parsed<'a>(alloc: Global, line: &'a str) -> Result<RawStatement<'a>, LineFault> {
     match parse_line(alloc, line.as_bytes()) {
         Err(LineFault::NoMemory) => parse_line(alloc, line.as_bytes()),
         result => result,
@@ -124,7 +124,11 @@ fn admitted(alloc: Global, catalog: &mut Catalog, line: &str) -> Result<User, Re
         return Err(Refused::NoMemory);
     };
     catalog.test(&statement)?;
-    Ok(catalog.admit(statement)?.user)
+    let mut room = Room::new(alloc);
+    let statement = catalog.admit(statement, &mut room)?;
+    let user = statement.user;
+    room.take_back(statement);
+    Ok(user)
 }
 
 /// The catalog's answer to a line, which is put again if memory was refused and nothing has changed.

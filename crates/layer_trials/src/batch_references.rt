@@ -12,7 +12,7 @@ use sequencer::LogTail;
 use std::alloc::{AllocError, Global};
 
 /// The statement that a line spells.
-fn parsed(alloc: Global, line: &str) -> Result<RawStatement, LineFault> {
+fn parsed<'a>(alloc: Global, line: &'a str) -> Result<RawStatement<'a>, LineFault> {
     match parse_line(alloc, line.as_bytes()) {
         Err(LineFault::NoMemory) => parse_line(alloc, line.as_bytes()),
         result => result,

@@ -24,7 +24,7 @@ ghost use Rattle.layer_trials.specs.Examples.{IsExample};
 use crate::fault::TrialFault;
 use crate::telling::tell;
 use answering::{ended, own_words};
-use body::{RowSource, Window, filled};
+use body::{RowSource, Window, fill};
 use grants::{Book, Records, holds_option};
 use model_base::{
     Access, DeedForm, Form, Grant, Items, Key, Kind, Kinds, Place, Register, Revocation, Row,
@@ -64,7 +64,9 @@ fn window_of(statement: &Statement, row: Option<Row>) -> Window
     ensures shaped { IsShaped (columns_in (2 ∷ [])) (accesses_of statement.now.form) result }
     ensures fresh { result.outputs ≡ [] }
 {
-    filled(statement, &Found { row })
+    let mut window = Window::new();
+    fill(statement, &Found { row }, &mut window);
+    window
 }
 
 /// A row of two columns.

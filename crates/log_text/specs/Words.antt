@@ -1,5 +1,5 @@
 -- The words of a line, and which of them are names and numbers.
-use Rattle.std.specs.Prelude.{ℕ, ◌≤◌, ◌^◌, IsTrue, take, Bool, false, ◌&&◌, ◌||◌, List, [], ◌∷◌, length, nat_lt, nat_le, ◌==◌, if◌then◌else◌, Option, Some, None, bytes_eq, ℤ}
+use Rattle.std.specs.Prelude.{ℕ, ◌^◌, Bool, false, ◌&&◌, ◌||◌, List, [], ◌∷◌, length, nat_lt, nat_le, ◌==◌, if◌then◌else◌, Option, Some, None, bytes_eq, ℤ}
 use Rattle.std.specs.Fmt.{decimal, signed_decimal}
 use Rattle.std.specs.List.{slice_split, list_all}
 use Rattle.std.specs.Str.Parse.{digits_value, signed_digits_value}
@@ -35,8 +35,3 @@ is_name_byte b = is_letter b || (nat_le 48 b && nat_le b 57) || (b == 95)
 abbrev pub is_name : List ℕ → Bool
 is_name [] = false
 is_name (b ∷ bs) = is_letter b && list_all is_name_byte bs && nat_lt (length bs) MOST_NAME_BYTES
-
--- the first bytes of `MOST_NAME_BYTES` are a name
-pub record IsNameIn (len : ℕ) (bytes : List ℕ) : Type 0 where
-  pub within : len ≤ MOST_NAME_BYTES
-  pub name : IsTrue (is_name (take len bytes))

@@ -10,8 +10,8 @@ use model_base::{Kinds, RowNumber};
 
 /// A row that a statement declares, with its table's name.
 #[derive(Drop)]
-pub struct RawAccess {
-    pub table: Name,
+pub struct RawAccess<'a> {
+    pub table: Name<'a>,
     pub row: RowNumber,
     /// One kind or more.
     pub kinds: Kinds,
@@ -67,7 +67,7 @@ fn kinds_of(word: &[u8]) -> Option<Kinds>
 }
 
 /// The access that a word spells.
-pub(crate) fn access_of(word: &[u8]) -> Result<RawAccess, LineFault>
+pub(crate) fn access_of<'a>(word: &'a [u8]) -> Result<RawAccess<'a>, LineFault>
     ensures ok { IfOk result (λ a. (word.now ≡ access_word a) × IsAccess a) }
     ensures fits { OnOk result (access_fault word.now ≡ None) }
     ensures fault { IfErr result (λ f. access_fault word.now ≡ Some f) }

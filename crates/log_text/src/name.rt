@@ -6,54 +6,48 @@ use std::marker::Model;
 
 /// The name of a user or a table: a to z, then a to z, 0 to 9 and underscore, at most `MOST_NAME_BYTES` in all.
 ///
-/// It is kept in the value itself, so that it takes no memory.
+/// It is a slice of the line that spells it, so it takes no memory of its own.
 #[derive(Drop)]
-pub struct Name {
-    len: u8,
-    bytes: [u8; MOST_NAME_BYTES],
+pub struct Name<'a> {
+    text: &'a str,
 }
 
-impl Model for Name {
-    ghost use Rattle.std.specs.Prelude.{List, ℕ, take};
-    ghost use Rattle.log_text.specs.Words.{IsNameIn};
+impl<'a> Model for Name<'a> {
+    ghost use Rattle.std.specs.Prelude.{List, ℕ, IsTrue};
+    ghost use Rattle.log_text.specs.Words.{is_name};
 
     ghost Value = { List ℕ };
 
-    ghost view = { λ n. take n.len n.bytes };
+    ghost view = { λ n. n.text.now };
 
-    ghost invariant = { λ n. IsNameIn n.len n.bytes };
+    ghost invariant = { λ n. IsTrue (is_name n.text.now) };
 }
 
-impl Name {
+impl<'a> Name<'a> {
     ghost use Rattle.std.specs.Prelude.{◌≡◌, IsTrue};
     ghost use Rattle.log_text.specs.Words.{is_name};
 
     /// Its text.
-    #[tactic(auto, using(crate::proofs::Printable::utf8_name))]
-    pub fn as_str(&self) -> &str
+    pub fn as_str(&self) -> &'a str
         ensures text { result.now ≡ self.now }
         ensures name { IsTrue (is_name self.now) }
     {
-        let bytes = &self.bytes[..self.len as usize];
-        // SAFETY: the bytes of a name are ASCII.
-        unsafe { str::from_utf8_unchecked(bytes) }
+        self.text
     }
 
     /// The name that a word is.
-    pub(crate) fn of(word: &[u8]) -> Name
+    #[tactic(auto, using(crate::proofs::Printable::utf8_name))]
+    pub(crate) fn of(word: &'a [u8]) -> Name<'a>
         requires { IsTrue (is_name word.now) }
         ensures { result ≡ word.now }
     {
-        let mut bytes = [0; MOST_NAME_BYTES];
-        bytes[..word.len()].copy_from_slice(word);
-        Name {
-            len: word.len() as u8,
-            bytes,
-        }
+        // SAFETY: the bytes of a name are ASCII.
+        let text = unsafe { str::from_utf8_unchecked(word) };
+        Name { text }
     }
 }
 
-impl fmt::Display for Name {
+impl<'a> fmt::Display for Name<'a> {
     ghost use Rattle.std.specs.Prelude.{Some};
 
     ghost output = { λ n. Some n };

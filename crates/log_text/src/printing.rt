@@ -78,7 +78,12 @@ fn push_operation(
 }
 
 /// Appends a bar and a HAS.
-fn push_has(text: &mut String, to: Register, table: &Name, row: RowName) -> Result<(), AllocError>
+fn push_has(
+    text: &mut String,
+    to: Register,
+    table: &Name<'_>,
+    row: RowName,
+) -> Result<(), AllocError>
     ensures { OnOk result (string_bytes text.new ≡ string_bytes text.old ++ spaced (further_step (RawStep.Has to table.now row))) }
 {
     write!(text, " | HAS {} {table} ", to.index())?;
@@ -90,7 +95,7 @@ fn push_has(text: &mut String, to: Register, table: &Name, row: RowName) -> Resu
 fn push_load(
     text: &mut String,
     to: Register,
-    table: &Name,
+    table: &Name<'_>,
     row: RowName,
     column: u32,
 ) -> Result<(), AllocError>
@@ -105,7 +110,7 @@ fn push_load(
 /// Appends a bar and a STORE.
 fn push_store(
     text: &mut String,
-    table: &Name,
+    table: &Name<'_>,
     row: RowName,
     column: u32,
     from: Register,
@@ -122,7 +127,7 @@ fn push_store(
 /// Appends a bar and an INSERT.
 fn push_insert(
     text: &mut String,
-    table: &Name,
+    table: &Name<'_>,
     row: RowName,
     from: &[Register],
 ) -> Result<(), AllocError>
@@ -136,7 +141,7 @@ fn push_insert(
 }
 
 /// Appends a bar and a DELETE.
-fn push_delete(text: &mut String, table: &Name, row: RowName) -> Result<(), AllocError>
+fn push_delete(text: &mut String, table: &Name<'_>, row: RowName) -> Result<(), AllocError>
     ensures { OnOk result (string_bytes text.new ≡ string_bytes text.old ++ spaced (further_step (RawStep.Delete table.now row))) }
 {
     write!(text, " | DELETE {table} ")?;
@@ -161,7 +166,7 @@ fn push_skip(text: &mut String, of: Register, steps: u32) -> Result<(), AllocErr
 }
 
 /// Appends a bar and the step.
-fn push_step(text: &mut String, step: &RawStep) -> Result<(), AllocError>
+fn push_step(text: &mut String, step: &RawStep<'_>) -> Result<(), AllocError>
     ensures { OnOk result (string_bytes text.new ≡ string_bytes text.old ++ spaced (further_step step.now)) }
 {
     match step {
@@ -216,7 +221,7 @@ fn push_letters(text: &mut String, kinds: Kinds) -> Result<(), AllocError>
 }
 
 /// Appends a space and each of the accesses.
-fn push_accesses(text: &mut String, accesses: &[RawAccess]) -> Result<(), AllocError>
+fn push_accesses(text: &mut String, accesses: &[RawAccess<'_>]) -> Result<(), AllocError>
     ensures { OnOk result (string_bytes text.new ≡ string_bytes text.old ++ spaced (map access_word accesses.now)) }
 {
     for access in accesses {
@@ -227,7 +232,7 @@ fn push_accesses(text: &mut String, accesses: &[RawAccess]) -> Result<(), AllocE
 }
 
 /// Appends a bar and each of the steps.
-fn push_steps(text: &mut String, steps: &[RawStep]) -> Result<(), AllocError>
+fn push_steps(text: &mut String, steps: &[RawStep<'_>]) -> Result<(), AllocError>
     ensures { OnOk result (string_bytes text.new ≡ string_bytes text.old ++ spaced (flat_map further_step steps.now)) }
 {
     for step in steps {
@@ -237,7 +242,7 @@ fn push_steps(text: &mut String, steps: &[RawStep]) -> Result<(), AllocError>
 }
 
 /// Appends a grant or a revocation, each word behind a space.
-fn push_deed(text: &mut String, deed: &RawDeed) -> Result<(), AllocError>
+fn push_deed(text: &mut String, deed: &RawDeed<'_>) -> Result<(), AllocError>
     ensures { OnOk result (string_bytes text.new ≡ string_bytes text.old ++ spaced (deed_words deed.now)) }
 {
     match deed {
@@ -264,7 +269,7 @@ fn push_deed(text: &mut String, deed: &RawDeed) -> Result<(), AllocError>
 }
 
 /// Appends a bar and the deed, if there is one.
-fn push_last_deed(text: &mut String, deed: &Option<RawDeed>) -> Result<(), AllocError>
+fn push_last_deed(text: &mut String, deed: &Option<RawDeed<'_>>) -> Result<(), AllocError>
     ensures { OnOk result (string_bytes text.new ≡ string_bytes text.old ++ spaced (last_deed deed.now)) }
 {
     if let Some(deed) = deed {
@@ -278,9 +283,9 @@ fn push_last_deed(text: &mut String, deed: &Option<RawDeed>) -> Result<(), Alloc
 fn run_text(
     alloc: Global,
     user: &str,
-    accesses: &[RawAccess],
-    steps: &[RawStep],
-    deed: &Option<RawDeed>,
+    accesses: &[RawAccess<'_>],
+    steps: &[RawStep<'_>],
+    deed: &Option<RawDeed<'_>>,
 ) -> Result<String, AllocError>
     ensures { IfOk result (λ text. string_bytes text
         ≡ user.now ++ codes " RUN" ++ spaced (map access_word accesses.now)
@@ -294,7 +299,7 @@ fn run_text(
 }
 
 /// The line of a deed by itself.
-fn deed_text(alloc: Global, user: &str, deed: &RawDeed) -> Result<String, AllocError>
+fn deed_text(alloc: Global, user: &str, deed: &RawDeed<'_>) -> Result<String, AllocError>
     ensures { IfOk result (λ text. string_bytes text ≡ user.now ++ spaced (deed_words deed.now)) }
 {
     let mut text = format!(in alloc; "{user}")?;
@@ -304,7 +309,7 @@ fn deed_text(alloc: Global, user: &str, deed: &RawDeed) -> Result<String, AllocE
 
 /// The one line that reads as the statement, without an end of line. It fails only where the allocator refused.
 #[tactic(auto, using(crate::proofs::Grammar::line_is_spelling, crate::proofs::Joined::run_spelling, crate::proofs::Joined::deed_spelling))]
-pub fn print_statement(alloc: Global, statement: &RawStatement) -> Result<Vec<u8>, AllocError>
+pub fn print_statement(alloc: Global, statement: &RawStatement<'_>) -> Result<Vec<u8>, AllocError>
     // The line is the statement's words, joined by single spaces.
     ensures text { IfOk result (λ text. text.items ≡ spelling statement.now) }
     // A line that reads as the statement is that line, byte for byte.

@@ -7,7 +7,7 @@ use std::marker::Model;
 
 /// One step of a body, with its table's name.
 #[derive(Drop)]
-pub enum RawStep {
+pub enum RawStep<'a> {
     Const {
         to: Register,
         value: i64,
@@ -20,29 +20,29 @@ pub enum RawStep {
     },
     Has {
         to: Register,
-        table: Name,
+        table: Name<'a>,
         row: RowName,
     },
     Load {
         to: Register,
-        table: Name,
+        table: Name<'a>,
         row: RowName,
         column: u32,
     },
     Store {
-        table: Name,
+        table: Name<'a>,
         row: RowName,
         column: u32,
         from: Register,
     },
     /// A row of one to `MOST_COLUMNS` numbers.
     Insert {
-        table: Name,
+        table: Name<'a>,
         row: RowName,
         from: Items<Register>,
     },
     Delete {
-        table: Name,
+        table: Name<'a>,
         row: RowName,
     },
     Check {
@@ -59,46 +59,46 @@ pub enum RawStep {
 
 /// A grant or a revocation. Its grantor is the statement's user.
 #[derive(Drop)]
-pub enum RawDeed {
+pub enum RawDeed<'a> {
     /// With the option the grantee may grant further.
     Grant {
         kind: Kind,
-        table: Name,
-        grantee: Name,
+        table: Name<'a>,
+        grantee: Name<'a>,
         option: bool,
     },
     Revoke {
         kind: Kind,
-        table: Name,
-        grantee: Name,
+        table: Name<'a>,
+        grantee: Name<'a>,
     },
 }
 
 /// What a statement asks for.
 #[derive(Drop)]
-pub enum RawForm {
+pub enum RawForm<'a> {
     /// A table with so many columns, which the line may give as any number of 32 bits.
     Create {
-        table: Name,
+        table: Name<'a>,
         columns: u32,
     },
     /// One to `MOST_ACCESSES` accesses, at most `MOST_STEPS` steps, at most `MOST_OUTPUTS` of them `Out`, and perhaps a deed.
     Run {
-        accesses: Items<RawAccess>,
-        steps: Items<RawStep>,
-        deed: Option<RawDeed>,
+        accesses: Items<RawAccess<'a>>,
+        steps: Items<RawStep<'a>>,
+        deed: Option<RawDeed<'a>>,
     },
-    Deed(RawDeed),
+    Deed(RawDeed<'a>),
 }
 
 /// A statement as a line spells it. `parse_line` alone makes one, so it keeps to the limits of the grammar.
 #[derive(Drop)]
-pub struct RawStatement {
-    user: Name,
-    form: RawForm,
+pub struct RawStatement<'a> {
+    user: Name<'a>,
+    form: RawForm<'a>,
 }
 
-impl Model for RawStatement {
+impl<'a> Model for RawStatement<'a> {
     ghost use Rattle.log_text.specs.Statement.{Sentence, IsInGrammar};
 
     ghost Value = { Sentence };
@@ -108,12 +108,12 @@ impl Model for RawStatement {
     ghost invariant = { λ s. IsInGrammar record { user = s.user; form = s.form } };
 }
 
-impl RawStatement {
+impl<'a> RawStatement<'a> {
     ghost use Rattle.std.specs.Prelude.{◌≡◌};
     ghost use Rattle.log_text.specs.Statement.{IsInGrammar};
 
     /// The name of the user who makes it.
-    pub fn user(&self) -> &str
+    pub fn user(&self) -> &'a str
         ensures value { result.now ≡ self.now.user }
         ensures grammar { IsInGrammar self.now }
     {
@@ -121,7 +121,7 @@ impl RawStatement {
     }
 
     /// What it asks for.
-    pub fn form(&self) -> &RawForm
+    pub fn form(&self) -> &RawForm<'a>
         ensures value { result.now ≡ self.now.form }
         ensures grammar { IsInGrammar self.now }
     {
@@ -129,18 +129,18 @@ impl RawStatement {
     }
 
     /// The user's name and what it asks for. It takes no memory.
-    pub fn into_parts(self) -> (Name, RawForm)
-        ensures user { result.0 ≡ self.user }
-        ensures form { result.1 ≡ self.form }
-        ensures grammar { IsInGrammar self }
+    pub fn into_parts(self) -> (Name<'a>, RawForm<'a>)
+        ensures user { result.0 ≡ self.entry.user }
+        ensures form { result.1 ≡ self.entry.form }
+        ensures grammar { IsInGrammar self.entry }
     {
         (self.user, self.form)
     }
 
     /// The statement of these parts.
-    pub(crate) fn of(user: Name, form: RawForm) -> RawStatement
+    pub(crate) fn of(user: Name<'a>, form: RawForm<'a>) -> RawStatement<'a>
         requires { IsInGrammar record { user = user; form = form } }
-        ensures { result ≡ record { user = user; form = form } }
+        ensures { result ≡ record { user = user.entry; form = form.entry } }
     {
         RawStatement { user, form }
     }

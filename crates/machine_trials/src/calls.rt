@@ -1,8 +1,7 @@
 //! What a batch tells of itself, each call once.
 
-use crate::batches::{batch_of, log_of, nothing};
-use crate::fault::TrialFault;
 use log_batch::LogBatch;
+use machine_trials_base::{TrialFault, batch_of, log_of, nothing};
 use model_base::{Form, Key, Table};
 use std::alloc::Global;
 

@@ -1,29 +1,15 @@
 //! The machine over logs, tried: rows of events on a whole log and on a batch in the middle of it, each event told with what
-//! it changed, the calls of a batch, which grants one may end, and a log completed on one thread. What is printed is compared
-//! with `stdout`. Drawn lists of events are the test.
+//! it changed, and the calls of a batch. What is printed is compared with `stdout`.
 #![tactic(auto)]
 
-mod batches;
 mod calls;
-mod completed;
-#[cfg(test)]
-mod drawn;
-#[cfg(test)]
-mod draws;
-mod ended;
-mod fault;
 mod middle;
-mod shared;
 mod telling;
 mod whole;
-mod worked;
 
 use calls::tell_calls;
-use completed::tell_completed;
-use ended::tell_ended;
-use fault::TrialFault;
+use machine_trials_base::TrialFault;
 use middle::tell_middle;
-use shared::tell_shared;
 use std::alloc::Global;
 use std::process::ExitCode;
 use whole::tell_whole;
@@ -32,10 +18,7 @@ use whole::tell_whole;
 fn run(rt: &impl Print, alloc: Global) -> Result<(), TrialFault> {
     tell_whole(rt, alloc)?;
     tell_middle(rt, alloc)?;
-    tell_shared(rt, alloc)?;
-    tell_ended(rt, alloc)?;
-    tell_calls(rt, alloc)?;
-    tell_completed(rt, alloc)
+    tell_calls(rt, alloc)
 }
 
 fn main(rt: HostRuntime) -> ExitCode {

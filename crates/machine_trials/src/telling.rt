@@ -1,12 +1,10 @@
 //! Events as they are made, and what places and records came to, a line for each.
 
-use crate::batches::make;
-use crate::fault::TrialFault;
 use bohm_core::{Machine, State};
 use bohm_core_base::Event;
-use log_machine::{OfLog, done_ends, done_words};
-use model_base::{DeedDone, Items, Outcome};
-use own_words::decoded;
+use log_machine::OfLog;
+use machine_trials_base::{TrialFault, make, outcome_at};
+use model_base::{DeedDone, Outcome};
 use std::alloc::{AllocError, Global};
 use std::fmt::Write;
 
@@ -123,23 +121,6 @@ fn tell_outcome(rt: &impl Print, outcome: &Outcome) -> Result<(), TrialFault> {
         Outcome::Undeclared { step } => println!(rt; "undeclared {step}")?,
     }
     Ok(())
-}
-
-/// The outcome of a place of the batch by its own words and the ends of records, if the place is done.
-pub fn outcome_at(
-    alloc: Global,
-    machine: &Machine<OfLog<'_>>,
-    index: usize,
-) -> Result<Option<Outcome>, AllocError> {
-    if index >= machine.statements().batch().size() {
-        return Ok(None);
-    }
-    let Some(own) = done_words(machine, index) else {
-        return Ok(None);
-    };
-    let ended = done_ends(alloc, machine, index)?.unwrap_or(Vec::new(alloc));
-    let form = &machine.statements().batch().statement(index).form;
-    Ok(Some(decoded(form, own, Items::new(ended))))
 }
 
 /// Tells what a place came to.

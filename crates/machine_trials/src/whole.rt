@@ -2,13 +2,11 @@
 
 ghost use Rattle.std.specs.Prelude.{◌≡◌, ◌<◌, length};
 
-use crate::batches::{log_of, machine_of, nothing};
-use crate::fault::TrialFault;
 use crate::telling::{tell_events, tell_found};
-use crate::worked::LINES;
 use bohm_core::Machine;
 use bohm_core_base::Event;
 use log_machine::OfLog;
+use machine_trials_base::{LINES, TrialFault, log_of, machine_of, nothing};
 use sequencer::LogTail;
 use std::alloc::Global;
 

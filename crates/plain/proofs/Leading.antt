@@ -43,22 +43,23 @@ stands_later state other place deeds same stands = record {
   below = all_below place deeds stands.below;
 }
 
-module _ (state : State) (place : ℕ) (deeds : List Deed) (statement : Statement) (stands : StateStands state place deeds) where
-  -- a body that is aborted, or ends as undeclared, changes nothing
-  pub aborted_finishes : (step : ℕ) (reason : Reason) → body (rows_of state.rows) statement.form ≡ aborted step reason
-      → FinishesStatement state state place deeds statement (Outcome.Aborted step reason)
+module _ (old new : State) (place : ℕ) (deeds : List Deed) (statement : Statement) (stands : StateStands old place deeds)
+    (rows : new.rows ≡ old.rows) (book : new.book ≡ old.book) where
+  -- a body that is aborted, or ends as undeclared, changes neither rows nor book
+  pub aborted_finishes : (step : ℕ) (reason : Reason) → body (rows_of old.rows) statement.form ≡ aborted step reason
+      → FinishesStatement old new place deeds statement (Outcome.Aborted step reason)
   aborted_finishes step reason ends = record {
     after = deeds;
-    stands = stands_later state state place deeds refl stands;
-    same = λ more. rw ends refl;
+    stands = stands_later old new place deeds book stands;
+    same = λ more. rw (ends, rows) refl;
   }
 
-  pub undeclared_finishes : (step : ℕ) → body (rows_of state.rows) statement.form ≡ undeclared step
-      → FinishesStatement state state place deeds statement (Outcome.Undeclared step)
+  pub undeclared_finishes : (step : ℕ) → body (rows_of old.rows) statement.form ≡ undeclared step
+      → FinishesStatement old new place deeds statement (Outcome.Undeclared step)
   undeclared_finishes step ends = record {
     after = deeds;
-    stands = stands_later state state place deeds refl stands;
-    same = λ more. rw ends refl;
+    stands = stands_later old new place deeds book stands;
+    same = λ more. rw (ends, rows) refl;
   }
 
 -- the deed of a place lies below the next place, with those before it

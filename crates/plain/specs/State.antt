@@ -1,5 +1,5 @@
 -- What the state of a plain run stands for.
-use Rattle.std.specs.Prelude.{◌≡◌, ◌<◌, ◌+◌, ◌++◌, ◌∷◌, [], ℕ, length, All, IfSome, IsTrue, Option, None, Some, List}
+use Rattle.std.specs.Prelude.{◌≡◌, ◌<◌, ◌+◌, ◌++◌, ◌∷◌, [], ℕ, length, All, IfSome, IsTrue, Option, None, Some, List, ℤ}
 use Rattle.std.specs.Option.{option_map_or}
 use Rattle.model_base.specs.declared.limits.TheConstants.{MOST_NAMES}
 use Rattle.model_base.specs.declared.deed.Deed.{Deed}
@@ -9,10 +9,14 @@ use Rattle.model_base.specs.declared.outcome.Outcome.{Outcome}
 use Rattle.model_base.specs.declared.statement.Access.{Access}
 use Rattle.model_base.specs.declared.statement.Form.{Form}
 use Rattle.model_base.specs.declared.statement.Statement.{Statement}
-use Rattle.model_base.specs.Outcomes.{World, at_place, deed_done, judged}
+use Rattle.model_base.specs.Body.{completed}
+use Rattle.model_base.specs.Outcomes.{World, at_place, body, deed_done, judged}
 use Rattle.model_base.specs.Privileges.{option_of, place_of}
 use Rattle.model_base.specs.Rows.{Rows}
+use Rattle.model_base.specs.Versions.{accesses_of}
 use Rattle.body.specs.RowMap.{rows_of}
+use Rattle.body.specs.Shown.{with_rows}
+use Rattle.body.specs.declared.window.Window.{Window}
 use Rattle.grants.specs.Book.{Entries, IsLater, ShowsBook, owners_of, view_of}
 use Rattle.grants.specs.View.{holds_in}
 use Rattle.plain.specs.declared.plain_state.State.{State}
@@ -51,6 +55,11 @@ pub record IsMade (old new : Entries) (place : ℕ) (deed : Option Deed) (done :
       → All (λ other. place_of other < place) deeds → done ≡ deed_done owners (record { rows = rows; deeds = deeds }) deed
   pub shown : (owners : List ℕ) (deeds : List Deed) → ShowsBook old owners deeds
       → All (λ other. place_of other < place) deeds → ShowsBook new owners (deeds ++ option_map_or (λ made. made ∷ []) deed [])
+
+-- the body of a form completes over these rows, with the rows of the window at the declared keys
+abbrev pub CompletesInto : Form → Rows → Window → Type 0
+CompletesInto form rows window =
+    (outputs : List ℤ) × (body rows form ≡ completed (with_rows (accesses_of form) window.rows rows) outputs)
 
 -- the body of a statement that is admitted, and its deed, come to this outcome and lead from the old state to the new one
 pub record FinishesStatement (old new : State) (place : ℕ) (deeds : List Deed) (statement : Statement) (outcome : Outcome) : Type 0 where

@@ -1,9 +1,10 @@
 //! What stands before a place of a log, and what the place makes of it.
 
 ghost use Rattle.std.specs.Prelude.{◌≡◌, ◌≤◌, ◌+◌, ◌++◌, ℕ, List, [], length, IfOk, OnErr, OnOk};
+ghost use Rattle.std.specs.List.{list_any};
 ghost use Rattle.model_base.specs.declared.deed.Deed.{Deed};
 ghost use Rattle.model_base.specs.Outcomes.{creator, deed_of, empty_world};
-ghost use Rattle.model_base.specs.Versions.{accesses_of};
+ghost use Rattle.model_base.specs.Versions.{accesses_of, is_writing};
 ghost use Rattle.body.specs.Shown.{with_rows};
 ghost use Rattle.body.specs.Premises.{IsRunnable};
 ghost use Rattle.body.specs.Room.{IsLean};
@@ -12,12 +13,20 @@ ghost use Rattle.grants.specs.Book.{IsLater, owners_of};
 
 use crate::deeds::make;
 use body::{
-    BodyEnd, RowMap, Window, filled, put_rows, release_absent, release_rows, reserve_rows, run,
+    BodyEnd, RowMap, Window, fill, leaves_unwritten, put_rows, release_absent, release_rows,
+    reserve_rows, run,
 };
 use checker::{Admission, admit};
 use grants::Book;
-use model_base::{DeedDone, Form, MOST_ACCESSES, Outcome, Place, Statement};
+use model_base::{Access, DeedDone, Form, MOST_ACCESSES, Outcome, Place, Statement};
 use std::alloc::{AllocError, Global};
+
+/// Whether an access may change its row.
+fn may_change(accesses: &[Access]) -> bool
+    ensures { result ≡ list_any is_writing accesses.now }
+{
+    accesses.iter().any(|access| access.is_writing())
+}
 
 /// What stands before a place of a log: the rows of all tables, and the book of the grants that were made. The map of rows has
 /// an entry only for a row that is there.
@@ -25,11 +34,13 @@ use std::alloc::{AllocError, Global};
 pub struct State {
     rows: RowMap,
     book: Book,
+    /// It is filled anew for each body.
+    window: Window,
     ghost lean: { IsLean (HasEntry rows) (rows_of rows) },
 }
 
 impl State {
-    ghost use Rattle.plain.specs.State.{FinishesStatement, IsMade, Leads, MayMake, NamesTables, StateStands, world_with};
+    ghost use Rattle.plain.specs.State.{CompletesInto, FinishesStatement, IsMade, Leads, MayMake, NamesTables, StateStands, world_with};
 
     /// Before the first place there is no row, no table and no grant. It takes no memory.
     pub fn new(alloc: Global) -> Self
@@ -41,36 +52,42 @@ impl State {
         State {
             rows: RowMap::new(alloc),
             book: Book::new(alloc),
+            window: Window::new(),
         }
     }
 
-    /// Puts the rows of a completed body back and makes its deed, both or neither. On `Err` memory was refused, and rows and
-    /// book are as they were.
+    /// Puts the rows of a completed body, which the window has, back and makes its deed, both or neither. On `Err` memory was refused, and rows and
+    /// book are as they were. Where no access may change its row, the body has changed none, and no row is looked for.
     fn complete(
         &mut self,
         alloc: Global,
         place: Place,
         statement: &Statement,
-        window: &Window,
     ) -> Result<DeedDone, AllocError>
         requires places { length (accesses_of statement.now.form) ≤ MOST_ACCESSES }
         requires later { IsLater self.old.book place }
         requires may { MayMake self.old.book place (deed_of place statement.now.user statement.now.form) }
+        requires completed { CompletesInto statement.now.form (rows_of self.old.rows) self.old.window }
         ensures made { IfOk result (IsMade self.old.book self.new.book place (deed_of place statement.now.user statement.now.form)) }
         ensures rows { OnOk result (rows_of self.new.rows
-            ≡ with_rows (accesses_of statement.now.form) window.now.rows (rows_of self.old.rows)) }
+            ≡ with_rows (accesses_of statement.now.form) self.old.window.rows (rows_of self.old.rows)) }
+        ensures window { self.new.window ≡ self.old.window }
         ensures kept_rows { OnErr result (rows_of self.new.rows ≡ rows_of self.old.rows) }
         ensures kept_book { OnErr result (self.new.book ≡ self.old.book) }
     {
         let accesses = statement.accesses();
-        let reserved = reserve_rows(accesses, window, &mut self.rows);
+        leaves_unwritten();
+        if !may_change(accesses) {
+            return make(alloc, &mut self.book, place, statement);
+        }
+        let reserved = reserve_rows(accesses, &self.window, &mut self.rows);
         let done = match reserved {
             Ok(()) => make(alloc, &mut self.book, place, statement),
             Err(error) => Err(error),
         };
         if done.is_ok() {
-            put_rows(accesses, window, &mut self.rows);
-            release_absent(accesses, window, &mut self.rows);
+            put_rows(accesses, &self.window, &mut self.rows);
+            release_absent(accesses, &self.window, &mut self.rows);
         } else {
             release_rows(accesses, &mut self.rows);
         }
@@ -94,11 +111,11 @@ impl State {
         ensures rows { OnErr result (rows_of self.new.rows ≡ rows_of self.old.rows) }
         ensures book { OnErr result (self.new.book ≡ self.old.book) }
     {
-        let mut window = filled(statement, &self.rows);
-        match run(statement, &mut window) {
+        fill(statement, &self.rows, &mut self.window);
+        match run(statement, &mut self.window) {
             BodyEnd::Completed => {
-                let deed = self.complete(alloc, place, statement, &window)?;
-                let outputs = window.outputs();
+                let deed = self.complete(alloc, place, statement)?;
+                let outputs = self.window.outputs();
                 Ok(Outcome::Done { outputs, deed })
             }
             BodyEnd::Aborted { step, reason } => Ok(Outcome::Aborted { step, reason }),

@@ -37,7 +37,7 @@ fn judge<T: Told, P: Pinned>(batch: &LogBatch<'_>, told: T, words: &mut OwnWords
     let _log = batch.log();
     let statement = batch.statement(told.reader());
     let columns = batch.log().all_columns();
-    let mut rows = Window::new(statement);
+    let mut rows = Window::new();
     show_rows(batch, &mut told, &mut rows);
     let mut records = ShownRecords::<'_, T, P> {
         batch,

@@ -5,7 +5,7 @@ use Rattle.log_text.specs.declared.statement.RawForm.{RawForm}
 use Rattle.log_text.specs.declared.statement.RawForm.TheVariants.{Create, Run, Deed}
 use Rattle.sequencer.specs.Catalog.{Names}
 use Rattle.sequencer.specs.declared.catalog.Catalog.TheInside.{Inside}
-use Rattle.sequencer.specs.declared.numbering.Room.{Room}
+use Rattle.sequencer.specs.declared.room.Room.{Room}
 
 -- the names that a catalog holds
 abbrev pub names_of : Inside → Names

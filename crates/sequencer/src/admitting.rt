@@ -9,17 +9,23 @@ ghost use Rattle.sequencer.specs.Taken.{HasFilledRows, IsTaken};
 ghost use Rattle.sequencer.specs.Refusal.{IsRefusal, refusal};
 
 use crate::catalog::Catalog;
-use crate::numbering::{Room, deed_form, room_for};
+use crate::numbering::deed_form;
 use crate::refused::Refused;
+use crate::room::Room;
 use crate::testing::{names_in, test_name};
 use log_text::{Name, RawAccess, RawDeed, RawForm, RawStatement, RawStep};
 use model_base::{DeedForm, Form, Items, MOST_PLACES, Statement, Table, User};
+use std::mem;
 
 impl Catalog {
     /// Enters the user of a statement and then the grantee of its deed, and answers both by number. The deed's table has
     /// to be known. After a refusal nothing has changed.
     #[tactic(auto, using(crate::proofs::RefusalLemmas::refusal_of_test))]
-    fn enter_deed(&mut self, user: &Name, deed: &RawDeed) -> Result<(User, DeedForm), Refused>
+    fn enter_deed(
+        &mut self,
+        user: &Name<'_>,
+        deed: &RawDeed<'_>,
+    ) -> Result<(User, DeedForm), Refused>
         ensures user { IfOk result (λ r. r.0 ≡ number_of self.old.users user.now) }
         ensures deed { IfOk result (λ r. r.1 ≡ numbered_deed (with_user self.old user.now) deed.now) }
         ensures names { OnOk result (self.new ≡ with_users self.old user.now (Some deed.now)) }
@@ -37,8 +43,8 @@ impl Catalog {
     /// Enters the user of a statement, and then the grantee of its deed where it has one, as `enter_deed`.
     fn enter_users(
         &mut self,
-        user: &Name,
-        deed: &Option<RawDeed>,
+        user: &Name<'_>,
+        deed: &Option<RawDeed<'_>>,
     ) -> Result<(User, Option<DeedForm>), Refused>
         ensures user { IfOk result (λ r. r.0 ≡ number_of self.old.users user.now) }
         ensures deed { IfOk result (λ r. r.1 ≡ option_map (numbered_deed (with_user self.old user.now)) deed.now) }
@@ -59,27 +65,29 @@ impl Catalog {
         }
     }
 
-    /// Takes a RUN, as `admit`, where a place is left. Its accesses and steps go where room was made.
+    /// Takes a RUN, as `admit`, where a place is left. Its accesses and steps go where room was made, and take it.
     #[tactic(auto, using(crate::proofs::RefusalLemmas::refusal_of_test))]
     fn admit_run(
         &mut self,
-        user: &Name,
-        accesses: Items<RawAccess>,
-        steps: Items<RawStep>,
-        deed: &Option<RawDeed>,
-        room: Room,
+        user: &Name<'_>,
+        accesses: Items<RawAccess<'_>>,
+        steps: Items<RawStep<'_>>,
+        deed: &Option<RawDeed<'_>>,
+        room: &mut Room,
     ) -> Result<Statement, Refused>
         requires place { self.old.places < MOST_PLACES }
-        requires room { HasRoom room (RawForm.Run accesses steps deed.now) }
-        ensures ok { IfOk result (λ s. s ≡ numbered self.old (run_by user.now accesses steps deed.now)) }
-        ensures passes { OnOk result (refusal self.old (run_by user.now accesses steps deed.now) ≡ None) }
-        ensures names { OnOk result (self.new ≡ with_statement self.old (run_by user.now accesses steps deed.now)) }
-        ensures refused { IfErr result (λ r. IsRefusal r (refusal self.old (run_by user.now accesses steps deed.now))) }
+        requires room { HasRoom room.old (RawForm.Run accesses steps deed.now) }
+        ensures ok { IfOk result (λ s. s ≡ numbered self.old (run_by user.now accesses.entry steps.entry deed.now)) }
+        ensures passes { OnOk result (refusal self.old (run_by user.now accesses.entry steps.entry deed.now) ≡ None) }
+        ensures names { OnOk result (self.new ≡ with_statement self.old (run_by user.now accesses.entry steps.entry deed.now)) }
+        ensures refused { IfErr result (λ r. IsRefusal r (refusal self.old (run_by user.now accesses.entry steps.entry deed.now))) }
         ensures err { OnErr result (self.new ≡ self.old) }
     {
         let mut recent = self.recent;
-        let accesses = self.numbered_accesses(&mut recent, accesses.as_slice(), room.accesses)?;
-        let steps = self.numbered_steps(&mut recent, steps, room.steps)?;
+        let found = mem::replace(&mut room.accesses, Vec::new(self.alloc));
+        let accesses = self.numbered_accesses(&mut recent, accesses.as_slice(), found)?;
+        let found = mem::replace(&mut room.steps, Vec::new(self.alloc));
+        let steps = self.numbered_steps(&mut recent, steps, found)?;
         self.recent = recent;
         let (user, deed) = self.enter_users(user, deed)?;
         self.places += 1;
@@ -94,7 +102,7 @@ impl Catalog {
     }
 
     /// Takes a deed by itself, as `admit`, where a place is left.
-    fn admit_deed(&mut self, user: &Name, deed: &RawDeed) -> Result<Statement, Refused>
+    fn admit_deed(&mut self, user: &Name<'_>, deed: &RawDeed<'_>) -> Result<Statement, Refused>
         requires { self.old.places < MOST_PLACES }
         ensures ok { IfOk result (λ s. s ≡ numbered self.old (deed_by user.now deed.now)) }
         ensures passes { OnOk result (refusal self.old (deed_by user.now deed.now) ≡ None) }
@@ -111,8 +119,8 @@ impl Catalog {
     /// Takes a CREATE that passes the tests. It is refused only for want of memory, and then nothing has changed.
     fn create_table(
         &mut self,
-        user: &Name,
-        table: &Name,
+        user: &Name<'_>,
+        table: &Name<'_>,
         columns: u32,
     ) -> Result<Statement, Refused>
         requires { refusal self.old (create_by user.now table.now columns) ≡ None }
@@ -148,8 +156,8 @@ impl Catalog {
     #[tactic(auto, using(crate::proofs::RefusalLemmas::refusal_of_test))]
     fn admit_create(
         &mut self,
-        user: &Name,
-        table: &Name,
+        user: &Name<'_>,
+        table: &Name<'_>,
         columns: u32,
     ) -> Result<Statement, Refused>
         requires { self.old.places < MOST_PLACES }
@@ -167,23 +175,28 @@ impl Catalog {
 
     /// Takes a statement as the next place of the log: its users and tables are numbered, the names that it is the
     /// first to name are entered, and a CREATE makes its table known. The first test that it doesn't pass refuses it, as
-    /// in `test`; one that passes is refused only for want of memory. After a refusal nothing has changed.
+    /// in `test`; one that passes is refused only for want of memory. After a refusal nothing has changed. Its accesses and
+    /// steps take the room that is lent, and memory only where it isn't enough.
     #[tactic(auto, using(crate::proofs::RefusalLemmas::refusal_of_test))]
-    pub fn admit(&mut self, statement: RawStatement) -> Result<Statement, Refused>
-        ensures ok { IfOk result (λ s. s ≡ numbered self.old statement) }
+    pub fn admit(
+        &mut self,
+        statement: RawStatement<'_>,
+        room: &mut Room,
+    ) -> Result<Statement, Refused>
+        ensures ok { IfOk result (λ s. s ≡ numbered self.old statement.entry) }
         ensures taken { IfOk result (λ s. IsTaken self.new s) }
         ensures filled { IfOk result (λ s. HasFilledRows s.form) }
-        ensures passes { OnOk result (refusal self.old statement ≡ None) }
-        ensures names { OnOk result (self.new ≡ with_statement self.old statement) }
-        ensures refused { IfErr result (λ r. IsRefusal r (refusal self.old statement)) }
+        ensures passes { OnOk result (refusal self.old statement.entry ≡ None) }
+        ensures names { OnOk result (self.new ≡ with_statement self.old statement.entry) }
+        ensures refused { IfErr result (λ r. IsRefusal r (refusal self.old statement.entry)) }
         ensures err { OnErr result (self.new ≡ self.old) }
     {
         if self.places() >= MOST_PLACES {
             return Err(Refused::LogFull);
         }
-        let Ok(room) = room_for(self.alloc, statement.form()) else {
+        if room.reserve(statement.form()).is_err() {
             return Err(self.refused(&statement));
-        };
+        }
         let (user, form) = statement.into_parts();
         match form {
             RawForm::Create { table, columns } => self.admit_create(&user, &table, columns),

@@ -1,6 +1,7 @@
 //! What a log knows of names.
 
 use crate::names::NameTable;
+use crate::room::Room;
 use model_base::{MOST_COLUMNS, MOST_PLACES, Table, User};
 use std::alloc::Global;
 use std::marker::Model;
@@ -33,7 +34,7 @@ impl Model for Catalog {
 }
 
 impl Catalog {
-    ghost use Rattle.std.specs.Prelude.{◌≡◌, ◌<◌, ◌≤◌, length, slice_get, All, Some};
+    ghost use Rattle.std.specs.Prelude.{◌≡◌, ◌<◌, ◌≤◌, [], length, slice_get, All, Some};
     ghost use Rattle.sequencer.specs.Names.{known_number};
     ghost use Rattle.sequencer.specs.Catalog.{no_names};
 
@@ -50,6 +51,14 @@ impl Catalog {
             recent: Table(0),
             alloc,
         }
+    }
+
+    /// Room for nothing yet, of the catalog's own memory.
+    pub(crate) fn no_room(&self) -> Room
+        ensures accesses { result.accesses.items ≡ [] }
+        ensures steps { result.steps.items ≡ [] }
+    {
+        Room::new(self.alloc)
     }
 
     /// How many statements were accepted, which is the place of the next one.

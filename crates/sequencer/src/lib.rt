@@ -7,6 +7,7 @@ mod log;
 mod names;
 mod numbering;
 mod refused;
+mod room;
 mod tail;
 mod testing;
 
@@ -14,4 +15,5 @@ pub use catalog::Catalog;
 pub use log::Log;
 pub use names::NameTable;
 pub use refused::Refused;
+pub use room::Room;
 pub use tail::LogTail;

@@ -46,18 +46,19 @@ impl Log {
 
     /// Takes a statement as the next place, which is the length until then. The first test that it doesn't pass refuses
     /// it; one that passes is refused only for want of memory. After a refusal the log is as it was.
-    pub fn push(&mut self, statement: RawStatement) -> Result<Place, Refused>
+    pub fn push(&mut self, statement: RawStatement<'_>) -> Result<Place, Refused>
         ensures place { IfOk result (λ place. place ≡ length self.old.statements) }
-        ensures accepted { OnOk result (self.new ≡ with_accepted self.old statement) }
-        ensures passes { OnOk result (refusal self.old.names statement ≡ None) }
-        ensures refused { IfErr result (λ r. IsRefusal r (refusal self.old.names statement)) }
+        ensures accepted { OnOk result (self.new ≡ with_accepted self.old statement.entry) }
+        ensures passes { OnOk result (refusal self.old.names statement.entry ≡ None) }
+        ensures refused { IfErr result (λ r. IsRefusal r (refusal self.old.names statement.entry)) }
         ensures err { OnErr result (self.new ≡ self.old) }
     {
         if self.statements.reserve(1).is_err() {
             return Err(self.catalog.refused(&statement));
         }
         let place = self.catalog.places();
-        match self.catalog.admit(statement) {
+        let mut room = self.catalog.no_room();
+        match self.catalog.admit(statement, &mut room) {
             Ok(statement) => {
                 self.statements.push_reserved(statement);
                 Ok(place)

@@ -11,6 +11,8 @@ use std::marker::Model;
 #[derive(Drop)]
 pub struct NameTable {
     names: IndexSet<String>,
+    /// The number that was answered last. It says nothing of the names: it is only tried first.
+    recent: u32,
     alloc: Global,
 }
 
@@ -36,6 +38,7 @@ impl NameTable {
     {
         NameTable {
             names: IndexSet::new(alloc),
+            recent: 0,
             alloc,
         }
     }
@@ -103,7 +106,8 @@ impl NameTable {
         ensures refused { IfErr result (λ r. IsRefusal r (name_refusal self.old name.now)) }
         ensures err { OnErr result (self.new ≡ self.old) }
     {
-        if let Some(number) = self.find(name) {
+        if let Some(number) = self.find_near(self.recent, name) {
+            self.recent = number;
             return Ok((number, false));
         }
         if self.len() >= MOST_NAMES {

@@ -1,46 +1,19 @@
 //! Names become numbers, where they pass the tests.
 
-ghost use Rattle.std.specs.Prelude.{◌≡◌, ◌≤◌, [], length, map, IfOk, vec_capacity};
+ghost use Rattle.std.specs.Prelude.{◌≡◌, ◌≤◌, [], length, map, vec_capacity};
 ghost use Rattle.sequencer.specs.Catalog.{Names, grantee_of, numbered_access, numbered_deed, numbered_step, named_table_of};
 ghost use Rattle.sequencer.specs.Names.{number_of};
 ghost use Rattle.sequencer.specs.Refusal.{IsAnswerOf, access_refusal, accesses_refusal, column_refusal, step_refusal, steps_refusal};
 ghost use Rattle.model_base.specs.declared.statement.Step.{Step};
-ghost use Rattle.sequencer.specs.Known.{HasRoom};
 
 use crate::catalog::Catalog;
 use crate::refused::Refused;
 use crate::testing::{is_repeated, test_skip};
-use log_text::{Name, RawAccess, RawDeed, RawForm, RawStep};
+use log_text::{Name, RawAccess, RawDeed, RawStep};
 use model_base::{Access, DeedForm, Items, Key, Register, RowName, Step, Table, User};
-use std::alloc::{AllocError, Global};
-
-/// Where the accesses and the steps of a statement go, with their tables by number.
-#[derive(Drop)]
-pub(crate) struct Room {
-    pub(crate) accesses: Vec<Access>,
-    pub(crate) steps: Vec<Step>,
-}
-
-/// Room for each access and each step of a statement. On `Err` memory was refused.
-pub(crate) fn room_for(alloc: Global, form: &RawForm) -> Result<Room, AllocError>
-    ensures { IfOk result (λ room. HasRoom room form.now) }
-{
-    let (accesses, steps) = match form {
-        RawForm::Run {
-            accesses,
-            steps,
-            ..
-        } => (accesses.as_slice().len(), steps.as_slice().len()),
-        RawForm::Create { .. } | RawForm::Deed(_) => (0, 0),
-    };
-    Ok(Room {
-        accesses: Vec::with_capacity(alloc, accesses)?,
-        steps: Vec::with_capacity(alloc, steps)?,
-    })
-}
 
 /// The deed with its table and its grantee by number.
-pub(crate) fn deed_form(deed: &RawDeed, table: Table, grantee: User) -> DeedForm
+pub(crate) fn deed_form(deed: &RawDeed<'_>, table: Table, grantee: User) -> DeedForm
     ensures { (names : Names)
         → table ≡ number_of names.tables (named_table_of deed.now) → grantee ≡ number_of names.users (grantee_of deed.now)
         → result ≡ numbered_deed names deed.now }
@@ -65,8 +38,8 @@ impl Catalog {
     pub(crate) fn numbered_access(
         &self,
         recent: &mut Table,
-        earlier: &[RawAccess],
-        access: &RawAccess,
+        earlier: &[RawAccess<'_>],
+        access: &RawAccess<'_>,
     ) -> Result<Access, Refused>
         ensures { IsAnswerOf result (access_refusal self.now earlier.now access.now) (numbered_access self.now access.now) }
     {
@@ -87,7 +60,7 @@ impl Catalog {
     pub(crate) fn numbered_accesses(
         &self,
         recent: &mut Table,
-        accesses: &[RawAccess],
+        accesses: &[RawAccess<'_>],
         mut found: Vec<Access>,
     ) -> Result<Items<Access>, Refused>
         requires empty { found.items ≡ [] }
@@ -105,7 +78,7 @@ impl Catalog {
         &self,
         recent: &mut Table,
         to: Register,
-        table: &Name,
+        table: &Name<'_>,
         row: RowName,
         column: u32,
     ) -> Result<Step, Refused>
@@ -125,7 +98,7 @@ impl Catalog {
     fn numbered_store(
         &self,
         recent: &mut Table,
-        table: &Name,
+        table: &Name<'_>,
         row: RowName,
         column: u32,
         from: Register,
@@ -148,9 +121,9 @@ impl Catalog {
         &self,
         recent: &mut Table,
         later: usize,
-        step: RawStep,
+        step: RawStep<'_>,
     ) -> Result<Step, Refused>
-        ensures { IsAnswerOf result (step_refusal self.now later step) (numbered_step self.now step) }
+        ensures { IsAnswerOf result (step_refusal self.now later step.entry) (numbered_step self.now step.entry) }
     {
         Ok(match step {
             RawStep::Const { to, value } => Step::Const { to, value },
@@ -202,12 +175,12 @@ impl Catalog {
     pub(crate) fn numbered_steps(
         &self,
         recent: &mut Table,
-        steps: Items<RawStep>,
+        steps: Items<RawStep<'_>>,
         mut found: Vec<Step>,
     ) -> Result<Items<Step>, Refused>
         requires empty { found.items ≡ [] }
         requires room { length steps ≤ vec_capacity found }
-        ensures { IsAnswerOf result (steps_refusal self.now steps) (map (numbered_step self.now) steps) }
+        ensures { IsAnswerOf result (steps_refusal self.now steps.entry) (map (numbered_step self.now) steps.entry) }
     {
         let mut later = steps.as_slice().len();
         for step in steps.into_vec() {

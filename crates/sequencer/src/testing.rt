@@ -13,14 +13,14 @@ use log_text::{Name, RawAccess, RawDeed, RawForm, RawStatement, RawStep};
 use model_base::{MOST_COLUMNS, MOST_NAMES, MOST_PLACES, Table};
 
 /// Whether the two accesses are to one row.
-fn is_same_row(access: &RawAccess, other: &RawAccess) -> bool
+fn is_same_row(access: &RawAccess<'_>, other: &RawAccess<'_>) -> bool
     ensures { result ≡ same_row access.now other.now }
 {
     access.row == other.row && access.table.as_str() == other.table.as_str()
 }
 
 /// Whether the access is to the row of an earlier one.
-pub(crate) fn is_repeated(access: &RawAccess, earlier: &[RawAccess]) -> bool
+pub(crate) fn is_repeated(access: &RawAccess<'_>, earlier: &[RawAccess<'_>]) -> bool
     ensures { result ≡ list_any (same_row access.now) earlier.now }
 {
     earlier.iter().any(|other| is_same_row(access, other))
@@ -58,7 +58,7 @@ pub(crate) fn test_two(names: &NameTable, first: &str, second: &str) -> Result<(
 }
 
 /// The table and the grantee that a deed names.
-pub(crate) fn names_in(deed: &RawDeed) -> (&Name, &Name)
+pub(crate) fn names_in<'a, 'l>(deed: &'l RawDeed<'a>) -> (&'l Name<'a>, &'l Name<'a>)
     ensures table { result.0.now ≡ named_table_of deed.now }
     ensures grantee { result.1.now ≡ grantee_of deed.now }
 {
@@ -82,7 +82,7 @@ pub(crate) fn test_skip(steps: u32, later: usize) -> Result<(), Refused>
 impl Catalog {
     /// The table of a name that has to be known. The recent table is tried first, and the one that is answered is the
     /// recent one then.
-    pub(crate) fn known_table(&self, recent: &mut Table, name: &Name) -> Result<Table, Refused>
+    pub(crate) fn known_table(&self, recent: &mut Table, name: &Name<'_>) -> Result<Table, Refused>
         ensures answer { IsAnswerOf result (refuse_unless (is_known self.now.tables name.now) Refused.UnknownTable)
             (number_of self.now.tables name.now) }
         ensures known { IfOk result (λ t. t < length self.now.tables) }
@@ -97,7 +97,7 @@ impl Catalog {
     }
 
     /// The accesses, from left to right.
-    fn test_accesses(&self, accesses: &[RawAccess]) -> Result<(), Refused>
+    fn test_accesses(&self, accesses: &[RawAccess<'_>]) -> Result<(), Refused>
         ensures { IsAnswer result (accesses_refusal self.now [] accesses.now) }
     {
         let mut recent = self.recent;
@@ -111,7 +111,7 @@ impl Catalog {
     pub(crate) fn table_with_column(
         &self,
         recent: &mut Table,
-        table: &Name,
+        table: &Name<'_>,
         column: u32,
     ) -> Result<Table, Refused>
         ensures { IsAnswerOf result (column_refusal self.now table.now column) (number_of self.now.tables table.now) }
@@ -127,7 +127,7 @@ impl Catalog {
     pub(crate) fn table_of_width(
         &self,
         recent: &mut Table,
-        table: &Name,
+        table: &Name<'_>,
         width: usize,
     ) -> Result<Table, Refused>
         ensures { IsAnswerOf result (width_refusal self.now table.now width) (number_of self.now.tables table.now) }
@@ -141,7 +141,7 @@ impl Catalog {
 
     /// A step, behind which there are so many, has to fit the table that it names, and to pass over no more steps than
     /// there are.
-    fn test_step(&self, recent: &mut Table, later: usize, step: &RawStep) -> Result<(), Refused>
+    fn test_step(&self, recent: &mut Table, later: usize, step: &RawStep<'_>) -> Result<(), Refused>
         ensures { IsAnswer result (step_refusal self.now later step.now) }
     {
         match step {
@@ -163,7 +163,7 @@ impl Catalog {
     }
 
     /// The steps, from left to right.
-    fn test_steps(&self, steps: &[RawStep]) -> Result<(), Refused>
+    fn test_steps(&self, steps: &[RawStep<'_>]) -> Result<(), Refused>
         ensures { IsAnswer result (steps_refusal self.now steps.now) }
     {
         let mut recent = self.recent;
@@ -174,7 +174,7 @@ impl Catalog {
     }
 
     /// A new table has to have a new name and one to `MOST_COLUMNS` columns.
-    pub(crate) fn test_create(&self, table: &Name, columns: u32) -> Result<(), Refused>
+    pub(crate) fn test_create(&self, table: &Name<'_>, columns: u32) -> Result<(), Refused>
         ensures { IsAnswer result (create_refusal self.now table.now columns) }
     {
         if self.tables().find(table.as_str()).is_some() {
@@ -187,7 +187,7 @@ impl Catalog {
     }
 
     /// A deed has to be on a known table.
-    fn test_deed(&self, deed: &RawDeed) -> Result<(), Refused>
+    fn test_deed(&self, deed: &RawDeed<'_>) -> Result<(), Refused>
         ensures { IsAnswer result (deed_refusal self.now (Some deed.now)) }
     {
         let mut recent = self.recent;
@@ -196,7 +196,7 @@ impl Catalog {
     }
 
     /// What a statement asks for.
-    fn test_form(&self, form: &RawForm) -> Result<(), Refused>
+    fn test_form(&self, form: &RawForm<'_>) -> Result<(), Refused>
         ensures { IsAnswer result (form_refusal self.now form.now) }
     {
         match form {
@@ -218,7 +218,7 @@ impl Catalog {
     }
 
     /// The names of a new user, of a new grantee and of a new table have to find room.
-    fn test_names(&self, user: &str, form: &RawForm) -> Result<(), Refused>
+    fn test_names(&self, user: &str, form: &RawForm<'_>) -> Result<(), Refused>
         ensures { IsAnswer result (or_refused (users_refusal self.now.users user.now (deed_in form.now))
             (table_refusal self.now form.now)) }
     {
@@ -237,7 +237,7 @@ impl Catalog {
     }
 
     /// The first test that a statement doesn't pass refuses it. It takes no memory.
-    pub fn test(&self, statement: &RawStatement) -> Result<(), Refused>
+    pub fn test(&self, statement: &RawStatement<'_>) -> Result<(), Refused>
         ensures { IsAnswer result (refusal self.now statement.now) }
     {
         if self.places() >= MOST_PLACES {
@@ -249,7 +249,7 @@ impl Catalog {
 
     /// The refusal of a statement for which there is no memory.
     #[tactic(auto, using(crate::proofs::RefusalLemmas::refusal_of_test))]
-    pub(crate) fn refused(&self, statement: &RawStatement) -> Refused
+    pub(crate) fn refused(&self, statement: &RawStatement<'_>) -> Refused
         ensures { IsRefusal result (refusal self.now statement.now) }
     {
         match self.test(statement) {

@@ -37,7 +37,7 @@ pub fn tell_spellings<R: Files + Print + AllocGlobal>(
 }
 
 /// Tells the parts of a grant by itself.
-fn tell_grant<R: Print>(rt: &R, user: &str, form: &RawForm) -> Result<(), TrialFault> {
+fn tell_grant<R: Print>(rt: &R, user: &str, form: &RawForm<'_>) -> Result<(), TrialFault> {
     if let RawForm::Deed(
         RawDeed::Grant {
             kind,
@@ -54,7 +54,7 @@ fn tell_grant<R: Print>(rt: &R, user: &str, form: &RawForm) -> Result<(), TrialF
 }
 
 /// Tells the first access and the first step of a RUN, if that is a CONST.
-fn tell_run<R: Print>(rt: &R, user: &str, form: &RawForm) -> Result<(), TrialFault> {
+fn tell_run<R: Print>(rt: &R, user: &str, form: &RawForm<'_>) -> Result<(), TrialFault> {
     let RawForm::Run {
         accesses,
         steps,

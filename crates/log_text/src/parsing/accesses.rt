@@ -13,8 +13,11 @@ use crate::word_list::Words;
 use model_base::MOST_ACCESSES;
 use std::alloc::Global;
 
+/// For so many accesses a statement has room at first.
+const USUAL_ACCESSES: usize = 4;
+
 /// Takes the first access.
-fn access(words: &mut Words<'_>) -> Result<RawAccess, LineFault>
+fn access<'a>(words: &mut Words<'a>) -> Result<RawAccess<'a>, LineFault>
     ensures ok { IfOk result (λ a. (words.old ≡ access_word a ∷ words.new) × IsAccess a × (misfit OfAccess (access_word a) ≡ None)) }
     ensures fault { IfErr result (λ f. misfit OfAccess (first_word words.old) ≡ Some f) }
 {
@@ -26,10 +29,10 @@ fn access(words: &mut Words<'_>) -> Result<RawAccess, LineFault>
 }
 
 /// The accesses, up to the first bar or the end.
-pub(crate) fn accesses(
+pub(crate) fn accesses<'a>(
     alloc: Global,
-    words: &mut Words<'_>,
-) -> Result<(Vec<RawAccess>, bool), LineFault>
+    words: &mut Words<'a>,
+) -> Result<(Vec<RawAccess<'a>>, bool), LineFault>
     ensures ok { IfOk result (λ r. MatchBool r.1 (words.old ≡ map access_word r.0.items
         ++ codes "|" ∷ words.new) (words.old ≡ map access_word r.0.items)
         × (1 ≤ vec_len r.0) × (vec_len r.0 ≤ MOST_ACCESSES) × AllByRecursion IsAccess r.0.items) }
@@ -37,8 +40,8 @@ pub(crate) fn accesses(
     ensures fault { IfErr result (λ f. IsFault f (fault_from (OfAccess ∷ OfNext 1 ∷ []) words.old)) }
 {
     let first = access(words)?;
-    let mut found = Vec::new(alloc);
-    found.push(first)?;
+    let mut found = Vec::with_capacity(alloc, USUAL_ACCESSES)?;
+    found.push_reserved(first);
     'accesses: loop {
         let Some(word) = words.next() else {
             return Ok((found, false));

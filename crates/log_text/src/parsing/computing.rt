@@ -12,7 +12,7 @@ use crate::word_list::Words;
 use model_base::Operation;
 
 /// What stands behind CONST, up to the next step or the end.
-pub(super) fn constant(words: &mut Words<'_>) -> Result<(RawStep, bool), LineFault>
+pub(super) fn constant<'a>(words: &mut Words<'a>) -> Result<(RawStep<'a>, bool), LineFault>
     ensures ok { IfOk result (λ r. TakesStep (step_word Const ∷ words.old) r.0 r.1 words.new × IsStep r.0 × (outs_of r.0 ≡ 0)) }
     ensures fits { IfOk result (λ r. (steps outs : ℕ)
         → fault_from (expected_in (Some Const) steps outs) words.old ≡ fault_behind r.1 (steps + 1) outs words.new) }
@@ -25,10 +25,10 @@ pub(super) fn constant(words: &mut Words<'_>) -> Result<(RawStep, bool), LineFau
 }
 
 /// What stands behind the word of an operation, up to the next step or the end.
-pub(super) fn compute(
+pub(super) fn compute<'a>(
     operation: Operation,
-    words: &mut Words<'_>,
-) -> Result<(RawStep, bool), LineFault>
+    words: &mut Words<'a>,
+) -> Result<(RawStep<'a>, bool), LineFault>
     ensures ok { IfOk result (λ r. TakesStep (step_word (Compute operation) ∷ words.old) r.0 r.1 words.new
         × IsStep r.0 × (outs_of r.0 ≡ 0)) }
     ensures fits { IfOk result (λ r. (steps outs : ℕ)
@@ -50,7 +50,7 @@ pub(super) fn compute(
 }
 
 /// What stands behind CHECK, up to the next step or the end.
-pub(super) fn check(words: &mut Words<'_>) -> Result<(RawStep, bool), LineFault>
+pub(super) fn check<'a>(words: &mut Words<'a>) -> Result<(RawStep<'a>, bool), LineFault>
     ensures ok { IfOk result (λ r. TakesStep (step_word Check ∷ words.old) r.0 r.1 words.new × IsStep r.0 × (outs_of r.0 ≡ 0)) }
     ensures fits { IfOk result (λ r. (steps outs : ℕ)
         → fault_from (expected_in (Some Check) steps outs) words.old ≡ fault_behind r.1 (steps + 1) outs words.new) }
@@ -62,7 +62,7 @@ pub(super) fn check(words: &mut Words<'_>) -> Result<(RawStep, bool), LineFault>
 }
 
 /// What stands behind SKIP, up to the next step or the end.
-pub(super) fn skip(words: &mut Words<'_>) -> Result<(RawStep, bool), LineFault>
+pub(super) fn skip<'a>(words: &mut Words<'a>) -> Result<(RawStep<'a>, bool), LineFault>
     ensures ok { IfOk result (λ r. TakesStep (step_word Skip ∷ words.old) r.0 r.1 words.new × IsStep r.0 × (outs_of r.0 ≡ 0)) }
     ensures fits { IfOk result (λ r. (steps outs : ℕ)
         → fault_from (expected_in (Some Skip) steps outs) words.old ≡ fault_behind r.1 (steps + 1) outs words.new) }
@@ -75,7 +75,7 @@ pub(super) fn skip(words: &mut Words<'_>) -> Result<(RawStep, bool), LineFault>
 }
 
 /// What stands behind OUT, up to the next step or the end.
-pub(super) fn out(words: &mut Words<'_>) -> Result<(RawStep, bool), LineFault>
+pub(super) fn out<'a>(words: &mut Words<'a>) -> Result<(RawStep<'a>, bool), LineFault>
     ensures ok { IfOk result (λ r. TakesStep (step_word Out ∷ words.old) r.0 r.1 words.new × IsStep r.0 × (outs_of r.0 ≡ 1)) }
     ensures fits { IfOk result (λ r. (steps outs : ℕ)
         → fault_from (expected_in (Some Out) steps outs) words.old ≡ fault_behind r.1 (steps + 1) (outs + 1) words.new) }

@@ -1,5 +1,5 @@
 //! Grants and revocations.
-ghost use Rattle.std.specs.Prelude.{MatchOption, ◌≡◌, ◌∷◌, [], Some, true, false, IfOk, IfErr, codes};
+ghost use Rattle.std.specs.Prelude.{◌≡◌, ◌∷◌, [], Some, true, IfOk, IfErr, codes};
 ghost use Rattle.log_text.specs.Statement.{deed_words, option_words, IsDeed};
 ghost use Rattle.log_text.specs.Fault.{OfOption, expected_in_deed, expected_in_grant, expected_in_revoke, fault_from, is_deed};
 
@@ -24,7 +24,7 @@ fn option_or_end(words: &mut Words<'_>) -> Result<bool, LineFault>
 }
 
 /// What stands behind GRANT, to the end of the line.
-fn grant(words: &mut Words<'_>) -> Result<RawDeed, LineFault>
+fn grant<'a>(words: &mut Words<'a>) -> Result<RawDeed<'a>, LineFault>
     ensures ok { IfOk result (λ deed. (codes "GRANT" ∷ words.old ≡ deed_words deed) × IsDeed deed) }
     ensures fault { IfErr result (λ f. fault_from expected_in_grant words.old ≡ Some f) }
 {
@@ -41,7 +41,7 @@ fn grant(words: &mut Words<'_>) -> Result<RawDeed, LineFault>
 }
 
 /// What stands behind REVOKE, to the end of the line.
-fn revoke(words: &mut Words<'_>) -> Result<RawDeed, LineFault>
+fn revoke<'a>(words: &mut Words<'a>) -> Result<RawDeed<'a>, LineFault>
     ensures ok { IfOk result (λ deed. (codes "REVOKE" ∷ words.old ≡ deed_words deed) × IsDeed deed) }
     ensures fault { IfErr result (λ f. fault_from expected_in_revoke words.old ≡ Some f) }
 {
@@ -56,17 +56,21 @@ fn revoke(words: &mut Words<'_>) -> Result<RawDeed, LineFault>
     })
 }
 
-/// The deed that the word begins, to the end of the line, or nothing if the word begins none.
-pub(super) fn deed_from(word: &[u8], words: &mut Words<'_>) -> Result<Option<RawDeed>, LineFault>
-    ensures ok { IfOk result (λ found. MatchOption found ((is_deed word.now ≡ false) × (words.new ≡ words.old))
-        (λ deed. (word.now ∷ words.old ≡ deed_words deed) × IsDeed deed)) }
-    ensures fault { IfErr result (λ f. (is_deed word.now ≡ true) × (fault_from (expected_in_deed word.now) words.old ≡ Some f)) }
+/// Whether the word begins a deed.
+pub(super) fn begins_deed(word: &[u8]) -> bool
+    ensures { result ≡ is_deed word.now }
+{
+    word == b"GRANT".as_slice() || word == b"REVOKE".as_slice()
+}
+
+/// The deed that the word begins, to the end of the line.
+pub(super) fn deed<'a>(word: &[u8], words: &mut Words<'a>) -> Result<RawDeed<'a>, LineFault>
+    requires { is_deed word.now ≡ true }
+    ensures ok { IfOk result (λ deed. (word.now ∷ words.old ≡ deed_words deed) × IsDeed deed) }
+    ensures fault { IfErr result (λ f. fault_from (expected_in_deed word.now) words.old ≡ Some f) }
 {
     if word == b"GRANT".as_slice() {
-        return Ok(Some(grant(words)?));
+        return Ok(grant(words)?);
     }
-    if word == b"REVOKE".as_slice() {
-        return Ok(Some(revoke(words)?));
-    }
-    Ok(None)
+    Ok(revoke(words)?)
 }

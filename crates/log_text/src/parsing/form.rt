@@ -6,7 +6,7 @@ ghost use Rattle.log_text.specs.Faults.{IsFault};
 ghost use Rattle.log_text.specs.Fault.{OfName, OfPlain, OfForm, OfAccess, OfNext, fault_from};
 
 use super::accesses::accesses;
-use super::deeds::deed_from;
+use super::deeds::{begins_deed, deed};
 use super::places::{end, name, number};
 use super::steps::steps;
 use crate::fault::LineFault;
@@ -17,7 +17,7 @@ use model_base::Items;
 use std::alloc::Global;
 
 /// What stands behind CREATE.
-fn create(words: &mut Words<'_>) -> Result<RawForm, LineFault>
+fn create<'a>(words: &mut Words<'a>) -> Result<RawForm<'a>, LineFault>
     ensures ok { IfOk result (λ form. (codes "CREATE" ∷ words.old ≡ form_words form) × IsFormInGrammar form) }
     ensures fault { IfErr result (λ f. fault_from (OfName ∷ OfPlain ∷ []) words.old ≡ Some f) }
 {
@@ -28,7 +28,7 @@ fn create(words: &mut Words<'_>) -> Result<RawForm, LineFault>
 }
 
 /// What stands behind RUN.
-fn run(alloc: Global, words: &mut Words<'_>) -> Result<RawForm, LineFault>
+fn run<'a>(alloc: Global, words: &mut Words<'a>) -> Result<RawForm<'a>, LineFault>
     ensures ok { IfOk result (λ form. (codes "RUN" ∷ words.old ≡ form_words form) × IsFormInGrammar form) }
     ensures fault { IfErr result (λ f. IsFault f (fault_from (OfAccess ∷ OfNext 1 ∷ []) words.old)) }
 {
@@ -50,7 +50,7 @@ fn run(alloc: Global, words: &mut Words<'_>) -> Result<RawForm, LineFault>
 }
 
 /// What stands behind the user.
-fn form(alloc: Global, words: &mut Words<'_>) -> Result<RawForm, LineFault>
+fn form<'a>(alloc: Global, words: &mut Words<'a>) -> Result<RawForm<'a>, LineFault>
     ensures ok { IfOk result (λ form. (words.old ≡ form_words form) × IsFormInGrammar form) }
     ensures fault { IfErr result (λ f. IsFault f (fault_from (OfForm ∷ []) words.old)) }
 {
@@ -65,14 +65,17 @@ fn form(alloc: Global, words: &mut Words<'_>) -> Result<RawForm, LineFault>
         let form = run(alloc, words)?;
         return Ok(form);
     }
-    match deed_from(word, words)? {
-        Some(deed) => Ok(RawForm::Deed(deed)),
-        None => Err(LineFault::UnknownWord),
+    if begins_deed(word) {
+        return Ok(RawForm::Deed(deed(word, words)?));
     }
+    Err(LineFault::UnknownWord)
 }
 
 /// The user, and what the user asks for.
-pub(crate) fn parts(alloc: Global, words: &mut Words<'_>) -> Result<(Name, RawForm), LineFault>
+pub(crate) fn parts<'a>(
+    alloc: Global,
+    words: &mut Words<'a>,
+) -> Result<(Name<'a>, RawForm<'a>), LineFault>
     ensures ok { IfOk result (λ s. (words.old ≡ s.0 ∷ form_words s.1) × IsTrue (is_name s.0) × IsFormInGrammar s.1) }
     ensures fault { IfErr result (λ f. IsFault f (fault_from (OfName ∷ OfForm ∷ []) words.old)) }
 {

@@ -24,7 +24,7 @@ fn is_printable_text(line: &[u8]) -> bool
 }
 
 /// What `parse_line` answers.
-fn line_statement(alloc: Global, line: &[u8]) -> Result<RawStatement, LineFault>
+fn line_statement<'a>(alloc: Global, line: &'a [u8]) -> Result<RawStatement<'a>, LineFault>
     ensures read { IfOk result (λ s. Reads line.now s) }
     ensures fault { IfErr result (λ f. IsFault f (line_fault line.now)) }
 {
@@ -43,7 +43,7 @@ fn line_statement(alloc: Global, line: &[u8]) -> Result<RawStatement, LineFault>
 
 /// The statement that a line, without its end of line, reads as, or the line's fault. `NoMemory` comes only where the
 /// allocator refused.
-pub fn parse_line(alloc: Global, line: &[u8]) -> Result<RawStatement, LineFault>
+pub fn parse_line<'a>(alloc: Global, line: &'a [u8]) -> Result<RawStatement<'a>, LineFault>
     // What is answered is what the line reads as.
     ensures read { IfOk result (λ s. Reads line.now s) }
     // A line that reads as a statement is answered by it, unless memory runs out.

@@ -14,7 +14,7 @@ use crate::word_list::Words;
 use model_base::{Kind, MOST_REGISTERS, Register, RowName};
 
 /// Takes a name.
-pub(crate) fn name(words: &mut Words<'_>) -> Result<Name, LineFault>
+pub(crate) fn name<'a>(words: &mut Words<'a>) -> Result<Name<'a>, LineFault>
     ensures ok { IfOk result (λ n. (words.old ≡ n ∷ words.new) × IsTrue (is_name n)) }
     ensures fault { IfErr result (λ f. misfit OfName (first_word words.old) ≡ Some f) }
 {

@@ -7,7 +7,7 @@ ghost use Rattle.log_text.specs.Fault.{OfStep, step_fault, step_name, fault_from
 ghost use Rattle.log_text.specs.Parsing.{TakesStep, fault_behind, step_word};
 
 use super::computing::{check, compute, constant, out, skip};
-use super::deeds::deed_from;
+use super::deeds::{begins_deed, deed};
 use super::touching::{delete, has, insert, load, store};
 use crate::fault::LineFault;
 use crate::statement::{RawDeed, RawStep};
@@ -15,6 +15,9 @@ use crate::step_name::StepName;
 use crate::word_list::Words;
 use model_base::{MOST_OUTPUTS, MOST_STEPS};
 use std::alloc::Global;
+
+/// For so many steps a statement has room at first.
+const USUAL_STEPS: usize = 16;
 
 /// The step that a word names, when there are so many steps and outs before it.
 #[tactic(auto, using(crate::proofs::StepNames::named_word, crate::proofs::StepNames::no_step_fault))]
@@ -37,13 +40,13 @@ fn named_step(word: &[u8], steps: usize, outs: usize) -> Result<StepName, LineFa
 
 /// A step that begins with this word, up to the next one or the end, when there are so many steps and outs before it.
 #[tactic(auto, using(crate::proofs::StepNames::goes_on))]
-fn step(
+fn step<'a>(
     alloc: Global,
     word: &[u8],
-    words: &mut Words<'_>,
+    words: &mut Words<'a>,
     steps: usize,
     outs: usize,
-) -> Result<(RawStep, bool), LineFault>
+) -> Result<(RawStep<'a>, bool), LineFault>
     requires few { outs ≤ MOST_OUTPUTS }
     requires step { is_deed word.now ≡ false }
     ensures ok { IfOk result (λ r. TakesStep (word.now ∷ words.old) r.0 r.1 words.new × IsStep r.0
@@ -53,21 +56,21 @@ fn step(
     ensures fault { IfErr result (λ f. IsFault f (fault_from (OfStep steps outs ∷ []) (word.now ∷ words.old))) }
 {
     match named_step(word, steps, outs)? {
-        StepName::Const => Ok(constant(words)?),
-        StepName::Compute(operation) => Ok(compute(operation, words)?),
-        StepName::Has => Ok(has(words)?),
-        StepName::Load => Ok(load(words)?),
-        StepName::Store => Ok(store(words)?),
-        StepName::Insert => Ok(insert(alloc, words)?),
-        StepName::Delete => Ok(delete(words)?),
-        StepName::Check => Ok(check(words)?),
-        StepName::Skip => Ok(skip(words)?),
-        StepName::Out => Ok(out(words)?),
+        StepName::Const => constant(words),
+        StepName::Compute(operation) => compute(operation, words),
+        StepName::Has => has(words),
+        StepName::Load => load(words),
+        StepName::Store => store(words),
+        StepName::Insert => insert(alloc, words),
+        StepName::Delete => delete(words),
+        StepName::Check => check(words),
+        StepName::Skip => skip(words),
+        StepName::Out => out(words),
     }
 }
 
 /// How many outputs a step makes.
-fn out_count(step: &RawStep) -> usize
+fn out_count(step: &RawStep<'_>) -> usize
     ensures { result ≡ outs_of step.now }
 {
     match step {
@@ -77,21 +80,22 @@ fn out_count(step: &RawStep) -> usize
 }
 
 /// The steps and the deed behind the first bar, to the end of the line.
-pub(crate) fn steps(
+pub(crate) fn steps<'a>(
     alloc: Global,
-    words: &mut Words<'_>,
-) -> Result<(Vec<RawStep>, Option<RawDeed>), LineFault>
+    words: &mut Words<'a>,
+) -> Result<(Vec<RawStep<'a>>, Option<RawDeed<'a>>), LineFault>
     ensures ok { IfOk result (λ r. (codes "|" ∷ words.old ≡ body_words r.0.items r.1)
         × (vec_len r.0 ≤ MOST_STEPS) × (sum_by outs_of r.0.items ≤ MOST_OUTPUTS) × AllByRecursion IsStep r.0.items × IsLastDeed r.1) }
     ensures fault { IfErr result (λ f. IsFault f (fault_from (OfStep 0 0 ∷ []) words.old)) }
 {
-    let mut found = Vec::with_capacity(alloc, 8)?;
+    let mut found = Vec::with_capacity(alloc, USUAL_STEPS)?;
     let mut outs = 0;
     'steps: loop {
         let Some(word) = words.next() else {
             return Err(LineFault::UnknownWord);
         };
-        if let Some(deed) = deed_from(word, words)? {
+        if begins_deed(word) {
+            let deed = deed(word, words)?;
             return Ok((found, Some(deed)));
         }
         let (step, more) = step(alloc, word, words, found.len(), outs)?;

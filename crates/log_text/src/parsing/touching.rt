@@ -17,7 +17,7 @@ use model_base::{Items, MOST_COLUMNS, Register, RowName};
 use std::alloc::Global;
 
 /// What stands behind HAS, up to the next step or the end.
-pub(super) fn has(words: &mut Words<'_>) -> Result<(RawStep, bool), LineFault>
+pub(super) fn has<'a>(words: &mut Words<'a>) -> Result<(RawStep<'a>, bool), LineFault>
     ensures ok { IfOk result (λ r. TakesStep (step_word Has ∷ words.old) r.0 r.1 words.new × IsStep r.0 × (outs_of r.0 ≡ 0)) }
     ensures fits { IfOk result (λ r. (steps outs : ℕ)
         → fault_from (expected_in (Some Has) steps outs) words.old ≡ fault_behind r.1 (steps + 1) outs words.new) }
@@ -31,7 +31,7 @@ pub(super) fn has(words: &mut Words<'_>) -> Result<(RawStep, bool), LineFault>
 }
 
 /// Takes a table's name, a row and a column.
-fn cell(words: &mut Words<'_>) -> Result<(Name, RowName, u32), LineFault>
+fn cell<'a>(words: &mut Words<'a>) -> Result<(Name<'a>, RowName, u32), LineFault>
     ensures ok { IfOk result (λ r. (words.old ≡ r.0 ∷ row_word r.1 ∷ decimal r.2 ∷ words.new)
         × IsTrue (is_name r.0) × IsRowNumber r.1 × (r.2 < 2 ^ 32)) }
     ensures fits { IfOk result (λ r. (others : List Expected)
@@ -45,7 +45,7 @@ fn cell(words: &mut Words<'_>) -> Result<(Name, RowName, u32), LineFault>
 }
 
 /// What stands behind LOAD, up to the next step or the end.
-pub(super) fn load(words: &mut Words<'_>) -> Result<(RawStep, bool), LineFault>
+pub(super) fn load<'a>(words: &mut Words<'a>) -> Result<(RawStep<'a>, bool), LineFault>
     ensures ok { IfOk result (λ r. TakesStep (step_word Load ∷ words.old) r.0 r.1 words.new × IsStep r.0 × (outs_of r.0 ≡ 0)) }
     ensures fits { IfOk result (λ r. (steps outs : ℕ)
         → fault_from (expected_in (Some Load) steps outs) words.old ≡ fault_behind r.1 (steps + 1) outs words.new) }
@@ -64,7 +64,7 @@ pub(super) fn load(words: &mut Words<'_>) -> Result<(RawStep, bool), LineFault>
 }
 
 /// What stands behind STORE, up to the next step or the end.
-pub(super) fn store(words: &mut Words<'_>) -> Result<(RawStep, bool), LineFault>
+pub(super) fn store<'a>(words: &mut Words<'a>) -> Result<(RawStep<'a>, bool), LineFault>
     ensures ok { IfOk result (λ r. TakesStep (step_word Store ∷ words.old) r.0 r.1 words.new × IsStep r.0 × (outs_of r.0 ≡ 0)) }
     ensures fits { IfOk result (λ r. (steps outs : ℕ)
         → fault_from (expected_in (Some Store) steps outs) words.old ≡ fault_behind r.1 (steps + 1) outs words.new) }
@@ -106,7 +106,10 @@ fn more_registers(words: &mut Words<'_>, registers: &mut Vec<Register>) -> Resul
 }
 
 /// What stands behind INSERT, up to the next step or the end.
-pub(super) fn insert(alloc: Global, words: &mut Words<'_>) -> Result<(RawStep, bool), LineFault>
+pub(super) fn insert<'a>(
+    alloc: Global,
+    words: &mut Words<'a>,
+) -> Result<(RawStep<'a>, bool), LineFault>
     ensures ok { IfOk result (λ r. TakesStep (step_word Insert ∷ words.old) r.0 r.1 words.new × IsStep r.0 × (outs_of r.0 ≡ 0)) }
     ensures fits { IfOk result (λ r. (steps outs : ℕ)
         → fault_from (expected_in (Some Insert) steps outs) words.old ≡ fault_behind r.1 (steps + 1) outs words.new) }
@@ -127,7 +130,7 @@ pub(super) fn insert(alloc: Global, words: &mut Words<'_>) -> Result<(RawStep, b
 }
 
 /// What stands behind DELETE, up to the next step or the end.
-pub(super) fn delete(words: &mut Words<'_>) -> Result<(RawStep, bool), LineFault>
+pub(super) fn delete<'a>(words: &mut Words<'a>) -> Result<(RawStep<'a>, bool), LineFault>
     ensures ok { IfOk result (λ r. TakesStep (step_word Delete ∷ words.old) r.0 r.1 words.new × IsStep r.0 × (outs_of r.0 ≡ 0)) }
     ensures fits { IfOk result (λ r. (steps outs : ℕ)
         → fault_from (expected_in (Some Delete) steps outs) words.old ≡ fault_behind r.1 (steps + 1) outs words.new) }

@@ -13,7 +13,7 @@ returns-in-Some-row-clause-effect c = λ rows.
     let m = seen c.args.accesses.now rows c.args.window.now c.args.registers.now in
     sym (touch_any rows c.args.window.now.rows c.args.registers.now c.args.window.now.outputs c.args.accesses.now Insert c.args.table (row_number c.args.registers.now c.args.row)
     (insert_row m c.args.table c.args.from.now)
-    c.in-Some.place c.row.result _ c.in-Some.ensures.place within c.row.ensures.row (λ row. rw c.in-Some-row.is refl))
+    c.in-Some.place c.row.result.now _ c.in-Some.ensures.place within c.row.ensures.row (λ row. rw c.in-Some-row.is refl))
 
 pub returns-in-None-row-clause-effect : goal.returns-in-None-row-clause-effect
 returns-in-None-row-clause-effect c = λ rows.

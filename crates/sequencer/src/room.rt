@@ -1,0 +1,70 @@
+//! Room for what a statement needs.
+
+ghost use Rattle.std.specs.Prelude.{◌≡◌, [], List, Option, OnOk};
+ghost use Rattle.model_base.specs.declared.statement.DeedForm.{DeedForm};
+ghost use Rattle.model_base.specs.declared.statement.Access.{Access};
+ghost use Rattle.model_base.specs.declared.statement.Form.{Form};
+ghost use Rattle.model_base.specs.declared.statement.Step.{Step};
+ghost use Rattle.sequencer.specs.Known.{HasRoom};
+
+use log_text::RawForm;
+use model_base::{Access, Form, Statement, Step};
+use std::alloc::{AllocError, Global};
+use std::mem;
+
+/// Where the accesses and the steps of a statement go when they are numbered. `admit` takes what a statement needs out of
+/// it, and `take_back` puts it back from a statement that is of no more use: so one after another needs no memory.
+#[derive(Drop)]
+pub struct Room {
+    pub(crate) accesses: Vec<Access>,
+    pub(crate) steps: Vec<Step>,
+}
+
+impl Room {
+    /// Room for nothing yet. It takes no memory.
+    pub fn new(alloc: Global) -> Self
+        ensures accesses { result.accesses.items ≡ [] }
+        ensures steps { result.steps.items ≡ [] }
+    {
+        Room {
+            accesses: Vec::new(alloc),
+            steps: Vec::new(alloc),
+        }
+    }
+
+    /// Makes room for each access and each step of a statement. On `Err` memory was refused.
+    pub(crate) fn reserve(&mut self, form: &RawForm<'_>) -> Result<(), AllocError>
+        ensures { OnOk result (HasRoom self.new form.now) }
+    {
+        let (accesses, steps) = match form {
+            RawForm::Run {
+                accesses,
+                steps,
+                ..
+            } => (accesses.as_slice().len(), steps.as_slice().len()),
+            RawForm::Create { .. } | RawForm::Deed(_) => (0, 0),
+        };
+        self.accesses.clear();
+        self.steps.clear();
+        self.accesses.reserve_exact(accesses)?;
+        self.steps.reserve_exact(steps)
+    }
+
+    /// Takes back what the statement held, with what stands in it.
+    pub fn take_back(&mut self, statement: Statement)
+        ensures accesses { (accesses : List Access) (steps : List Step) (deed : Option DeedForm)
+            → statement.form ≡ Form.Run accesses steps deed → self.new.accesses.items ≡ accesses }
+        ensures steps { (accesses : List Access) (steps : List Step) (deed : Option DeedForm)
+            → statement.form ≡ Form.Run accesses steps deed → self.new.steps.items ≡ steps }
+    {
+        if let Form::Run {
+            accesses,
+            steps,
+            ..
+        } = statement.form
+        {
+            self.accesses = accesses.into_vec();
+            self.steps = steps.into_vec();
+        }
+    }
+}
