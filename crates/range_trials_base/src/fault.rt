@@ -1,0 +1,63 @@
+//! Why a trial ends without success.
+
+use log_text::LineFault;
+use sequencer::Refused;
+use std::alloc::{AllocError, AllocFailed};
+use std::io;
+use thiserror::Error;
+
+/// Why a trial ends without success.
+#[derive(Clone, Copy, Debug, PartialEq, Eq, Error)]
+pub enum TrialFault {
+    /// The words of the command line tell nothing to do.
+    #[error("no such trial")]
+    Words,
+    /// A line of a trial's log isn't taken.
+    #[error("a line is not taken")]
+    Line,
+    /// A log has too few places.
+    #[error("a log has too few places")]
+    Short,
+    /// A growth was refused.
+    #[error("out of memory")]
+    NoMemory,
+    /// The system can't write, or tell the time or the words of the command line.
+    #[error("the system failed")]
+    System,
+}
+
+impl From<AllocError> for TrialFault {
+    fn from(_e: AllocError) -> TrialFault {
+        TrialFault::NoMemory
+    }
+}
+
+impl<T: Drop> From<AllocFailed<T>> for TrialFault {
+    fn from(_e: AllocFailed<T>) -> TrialFault {
+        TrialFault::NoMemory
+    }
+}
+
+impl From<io::Error> for TrialFault {
+    fn from(_e: io::Error) -> TrialFault {
+        TrialFault::System
+    }
+}
+
+impl From<LineFault> for TrialFault {
+    fn from(e: LineFault) -> TrialFault {
+        match e {
+            LineFault::NoMemory => TrialFault::NoMemory,
+            _ => TrialFault::Line,
+        }
+    }
+}
+
+impl From<Refused> for TrialFault {
+    fn from(e: Refused) -> TrialFault {
+        match e {
+            Refused::NoMemory => TrialFault::NoMemory,
+            _ => TrialFault::Line,
+        }
+    }
+}
