@@ -1,6 +1,6 @@
 -- The report so far, as the writer holds it.
 use Rattle.std.proofs.Common.{◌≡◌, ℕ, ◌+◌, ◌<◌, List, [], ◌∷◌, ◌++◌, length, get_or, take, drop, Option, Some, None, ap, sym, ◌∙◌, subst, append_assoc, add-one, drop-cons}
-use Rattle.std.specs.Prelude.{IfSome}
+use Rattle.std.specs.Prelude.{IfSome, OnOk, Result, Ok, Err}
 use Rattle.std.specs.Io.KnownBytes.{Appends, Keeps}
 use Rattle.std.proofs.lemmas.List.{append-nil, take-append-drop}
 use Rattle.log_text_base.specs.Known.{AppendsFront, HasBegun, MovesOut}
@@ -9,6 +9,7 @@ use Rattle.sequencer.specs.Log.{Accepted}
 use Rattle.report.specs.Report.{IsReport}
 use Rattle.report.proofs.Readings.{IsTotal, some_report}
 use Rattle.bohm_base.specs.declared.collecting.Became.{Became}
+use Rattle.bohm_base.specs.declared.fault.EngineFault.{EngineFault}
 use Rattle.bohm_base.specs.Collecting.{Collects, became_text, log_text, places_of, report_text}
 use Rattle.bohm_base.proofs.Logs.{report_is}
 
@@ -65,7 +66,7 @@ rest_lost n m pending less front none =
     (left, subst (λ (w : List ℕ). MovesOut n m pending (w ++ left)) (sym none) (take front.0 pending, front.1, take-append-drop front.0 pending))
 
 -- what was pending at the end is written, or a front of it
-front_written : (o n m : Option (List ℕ)) (whole pending : List ℕ) → HasBegun o n pending whole → AppendsFront n m pending → AppendsFront o m whole
+pub front_written : (o n m : Option (List ℕ)) (whole pending : List ℕ) → HasBegun o n pending whole → AppendsFront n m pending → AppendsFront o m whole
 front_written o n m whole pending begun front =
     let left : List ℕ = drop front.0 pending ++ begun.0 in
     let moved : MovesOut o m whole left =
@@ -77,31 +78,21 @@ pub nothing_written : IsTotal → (i o : Option (List ℕ)) → IfSome i (λ inp
 nothing_written total None o = tt
 nothing_written total (Some input) o = let report = some_report total input in (report.0, (report.1, (0, appends_none o report.0)))
 
-module _ (i : Option (List ℕ)) (log : Accepted) (lines : List Became) where
-  -- a beginning of the report is written
-  pub some_written : (o n m : Option (List ℕ)) (pending : List ℕ) → IfSome i (λ input. Collects input log lines)
-      → HasBegun o n pending (log_text log lines) → AppendsFront n m pending
-      → IfSome i (λ input. (text : List ℕ) × (IsReport input text × AppendsFront o m text))
-  some_written o n m pending collects begun front = some_written_if i collects
-    where
-      some_written_if : (known : Option (List ℕ)) → IfSome known (λ input. Collects input log lines)
-          → IfSome known (λ input. (text : List ℕ) × (IsReport input text × AppendsFront o m text))
-      some_written_if None _ = tt
-      some_written_if (Some input) c = (log_text log lines, (report_is input log lines c, front_written o n m (log_text log lines) pending begun front))
+-- what was pending at the end is written, and the whole is
+pub whole_written : (o n m k : Option (List ℕ)) (whole pending : List ℕ) → MovesOut o n whole pending → Appends n m pending → Keeps m k → Appends o k whole
+whole_written o n m k whole pending moves appends keeps =
+    subst (Appends o k) moves.2 (appends_kept o m k (moves.0 ++ pending) (appends_then o n m moves.0 pending moves.1 appends) keeps)
 
-  -- the whole report is written
-  pub all_written : (o n m k : Option (List ℕ)) (pending : List ℕ) → IfSome i (λ input. Collects input log lines)
-      → MovesOut o n (log_text log lines) pending → Appends n m pending → Keeps m k
-      → IfSome i (λ input. (text : List ℕ) × (IsReport input text × Appends o k text))
-  all_written o n m k pending collects moves appends keeps = all_written_if i collects
-    where
-      all_written_if : (known : Option (List ℕ)) → IfSome known (λ input. Collects input log lines)
-          → IfSome known (λ input. (text : List ℕ) × (IsReport input text × Appends o k text))
-      all_written_if None _ = tt
-      all_written_if (Some input) c = (
-        log_text log lines,
-        (
-          report_is input log lines c,
-          subst (Appends o k) moves.2 (appends_kept o m k (moves.0 ++ pending) (appends_then o n m moves.0 pending moves.1 appends) keeps),
-        ),
-      )
+-- a beginning of the log's text is a beginning of the report
+pub some_written : (i o m : Option (List ℕ)) (log : Accepted) (lines : List Became) → IfSome i (λ input. Collects input log lines)
+    → AppendsFront o m (log_text log lines) → IfSome i (λ input. (text : List ℕ) × (IsReport input text × AppendsFront o m text))
+some_written None o m log lines collects front = tt
+some_written (Some input) o m log lines collects front = (log_text log lines, (report_is input log lines collects, front))
+
+-- the log's text is the report, if that was answered
+pub all_written : {A : Type 0} (i o m : Option (List ℕ)) (log : Accepted) (lines : List Became) (result : Result A EngineFault)
+    → IfSome i (λ input. Collects input log lines) → OnOk result (Appends o m (log_text log lines))
+    → OnOk result (IfSome i (λ input. (text : List ℕ) × (IsReport input text × Appends o m text)))
+all_written i o m log lines (Err fault) collects whole = tt
+all_written None o m log lines (Ok done) collects whole = tt
+all_written (Some input) o m log lines (Ok done) collects whole = (log_text log lines, (report_is input log lines collects, whole))

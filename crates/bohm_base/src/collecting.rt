@@ -1,8 +1,10 @@
 //! The whole log, read to its end before any of it is run.
 
-ghost use Rattle.std.specs.Prelude.{◌≡◌, ◌≢◌, ◌≤◌, IfOk, IfErr, IfSome, OnErr, OnOk, Err};
+ghost use Rattle.std.specs.Prelude.{◌≡◌, ◌≢◌, ◌≤◌, [], IfOk, IfErr, IfSome, OnErr, OnOk, Err};
 ghost use Rattle.std.specs.Result.{ForOk};
 ghost use Rattle.log_text.specs.Statement.{IsInGrammar};
+ghost use Rattle.log_text_base.specs.Ahead.{ahead};
+ghost use Rattle.sequencer.specs.Log.{empty_log};
 ghost use Rattle.report.specs.Report.{Reading, read};
 ghost use Rattle.bohm_base.specs.Faults.{read_errors};
 ghost use Rattle.bohm_base.specs.Collecting.{Collects, LineMayLackMemory, ReadsAs, became, places_of, reading_of, with_reading};
@@ -45,6 +47,18 @@ pub struct Collected {
     pub log: Log,
     /// What each line became, in the lines' order.
     pub lines: Vec<Became>,
+}
+
+impl Collected {
+    /// The log before its first line. It takes no memory.
+    fn new(alloc: Global) -> Self
+        ensures log { result.log ≡ empty_log }
+        ensures lines { result.lines.items ≡ [] }
+    {
+        let log = Log::new(alloc);
+        let lines = Vec::new(alloc);
+        Collected { log, lines }
+    }
 }
 
 /// What the line of a refused statement became. Want of memory is no refusal, and ends the run.
@@ -124,6 +138,28 @@ fn take_line(alloc: Global, log: &mut Log, line: &[u8]) -> Result<Became, Engine
     Ok(line)
 }
 
+/// Reads lines to the end of what the reader gives, and collects them. Nothing is read or collected before.
+fn collect_all<R: Read>(
+    alloc: Global,
+    reader: &mut Counted<R>,
+    reading: &mut LineReader,
+    collected: &mut Collected,
+) -> Result<(), EngineFault>
+    requires ahead { ahead reading.old ≡ [] }
+    requires log { collected.old.log ≡ empty_log }
+    requires lines { collected.old.lines.items ≡ [] }
+    ensures whole { OnOk result (IfSome (R.remaining reader.old.inner)
+        (λ input. Collects input collected.new.log collected.new.lines.items)) }
+    ensures reads { reader.new.errors ≡ read_errors result reader.old.errors }
+    ensures err { IfErr result (λ f. f ≢ EngineFault.Write) }
+{
+    'lines: while reading.next_line(reader)? {
+        let line = take_line(alloc, &mut collected.log, reading.line())?;
+        collected.lines.push(line)?;
+    }
+    Ok(())
+}
+
 /// Reads lines to the end of what the reader gives. `NoMemory` comes where a growth was refused, `Read` where the reader
 /// failed; after either what was collected is gone.
 pub fn collect_lines<R: Read>(
@@ -136,11 +172,7 @@ pub fn collect_lines<R: Read>(
     ensures err { IfErr result (λ f. f ≢ EngineFault.Write) }
 {
     let mut reading = LineReader::new(alloc)?;
-    let mut log = Log::new(alloc);
-    let mut lines = Vec::new(alloc);
-    'lines: while reading.next_line(reader)? {
-        let line = take_line(alloc, &mut log, reading.line())?;
-        lines.push(line)?;
-    }
-    Ok(Collected { log, lines })
+    let mut collected = Collected::new(alloc);
+    collect_all(alloc, reader, &mut reading, &mut collected)?;
+    Ok(collected)
 }

@@ -127,6 +127,54 @@ fn report_lines<W: Write>(
     Ok(())
 }
 
+/// Writes the whole report of a log by the outcomes of its places. Nothing is pending before. After a fault a beginning of
+/// the report is written.
+fn write_report<W: Write>(
+    alloc: Global,
+    writer: &mut Counted<W>,
+    collected: &Collected,
+    outcomes: &[Outcome],
+    pending: &mut Vec<u8>,
+) -> Result<(), EngineFault>
+    requires outcomes { (place : ℕ) → slice_get outcomes.now place ≡ outcome collected.now.log.statements place }
+    requires empty { pending.old.items ≡ [] }
+    ensures done { OnOk result (Appends (W.contents writer.old.inner) (W.contents writer.new.inner)
+        (log_text collected.now.log collected.now.lines.items)) }
+    ensures begun { AppendsFront (W.contents writer.old.inner) (W.contents writer.new.inner)
+        (log_text collected.now.log collected.now.lines.items) }
+    ensures err { IfErr result (λ f. f ≢ EngineFault.Read) }
+    ensures write { result ≡ Err EngineFault.Write → writer.old.errors < 2 ^ 64 - 1 → writer.old.errors < writer.new.errors }
+    ensures whole { OnOk result (writer.new.errors ≡ writer.old.errors) }
+{
+    let ended = report_lines(alloc, writer, collected, outcomes, pending);
+    let written = write_out(writer, pending.as_slice());
+    ended?;
+    written?;
+    flush(writer)?;
+    Ok(())
+}
+
+/// Runs a log that was read, by `model::serial`, and writes its report, as `write_report`. Where the run finds no memory
+/// nothing is written.
+fn run_log<W: Write>(
+    alloc: Global,
+    writer: &mut Counted<W>,
+    collected: &Collected,
+    pending: &mut Vec<u8>,
+) -> Result<(), EngineFault>
+    requires empty { pending.old.items ≡ [] }
+    ensures done { OnOk result (Appends (W.contents writer.old.inner) (W.contents writer.new.inner)
+        (log_text collected.now.log collected.now.lines.items)) }
+    ensures begun { AppendsFront (W.contents writer.old.inner) (W.contents writer.new.inner)
+        (log_text collected.now.log collected.now.lines.items) }
+    ensures err { IfErr result (λ f. f ≢ EngineFault.Read) }
+    ensures write { result ≡ Err EngineFault.Write → writer.old.errors < 2 ^ 64 - 1 → writer.old.errors < writer.new.errors }
+    ensures whole { OnOk result (writer.new.errors ≡ writer.old.errors) }
+{
+    let outcomes = serial(alloc, collected.log.statements())?;
+    write_report(alloc, writer, collected, &outcomes, pending)
+}
+
 /// Reads a log to its end, runs it by `model::serial`, and writes its report: one line for each line.
 ///
 /// The log's statements, their outcomes and the rows are kept in memory, and two bytes or so for each line. `NoMemory`
@@ -153,11 +201,5 @@ pub fn serial_text<R: Read, W: Write>(
 {
     let mut pending = Vec::with_capacity(alloc, PENDING_BYTES)?;
     let collected = collect_lines(alloc, reader)?;
-    let outcomes = serial(alloc, collected.log.statements())?;
-    let ended = report_lines(alloc, writer, &collected, &outcomes, &mut pending);
-    let written = write_out(writer, pending.as_slice());
-    ended?;
-    written?;
-    flush(writer)?;
-    Ok(())
+    run_log(alloc, writer, &collected, &mut pending)
 }

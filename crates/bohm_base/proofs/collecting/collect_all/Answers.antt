@@ -2,11 +2,11 @@ use Rattle.std.proofs.Common.{ℕ, ap, refl, ◌∙◌, rules}
 use Rattle.log_text_base.specs.Ahead.{found_line}
 use Rattle.bohm_base.specs.Faults.{read_errors}
 use Rattle.bohm_base.proofs.LinesRead.{collect_start, collect_step, collect_end, fault_told}
-use Rattle.bohm_base.proofs.collecting.collect_lines.Goals as goal
+use Rattle.bohm_base.proofs.collecting.collect_all.Goals as goal
 
 pub lines-init : goal.lines-init
 lines-init g c = record {
-  collected = rw (c.new-log.ensures, c.new-lines.ensures.items) (collect_start _ _ c.in_ok-reading.ensures.ahead);
+  collected = rw (c.requires.log, c.requires.lines) (collect_start _ _ c.requires.ahead);
   bounded = search rules;
   read_errors = refl;
 }
@@ -26,5 +26,5 @@ returns-clause-whole g c = collect_end _ _ _ _ c.lines.invariant.collected (rw c
 
 pub returns-in_err-next_line-clause-reads : goal.returns-in_err-next_line-clause-reads
 returns-in_err-next_line-clause-reads g c =
-    fault_told c.in_err-next_line.field-0.0 _ _ _ _ refl c.from_residual-in_err-next_line.ensures.1 c.in_err-next_line.ensures.read c.in_err-next_line.ensures.other
-    ∙ ap (λ (n : ℕ). read_errors c.from_residual-in_err-next_line.result n) c.lines.invariant.read_errors
+    fault_told c.in_err-next_line.field-0.0 _ _ _ _ refl c.from_residual.ensures.1 c.in_err-next_line.ensures.read c.in_err-next_line.ensures.other
+    ∙ ap (λ (n : ℕ). read_errors c.from_residual.result n) c.lines.invariant.read_errors

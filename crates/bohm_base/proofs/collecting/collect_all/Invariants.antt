@@ -2,11 +2,11 @@ use Rattle.std.proofs.Common.{◌≡◌, ◌<◌, ◌≤◌, ◌+◌, ◌^◌, �
 use Rattle.std.specs.Io.KnownBytes.{prepend_known}
 use Rattle.log_text_base.specs.Ahead.{ahead}
 use Rattle.bohm_base.specs.Collecting.{CollectsSoFar}
-use Rattle.bohm_base.proofs.collecting.collect_lines.Given as goal
+use Rattle.bohm_base.proofs.collecting.collect_all.Given as goal
 
 abbrev pub invariant-lines : goal.invariant-lines
 invariant-lines g l = record {
-  collected : CollectsSoFar (g.R.Read.remaining l.initial.reader.inner) (prepend_known (ahead l.reading) (g.R.Read.remaining l.reader.inner)) l.log l.lines.items;
+  collected : CollectsSoFar (g.R.Read.remaining l.initial.reader.inner) (prepend_known (ahead l.reading) (g.R.Read.remaining l.reader.inner)) l.collected.log l.collected.lines.items;
   bounded : 0 < length (ahead l.reading) → l.reader.given ≤ 2 ^ 62 + 65536;
   read_errors : l.reader.errors ≡ l.initial.reader.errors;
 }

@@ -1,0 +1,10 @@
+use Rattle.log_text_base.proofs.Written.{appends_none}
+use Rattle.bohm_base.specs.Collecting.{log_text}
+use Rattle.bohm_base.proofs.Runnable.{runnable_log}
+use Rattle.bohm_base.proofs.serial_run.run_log.Goals as goal
+
+pub serial-requires : goal.serial-requires
+serial-requires g c = rw c.statements.ensures.value (runnable_log c.args.collected.now.log c.statements.ensures.whole)
+
+pub returns-in_err-outcomes-clause-begun : goal.returns-in_err-outcomes-clause-begun
+returns-in_err-outcomes-clause-begun g c = (0, appends_none _ (log_text c.args.collected.now.log c.args.collected.now.lines.items))
