@@ -1,0 +1,114 @@
+-- A step behind its word: what is answered of the words behind it, for the step as a whole.
+use Rattle.std.proofs.Common.{◌≡◌, ◌<◌, ◌≤◌, ℕ, ◌+◌, Bool, true, false, List, [], ◌∷◌, ◌++◌, Option, Some, None, refl, ap, sym, ◌∙◌, subst, arith}
+use Rattle.std.specs.Prelude.{Result, Ok, Err, IfOk, IfErr}
+use Rattle.std.proofs.lemmas.Bool.{ltb-true, and_parts}
+use Rattle.std.proofs.lemmas.List.{append-nil}
+use Rattle.log_text.specs.Statement.{IsStep, outs_of}
+use Rattle.log_text.specs.Faults.{IsFault, or_else, unless}
+use Rattle.log_text.specs.Fault.{OfStep, expected_in, fault_from, step_fault, step_name}
+use Rattle.log_text.specs.Parsing.{TakesStep, fault_behind, step_word}
+use Rattle.log_text.specs.declared.fault.LineFault.{LineFault}
+use Rattle.log_text.specs.declared.fault.LineFault.TheVariants.{TooLong, NotAscii, Empty, UnknownWord, BadNumber, BadName, TooManySteps, TooManyAccesses, BadRegister, NoMemory}
+use Rattle.log_text.specs.declared.statement.RawStep.{RawStep}
+use Rattle.log_text.specs.declared.step_name.StepName.{StepName}
+use Rattle.log_text.specs.declared.step_name.StepName.TheVariants.{Const, Compute, Has, Load, Store, Insert, Delete, Check, Skip, Out}
+use Rattle.log_text.proofs.StepNames.{at_step, no_deed}
+
+-- the word names the step, of which there may be one more behind so many steps and outs
+abbrev pub Names : StepName → List ℕ → ℕ → ℕ → Type 0
+Names s word steps outs = (word ≡ step_word s) × (step_name (step_word s) ≡ Some s) × (step_fault (Some s) steps outs ≡ None)
+
+holds : (b : Bool) (f : LineFault) → unless b f ≡ None → b ≡ true
+holds true f e = refl
+holds false f e = absurd (cc)
+
+few_steps : (s : StepName) (n o : ℕ) → step_fault (Some s) n o ≡ None → n < 64
+few_steps Out n o e = ltb-true n 64 (and_parts _ _ (holds _ _ e)).0
+few_steps Const n o e = ltb-true n 64 (holds _ _ e)
+few_steps (Compute operation) n o e = ltb-true n 64 (holds _ _ e)
+few_steps Has n o e = ltb-true n 64 (holds _ _ e)
+few_steps Load n o e = ltb-true n 64 (holds _ _ e)
+few_steps Store n o e = ltb-true n 64 (holds _ _ e)
+few_steps Insert n o e = ltb-true n 64 (holds _ _ e)
+few_steps Delete n o e = ltb-true n 64 (holds _ _ e)
+few_steps Check n o e = ltb-true n 64 (holds _ _ e)
+few_steps Skip n o e = ltb-true n 64 (holds _ _ e)
+
+-- one more out is not too many
+pub few_outs : (n o : ℕ) → step_fault (Some Out) n o ≡ None → o + 1 ≤ 8
+few_outs n o e = omega (arith, ltb-true o 8 (and_parts _ _ (holds _ _ e)).1)
+
+is_fault : (f : LineFault) (o : Option LineFault) → o ≡ Some f → IsFault f o
+is_fault TooLong o e = e
+is_fault NotAscii o e = e
+is_fault Empty o e = e
+is_fault UnknownWord o e = e
+is_fault BadNumber o e = e
+is_fault BadName o e = e
+is_fault TooManySteps o e = e
+is_fault TooManyAccesses o e = e
+is_fault BadRegister o e = e
+is_fault NoMemory o e = tt
+
+-- a step that makes so many outs leads from so many to so many
+pub leads : (k o after : ℕ) (s : StepName) (old new : List (List ℕ)) (result : Result (RawStep × Bool) LineFault) → after ≡ o + k
+    → IfOk result (λ r. TakesStep (step_word s ∷ old) r.0 r.1 new × IsStep r.0 × (outs_of r.0 ≡ k))
+    → IfOk result (λ r. TakesStep (step_word s ∷ old) r.0 r.1 new × IsStep r.0 × (after ≡ o + outs_of r.0))
+leads k o after s old new (Err f) more took = tt
+leads k o after s old new (Ok r) more took = (took.0, took.1, more ∙ ap (λ (m : ℕ). o + m) (sym took.2))
+
+module _ (s : StepName) (word : List ℕ) (old new : List (List ℕ)) (n o : ℕ) (result : Result (RawStep × Bool) LineFault) (names : Names s word n o) where
+  behind : fault_from (OfStep n o ∷ []) (word ∷ old) ≡ fault_from (expected_in (Some s) n o) old
+  behind =
+      ap (λ (w : List ℕ). fault_from (OfStep n o ∷ []) (w ∷ old)) names.0
+      ∙ at_step (step_word s) old n o (no_deed s)
+      ∙ ap (λ (t : Option StepName). or_else (step_fault t n o) (fault_from (expected_in t n o ++ []) old)) names.1
+      ∙ ap (λ (f : Option LineFault). or_else f (fault_from (expected_in (Some s) n o ++ []) old)) names.2
+      ∙ ap (λ ps. fault_from ps old) (append-nil (expected_in (Some s) n o))
+
+  -- the step was taken
+  pub takes : (after : ℕ → ℕ) → after o ≤ 8 → IfOk result (λ r. TakesStep (step_word s ∷ old) r.0 r.1 new × IsStep r.0 × (after o ≡ o + outs_of r.0))
+      → IfOk result (λ r. TakesStep (word ∷ old) r.0 r.1 new × IsStep r.0 × (n < 64) × (o + outs_of r.0 ≤ 8))
+  takes after few took = takes_if result took
+    where
+      takes_if : (found : Result (RawStep × Bool) LineFault) → IfOk found (λ r. TakesStep (step_word s ∷ old) r.0 r.1 new × IsStep r.0 × (after o ≡ o + outs_of r.0))
+          → IfOk found (λ r. TakesStep (word ∷ old) r.0 r.1 new × IsStep r.0 × (n < 64) × (o + outs_of r.0 ≤ 8))
+      takes_if (Err f) took = tt
+      takes_if (Ok r) took = (
+        subst (λ (w : List ℕ). TakesStep (w ∷ old) r.0 r.1 new) (sym names.0) took.0,
+        took.1,
+        few_steps s n o names.2,
+        omega (arith, took.2, few),
+      )
+
+  -- what is left has the fault of what is behind the step
+  pub fits : (after : ℕ → ℕ) → IfOk result (λ r. TakesStep (step_word s ∷ old) r.0 r.1 new × IsStep r.0 × (after o ≡ o + outs_of r.0))
+      → IfOk result (λ r. (steps outs : ℕ) → fault_from (expected_in (Some s) steps outs) old ≡ fault_behind r.1 (steps + 1) (after outs) new)
+      → IfOk result (λ r. fault_from (OfStep n o ∷ []) (word ∷ old) ≡ fault_behind r.1 (n + 1) (o + outs_of r.0) new)
+  fits after took fit = fits_if result took fit
+    where
+      fits_if : (found : Result (RawStep × Bool) LineFault) → IfOk found (λ r. TakesStep (step_word s ∷ old) r.0 r.1 new × IsStep r.0 × (after o ≡ o + outs_of r.0))
+          → IfOk found (λ r. (steps outs : ℕ) → fault_from (expected_in (Some s) steps outs) old ≡ fault_behind r.1 (steps + 1) (after outs) new)
+          → IfOk found (λ r. fault_from (OfStep n o ∷ []) (word ∷ old) ≡ fault_behind r.1 (n + 1) (o + outs_of r.0) new)
+      fits_if (Err f) took fit = tt
+      fits_if (Ok r) took fit = behind ∙ fit n o ∙ ap (λ (m : ℕ). fault_behind r.1 (n + 1) m new) took.2
+
+  -- a fault of what is behind the word, or want of memory, is one of the step
+  pub fails : IfErr result (λ f. (steps outs : ℕ) → IsFault f (fault_from (expected_in (Some s) steps outs) old))
+      → IfErr result (λ f. IsFault f (fault_from (OfStep n o ∷ []) (word ∷ old)))
+  fails failed = fails_if result failed
+    where
+      fails_if : (found : Result (RawStep × Bool) LineFault) → IfErr found (λ f. (steps outs : ℕ) → IsFault f (fault_from (expected_in (Some s) steps outs) old))
+          → IfErr found (λ f. IsFault f (fault_from (OfStep n o ∷ []) (word ∷ old)))
+      fails_if (Ok r) failed = tt
+      fails_if (Err f) failed = subst (IsFault f) (sym behind) (failed n o)
+
+  -- a fault of what is behind the word is one of the step
+  pub fails_so : IfErr result (λ f. (steps outs : ℕ) → fault_from (expected_in (Some s) steps outs) old ≡ Some f)
+      → IfErr result (λ f. IsFault f (fault_from (OfStep n o ∷ []) (word ∷ old)))
+  fails_so failed = fails_if result failed
+    where
+      fails_if : (found : Result (RawStep × Bool) LineFault) → IfErr found (λ f. (steps outs : ℕ) → fault_from (expected_in (Some s) steps outs) old ≡ Some f)
+          → IfErr found (λ f. IsFault f (fault_from (OfStep n o ∷ []) (word ∷ old)))
+      fails_if (Ok r) failed = tt
+      fails_if (Err f) failed = is_fault f _ (behind ∙ failed n o)
