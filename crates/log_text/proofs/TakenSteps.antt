@@ -1,9 +1,12 @@
 -- A step behind its word: what is answered of the words behind it, for the step as a whole.
-use Rattle.std.proofs.Common.{◌≡◌, ◌<◌, ◌≤◌, ℕ, ◌+◌, Bool, true, false, List, [], ◌∷◌, ◌++◌, Option, Some, None, refl, ap, sym, ◌∙◌, subst, arith}
-use Rattle.std.specs.Prelude.{Result, Ok, Err, IfOk, IfErr}
+use Rattle.std.proofs.Common.{◌≡◌, ◌<◌, ◌≤◌, ℕ, ◌+◌, Bool, true, false, List, [], ◌∷◌, ◌++◌, Option, Some, None, refl, ap, sym, ◌∙◌, subst, arith, append_assoc}
+use Rattle.std.specs.Prelude.{codes, Result, Ok, Err, IfOk, IfErr}
 use Rattle.std.proofs.lemmas.Bool.{ltb-true, and_parts}
+use Rattle.std.specs.List.{AllByRecursion, flat_map, sum_by}
 use Rattle.std.proofs.lemmas.List.{append-nil}
-use Rattle.log_text.specs.Statement.{IsStep, outs_of}
+use Rattle.std.proofs.lemmas.List.Concat.{flat_map-append}
+use Rattle.std.proofs.lemmas.List.Sums.{sum_by-append}
+use Rattle.log_text.specs.Statement.{IsStep, further_step, outs_of, step_words}
 use Rattle.log_text.specs.Faults.{IsFault, or_else, unless}
 use Rattle.log_text.specs.Fault.{OfStep, expected_in, fault_from, step_fault, step_name}
 use Rattle.log_text.specs.Parsing.{TakesStep, fault_behind, step_word}
@@ -112,3 +115,43 @@ module _ (s : StepName) (word : List ℕ) (old new : List (List ℕ)) (n o : ℕ
           → IfErr found (λ f. IsFault f (fault_from (OfStep n o ∷ []) (word ∷ old)))
       fails_if (Ok r) failed = tt
       fails_if (Err f) failed = is_fault f _ (behind ∙ failed n o)
+
+-- one more step behind a bar
+pub one_more : (all before left : List (List ℕ)) (found more : List RawStep) (s : RawStep) → codes "|" ∷ all ≡ flat_map further_step found ++ codes "|" ∷ before
+    → before ≡ step_words s ++ codes "|" ∷ left → more ≡ found ++ s ∷ [] → codes "|" ∷ all ≡ flat_map further_step more ++ codes "|" ∷ left
+one_more all before left found more s same taken is =
+    let front : List (List ℕ) = flat_map further_step found in
+    let joined : flat_map further_step more ≡ front ++ further_step s =
+    ap (flat_map further_step) is ∙ flat_map-append further_step found (s ∷ []) ∙ ap (λ (w : List (List ℕ)). front ++ w) (append-nil (further_step s)) in
+    same ∙ ap (λ (w : List (List ℕ)). front ++ codes "|" ∷ w) taken
+    ∙ sym (ap (λ (w : List (List ℕ)). w ++ codes "|" ∷ left) joined ∙ append_assoc front (further_step s) (codes "|" ∷ left))
+
+-- its outs are counted too
+pub outs_more : (found more : List RawStep) (s : RawStep) (outs count : ℕ) → outs ≡ sum_by outs_of found → count ≡ outs_of s → more ≡ found ++ s ∷ []
+    → outs + count ≡ sum_by outs_of more
+outs_more found more s outs count so one is = omega (arith, so, one, ap (sum_by outs_of) is, sum_by-append outs_of found (s ∷ []))
+
+-- and it is a step as the others are
+pub each_more : (found more : List RawStep) (s : RawStep) → AllByRecursion IsStep found → IsStep s → more ≡ found ++ s ∷ [] → AllByRecursion IsStep more
+each_more found more s each here is = subst (AllByRecursion IsStep) (sym is) (with_last found each)
+  where
+    with_last : (ss : List RawStep) → AllByRecursion IsStep ss → AllByRecursion IsStep (ss ++ s ∷ [])
+    with_last [] h = (here, tt)
+    with_last (x ∷ xs) h = (h.0, with_last xs h.1)
+
+-- there may be so many steps
+pub room_more : (len old new : ℕ) → old < 64 → old ≡ len → new ≡ len + 1 → new ≤ 64
+room_more len old new few is one = omega arith
+
+pub few_more : (outs count made : ℕ) → count ≡ made → outs + made ≤ 8 → outs + count ≤ 8
+few_more outs count made is few = omega arith
+
+-- what is left has the fault of the whole
+pub fits_more : (all before after left : List (List ℕ)) (len old new outs count made : ℕ)
+    → fault_from (OfStep 0 0 ∷ []) all ≡ fault_from (OfStep len outs ∷ []) before → before ≡ after
+    → fault_from (OfStep old outs ∷ []) after ≡ fault_from (OfStep (old + 1) (outs + made) ∷ []) left
+    → old ≡ len → new ≡ len + 1 → count ≡ made → fault_from (OfStep 0 0 ∷ []) all ≡ fault_from (OfStep new (outs + count) ∷ []) left
+fits_more all before after left len old new outs count made so at fit is one more =
+    let next : old + 1 ≡ new = omega arith in
+    so ∙ ap (λ (n : ℕ). fault_from (OfStep n outs ∷ []) before) (sym is) ∙ ap (fault_from (OfStep old outs ∷ [])) at ∙ fit
+    ∙ ap (λ (n : ℕ). fault_from (OfStep n (outs + made) ∷ []) left) next ∙ ap (λ (m : ℕ). fault_from (OfStep new (outs + m) ∷ []) left) (sym more)
