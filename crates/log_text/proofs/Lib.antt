@@ -6,6 +6,7 @@ pub mod Splits
 pub mod NameWords
 pub mod OperationWords
 pub mod StepNames
+pub mod StepLetters
 pub mod TakenSteps
 pub mod KindWords
 pub mod Tails
