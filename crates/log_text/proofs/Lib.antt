@@ -8,6 +8,7 @@ pub mod OperationWords
 pub mod StepNames
 pub mod StepLetters
 pub mod TakenSteps
+pub mod TakenAccesses
 pub mod KindWords
 pub mod Tails
 pub mod Printable
