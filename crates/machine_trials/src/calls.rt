@@ -1,8 +1,12 @@
 //! What a batch tells of itself, each call once.
 
+ghost use Rattle.std.specs.Prelude.{◌≡◌};
+ghost use Rattle.machine_trials_base.specs.Before.{IsBefore};
+
 use log_batch::LogBatch;
-use machine_trials_base::{TrialFault, batch_of, log_of, nothing};
+use machine_trials_base::{Before, TrialFault, batch_of, log_of, nothing};
 use model_base::{Form, Key, Table};
+use sequencer::LogTail;
 use std::alloc::Global;
 
 /// A log whose reader grants further what it reads by.
@@ -74,11 +78,24 @@ pub fn tell_batch(rt: &impl Print, batch: &LogBatch<'_>) -> Result<(), TrialFaul
     tell_grants(rt, batch)
 }
 
+/// Tells the calls of a whole log as a batch that three partitions place.
+fn tell_whole_batch(
+    rt: &impl Print,
+    alloc: Global,
+    log: &LogTail,
+    before: &Before,
+) -> Result<(), TrialFault>
+    requires kept { log.now.dropped ≡ 0 }
+    requires before { IsBefore before.now log.now.log.statements 0 }
+{
+    let batch = batch_of(alloc, log, before, 0..log.len(), 3)?;
+    tell_batch(rt, &batch)
+}
+
 /// Tells the calls of a whole log.
 pub fn tell_calls(rt: &impl Print, alloc: Global) -> Result<(), TrialFault> {
+    println!(rt; "the calls of a batch")?;
     let log = log_of(alloc, &LINES)?;
     let before = nothing(alloc);
-    let batch = batch_of(alloc, &log, &before, 0..log.len(), 3)?;
-    println!(rt; "the calls of a batch")?;
-    tell_batch(rt, &batch)
+    tell_whole_batch(rt, alloc, &log, &before)
 }

@@ -1,7 +1,7 @@
 //! The reader and the revocation of the worked log alone, as a batch in the middle of the log.
 
 ghost use Rattle.std.specs.Prelude.{◌≡◌, ◌≤◌, length};
-ghost use Rattle.machine_trials_base.specs.Worked.{BeginsWorked};
+ghost use Rattle.machine_trials_base.specs.Before.{IsBefore};
 
 use crate::calls::tell_batch;
 use crate::telling::{tell_events, tell_found};
@@ -9,7 +9,7 @@ use bohm_core::Machine;
 use bohm_core_base::Event;
 use log_machine::OfLog;
 use machine_trials_base::{
-    LINES, TrialFault, before_the_reader, begins_worked, log_of, machine_of,
+    Before, LINES, TrialFault, before_the_reader, begins_worked, log_of, machine_of,
 };
 use sequencer::LogTail;
 use std::alloc::Global;
@@ -121,24 +121,45 @@ fn tell_row(
     tell_found(rt, alloc, machine)
 }
 
-/// Tells the row of events on the reader and the revocation of a log that begins with the worked three statements.
-fn tell_last_two(rt: &impl Print, alloc: Global, log: &LogTail) -> Result<(), TrialFault>
+/// Tells the calls of the batch, and the row of events.
+fn tell_machine(
+    rt: &impl Print,
+    alloc: Global,
+    machine: &mut Machine<OfLog<'_>>,
+) -> Result<(), TrialFault> {
+    tell_batch(rt, machine.statements().batch())?;
+    tell_row(rt, alloc, machine)
+}
+
+/// Tells the row of events on the reader and the revocation, with what stands before them.
+fn tell_behind(
+    rt: &impl Print,
+    alloc: Global,
+    log: &LogTail,
+    before: &Before,
+) -> Result<(), TrialFault>
     requires kept { log.now.dropped ≡ 0 }
     requires within { 5 ≤ length log.now.log.statements }
-    requires begins { BeginsWorked log.now.log.statements }
+    requires before { IsBefore before.now log.now.log.statements 3 }
 {
+    let mut machine = machine_of(alloc, log, before, 3..5, 1)?;
+    tell_machine(rt, alloc, &mut machine)
+}
+
+/// Tells the row of events on the reader and the revocation, if the log begins with the worked three statements.
+fn tell_last_two(rt: &impl Print, alloc: Global, log: &LogTail) -> Result<(), TrialFault>
+    requires { log.now.dropped ≡ 0 }
+{
+    if log.len() < 5 || !begins_worked(log) {
+        return Err(TrialFault::OtherLog);
+    }
+    println!(rt; "the middle of the log")?;
     let before = before_the_reader(alloc)?;
-    let mut machine = machine_of(alloc, log, &before, 3..5, 1)?;
-    tell_batch(rt, machine.statements().batch())?;
-    tell_row(rt, alloc, &mut machine)
+    tell_behind(rt, alloc, log, &before)
 }
 
 /// Tells the row of events on the reader and the revocation alone.
 pub fn tell_middle(rt: &impl Print, alloc: Global) -> Result<(), TrialFault> {
     let log = log_of(alloc, &LINES)?;
-    if log.len() < 5 || !begins_worked(&log) {
-        return Err(TrialFault::OtherLog);
-    }
-    println!(rt; "the middle of the log")?;
     tell_last_two(rt, alloc, &log)
 }

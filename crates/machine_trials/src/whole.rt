@@ -1,12 +1,13 @@
 //! The whole worked log as one batch: the revocation is done before the reader has a word, and the reader still reads.
 
 ghost use Rattle.std.specs.Prelude.{◌≡◌, ◌<◌, length};
+ghost use Rattle.machine_trials_base.specs.Before.{IsBefore};
 
 use crate::telling::{tell_events, tell_found};
 use bohm_core::Machine;
 use bohm_core_base::Event;
 use log_machine::OfLog;
-use machine_trials_base::{LINES, TrialFault, log_of, machine_of, nothing};
+use machine_trials_base::{Before, LINES, TrialFault, log_of, machine_of, nothing};
 use sequencer::LogTail;
 use std::alloc::Global;
 
@@ -114,6 +115,33 @@ fn tell_last(
     tell_found(rt, alloc, machine)
 }
 
+/// Tells the row of events on a machine that no event has reached.
+fn tell_row(
+    rt: &impl Print,
+    alloc: Global,
+    machine: &mut Machine<OfLog<'_>>,
+    placing: &[Event],
+) -> Result<(), TrialFault> {
+    tell_first(rt, alloc, machine, placing)?;
+    tell_last(rt, alloc, machine, placing)
+}
+
+/// Tells the row of events on all of a log, by so many partitions, with what stands before it.
+fn tell_behind(
+    rt: &impl Print,
+    alloc: Global,
+    log: &LogTail,
+    before: &Before,
+    placing: &[Event],
+) -> Result<(), TrialFault>
+    requires kept { log.now.dropped ≡ 0 }
+    requires some { 0 < length placing.now }
+    requires before { IsBefore before.now log.now.log.statements 0 }
+{
+    let mut machine = machine_of(alloc, log, before, 0..log.len(), placing.len())?;
+    tell_row(rt, alloc, &mut machine, placing)
+}
+
 /// Tells the row of events on all of a log, by so many partitions.
 fn tell_all(
     rt: &impl Print,
@@ -125,16 +153,21 @@ fn tell_all(
     requires some { 0 < length placing.now }
 {
     let before = nothing(alloc);
-    let mut machine = machine_of(alloc, log, &before, 0..log.len(), placing.len())?;
-    tell_first(rt, alloc, &mut machine, placing)?;
-    tell_last(rt, alloc, &mut machine, placing)
+    tell_behind(rt, alloc, log, &before, placing)
+}
+
+/// Tells the row of events on all of a log, by one partition and by three.
+fn tell_both(rt: &impl Print, alloc: Global, log: &LogTail) -> Result<(), TrialFault>
+    requires { log.now.dropped ≡ 0 }
+{
+    println!(rt; "the whole log, partitions: 1")?;
+    tell_all(rt, alloc, log, &ONE)?;
+    println!(rt; "the whole log, partitions: 3")?;
+    tell_all(rt, alloc, log, &THREE)
 }
 
 /// Tells the row of events on the whole log, by one partition and by three.
 pub fn tell_whole(rt: &impl Print, alloc: Global) -> Result<(), TrialFault> {
     let log = log_of(alloc, &LINES)?;
-    println!(rt; "the whole log, partitions: 1")?;
-    tell_all(rt, alloc, &log, &ONE)?;
-    println!(rt; "the whole log, partitions: 3")?;
-    tell_all(rt, alloc, &log, &THREE)
+    tell_both(rt, alloc, &log)
 }

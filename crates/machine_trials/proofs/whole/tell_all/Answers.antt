@@ -1,4 +1,4 @@
 use Rattle.machine_trials.proofs.whole.tell_all.Goals as goal
 
-pub machine_of-requires-clause-before : goal.machine_of-requires-clause-before
-machine_of-requires-clause-before g c = c.nothing-before.ensures c.args.log.now.log.statements
+pub tell_behind-requires-clause-before : goal.tell_behind-requires-clause-before
+tell_behind-requires-clause-before g c = c.nothing-before.ensures c.args.log.now.log.statements
