@@ -1,15 +1,16 @@
 //! A log completed on one thread: run in order, and finished behind words of which nothing is stored.
 
-ghost use Rattle.std.specs.Prelude.{◌≡◌, ◌<◌, length};
+ghost use Rattle.std.specs.Prelude.{◌≡◌, ◌<◌, IfOk, length};
 ghost use Rattle.machine_trials_base.specs.Before.{IsBefore};
 
+use crate::ended::key_of;
 use finishing::{Finished, finish, run_in_order};
-use log_words::{LogKey, ended_slots};
+use log_words::LogKey;
 use machine_trials_base::{Before, TrialFault, batch_of, log_of, nothing};
 use model_base::{Items, Place};
 use own_words::decoded;
 use sequencer::LogTail;
-use std::alloc::Global;
+use std::alloc::{AllocError, Global};
 use taking::Closed;
 use words::BatchWords;
 
@@ -27,21 +28,39 @@ const LINES: [&str; 9] = [
     "eve RUN t:1:R | LOAD 1 t 1 0 | OUT 1",
 ];
 
-/// Tells the outcome of each place.
+/// Tells the outcome of a place.
+fn tell_outcome(
+    rt: &impl Print,
+    alloc: Global,
+    log: &LogTail,
+    done: &Finished<'_>,
+    index: usize,
+) -> Result<(), TrialFault>
+    requires kept { log.now.dropped ≡ 0 }
+    requires all { done.now.size ≡ length log.now.log.statements }
+    requires within { index < done.now.size }
+{
+    let ended = done.ended(alloc, index)?;
+    let statement = log.statement(index as Place);
+    let outcome = decoded(&statement.form, done.own(index), Items::new(ended));
+    println!(rt; "{index}: {outcome:?}")?;
+    Ok(())
+}
+
+/// Tells how the log was completed, and the outcome of each place.
 fn tell_outcomes(
     rt: &impl Print,
     alloc: Global,
+    how: &str,
     log: &LogTail,
     done: &Finished<'_>,
 ) -> Result<(), TrialFault>
     requires kept { log.now.dropped ≡ 0 }
     requires all { done.now.size ≡ length log.now.log.statements }
 {
+    println!(rt; "{how}")?;
     for index in 0..log.len() as usize {
-        let ended = done.ended(alloc, index)?;
-        let statement = log.statement(index as Place);
-        let outcome = decoded(&statement.form, done.own(index), Items::new(ended));
-        println!(rt; "{index}: {outcome:?}")?;
+        tell_outcome(rt, alloc, log, done, index)?;
     }
     Ok(())
 }
@@ -58,8 +77,17 @@ fn tell_in_order(
 {
     let batch = batch_of(alloc, log, before, 0..log.len(), 1)?;
     let done = run_in_order(alloc, batch)?;
-    println!(rt; "a log run in order on one thread")?;
-    tell_outcomes(rt, alloc, log, &done)
+    tell_outcomes(rt, alloc, "a log run in order on one thread", log, &done)
+}
+
+/// Finishes a batch behind words of which nothing is stored.
+fn finish_unstored<'a>(alloc: Global, key: LogKey<'a>) -> Result<Finished<'a>, AllocError>
+    ensures { IfOk result (λ done. done
+        ≡ record { log = key.entry.batch.log; first = key.entry.batch.first; size = key.entry.batch.size }) }
+{
+    let (words, pass) = BatchWords::new(alloc, &key)?;
+    let closed = words.close(pass);
+    finish(alloc, key, &closed)
 }
 
 /// Tells the log finished behind words of which nothing is stored.
@@ -74,22 +102,32 @@ fn tell_finished(
     requires some { 0 < length log.now.log.statements }
 {
     let batch = batch_of(alloc, log, before, 0..log.len(), 1)?;
-    let slots = ended_slots(alloc, &batch)?;
-    let key = LogKey::new(batch, slots);
-    let (words, pass) = BatchWords::new(alloc, &key)?;
-    let closed = words.close(pass);
-    let done = finish(alloc, key, &closed)?;
-    println!(rt; "finished behind words of which nothing is stored")?;
-    tell_outcomes(rt, alloc, log, &done)
+    let key = key_of(alloc, batch)?;
+    let done = finish_unstored(alloc, key)?;
+    let how = "finished behind words of which nothing is stored";
+    tell_outcomes(rt, alloc, how, log, &done)
+}
+
+/// Tells the log completed in both ways.
+fn tell_both(
+    rt: &impl Print,
+    alloc: Global,
+    log: &LogTail,
+    before: &Before,
+) -> Result<(), TrialFault>
+    requires kept { log.now.dropped ≡ 0 }
+    requires before { IsBefore before.now log.now.log.statements 0 }
+{
+    if log.len() == 0 {
+        return Err(TrialFault::OtherLog);
+    }
+    tell_in_order(rt, alloc, log, before)?;
+    tell_finished(rt, alloc, log, before)
 }
 
 /// Tells a log completed on one thread.
 pub fn tell_completed(rt: &impl Print, alloc: Global) -> Result<(), TrialFault> {
     let log = log_of(alloc, &LINES)?;
-    if log.len() == 0 {
-        return Err(TrialFault::OtherLog);
-    }
     let before = nothing(alloc);
-    tell_in_order(rt, alloc, &log, &before)?;
-    tell_finished(rt, alloc, &log, &before)
+    tell_both(rt, alloc, &log, &before)
 }

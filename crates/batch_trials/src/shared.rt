@@ -1,7 +1,7 @@
 //! The shared words of the reader and the revocation of the worked log: a row of calls of two passes, the parts of one that was
 //! split. What they store is what a machine that has done the revocation tells.
 
-ghost use Rattle.std.specs.Prelude.{◌≡◌, ◌==◌, ◌<◌, ◌≤◌, [], ℕ, IsTrue, length, slice_index_or, suc};
+ghost use Rattle.std.specs.Prelude.{◌≡◌, ◌==◌, ◌<◌, ◌≤◌, [], ℕ, IfOk, IsTrue, length, slice_index_or, suc};
 ghost use Rattle.std.specs.List.{list_all};
 ghost use Rattle.bohm_core_base.specs.declared.hold.Hold.TheVariants.{Done};
 ghost use Rattle.bohm_core_base.specs.Batch.{reference_words, batch_slots, words_length};
@@ -10,14 +10,18 @@ ghost use Rattle.bohm_core_base.specs.Serial.{serial_ends, serial_words};
 ghost use Rattle.log_batch.specs.Supplied.{batch_in};
 ghost use Rattle.words.specs.Passes.{IsPassOf};
 ghost use Rattle.words.specs.Views.{Holds, In};
-ghost use Rattle.machine_trials_base.specs.Worked.{BeginsWorked};
+ghost use Rattle.machine_trials_base.specs.Before.{IsBefore};
 
+use crate::ended::key_of;
 use bohm_core::{Machine, done_places_are_serial};
 use bohm_core_base::{Event, Hold};
+use finishing::Finished;
 use log_batch::LogBatch;
 use log_machine::OfLog;
-use log_words::{LogKey, LogWords, ended_slots};
-use machine_trials_base::{LINES, TrialFault, batch_of, before_the_reader, begins_worked, log_of};
+use log_words::LogWords;
+use machine_trials_base::{
+    Before, LINES, TrialFault, batch_of, before_the_reader, begins_worked, log_of,
+};
 use sequencer::LogTail;
 use std::alloc::Global;
 use taking::Closed;
@@ -245,6 +249,16 @@ fn tell_calls(
     tell_revocation(rt, words, &mut other)
 }
 
+/// Tells what each of the two places is when the batch is finished.
+fn tell_finished(rt: &impl Print, alloc: Global, done: &Finished<'_>) -> Result<(), TrialFault>
+    requires { done.now.size ≡ 2 }
+{
+    let (reader, revocation) = (done.own(0), done.own(1));
+    let ended = done.ended(alloc, 1)?;
+    println!(rt; "finished, 3 has {reader:?} and 4 has {revocation:?} and ended {ended:?}")?;
+    Ok(())
+}
+
 /// Tells the claims of the two places when the words are closed, and what each is when the batch is finished behind them.
 fn tell_closed(
     rt: &impl Print,
@@ -259,10 +273,7 @@ fn tell_closed(
     let (reader, revocation) = (closed.claim(0), closed.claim(1));
     println!(rt; "closed, the claims of 3 and 4 are {reader} and {revocation}")?;
     let done = finishing::finish(alloc, key, &closed)?;
-    let (reader, revocation) = (done.own(0), done.own(1));
-    let ended = done.ended(alloc, 1)?;
-    println!(rt; "finished, 3 has {reader:?} and 4 has {revocation:?} and ended {ended:?}")?;
-    Ok(())
+    tell_finished(rt, alloc, &done)
 }
 
 /// Tells the row of calls on the words of a batch of two places, of which a machine has done the second.
@@ -277,38 +288,83 @@ fn tell_batch_words(
     requires done { hold_of machine.now.state 1 ≡ Done }
     requires none { (other : ℕ) → ¬ (In (suc other) (reference_words (batch_in machine.now.statements) 1)) }
 {
-    let slots = ended_slots(alloc, &batch)?;
-    let (words, pass) = LogWords::new(alloc, LogKey::new(batch, slots))?;
+    let key = key_of(alloc, batch)?;
+    let (words, pass) = LogWords::new(alloc, key)?;
     let (pass, last) = words.words().split(pass);
     tell_calls(rt, machine, &words, pass)?;
     tell_closed(rt, alloc, words, last)
 }
 
-/// Tells the row of calls on the reader and the revocation of a log that begins with the worked three statements.
-fn tell_words(rt: &impl Print, alloc: Global, log: &LogTail) -> Result<(), TrialFault>
+/// Tells the row of calls beside a machine over the reader and the revocation, if it has done the revocation.
+fn tell_beside(
+    rt: &impl Print,
+    alloc: Global,
+    log: &LogTail,
+    before: &Before,
+    machine: &Machine<OfLog<'_>>,
+) -> Result<(), TrialFault>
     requires kept { log.now.dropped ≡ 0 }
     requires within { 5 ≤ length log.now.log.statements }
-    requires begins { BeginsWorked log.now.log.statements }
+    requires before { IsBefore before.now log.now.log.statements 3 }
+    requires same { machine.now.statements ≡ record { log = log.now.log; first = 3; size = 2; partitions = 1 } }
 {
-    let before = before_the_reader(alloc)?;
-    let mut machine = Machine::new(alloc, OfLog::new(batch_of(alloc, log, &before, 3..5, 1)?))?;
+    if !is_done(machine, 1) {
+        return Err(TrialFault::OtherLog);
+    }
+    if !refers_to_none(machine, 1) {
+        return Err(TrialFault::OtherLog);
+    }
+    let batch = batch_of(alloc, log, before, 3..5, 1)?;
+    tell_batch_words(rt, alloc, machine, batch)
+}
+
+/// The machine over the reader and the revocation, after the events that do the revocation.
+fn revoked<'a>(
+    alloc: Global,
+    log: &'a LogTail,
+    before: &'a Before,
+) -> Result<Machine<OfLog<'a>>, TrialFault>
+    requires kept { log.now.dropped ≡ 0 }
+    requires within { 5 ≤ length log.now.log.statements }
+    requires before { IsBefore before.now log.now.log.statements 3 }
+    ensures { IfOk result (λ machine. machine.statements
+        ≡ record { log = log.now.log; first = 3; size = 2; partitions = 1 }) }
+{
+    let batch = batch_of(alloc, log, before, 3..5, 1)?;
+    let mut machine = Machine::new(alloc, OfLog::new(batch))?;
     machine.run_events(&REVOKING)?;
-    if !is_done(&machine, 1) {
+    Ok(machine)
+}
+
+/// Tells the row of calls on the reader and the revocation, with what stands before them.
+fn tell_behind(
+    rt: &impl Print,
+    alloc: Global,
+    log: &LogTail,
+    before: &Before,
+) -> Result<(), TrialFault>
+    requires kept { log.now.dropped ≡ 0 }
+    requires within { 5 ≤ length log.now.log.statements }
+    requires before { IsBefore before.now log.now.log.statements 3 }
+{
+    let machine = revoked(alloc, log, before)?;
+    tell_beside(rt, alloc, log, before, &machine)
+}
+
+/// Tells the row of calls on the reader and the revocation, if the log begins with the worked three statements.
+fn tell_words(rt: &impl Print, alloc: Global, log: &LogTail) -> Result<(), TrialFault>
+    requires { log.now.dropped ≡ 0 }
+{
+    if log.len() < 5 || !begins_worked(log) {
         return Err(TrialFault::OtherLog);
     }
-    if !refers_to_none(&machine, 1) {
-        return Err(TrialFault::OtherLog);
-    }
-    let batch = batch_of(alloc, log, &before, 3..5, 1)?;
-    tell_batch_words(rt, alloc, &machine, batch)
+    println!(rt; "the shared words of the middle of the log")?;
+    let before = before_the_reader(alloc)?;
+    tell_behind(rt, alloc, log, &before)
 }
 
 /// Tells the row of calls on the shared words of the reader and the revocation.
 pub fn tell_shared(rt: &impl Print, alloc: Global) -> Result<(), TrialFault> {
     let log = log_of(alloc, &LINES)?;
-    if log.len() < 5 || !begins_worked(&log) {
-        return Err(TrialFault::OtherLog);
-    }
-    println!(rt; "the shared words of the middle of the log")?;
     tell_words(rt, alloc, &log)
 }
