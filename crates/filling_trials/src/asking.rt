@@ -67,9 +67,11 @@ pub fn tell_long(rt: &impl Print, alloc: Global) -> Result<(), TrialFault> {
     Ok(())
 }
 
-/// Tells what comes of three places while another pass holds the one in the middle, and once it was given back.
-pub fn tell_held(rt: &impl Print, alloc: Global) -> Result<(), TrialFault> {
-    let (batch, pass) = Batch::new(alloc, Chain { size: 3 })?;
+/// Tells what comes of three places while one part of a pass holds the one in the middle, and once it was given back.
+fn tell_middle_held(rt: &impl Print, batch: &Batch<Chain>, pass: Pass) -> Result<(), TrialFault>
+    requires ours { IsPassOf batch.now pass }
+    requires size { batch.now.key.size ≡ 3 }
+{
     let (first, second) = batch.split(pass);
     let mut holding = Holding::begin(first);
     match batch.words().claim(&mut holding, 1) {
@@ -89,6 +91,12 @@ pub fn tell_held(rt: &impl Print, alloc: Global) -> Result<(), TrialFault> {
         Claimed::Done => println!(rt; "1 is done")?,
     }
     Ok(())
+}
+
+/// Tells what comes of three places while another pass holds the one in the middle, and once it was given back.
+pub fn tell_held(rt: &impl Print, alloc: Global) -> Result<(), TrialFault> {
+    let (batch, pass) = Batch::new(alloc, Chain { size: 3 })?;
+    tell_middle_held(rt, &batch, pass)
 }
 
 /// What two passes do side by side, each asking for all places.
