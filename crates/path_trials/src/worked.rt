@@ -116,37 +116,38 @@ fn tell_carol(
     tell_accepted(rt, book, "handed in of carol at 8", 8, CAROL, &READ, &shown)
 }
 
-/// Tells which chains are accepted.
-fn tell_chains(rt: &impl Print, alloc: Global, book: &Book) -> Result<(), TrialFault> {
+/// Tells what is accepted of bob.
+fn tell_bobs(rt: &impl Print, alloc: Global, book: &Book) -> Result<(), TrialFault> {
     tell_bob(rt, alloc, book, &[1])?;
     tell_bob(rt, alloc, book, &[2, 4])?;
     tell_bob(rt, alloc, book, &[4])?;
     tell_bob(rt, alloc, book, &[4, 2])?;
     tell_bob(rt, alloc, book, &[1, 4])?;
     tell_bob(rt, alloc, book, &[])?;
-    tell_accepted(
-        rt,
-        book,
-        "handed in of bob at 5",
-        5,
-        BOB,
-        &OPTION,
-        &Shown::Owner,
-    )?;
+    let owner = Shown::Owner;
+    tell_accepted(rt, book, "handed in of bob at 5", 5, BOB, &OPTION, &owner)
+}
+
+/// Tells what is accepted of carol.
+fn tell_carols(rt: &impl Print, alloc: Global, book: &Book) -> Result<(), TrialFault> {
     tell_carol(rt, alloc, book, 6, &[1, 3])?;
     tell_carol(rt, alloc, book, 5, &[1, 3])?;
     tell_carol(rt, alloc, book, 6, &[2, 4, 3])?;
-    tell_accepted(
-        rt,
-        book,
-        "handed in of carol at 8",
-        8,
-        CAROL,
-        &READ,
-        &Shown::Never,
-    )?;
+    let never = Shown::Never;
+    tell_accepted(rt, book, "handed in of carol at 8", 8, CAROL, &READ, &never)
+}
+
+/// Tells whether a chain is accepted for eve's need before the place 9.
+fn tell_eve(rt: &impl Print, alloc: Global, book: &Book) -> Result<(), TrialFault> {
     let late = Shown::Grants(chain_of(alloc, &[1, 5])?);
     tell_accepted(rt, book, "handed in of eve at 9", 9, EVE, &READ, &late)
+}
+
+/// Tells which chains are accepted.
+fn tell_chains(rt: &impl Print, alloc: Global, book: &Book) -> Result<(), TrialFault> {
+    tell_bobs(rt, alloc, book)?;
+    tell_carols(rt, alloc, book)?;
+    tell_eve(rt, alloc, book)
 }
 
 /// Tells of lines for the need of READ and then of its option.
