@@ -9,7 +9,8 @@ use crate::fault::TrialFault;
 use crate::late::Late;
 use std::alloc::Global;
 use words::{
-    BatchWords, Claimed, Holding, Seen, own_events_tell_what_is_held, passes_keep_what_they_know,
+    BatchWords, Claimed, Holding, Pass, Seen, own_events_tell_what_is_held,
+    passes_keep_what_they_know,
 };
 
 /// How many own words one of the two places has.
@@ -108,9 +109,10 @@ fn tell_reader(
     Ok(())
 }
 
-/// Tells the row of calls.
-pub fn tell_row(rt: &impl Print, alloc: Global) -> Result<(), TrialFault> {
-    let (words, pass) = BatchWords::new(alloc, &Late {})?;
+/// Tells the row of calls of the two parts of a pass.
+fn tell_calls(rt: &impl Print, words: &BatchWords<Late>, pass: Pass) -> Result<(), TrialFault>
+    requires { IsPassOf words.now pass }
+{
     let (first, second) = words.split(pass);
     let mut one = Holding::begin(first);
     let mut other = Holding::begin(second);
@@ -118,11 +120,17 @@ pub fn tell_row(rt: &impl Print, alloc: Global) -> Result<(), TrialFault> {
         Claimed::Won => {
             let found = words.claim(&mut other, 1);
             println!(rt; "the first claims 4: Won; the second: {found:?}")?;
-            tell_reader(rt, &words, &mut other)?;
-            revoke(&words, &mut one);
+            tell_reader(rt, words, &mut other)?;
+            revoke(words, &mut one);
         }
         Claimed::Held => println!(rt; "the first claims 4: Held")?,
         Claimed::Done => println!(rt; "the first claims 4: Done")?,
     }
-    tell_found(rt, &words, &mut other)
+    tell_found(rt, words, &mut other)
+}
+
+/// Tells the row of calls.
+pub fn tell_row(rt: &impl Print, alloc: Global) -> Result<(), TrialFault> {
+    let (words, pass) = BatchWords::new(alloc, &Late {})?;
+    tell_calls(rt, &words, pass)
 }
