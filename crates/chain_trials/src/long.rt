@@ -65,6 +65,49 @@ fn versions_of(alloc: Global, work: Work, first: u32, end: u32) -> Result<Vec<Ve
     Ok(versions)
 }
 
+/// Appends the versions of the places from the first to below the end, where the store ends at the first; then trims it to its
+/// end, and sweeps it. Answers how many versions the one and the other took out.
+fn append_batch(
+    chains: &mut Chains,
+    alloc: Global,
+    work: Work,
+    first: u32,
+    end: u32,
+) -> Result<(usize, usize), TrialFault>
+    requires { first ≤ end }
+{
+    if Place::from(first) != chains.end() {
+        return Err(TrialFault::Store);
+    }
+    chains.append(versions_of(alloc, work, first, end)?, Place::from(end))?;
+    let trimmed = chains.trim(chains.end()).map_err(|_| TrialFault::Store)?;
+    Ok((trimmed, chains.sweep()))
+}
+
+/// Does the work of so many places on an empty store, and tells how many versions were trimmed and swept.
+fn tell_work(
+    rt: &impl Print,
+    alloc: Global,
+    chains: &mut Chains,
+    work: Work,
+    places: u32,
+) -> Result<(), TrialFault> {
+    let mut trimmed = 0_usize;
+    let mut swept = 0_usize;
+    let mut first = 0_u32;
+    for _ in 0..places / BATCH {
+        let Some(end) = first.checked_add(BATCH) else {
+            return Err(TrialFault::Words);
+        };
+        let (gone, more) = append_batch(chains, alloc, work, first, end)?;
+        trimmed = trimmed.saturating_add(gone);
+        swept = swept.saturating_add(more);
+        first = end;
+    }
+    println!(rt; "{} places: {trimmed} trimmed, {swept} swept", chains.end())?;
+    Ok(())
+}
+
 /// Does the work of so many places, and tells how many versions were trimmed and swept.
 pub fn tell_long(
     rt: &impl Print,
@@ -73,22 +116,5 @@ pub fn tell_long(
     places: u32,
 ) -> Result<(), TrialFault> {
     let mut chains = Chains::new(alloc);
-    let mut trimmed = 0_usize;
-    let mut swept = 0_usize;
-    let mut first = 0_u32;
-    for _ in 0..places / BATCH {
-        let Some(end) = first.checked_add(BATCH) else {
-            return Err(TrialFault::Words);
-        };
-        if Place::from(first) != chains.end() {
-            return Err(TrialFault::Store);
-        }
-        chains.append(versions_of(alloc, work, first, end)?, Place::from(end))?;
-        let gone = chains.trim(chains.end()).map_err(|_| TrialFault::Store)?;
-        trimmed = trimmed.saturating_add(gone);
-        swept = swept.saturating_add(chains.sweep());
-        first = end;
-    }
-    println!(rt; "{} places: {trimmed} trimmed, {swept} swept", chains.end())?;
-    Ok(())
+    tell_work(rt, alloc, &mut chains, work, places)
 }
