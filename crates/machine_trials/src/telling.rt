@@ -123,6 +123,19 @@ fn tell_outcome(rt: &impl Print, outcome: &Outcome) -> Result<(), TrialFault> {
     Ok(())
 }
 
+/// Tells the outcome of a place, if it is done.
+fn tell_outcome_at(
+    rt: &impl Print,
+    alloc: Global,
+    machine: &Machine<OfLog<'_>>,
+    index: usize,
+) -> Result<(), TrialFault> {
+    match outcome_at(alloc, machine, index)? {
+        Some(outcome) => tell_outcome(rt, &outcome),
+        None => Ok(println!(rt; "not done")?),
+    }
+}
+
 /// Tells what a place came to.
 fn tell_place(
     rt: &impl Print,
@@ -135,10 +148,7 @@ fn tell_place(
         machine.state().own(index),
     );
     print!(rt; "index {index} refers to {references:?} and has {own:?}: ")?;
-    match outcome_at(alloc, machine, index)? {
-        Some(outcome) => tell_outcome(rt, &outcome),
-        None => Ok(println!(rt; "not done")?),
-    }
+    tell_outcome_at(rt, alloc, machine, index)
 }
 
 /// Tells where the record of each slot ended.
