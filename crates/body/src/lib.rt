@@ -39,6 +39,7 @@ pub use window::Window;
 /// other two it holds what the steps before the last came to, and is of no further use.
 ///
 /// The creation of a table, and a deed by itself, have no step: they complete, and the window stays as it was.
+#[inline(always)]
 pub fn run(statement: &Statement, window: &mut Window) -> BodyEnd
     requires runnable { IsRunnable statement.now }
     requires fresh { window.old.outputs ≡ [] }

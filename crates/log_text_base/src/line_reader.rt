@@ -77,6 +77,7 @@ impl LineReader {
     }
 
     /// Where the first LF ahead is.
+    #[inline(always)]
     fn first_feed(&self) -> Option<usize>
         ensures { IsFirstByte (is_byte 10) (ahead self.now) result }
     {
@@ -200,6 +201,7 @@ impl LineReader {
     /// `Read` comes only where the reader answered an error, or had given
     /// `MOST_GIVEN_BYTES`. After an error the part of a line that was read is gone, and a further call
     /// may be made.
+    #[inline(always)]
     pub fn next_line<R: Read>(&mut self, reader: &mut Counted<R>) -> Result<bool, ReadFault>
         requires { 0 < length (ahead self.old) → reader.old.given ≤ MOST_GIVEN_BYTES + BUFFER_BYTES }
         // What is still to come is what is ahead, and then what the reader has left.

@@ -11,6 +11,7 @@ use std::alloc::{AllocError, Global};
 
 /// Makes the deed of a statement whose needs are all held, and says what it came to. On `Err` memory was refused, and the
 /// book is as it was.
+#[inline(always)]
 pub(crate) fn make(
     alloc: Global,
     book: &mut Book,

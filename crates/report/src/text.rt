@@ -58,6 +58,7 @@ fn reason_word(reason: Reason) -> &'static str
 }
 
 /// Puts a place, a step or a line's number behind the text.
+#[inline(always)]
 fn put_decimal(text: &mut Vec<u8>, number: u64) -> Result<(), AllocError>
     ensures ok { OnOk result (text.new.items ≡ text.old.items ++ decimal number) }
     ensures capacity { vec_capacity text.old ≤ vec_capacity text.new }
@@ -203,6 +204,7 @@ fn put_ending(
 }
 
 /// Puts the report's line for a place.
+#[inline(always)]
 pub fn put_outcome(
     text: &mut Vec<u8>,
     tables: &NameTable,

@@ -35,6 +35,7 @@ pub(crate) fn deed_form(deed: &RawDeed<'_>, table: Table, grantee: User) -> Deed
 
 impl Catalog {
     /// The access with its table by number. It has to be to a known table, and to another row than those before it.
+    #[inline(always)]
     pub(crate) fn numbered_access(
         &self,
         recent: &mut Table,

@@ -79,6 +79,7 @@ pub(crate) fn register(words: &mut Words<'_>) -> Result<Register, LineFault>
 
 /// Takes a row.
 #[tactic(auto, using(crate::proofs::Plain::plain_empty, crate::proofs::Plain::plain_some, crate::proofs::Rows::row_fits))]
+#[inline(always)]
 pub(crate) fn row(words: &mut Words<'_>) -> Result<RowName, LineFault>
     ensures ok { IfOk result (λ r. (words.old ≡ row_word r ∷ words.new) × IsRowNumber r × (misfit OfRow (row_word r) ≡ None)) }
     ensures fault { IfErr result (λ f. misfit OfRow (first_word words.old) ≡ Some f) }

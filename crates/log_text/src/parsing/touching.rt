@@ -31,6 +31,7 @@ pub(super) fn has<'a>(words: &mut Words<'a>) -> Result<(RawStep<'a>, bool), Line
 }
 
 /// Takes a table's name, a row and a column.
+#[inline(always)]
 fn cell<'a>(words: &mut Words<'a>) -> Result<(Name<'a>, RowName, u32), LineFault>
     ensures ok { IfOk result (λ r. (words.old ≡ r.0 ∷ row_word r.1 ∷ decimal r.2 ∷ words.new)
         × IsTrue (is_name r.0) × IsRowNumber r.1 × (r.2 < 2 ^ 32)) }
