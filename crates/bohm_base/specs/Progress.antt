@@ -1,6 +1,6 @@
 -- What one line adds to a report.
-use Rattle.std.specs.Prelude.{◌≡◌, ℕ, ◌+◌, ◌<◌, ◌≤◌, ◌++◌, [], ⊤, Bool, true, false, Result, Ok, Option, Some, None, List, All, length}
-use Rattle.std.specs.Io.KnownBytes.{Appends}
+use Rattle.std.specs.Prelude.{◌≡◌, ℕ, ◌+◌, ◌<◌, ◌≤◌, ◌++◌, [], ⊤, Bool, true, false, Result, Ok, Option, Some, None, List, All, drop, length}
+use Rattle.std.specs.Io.KnownBytes.{Appends, prepend_known}
 use Rattle.log_text_base.specs.Lines.{lines_of}
 use Rattle.log_text_base.specs.declared.limits.TheConstants.{BUFFER_BYTES, MOST_GIVEN_BYTES}
 use Rattle.model_base.specs.Outcomes.{creator, empty_world, needs, owners, world_after}
@@ -119,6 +119,21 @@ pub record TakesLine (old new : Standing) : Type 0 where
   pub forward : old.given + new.ahead < new.given + old.ahead
   pub most : new.given ≤ MOST_GIVEN_BYTES + BUFFER_BYTES
   pub reported : (input out : Option (List ℕ)) → ReportedTo input out old → ReportedTo input out new
+
+-- so many of the bytes at hand were taken, which are whole lines: whatever is behind the bytes, what was reported before them
+-- is reported with those lines
+abbrev pub TakesLines : List ℕ → ℕ → Option (List ℕ) → List ℕ → Dealt → Option (List ℕ) → List ℕ → Dealt → Type 0
+TakesLines bytes taken out_old pending_old old out_new pending_new new =
+    (behind input out : Option (List ℕ))
+    → Reported input (prepend_known bytes behind) out out_old pending_old old.number old.catalog old.state
+    → Reported input (prepend_known (drop taken bytes) behind) out out_new pending_new new.number new.catalog new.state
+
+-- whatever is behind the bytes at hand, a beginning of the report stands, where what is before them was reported
+abbrev pub BeginsLines : List ℕ → Option (List ℕ) → List ℕ → Dealt → Option (List ℕ) → List ℕ → Type 0
+BeginsLines bytes out_old pending_old old out_new pending_new =
+    (behind input out : Option (List ℕ))
+    → Reported input (prepend_known bytes behind) out out_old pending_old old.number old.catalog old.state
+    → HasBegunReport input out out_new pending_new
 
 -- what a turn came to by its answer, whatever input is reported: one more line was taken, or there was none and the report
 -- is whole; and in any case a beginning of the report stands

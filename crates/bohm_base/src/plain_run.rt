@@ -15,13 +15,14 @@ ghost use Rattle.report.specs.Report.{IsReport, Reading, names_with, read};
 ghost use Rattle.bohm_base.specs.Collecting.{MayLackRoom, ReadsAs, became, reading_of};
 ghost use Rattle.bohm_base.specs.Faults.{read_errors, write_errors};
 ghost use Rattle.bohm_base.specs.Pending.{HasBegunReport, HasReport, Waits};
-ghost use Rattle.bohm_base.specs.Progress.{Advances, DealsWith, IsAt, IsAfter, IsReady, EndsReporting, Reports, Turn};
+ghost use Rattle.bohm_base.specs.Progress.{Advances, BeginsLines, DealsWith, IsAt, IsAfter, IsReady, EndsReporting, Reports, TakesLines, Turn};
 
 use crate::fault::EngineFault;
 use crate::pending::{put_out, put_waiting};
-use log_text::{LineFault, RawStatement, parse_line};
+use log_text::{LineFault, RawRoom, RawStatement, read_line};
 use log_text_base::{
-    BUFFER_BYTES, Counted, LineReader, MOST_GIVEN_BYTES, PENDING_BYTES, ReadFault, flush, write_out,
+    BUFFER_BYTES, Counted, LineReader, MOST_GIVEN_BYTES, PENDING_BYTES, ReadFault, cut_line, flush,
+    write_out,
 };
 use model_base::{Place, Statement};
 use plain::State;
@@ -64,13 +65,14 @@ fn reported_refusal(refused: Refused) -> Result<Refused, EngineFault>
 
 /// Takes a statement into the log, executes it, and puts its line behind the text; or the line of its refusal. A statement
 /// that is refused ends the run only where the text has no room for its line.
-fn put_statement(
+fn put_statement<'a>(
     alloc: Global,
     catalog: &mut Catalog,
     state: &mut State,
     number: u64,
-    statement: RawStatement<'_>,
+    statement: RawStatement<'a>,
     room: &mut Room,
+    raw: &mut RawRoom<'a>,
     text: &mut Vec<u8>,
 ) -> Result<(), EngineFault>
     requires grammar { IsInGrammar statement }
@@ -82,7 +84,7 @@ fn put_statement(
     ensures want { OnErr result (MayLackRoom number text.old (became catalog.old (read statement.entry))) }
 {
     let place = catalog.places();
-    match catalog.admit(statement, room) {
+    match catalog.admit(statement, room, raw) {
         Ok(statement) => {
             put_accepted(alloc, catalog, state, place, &statement, text)?;
             room.take_back(statement);
@@ -109,13 +111,14 @@ fn reported(fault: LineFault) -> Result<LineFault, EngineFault>
 
 /// Takes the statement that a line was read as, as `put_statement`; or puts the line of its fault behind the text. A line
 /// with a fault ends the run only where the text has no room for its line.
-fn put_read(
+fn put_read<'a>(
     alloc: Global,
     catalog: &mut Catalog,
     state: &mut State,
     number: u64,
-    found: Result<RawStatement<'_>, LineFault>,
+    found: Result<RawStatement<'a>, LineFault>,
     room: &mut Room,
+    raw: &mut RawRoom<'a>,
     text: &mut Vec<u8>,
 ) -> Result<(), EngineFault>
     requires grammar { ForOk found IsInGrammar }
@@ -129,7 +132,7 @@ fn put_read(
 {
     match found {
         Ok(statement) => {
-            put_statement(alloc, catalog, state, number, statement, room, text)?;
+            put_statement(alloc, catalog, state, number, statement, room, raw, text)?;
             Ok(())
         }
         Err(fault) => {
@@ -172,15 +175,20 @@ impl Dealt {
     }
 }
 
-/// Reads a line, deals with it, and makes the report's line for it.
-fn put_line(alloc: Global, dealt: &mut Dealt, line: &[u8]) -> Result<(), EngineFault>
+/// Reads a line, deals with it, and makes the report's line for it. What the line reads as takes the room that is lent.
+fn put_line<'a>(
+    alloc: Global,
+    dealt: &mut Dealt,
+    line: &'a [u8],
+    raw: &mut RawRoom<'a>,
+) -> Result<(), EngineFault>
     requires at { IsAt dealt.old.catalog dealt.old.state }
     requires number { dealt.old.number < 2 ^ 64 - 1 }
     ensures ok { OnOk result ((reading : Reading) × (ReadsAs line.now reading × DealsWith reading dealt.old dealt.new)) }
     ensures err { IfErr result (λ f. f ≡ EngineFault.NoMemory) }
 {
     dealt.text.clear();
-    let found = parse_line(alloc, line);
+    let found = read_line(alloc, line, raw);
     put_read(
         alloc,
         &mut dealt.catalog,
@@ -188,10 +196,21 @@ fn put_line(alloc: Global, dealt: &mut Dealt, line: &[u8]) -> Result<(), EngineF
         dealt.number,
         found,
         &mut dealt.room,
+        raw,
         &mut dealt.text,
     )?;
     dealt.number += 1;
     Ok(())
+}
+
+/// Deals with a line that no other follows at once, as `put_line` with room for nothing yet.
+fn put_single_line(alloc: Global, dealt: &mut Dealt, line: &[u8]) -> Result<(), EngineFault>
+    requires at { IsAt dealt.old.catalog dealt.old.state }
+    requires number { dealt.old.number < 2 ^ 64 - 1 }
+    ensures ok { OnOk result ((reading : Reading) × (ReadsAs line.now reading × DealsWith reading dealt.old dealt.new)) }
+    ensures err { IfErr result (λ f. f ≡ EngineFault.NoMemory) }
+{
+    put_line(alloc, dealt, line, &mut RawRoom::new(alloc))
 }
 
 /// Finds the next line, as `LineReader::next_line`. It is called only while nothing is pending, or with a whole line at
@@ -256,12 +275,109 @@ fn report_line<R: Read, W: Write>(
     if !next_line(reader, lines, pending.as_slice())? {
         return Ok(false);
     }
-    put_line(alloc, dealt, lines.line())?;
+    put_single_line(alloc, dealt, lines.line())?;
     put_out(writer, pending, &dealt.text)?;
     Ok(true)
 }
 
-/// Takes lines to the end of the input, as `report_line`.
+/// Takes the whole lines that stand at the front of the bytes, of what the reader gave so many, puts their report behind what
+/// is pending, and writes what is pending whenever that is much. It answers how many bytes those lines are. Lines are read
+/// where room is lent. After a fault whole lines are pending.
+fn report_whole_lines<'a, W: Write>(
+    alloc: Global,
+    writer: &mut Counted<W>,
+    bytes: &'a [u8],
+    given: u64,
+    dealt: &mut Dealt,
+    pending: &mut Vec<u8>,
+    raw: &mut RawRoom<'a>,
+) -> Result<usize, EngineFault>
+    requires { IsReady dealt.old (length bytes.now) given }
+    ensures taken { IfOk result (λ taken. (taken ≤ length bytes.now) × IsReady dealt.new (length bytes.now - taken) given) }
+    ensures reported { IfOk result (λ taken. TakesLines bytes.now taken (W.contents writer.old.inner) pending.old.items dealt.old
+        (W.contents writer.new.inner) pending.new.items dealt.new) }
+    ensures begun { BeginsLines bytes.now (W.contents writer.old.inner) pending.old.items dealt.old
+        (W.contents writer.new.inner) pending.new.items }
+    ensures writes { writer.new.errors ≡ write_errors result writer.old.errors }
+    ensures err { IfErr result (λ f. f ≢ EngineFault.Read) }
+{
+    let mut taken = 0;
+    'lines: while let Some((line, count)) = cut_line(&bytes[taken..]) {
+        put_line(alloc, dealt, line, raw)?;
+        put_out(writer, pending, &dealt.text)?;
+        taken += count;
+    }
+    Ok(taken)
+}
+
+/// Takes the whole lines at the front of the bytes, as `report_whole_lines` with room for nothing yet: all of them share it.
+fn report_ahead<W: Write>(
+    alloc: Global,
+    writer: &mut Counted<W>,
+    bytes: &[u8],
+    given: u64,
+    dealt: &mut Dealt,
+    pending: &mut Vec<u8>,
+) -> Result<usize, EngineFault>
+    requires { IsReady dealt.old (length bytes.now) given }
+    ensures taken { IfOk result (λ taken. (taken ≤ length bytes.now) × IsReady dealt.new (length bytes.now - taken) given) }
+    ensures reported { IfOk result (λ taken. TakesLines bytes.now taken (W.contents writer.old.inner) pending.old.items dealt.old
+        (W.contents writer.new.inner) pending.new.items dealt.new) }
+    ensures begun { BeginsLines bytes.now (W.contents writer.old.inner) pending.old.items dealt.old
+        (W.contents writer.new.inner) pending.new.items }
+    ensures writes { writer.new.errors ≡ write_errors result writer.old.errors }
+    ensures err { IfErr result (λ f. f ≢ EngineFault.Read) }
+{
+    let mut raw = RawRoom::new(alloc);
+    report_whole_lines(alloc, writer, bytes, given, dealt, pending, &mut raw)
+}
+
+/// Takes the next line, as `report_line`, and then the whole lines behind it that were read ahead.
+fn report_turn<R: Read, W: Write>(
+    alloc: Global,
+    reader: &mut Counted<R>,
+    writer: &mut Counted<W>,
+    lines: &mut LineReader,
+    dealt: &mut Dealt,
+    pending: &mut Vec<u8>,
+) -> Result<bool, EngineFault>
+    requires { IsReady dealt.old (length (ahead lines.old)) reader.old.given }
+    ensures turn { Turn result
+        (record {
+          rest = prepend_known (ahead lines.old) (R.remaining reader.old.inner);
+          ahead = length (ahead lines.old);
+          given = reader.old.given;
+          out = W.contents writer.old.inner;
+          pending = pending.old.items;
+          dealt = dealt.old;
+        })
+        (record {
+          rest = prepend_known (ahead lines.new) (R.remaining reader.new.inner);
+          ahead = length (ahead lines.new);
+          given = reader.new.given;
+          out = W.contents writer.new.inner;
+          pending = pending.new.items;
+          dealt = dealt.new;
+        }) }
+    ensures reads { reader.new.errors ≡ read_errors result reader.old.errors }
+    ensures writes { writer.new.errors ≡ write_errors result writer.old.errors }
+{
+    if !report_line(alloc, reader, writer, lines, dealt, pending)? {
+        return Ok(false);
+    }
+    let taken = report_ahead(
+        alloc,
+        writer,
+        lines.bytes_ahead(),
+        reader.given,
+        dealt,
+        pending,
+    )?;
+    lines.take_ahead(taken);
+    Ok(true)
+}
+
+/// Takes lines to the end of the input, as `report_turn`.
 fn report_rest<R: Read, W: Write>(
     alloc: Global,
     reader: &mut Counted<R>,
@@ -284,7 +400,7 @@ fn report_rest<R: Read, W: Write>(
     ensures reads { reader.new.errors ≡ read_errors result reader.old.errors }
     ensures writes { writer.new.errors ≡ write_errors result writer.old.errors }
 {
-    'lines: while report_line(alloc, reader, writer, lines, dealt, pending)? {}
+    'lines: while report_turn(alloc, reader, writer, lines, dealt, pending)? {}
     Ok(())
 }
 

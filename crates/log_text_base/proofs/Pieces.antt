@@ -150,6 +150,20 @@ had_some None r bytes k some = tt
 had_some (Some xs) None bytes k some = absurd k
 had_some (Some xs) (Some ys) bytes k some = omega (arith, length-append bytes ys, ap length k)
 
+-- with a byte at hand, some byte is still to come
+had_ahead : (bytes : List ℕ) (behind : Option (List ℕ)) → 0 < length bytes → HadSome (prepend_known bytes behind)
+had_ahead bytes None some = tt
+had_ahead bytes (Some ys) some = omega (arith, length-append bytes ys)
+
+-- whatever stands behind the bytes, the line up to their first line feed is the first one
+pub line_at : (bytes : List ℕ) (kept n : ℕ) → kept ≡ min n 4097 → IsFirstByte (is_byte 10) bytes (Some n) → (behind : Option (List ℕ))
+    → TookLine (prepend_known bytes behind) (prepend_known (drop (n + 1) bytes) behind) [] (take kept bytes) × HadSome (prepend_known bytes behind)
+line_at bytes kept n is f behind = (
+  line_cut _ behind [] [] bytes (take kept bytes) (drop (n + 1) bytes) n (line_start (prepend_known bytes behind) []) f
+      (ap (λ (w : ℕ). take w bytes) is ∙ sym (take_min 4097 n bytes)) refl,
+  had_ahead bytes behind (omega (arith, f.0.high)),
+)
+
 -- with nothing ahead at the end of the reader, nothing was still to come
 pub at_end : (o r : Option (List ℕ)) (bytes : List ℕ) → Keeps o (prepend_known bytes r) → bytes ≡ [] → IsAtEnd r → IsAtEnd o
 at_end None r bytes k e z = tt

@@ -3,6 +3,7 @@
 #![tactic(auto)]
 
 mod counted;
+mod cutting;
 mod fault;
 mod laws;
 mod limits;
@@ -10,6 +11,7 @@ mod line_reader;
 mod writing;
 
 pub use counted::Counted;
+pub use cutting::cut_line;
 pub use fault::{ReadFault, WriteFault};
 pub use laws::{lines_laws, writing_laws};
 pub use limits::{BUFFER_BYTES, KEPT_BYTES, MOST_GIVEN_BYTES, MOST_LINE_BYTES, PENDING_BYTES};

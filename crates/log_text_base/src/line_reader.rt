@@ -1,5 +1,5 @@
 //! A reader of lines that keeps at most `KEPT_BYTES` of a line.
-ghost use Rattle.std.specs.Prelude.{◌≡◌, ◌<◌, ◌≤◌, ◌+◌, ◌^◌, ◌↔◌, [], ◌++◌, IfOk, OnOk, IfErr, IsTrue, MatchBool, length, take, vec_len};
+ghost use Rattle.std.specs.Prelude.{◌≡◌, ◌<◌, ◌≤◌, ◌+◌, ◌^◌, ◌↔◌, [], ◌++◌, IfOk, OnOk, IfErr, IsTrue, MatchBool, drop, length, take, vec_len};
 ghost use Rattle.std.specs.Io.KnownBytes.{Keeps, IsAtEnd, prepend_known};
 ghost use Rattle.memchr.specs.Find.{IsFirstByte, is_byte};
 ghost use Rattle.log_text_base.specs.Known.{raised, TookLine, HadSome};
@@ -74,6 +74,22 @@ impl LineReader {
             return self.kept.as_slice();
         }
         &self.buffer[self.line_start..self.line_end]
+    }
+
+    /// What was read ahead and not taken yet.
+    pub fn bytes_ahead(&self) -> &[u8]
+        ensures { result.now ≡ ahead self.now }
+    {
+        &self.buffer[self.start..self.end]
+    }
+
+    /// Takes the first so many of the bytes ahead.
+    #[tactic(auto, using(crate::proofs::Pieces::drop_range, crate::proofs::Pieces::length_range))]
+    pub fn take_ahead(&mut self, count: usize)
+        requires { count ≤ length (ahead self.old) }
+        ensures { ahead self.new ≡ drop count (ahead self.old) }
+    {
+        self.start += count;
     }
 
     /// Where the first LF ahead is.

@@ -2,6 +2,7 @@ pub mod Apart
 pub mod Bodies
 pub mod KnownTables
 pub mod NameLemmas
+pub mod Numbered
 pub mod Passed
 pub mod RefusalLemmas
 pub mod TwoNames

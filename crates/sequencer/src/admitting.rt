@@ -13,8 +13,8 @@ use crate::numbering::deed_form;
 use crate::refused::Refused;
 use crate::room::Room;
 use crate::testing::{names_in, test_name};
-use log_text::{Name, RawAccess, RawDeed, RawForm, RawStatement, RawStep};
-use model_base::{DeedForm, Form, Items, MOST_PLACES, Statement, Table, User};
+use log_text::{Name, RawAccess, RawDeed, RawForm, RawRoom, RawStatement, RawStep};
+use model_base::{DeedForm, Form, MOST_PLACES, Statement, Table, User};
 use std::mem;
 
 impl Catalog {
@@ -70,22 +70,22 @@ impl Catalog {
     fn admit_run(
         &mut self,
         user: &Name<'_>,
-        accesses: Items<RawAccess<'_>>,
-        steps: Items<RawStep<'_>>,
+        accesses: &[RawAccess<'_>],
+        steps: &mut [RawStep<'_>],
         deed: &Option<RawDeed<'_>>,
         room: &mut Room,
     ) -> Result<Statement, Refused>
         requires place { self.old.places < MOST_PLACES }
-        requires room { HasRoom room.old (RawForm.Run accesses steps deed.now) }
-        ensures ok { IfOk result (λ s. s ≡ numbered self.old (run_by user.now accesses.entry steps.entry deed.now)) }
-        ensures passes { OnOk result (refusal self.old (run_by user.now accesses.entry steps.entry deed.now) ≡ None) }
-        ensures names { OnOk result (self.new ≡ with_statement self.old (run_by user.now accesses.entry steps.entry deed.now)) }
-        ensures refused { IfErr result (λ r. IsRefusal r (refusal self.old (run_by user.now accesses.entry steps.entry deed.now))) }
+        requires room { HasRoom room.old (RawForm.Run accesses.now steps.old deed.now) }
+        ensures ok { IfOk result (λ s. s ≡ numbered self.old (run_by user.now accesses.now steps.old deed.now)) }
+        ensures passes { OnOk result (refusal self.old (run_by user.now accesses.now steps.old deed.now) ≡ None) }
+        ensures names { OnOk result (self.new ≡ with_statement self.old (run_by user.now accesses.now steps.old deed.now)) }
+        ensures refused { IfErr result (λ r. IsRefusal r (refusal self.old (run_by user.now accesses.now steps.old deed.now))) }
         ensures err { OnErr result (self.new ≡ self.old) }
     {
         let mut recent = self.recent;
         let found = mem::replace(&mut room.accesses, Vec::new(self.alloc));
-        let accesses = self.numbered_accesses(&mut recent, accesses.as_slice(), found)?;
+        let accesses = self.numbered_accesses(&mut recent, accesses, found)?;
         let found = mem::replace(&mut room.steps, Vec::new(self.alloc));
         let steps = self.numbered_steps(&mut recent, steps, found)?;
         self.recent = recent;
@@ -176,12 +176,14 @@ impl Catalog {
     /// Takes a statement as the next place of the log: its users and tables are numbered, the names that it is the
     /// first to name are entered, and a CREATE makes its table known. The first test that it doesn't pass refuses it, as
     /// in `test`; one that passes is refused only for want of memory. After a refusal nothing has changed. Its accesses and
-    /// steps take the room that is lent, and memory only where it isn't enough.
+    /// steps take the room that is lent, and memory only where it isn't enough; the lists as they were read go back to where
+    /// lines are read.
     #[tactic(auto, using(crate::proofs::RefusalLemmas::refusal_of_test))]
-    pub fn admit(
+    pub fn admit<'a>(
         &mut self,
-        statement: RawStatement<'_>,
+        statement: RawStatement<'a>,
         room: &mut Room,
+        raw: &mut RawRoom<'a>,
     ) -> Result<Statement, Refused>
         ensures ok { IfOk result (λ s. s ≡ numbered self.old statement.entry) }
         ensures taken { IfOk result (λ s. IsTaken self.new s) }
@@ -204,7 +206,11 @@ impl Catalog {
                 accesses,
                 steps,
                 deed,
-            } => self.admit_run(&user, accesses, steps, &deed, room),
+            } => {
+                raw.accesses = accesses.into_vec();
+                raw.steps = steps.into_vec();
+                self.admit_run(&user, &raw.accesses, raw.steps.as_mut_slice(), &deed, room)
+            }
             RawForm::Deed(deed) => self.admit_deed(&user, &deed),
         }
     }

@@ -1,7 +1,7 @@
 //! Names become numbers, where they pass the tests.
 
 ghost use Rattle.std.specs.Prelude.{◌≡◌, ◌≤◌, [], length, map, vec_capacity};
-ghost use Rattle.sequencer.specs.Catalog.{Names, grantee_of, numbered_access, numbered_deed, numbered_step, named_table_of};
+ghost use Rattle.sequencer.specs.Catalog.{Names, grantee_of, numbered_access, numbered_deed, numbered_step, named_table_of, registers_in};
 ghost use Rattle.sequencer.specs.Names.{number_of};
 ghost use Rattle.sequencer.specs.Refusal.{IsAnswerOf, access_refusal, accesses_refusal, column_refusal, step_refusal, steps_refusal};
 ghost use Rattle.model_base.specs.declared.statement.Step.{Step};
@@ -11,6 +11,8 @@ use crate::refused::Refused;
 use crate::testing::{is_repeated, test_skip};
 use log_text::{Name, RawAccess, RawDeed, RawStep};
 use model_base::{Access, DeedForm, Items, Key, Register, RowName, Step, Table, User};
+use std::alloc::Global;
+use std::mem;
 
 /// The deed with its table and its grantee by number.
 pub(crate) fn deed_form(deed: &RawDeed<'_>, table: Table, grantee: User) -> DeedForm
@@ -30,6 +32,24 @@ pub(crate) fn deed_form(deed: &RawDeed<'_>, table: Table, grantee: User) -> Deed
             table,
             grantee,
         },
+    }
+}
+
+/// The registers of an INSERT, which are taken out of it. Other steps have none.
+fn taken_registers(alloc: Global, step: &mut RawStep<'_>) -> Items<Register>
+    ensures { result ≡ registers_in step.old }
+{
+    match step {
+        RawStep::Insert { from, .. } => mem::replace(from, Items::empty(alloc)),
+        RawStep::Const { .. }
+        | RawStep::Compute { .. }
+        | RawStep::Has { .. }
+        | RawStep::Load { .. }
+        | RawStep::Store { .. }
+        | RawStep::Delete { .. }
+        | RawStep::Check { .. }
+        | RawStep::Skip { .. }
+        | RawStep::Out { .. } => Items::empty(alloc),
     }
 }
 
@@ -117,74 +137,86 @@ impl Catalog {
     }
 
     /// The step with its table by number, where so many steps come later. It has to fit the table, and to pass over no
-    /// more steps than there are.
+    /// more steps than there are. The registers of an INSERT are taken out of it.
     fn numbered_step(
         &self,
         recent: &mut Table,
         later: usize,
-        step: RawStep<'_>,
+        step: &mut RawStep<'_>,
     ) -> Result<Step, Refused>
-        ensures { IsAnswerOf result (step_refusal self.now later step.entry) (numbered_step self.now step.entry) }
+        ensures { IsAnswerOf result (step_refusal self.now later step.old) (numbered_step self.now step.old) }
     {
-        Ok(match step {
-            RawStep::Const { to, value } => Step::Const { to, value },
+        match &*step {
+            RawStep::Const { to, value } => Ok(Step::Const {
+                to: *to,
+                value: *value,
+            }),
             RawStep::Compute {
                 operation,
                 to,
                 left,
                 right,
-            } => Step::Compute {
-                operation,
-                to,
-                left,
-                right,
-            },
+            } => Ok(Step::Compute {
+                operation: *operation,
+                to: *to,
+                left: *left,
+                right: *right,
+            }),
             RawStep::Has { to, table, row } => {
-                let table = self.known_table(recent, &table)?;
-                Step::Has { to, table, row }
+                let table = self.known_table(recent, table)?;
+                Ok(Step::Has {
+                    to: *to,
+                    table,
+                    row: *row,
+                })
             }
             RawStep::Load {
                 to,
                 table,
                 row,
                 column,
-            } => self.numbered_load(recent, to, &table, row, column)?,
+            } => self.numbered_load(recent, *to, table, *row, *column),
             RawStep::Store {
                 table,
                 row,
                 column,
                 from,
-            } => self.numbered_store(recent, &table, row, column, from)?,
+            } => self.numbered_store(recent, table, *row, *column, *from),
             RawStep::Insert { table, row, from } => {
-                let table = self.table_of_width(recent, &table, from.as_slice().len())?;
-                Step::Insert { table, row, from }
+                let table = self.table_of_width(recent, table, from.as_slice().len())?;
+                let row = *row;
+                let from = taken_registers(self.alloc, step);
+                Ok(Step::Insert { table, row, from })
             }
             RawStep::Delete { table, row } => {
-                let table = self.known_table(recent, &table)?;
-                Step::Delete { table, row }
+                let table = self.known_table(recent, table)?;
+                Ok(Step::Delete { table, row: *row })
             }
-            RawStep::Check { of } => Step::Check { of },
+            RawStep::Check { of } => Ok(Step::Check { of: *of }),
             RawStep::Skip { of, steps } => {
-                test_skip(steps, later)?;
-                Step::Skip { of, steps }
+                test_skip(*steps, later)?;
+                Ok(Step::Skip {
+                    of: *of,
+                    steps: *steps,
+                })
             }
-            RawStep::Out { of } => Step::Out { of },
-        })
+            RawStep::Out { of } => Ok(Step::Out { of: *of }),
+        }
     }
 
     /// The steps with their tables by number, from left to right. They go where room was made.
     pub(crate) fn numbered_steps(
         &self,
         recent: &mut Table,
-        steps: Items<RawStep<'_>>,
+        steps: &mut [RawStep<'_>],
         mut found: Vec<Step>,
     ) -> Result<Items<Step>, Refused>
         requires empty { found.items ≡ [] }
-        requires room { length steps ≤ vec_capacity found }
-        ensures { IsAnswerOf result (steps_refusal self.now steps.entry) (map (numbered_step self.now) steps.entry) }
+        requires room { length steps.old ≤ vec_capacity found }
+        ensures { IsAnswerOf result (steps_refusal self.now steps.old) (map (numbered_step self.now) steps.old) }
     {
-        let mut later = steps.as_slice().len();
-        for step in steps.into_vec() {
+        let mut later = steps.len();
+        for step in steps.iter_mut() {
             later -= 1;
             found.push_reserved(self.numbered_step(recent, later, step)?);
         }

@@ -65,7 +65,8 @@ impl LogTail {
         }
         let place = self.catalog.places();
         let mut room = self.catalog.no_room();
-        match self.catalog.admit(statement, &mut room) {
+        let mut raw = self.catalog.no_raw_room();
+        match self.catalog.admit(statement, &mut room, &mut raw) {
             Ok(statement) => {
                 self.kept.push_reserved(statement);
                 Ok(place)

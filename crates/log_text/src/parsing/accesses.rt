@@ -11,7 +11,6 @@ use crate::access::{RawAccess, access_of};
 use crate::fault::LineFault;
 use crate::word_list::Words;
 use model_base::MOST_ACCESSES;
-use std::alloc::Global;
 
 /// For so many accesses a statement has room at first.
 const USUAL_ACCESSES: usize = 4;
@@ -28,26 +27,28 @@ fn access<'a>(words: &mut Words<'a>) -> Result<RawAccess<'a>, LineFault>
     Ok(access)
 }
 
-/// The accesses, up to the first bar or the end.
+/// Takes the accesses, up to the first bar or the end. It says whether the bar follows. They go where room is, and after an
+/// error some of them may stand there.
 pub(crate) fn accesses<'a>(
-    alloc: Global,
     words: &mut Words<'a>,
-) -> Result<(Vec<RawAccess<'a>>, bool), LineFault>
-    ensures ok { IfOk result (λ r. MatchBool r.1 (words.old ≡ map access_word r.0.items
-        ++ codes "|" ∷ words.new) (words.old ≡ map access_word r.0.items)
-        × (1 ≤ vec_len r.0) × (vec_len r.0 ≤ MOST_ACCESSES) × AllByRecursion IsAccess r.0.items) }
-    ensures fits { IfOk result (λ r. fault_from (OfAccess ∷ OfNext 1 ∷ []) words.old ≡ fault_behind r.1 0 0 words.new) }
+    found: &mut Vec<RawAccess<'a>>,
+) -> Result<bool, LineFault>
+    ensures ok { IfOk result (λ more. MatchBool more (words.old ≡ map access_word found.new.items
+        ++ codes "|" ∷ words.new) (words.old ≡ map access_word found.new.items)
+        × (1 ≤ vec_len found.new) × (vec_len found.new ≤ MOST_ACCESSES) × AllByRecursion IsAccess found.new.items) }
+    ensures fits { IfOk result (λ more. fault_from (OfAccess ∷ OfNext 1 ∷ []) words.old ≡ fault_behind more 0 0 words.new) }
     ensures fault { IfErr result (λ f. IsFault f (fault_from (OfAccess ∷ OfNext 1 ∷ []) words.old)) }
 {
     let first = access(words)?;
-    let mut found = Vec::with_capacity(alloc, USUAL_ACCESSES)?;
+    found.clear();
+    found.reserve(USUAL_ACCESSES)?;
     found.push_reserved(first);
     'accesses: loop {
         let Some(word) = words.next() else {
-            return Ok((found, false));
+            return Ok(false);
         };
         if word == b"|".as_slice() {
-            return Ok((found, true));
+            return Ok(true);
         }
         if found.len() >= MOST_ACCESSES {
             return Err(LineFault::TooManyAccesses);

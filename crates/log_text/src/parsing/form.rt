@@ -1,6 +1,5 @@
 //! What a statement asks for.
-ghost use Rattle.std.specs.Prelude.{◌≡◌, ◌∷◌, [], Some, IfOk, IfErr, IsTrue, codes};
-ghost use Rattle.log_text.specs.Words.{is_name};
+ghost use Rattle.std.specs.Prelude.{◌≡◌, ◌∷◌, [], Some, IfOk, IfErr, codes};
 ghost use Rattle.log_text.specs.Statement.{form_words, IsFormInGrammar};
 ghost use Rattle.log_text.specs.Faults.{IsFault};
 ghost use Rattle.log_text.specs.Fault.{OfName, OfPlain, OfForm, OfAccess, OfNext, fault_from};
@@ -10,11 +9,12 @@ use super::deeds::{begins_deed, deed};
 use super::places::{end, name, number};
 use super::steps::steps;
 use crate::fault::LineFault;
-use crate::name::Name;
+use crate::raw_room::RawRoom;
 use crate::statement::RawForm;
 use crate::word_list::Words;
 use model_base::Items;
 use std::alloc::Global;
+use std::mem;
 
 /// What stands behind CREATE.
 fn create<'a>(words: &mut Words<'a>) -> Result<RawForm<'a>, LineFault>
@@ -27,30 +27,40 @@ fn create<'a>(words: &mut Words<'a>) -> Result<RawForm<'a>, LineFault>
     Ok(RawForm::Create { table, columns })
 }
 
-/// What stands behind RUN.
-fn run<'a>(alloc: Global, words: &mut Words<'a>) -> Result<RawForm<'a>, LineFault>
+/// What stands behind RUN. Its accesses and steps take the room that is lent.
+fn run<'a>(
+    alloc: Global,
+    words: &mut Words<'a>,
+    room: &mut RawRoom<'a>,
+) -> Result<RawForm<'a>, LineFault>
     ensures ok { IfOk result (λ form. (codes "RUN" ∷ words.old ≡ form_words form) × IsFormInGrammar form) }
     ensures fault { IfErr result (λ f. IsFault f (fault_from (OfAccess ∷ OfNext 1 ∷ []) words.old)) }
 {
-    let (accesses, more) = accesses(alloc, words)?;
-    let accesses = Items::new(accesses);
+    let more = accesses(words, &mut room.accesses)?;
     if !more {
+        let accesses = mem::replace(&mut room.accesses, Vec::new(alloc));
         return Ok(RawForm::Run {
-            accesses,
+            accesses: Items::new(accesses),
             steps: Items::empty(alloc),
             deed: None,
         });
     }
-    let (steps, deed) = steps(alloc, words)?;
+    let deed = steps(alloc, words, &mut room.steps)?;
+    let accesses = mem::replace(&mut room.accesses, Vec::new(alloc));
+    let steps = mem::replace(&mut room.steps, Vec::new(alloc));
     Ok(RawForm::Run {
-        accesses,
+        accesses: Items::new(accesses),
         steps: Items::new(steps),
         deed,
     })
 }
 
 /// What stands behind the user.
-fn form<'a>(alloc: Global, words: &mut Words<'a>) -> Result<RawForm<'a>, LineFault>
+pub(crate) fn form<'a>(
+    alloc: Global,
+    words: &mut Words<'a>,
+    room: &mut RawRoom<'a>,
+) -> Result<RawForm<'a>, LineFault>
     ensures ok { IfOk result (λ form. (words.old ≡ form_words form) × IsFormInGrammar form) }
     ensures fault { IfErr result (λ f. IsFault f (fault_from (OfForm ∷ []) words.old)) }
 {
@@ -62,24 +72,10 @@ fn form<'a>(alloc: Global, words: &mut Words<'a>) -> Result<RawForm<'a>, LineFau
         return Ok(form);
     }
     if word == b"RUN".as_slice() {
-        let form = run(alloc, words)?;
-        return Ok(form);
+        return run(alloc, words, room);
     }
     if begins_deed(word) {
         return Ok(RawForm::Deed(deed(word, words)?));
     }
     Err(LineFault::UnknownWord)
-}
-
-/// The user, and what the user asks for.
-pub(crate) fn parts<'a>(
-    alloc: Global,
-    words: &mut Words<'a>,
-) -> Result<(Name<'a>, RawForm<'a>), LineFault>
-    ensures ok { IfOk result (λ s. (words.old ≡ s.0 ∷ form_words s.1) × IsTrue (is_name s.0) × IsFormInGrammar s.1) }
-    ensures fault { IfErr result (λ f. IsFault f (fault_from (OfName ∷ OfForm ∷ []) words.old)) }
-{
-    let user = name(words)?;
-    let form = form(alloc, words)?;
-    Ok((user, form))
 }

@@ -5,8 +5,10 @@ ghost use Rattle.log_text.specs.Statement.{Sentence, Reads};
 ghost use Rattle.log_text.specs.Faults.{IsFault};
 ghost use Rattle.log_text.specs.Fault.{is_printable, line_fault};
 
-use super::form::parts;
+use super::form::form;
+use super::places::name;
 use crate::fault::LineFault;
+use crate::raw_room::RawRoom;
 use crate::statement::RawStatement;
 use crate::word_list::Words;
 use log_text_base::MOST_LINE_BYTES;
@@ -23,8 +25,12 @@ fn is_printable_text(line: &[u8]) -> bool
     printable
 }
 
-/// What `parse_line` answers.
-fn line_statement<'a>(alloc: Global, line: &'a [u8]) -> Result<RawStatement<'a>, LineFault>
+/// What `read_line` answers.
+fn line_statement<'a>(
+    alloc: Global,
+    line: &'a [u8],
+    room: &mut RawRoom<'a>,
+) -> Result<RawStatement<'a>, LineFault>
     ensures read { IfOk result (λ s. Reads line.now s) }
     ensures fault { IfErr result (λ f. IsFault f (line_fault line.now)) }
 {
@@ -37,12 +43,33 @@ fn line_statement<'a>(alloc: Global, line: &'a [u8]) -> Result<RawStatement<'a>,
     if !is_printable_text(line) {
         return Err(LineFault::NotAscii);
     }
-    let (user, form) = parts(alloc, &mut Words::of(line))?;
+    let mut words = Words::of(line);
+    let user = name(&mut words)?;
+    let form = form(alloc, &mut words, room)?;
     Ok(RawStatement::of(user, form))
 }
 
-/// The statement that a line, without its end of line, reads as, or the line's fault. `NoMemory` comes only where the
-/// allocator refused.
+/// The statement that a line, without its end of line, reads as, or the line's fault. Its accesses and steps take the room
+/// that is lent, and memory only where it isn't enough; the registers of an INSERT take memory of their own. `NoMemory` comes
+/// only where the allocator refused.
+pub fn read_line<'a>(
+    alloc: Global,
+    line: &'a [u8],
+    room: &mut RawRoom<'a>,
+) -> Result<RawStatement<'a>, LineFault>
+    // What is answered is what the line reads as.
+    ensures read { IfOk result (λ s. Reads line.now s) }
+    // A line that reads as a statement is answered by it, unless memory runs out.
+    ensures only { (s : Sentence) → Reads line.now s → MatchResult result (λ found. found ≡ s) (λ f. f ≡ LineFault.NoMemory) }
+    // Only a line with no fault is read.
+    ensures sound { OnOk result (line_fault line.now ≡ None) }
+    // Any other fault is the first of the line's.
+    ensures fault { IfErr result (λ f. f ≢ LineFault.NoMemory → line_fault line.now ≡ Some f) }
+{
+    line_statement(alloc, line, room)
+}
+
+/// The statement that a line reads as, or the line's fault, as `read_line` with room for nothing yet.
 pub fn parse_line<'a>(alloc: Global, line: &'a [u8]) -> Result<RawStatement<'a>, LineFault>
     // What is answered is what the line reads as.
     ensures read { IfOk result (λ s. Reads line.now s) }
@@ -53,7 +80,7 @@ pub fn parse_line<'a>(alloc: Global, line: &'a [u8]) -> Result<RawStatement<'a>,
     // Any other fault is the first of the line's.
     ensures fault { IfErr result (λ f. f ≢ LineFault.NoMemory → line_fault line.now ≡ Some f) }
 {
-    line_statement(alloc, line)
+    read_line(alloc, line, &mut RawRoom::new(alloc))
 }
 
 /// No line reads as two statements, no two lines as one, and none with a fault as any.

@@ -79,16 +79,20 @@ fn out_count(step: &RawStep<'_>) -> usize
     }
 }
 
-/// The steps and the deed behind the first bar, to the end of the line.
+/// Takes the steps and the deed behind the first bar, to the end of the line. The steps go where room is, and after an error
+/// some of them may stand there.
 pub(crate) fn steps<'a>(
     alloc: Global,
     words: &mut Words<'a>,
-) -> Result<(Vec<RawStep<'a>>, Option<RawDeed<'a>>), LineFault>
-    ensures ok { IfOk result (λ r. (codes "|" ∷ words.old ≡ body_words r.0.items r.1)
-        × (vec_len r.0 ≤ MOST_STEPS) × (sum_by outs_of r.0.items ≤ MOST_OUTPUTS) × AllByRecursion IsStep r.0.items × IsLastDeed r.1) }
+    found: &mut Vec<RawStep<'a>>,
+) -> Result<Option<RawDeed<'a>>, LineFault>
+    ensures ok { IfOk result (λ deed. (codes "|" ∷ words.old ≡ body_words found.new.items deed)
+        × (vec_len found.new ≤ MOST_STEPS) × (sum_by outs_of found.new.items ≤ MOST_OUTPUTS)
+        × AllByRecursion IsStep found.new.items × IsLastDeed deed) }
     ensures fault { IfErr result (λ f. IsFault f (fault_from (OfStep 0 0 ∷ []) words.old)) }
 {
-    let mut found = Vec::with_capacity(alloc, USUAL_STEPS)?;
+    found.clear();
+    found.reserve(USUAL_STEPS)?;
     let mut outs = 0;
     'steps: loop {
         let Some(word) = words.next() else {
@@ -96,13 +100,13 @@ pub(crate) fn steps<'a>(
         };
         if begins_deed(word) {
             let deed = deed(word, words)?;
-            return Ok((found, Some(deed)));
+            return Ok(Some(deed));
         }
         let (step, more) = step(alloc, word, words, found.len(), outs)?;
         outs += out_count(&step);
         found.push(step)?;
         if !more {
-            return Ok((found, None));
+            return Ok(None);
         }
     }
 }

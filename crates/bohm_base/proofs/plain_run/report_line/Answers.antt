@@ -30,8 +30,8 @@ returns-then-not-branch-clause-turn g c = record {
   begun = λ input out so. begun_front total input _ out _ _ _ _ c.put_waiting.new.pending.items (report_written input _ out _ _ _ _ _ c.args.pending.now.items c.put_waiting.new.pending.items so c.in_ok-put_waiting.ensures.ok);
 }
 
-pub returns-in_err-put_line-clause-turn : goal.returns-in_err-put_line-clause-turn
-returns-in_err-put_line-clause-turn g c = record {
+pub returns-in_err-put_single_line-clause-turn : goal.returns-in_err-put_single_line-clause-turn
+returns-in_err-put_single_line-clause-turn g c = record {
   taken = search rules;
   ended = search rules;
   begun = λ input out so. begun_front total input _ out _ _ _ _ c.put_waiting.new.pending.items (report_written input _ out _ _ _ _ _ c.args.pending.now.items c.put_waiting.new.pending.items so c.in_ok-put_waiting.ensures.ok);
@@ -39,14 +39,14 @@ returns-in_err-put_line-clause-turn g c = record {
 
 pub returns-in_err-put_out-clause-turn : goal.returns-in_err-put_out-clause-turn
 returns-in_err-put_out-clause-turn g c =
-    let dealt = rw c.line.ensures at c.in_ok-put_line.ensures.ok in
+    let dealt = rw c.line.ensures at c.in_ok-put_single_line.ensures.ok in
     let put = rw c.deref.ensures.value at c.put_out.ensures.begun in
     record {
       taken = search rules;
       ended = search rules;
       begun = λ input out so. report_begun input out _ _ _ c.put_out.new.pending.items
           (begun_front total input _ out _ _ _ _ _
-          (report_step input _ _ out _ c.args.dealt.now c.put_line.new.dealt (found_line c.next_line.new.lines) c.put_waiting.new.pending.items (report_written input _ out _ _ _ _ _ c.args.pending.now.items c.put_waiting.new.pending.items so c.in_ok-put_waiting.ensures.ok)
+          (report_step input _ _ out _ c.args.dealt.now c.put_single_line.new.dealt (found_line c.next_line.new.lines) c.put_waiting.new.pending.items (report_written input _ out _ _ _ _ _ c.args.pending.now.items c.put_waiting.new.pending.items so c.in_ok-put_waiting.ensures.ok)
           (rw c.if-not-branch.false at c.in_ok-next_line.ensures.line) dealt))
           put;
     }
@@ -54,7 +54,7 @@ returns-in_err-put_out-clause-turn g c =
 pub returns-clause-turn : goal.returns-clause-turn
 returns-clause-turn g c =
     let given = rw c.if-not-branch.false at c.in_ok-next_line.ensures.given in
-    let dealt = rw c.line.ensures at c.in_ok-put_line.ensures.ok in
+    let dealt = rw c.line.ensures at c.in_ok-put_single_line.ensures.ok in
     let put = rw c.deref.ensures.value at c.in_ok-put_out.ensures.ok in
     record {
       taken = λ _. record {
@@ -62,11 +62,11 @@ returns-clause-turn g c =
         forward = given.0;
         most = given.1;
         reported = λ input out so.
-            report_put input _ _ out _ _ c.args.dealt.now c.put_line.new.dealt (found_line c.next_line.new.lines) c.put_waiting.new.pending.items c.put_out.new.pending.items (report_written input _ out _ _ _ _ _ c.args.pending.now.items c.put_waiting.new.pending.items so c.in_ok-put_waiting.ensures.ok)
+            report_put input _ _ out _ _ c.args.dealt.now c.put_single_line.new.dealt (found_line c.next_line.new.lines) c.put_waiting.new.pending.items c.put_out.new.pending.items (report_written input _ out _ _ _ _ _ c.args.pending.now.items c.put_waiting.new.pending.items so c.in_ok-put_waiting.ensures.ok)
             (rw c.if-not-branch.false at c.in_ok-next_line.ensures.line) dealt put;
       };
       ended = search rules;
       begun = λ input out so. begun_front total input _ out _ _ _ _ c.put_out.new.pending.items
-          (report_put input _ _ out _ _ c.args.dealt.now c.put_line.new.dealt (found_line c.next_line.new.lines) c.put_waiting.new.pending.items c.put_out.new.pending.items (report_written input _ out _ _ _ _ _ c.args.pending.now.items c.put_waiting.new.pending.items so c.in_ok-put_waiting.ensures.ok)
+          (report_put input _ _ out _ _ c.args.dealt.now c.put_single_line.new.dealt (found_line c.next_line.new.lines) c.put_waiting.new.pending.items c.put_out.new.pending.items (report_written input _ out _ _ _ _ _ c.args.pending.now.items c.put_waiting.new.pending.items so c.in_ok-put_waiting.ensures.ok)
           (rw c.if-not-branch.false at c.in_ok-next_line.ensures.line) dealt put);
     }

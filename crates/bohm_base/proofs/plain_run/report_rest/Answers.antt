@@ -4,17 +4,17 @@ use Rattle.bohm_base.proofs.plain_run.report_rest.Goals as goal
 pub lines-init : goal.lines-init
 lines-init g c = record { ready = c.requires; reported = λ input out so. so; read_errors = refl; write_errors = refl }
 
-pub returns-in_err-report_line-clause-report : goal.returns-in_err-report_line-clause-report
-returns-in_err-report_line-clause-report g c = record {
+pub returns-in_err-report_turn-clause-report : goal.returns-in_err-report_turn-clause-report
+returns-in_err-report_turn-clause-report g c = record {
   done = search rules;
-  begun = λ input out so. c.report_line.ensures.turn.begun input out (c.lines.invariant.reported input out so);
+  begun = λ input out so. c.report_turn.ensures.turn.begun input out (c.lines.invariant.reported input out so);
 }
 
 pub lines-preserved : goal.lines-preserved
 lines-preserved g c =
-    let took = (rw c.if-branch.true at c.in_ok-report_line.ensures.turn.taken) refl in
-    let reads : c.report_line.new.reader.errors ≡ c.lines.reader.errors = c.in_ok-report_line.ensures.reads in
-    let writes : c.report_line.new.writer.errors ≡ c.lines.writer.errors = c.in_ok-report_line.ensures.writes in
+    let took = (rw c.if-branch.true at c.in_ok-report_turn.ensures.turn.taken) refl in
+    let reads : c.report_turn.new.reader.errors ≡ c.lines.reader.errors = c.in_ok-report_turn.ensures.reads in
+    let writes : c.report_turn.new.writer.errors ≡ c.lines.writer.errors = c.in_ok-report_turn.ensures.writes in
     record {
       ready = took.ready;
       reported = λ input out so. took.reported input out (c.lines.invariant.reported input out so);
@@ -24,11 +24,11 @@ lines-preserved g c =
 
 pub lines-smaller : goal.lines-smaller
 lines-smaller g c =
-    let took = (rw c.if-branch.true at c.in_ok-report_line.ensures.turn.taken) refl in
+    let took = (rw c.if-branch.true at c.in_ok-report_turn.ensures.turn.taken) refl in
     omega (arith, took.forward, took.most)
 
 pub returns-clause-report : goal.returns-clause-report
 returns-clause-report g c = record {
-  done = λ _ input out so. (rw c.if-branch.false at c.in_ok-report_line.ensures.turn.ended) refl input out (c.lines.invariant.reported input out so);
-  begun = λ input out so. c.report_line.ensures.turn.begun input out (c.lines.invariant.reported input out so);
+  done = λ _ input out so. (rw c.if-branch.false at c.in_ok-report_turn.ensures.turn.ended) refl input out (c.lines.invariant.reported input out so);
+  begun = λ input out so. c.report_turn.ensures.turn.begun input out (c.lines.invariant.reported input out so);
 }

@@ -3,7 +3,7 @@ use Rattle.log_text.proofs.TakenSteps.{one_more, room_more, outs_more, few_more,
 use Rattle.log_text.proofs.parsing.steps.steps.Goals as goal
 
 pub steps-init : goal.steps-init
-steps-init c = rw (c.in_ok-found.ensures.items, c.in_ok-found.ensures.len) (record {
+steps-init c = rw (c.reserve.ensures.items, c.reserve.ensures.len, c.clear.ensures.items, c.clear.ensures.len) (record {
   same = refl;
   room = omega arith;
   outputs = refl;

@@ -1,5 +1,5 @@
 use Rattle.log_text.proofs.Grammar.{only_one, sound, other_fault}
-use Rattle.log_text.proofs.parsing.line.parse_line.Goals as goal
+use Rattle.log_text.proofs.parsing.line.read_line.Goals as goal
 
 pub returns-clause-only : goal.returns-clause-only
 returns-clause-only c = only_one c.args.line.now c.line_statement.result c.line_statement.ensures.read c.line_statement.ensures.fault
