@@ -2,7 +2,7 @@
 //! all has to be as it was.
 
 use crate::telling::tell;
-use log_text::{LineFault, RawStatement, parse_line};
+use log_text::{LineFault, RawRoom, RawStatement, parse_line};
 use model_base::{Place, Table, User};
 use sequencer::{Catalog, Log, NameTable, Refused, Room};
 use std::alloc::Global;
@@ -125,7 +125,7 @@ fn admitted(alloc: Global, catalog: &mut Catalog, line: &str) -> Result<User, Re
     };
     catalog.test(&statement)?;
     let mut room = Room::new(alloc);
-    let statement = catalog.admit(statement, &mut room)?;
+    let statement = catalog.admit(statement, &mut room, &mut RawRoom::new(alloc))?;
     let user = statement.user;
     room.take_back(statement);
     Ok(user)

@@ -44,11 +44,6 @@ numbered_step names (RawStep.Check of) = Step.Check of
 numbered_step names (RawStep.Skip of steps) = Step.Skip of steps
 numbered_step names (RawStep.Out of) = Step.Out of
 
--- the registers of an INSERT; other steps have none
-abbrev pub registers_in : RawStep → List ℕ
-registers_in (RawStep.Insert table row from) = from
-registers_in _ = []
-
 -- a deed with its table and its grantee by number
 abbrev pub numbered_deed : Names → RawDeed → DeedForm
 numbered_deed names (RawDeed.Grant kind table grantee option) =
