@@ -83,11 +83,12 @@ impl LineReader {
         &self.buffer[self.start..self.end]
     }
 
-    /// Takes the first so many of the bytes ahead.
+    /// Takes the first so many of the bytes ahead. The line that was found last stays so.
     #[tactic(auto, using(crate::proofs::Pieces::drop_range, crate::proofs::Pieces::length_range))]
     pub fn take_ahead(&mut self, count: usize)
         requires { count ≤ length (ahead self.old) }
-        ensures { ahead self.new ≡ drop count (ahead self.old) }
+        ensures ahead { ahead self.new ≡ drop count (ahead self.old) }
+        ensures line { found_line self.new ≡ found_line self.old }
     {
         self.start += count;
     }

@@ -38,10 +38,12 @@ fn run<'a>(
 {
     let more = accesses(words, &mut room.accesses)?;
     if !more {
+        room.steps.clear();
         let accesses = mem::replace(&mut room.accesses, Vec::new(alloc));
+        let steps = mem::replace(&mut room.steps, Vec::new(alloc));
         return Ok(RawForm::Run {
             accesses: Items::new(accesses),
-            steps: Items::empty(alloc),
+            steps: Items::new(steps),
             deed: None,
         });
     }

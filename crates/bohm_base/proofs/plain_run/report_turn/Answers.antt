@@ -34,13 +34,13 @@ returns-clause-turn g c =
     let reported = rw c.bytes_ahead.ensures at c.in_ok-taken.ensures.reported in
     let begun = rw c.bytes_ahead.ensures at c.report_ahead.ensures.begun in
     let left : length (ahead c.take_ahead.new.self) ≡ length (ahead c.report_line.new.lines) - c.in_ok-taken.taken =
-    ap length c.take_ahead.ensures ∙ length-drop c.in_ok-taken.taken (ahead c.report_line.new.lines) in
+    ap length c.take_ahead.ensures.ahead ∙ length-drop c.in_ok-taken.taken (ahead c.report_line.new.lines) in
     record {
       taken = λ _. record {
         ready = subst (λ (n : ℕ). IsReady c.report_ahead.new.dealt n c.report_line.new.reader.given) (sym left) taken.1;
         forward = omega (arith, took.forward, left);
         most = took.most;
-        reported = λ input out so. rw c.take_ahead.ensures (reported _ input out (took.reported input out so));
+        reported = λ input out so. rw c.take_ahead.ensures.ahead (reported _ input out (took.reported input out so));
       };
       ended = search rules;
       begun = λ input out so. begun _ input out (took.reported input out so);
