@@ -203,7 +203,8 @@ fn put_line<'a>(
     Ok(())
 }
 
-/// Deals with a line that no other follows at once, as `put_line` with room for nothing yet.
+/// Reads a line and deals with it, as `put_line`, with room of its own: the line may lie elsewhere than those behind it, so that
+/// they can't share one room.
 fn put_single_line(alloc: Global, dealt: &mut Dealt, line: &[u8]) -> Result<(), EngineFault>
     requires at { IsAt dealt.old.catalog dealt.old.state }
     requires number { dealt.old.number < 2 ^ 64 - 1 }
@@ -280,9 +281,9 @@ fn report_line<R: Read, W: Write>(
     Ok(true)
 }
 
-/// Takes the whole lines that stand at the front of the bytes, of what the reader gave so many, puts their report behind what
-/// is pending, and writes what is pending whenever that is much. It answers how many bytes those lines are. Lines are read
-/// where room is lent. After a fault whole lines are pending.
+/// Takes the whole lines that stand at the front of the bytes, puts their report behind what is pending, and writes what is
+/// pending whenever that is much. It answers how many bytes those lines are. `given` is how many bytes the reader gave, which
+/// bounds the number of a line. What a line reads as takes the room that is lent. After a fault whole lines are pending.
 fn report_whole_lines<'a, W: Write>(
     alloc: Global,
     writer: &mut Counted<W>,
@@ -310,7 +311,7 @@ fn report_whole_lines<'a, W: Write>(
     Ok(taken)
 }
 
-/// Takes the whole lines at the front of the bytes, as `report_whole_lines` with room for nothing yet: all of them share it.
+/// Takes the whole lines at the front of the bytes, as `report_whole_lines`. They share one room, which has nothing yet.
 fn report_ahead<W: Write>(
     alloc: Global,
     writer: &mut Counted<W>,
