@@ -7,9 +7,9 @@ use Rattle.model_base.specs.declared.statement.Statement.{Statement}
 use Rattle.model_base.specs.Outcomes.{deeds_before, owners}
 use Rattle.model_base.specs.Privileges.{has, option_of, owns}
 use Rattle.chains.specs.Store.{versions_between}
-use Rattle.grants.specs.declared.book.Creation.{Creation}
-use Rattle.grants.specs.Book.{Entries, ShowsBook, owners_of, table_of_deed, view_of}
-use Rattle.grants.specs.View.{has_by, holds_in}
+use Rattle.grants_base.specs.declared.entries.Creation.{Creation}
+use Rattle.grants_base.specs.Book.{Entries, ShowsBook, owners_of, table_of_deed, view_of}
+use Rattle.grants_base.specs.View.{has_by, holds_in}
 use Rattle.machine_trials_base.specs.Worked.{BeginsWorked, creating, granted, granting, inserting, version_left}
 
 -- an empty book shows that no deed was made, whatever tables are created later

@@ -3,7 +3,7 @@ use Rattle.std.specs.Prelude.{◌≡◌, ℕ, List}
 use Rattle.model_base.specs.declared.statement.Statement.{Statement}
 use Rattle.model_base.specs.Outcomes.{deeds_before, owners}
 use Rattle.chains.specs.Store.{IsRight}
-use Rattle.grants.specs.Book.{ShowsBook}
+use Rattle.grants_base.specs.Book.{ShowsBook}
 use Rattle.machine_trials_base.specs.declared.batches.Before.{Before}
 
 -- the versions of rows end there and are those of the log, and the book has the deeds before it

@@ -5,7 +5,7 @@ ghost use Rattle.std.specs.Prelude.{◌≡◌, ◌∷◌, [], IfOk, IsTrue, List
 ghost use Rattle.model_base.specs.declared.deed.Deed.TheVariants.{Granting};
 ghost use Rattle.model_base.specs.declared.statement.Statement.{Statement};
 ghost use Rattle.chains.specs.Store.{IsRight};
-ghost use Rattle.grants.specs.Book.{ShowsBook};
+ghost use Rattle.grants_base.specs.Book.{ShowsBook};
 ghost use Rattle.machine_trials_base.specs.Before.{IsBefore};
 ghost use Rattle.machine_trials_base.specs.Worked.{BeginsWorked, creating, granted, granting, insert, inserted, inserting, nine};
 

@@ -2,7 +2,7 @@
 //! the same call can be made again. Where no memory is refused, they are made once.
 
 ghost use Rattle.std.specs.Prelude.{◌≡◌, ◌<◌, OnErr, length};
-ghost use Rattle.grants.specs.Book.{IsLater};
+ghost use Rattle.grants_base.specs.Book.{IsLater};
 
 use grants::{Book, Creation, End, Records, holds_option, to_end};
 use model_base::{Grant, Kind, Place, Record, Revocation, Table, User};

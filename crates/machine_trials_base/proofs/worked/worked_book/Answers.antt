@@ -2,8 +2,8 @@ use Rattle.std.proofs.Common.{◌≡◌, ◌<◌, ◌++◌, ◌∷◌, [], List,
 use Rattle.std.proofs.lemmas.List.Elements.{All-nil}
 use Rattle.model_base.specs.declared.deed.Deed.{Deed}
 use Rattle.model_base.specs.Privileges.{place_of}
-use Rattle.grants.specs.declared.book.Creation.{Creation}
-use Rattle.grants.specs.Book.{Entries, owners_of}
+use Rattle.grants_base.specs.declared.entries.Creation.{Creation}
+use Rattle.grants_base.specs.Book.{Entries, owners_of}
 use Rattle.machine_trials_base.proofs.Standing.{empty_book, owner_holds}
 use Rattle.machine_trials_base.proofs.worked.worked_book.Goals as goal
 
