@@ -1,0 +1,215 @@
+//! Readers that fail at any read, and writers that fail at any write, take no byte, or fail at their flush.
+
+use crate::case::Runs;
+use crate::doubles::{Giving, Taking};
+use crate::fault::TrialFault;
+use crate::run::Run;
+use log_text_base::Counted;
+use std::alloc::{AllocError, Global};
+use std::rt::Files;
+use std::sync::Wait;
+use std::thread::Threads;
+
+/// How many tries there are beside those that have to fail.
+const TRIES: u64 = 200;
+
+/// How a run ended: with which fault, how many failures were counted, and what was written.
+#[derive(Drop)]
+struct Ended {
+    answer: Result<(), TrialFault>,
+    failures: u64,
+    written: Vec<u8>,
+}
+
+/// What runs with a failing reader or writer came to.
+#[derive(Clone, Copy, Debug, Default, PartialEq, Eq)]
+struct Counts {
+    /// How many didn't fail, and wrote the whole text.
+    whole: u32,
+    /// How many failed, and wrote a beginning of it.
+    failed: u32,
+    /// How many bytes these wrote together.
+    written: u64,
+    wrong: u32,
+}
+
+impl Counts {
+    /// Counts a run that has to write the wanted text, with no failure counted.
+    fn add_whole(&mut self, ended: &Ended, wanted: &[u8]) {
+        if ended.answer == Ok(()) && ended.failures == 0 && ended.written.as_slice() == wanted {
+            self.whole = self.whole.saturating_add(1);
+        } else {
+            self.wrong = self.wrong.saturating_add(1);
+        }
+    }
+
+    /// Counts a run that has to end with this fault, with one failure counted and a beginning of the wanted text written.
+    fn add_failed(&mut self, ended: &Ended, wanted: &[u8], fault: TrialFault) {
+        let written = ended.written.as_slice();
+        if ended.answer == Err(fault) && ended.failures == 1 && wanted.starts_with(written) {
+            self.failed = self.failed.saturating_add(1);
+            self.written = self.written.saturating_add(written.len() as u64);
+        } else {
+            self.wrong = self.wrong.saturating_add(1);
+        }
+    }
+
+    /// The counts as text.
+    fn outcome(&self, alloc: Global) -> Result<String, AllocError> {
+        let (whole, failed, written, wrong) = (self.whole, self.failed, self.written, self.wrong);
+        format!(in alloc;
+            "{whole} whole, {failed} failed after a beginning, of {written} bytes together, {wrong} wrong"
+        )
+    }
+}
+
+/// Runs the log, a byte a read, of which the read after so many fails.
+fn with_reads<R: Threads + Wait + Sync>(
+    rt: &R,
+    alloc: Global,
+    log: &[u8],
+    run: &Run,
+    reads: u64,
+) -> Ended {
+    let mut log = Counted::new(Giving {
+        bytes: log,
+        most: 1,
+        reads,
+    });
+    let mut text = Counted::new(Vec::new(alloc));
+    let answer = run.execute(rt, alloc, &mut log, &mut text);
+    Ended {
+        answer,
+        failures: log.errors,
+        written: text.inner,
+    }
+}
+
+/// Runs the log into a writer.
+fn with_writer<R: Threads + Wait + Sync>(
+    rt: &R,
+    alloc: Global,
+    log: &[u8],
+    run: &Run,
+    writer: Taking,
+) -> Ended {
+    let mut text = Counted::new(writer);
+    let answer = run.execute(rt, alloc, &mut Counted::new(log), &mut text);
+    Ended {
+        answer,
+        failures: text.errors,
+        written: text.inner.taken,
+    }
+}
+
+/// Counts what a run comes to where the reader fails at each of its reads. The end of the log is found by a read too.
+fn count_reads<R: Threads + Wait + Sync>(
+    rt: &R,
+    alloc: Global,
+    log: &[u8],
+    run: &Run,
+    counts: &mut Counts,
+) -> Result<(), TrialFault> {
+    let wanted = run.text(rt, alloc, log)?;
+    let length = log.len() as u64;
+    for reads in 0..length.saturating_add(TRIES) {
+        let ended = with_reads(rt, alloc, log, run, reads);
+        if reads <= length {
+            counts.add_failed(&ended, wanted.as_slice(), TrialFault::Read);
+        } else {
+            counts.add_whole(&ended, wanted.as_slice());
+        }
+    }
+    Ok(())
+}
+
+/// Counts what a run comes to where the writer takes a byte a write, and fails at each of its writes.
+fn count_writes<R: Threads + Wait + Sync>(
+    rt: &R,
+    alloc: Global,
+    log: &[u8],
+    run: &Run,
+    counts: &mut Counts,
+) -> Result<(), TrialFault> {
+    let wanted = run.text(rt, alloc, log)?;
+    let length = wanted.len() as u64;
+    for writes in 0..length.saturating_add(TRIES) {
+        let writer = Taking {
+            taken: Vec::new(alloc),
+            most: 1,
+            writes,
+            flushes: true,
+        };
+        let ended = with_writer(rt, alloc, log, run, writer);
+        if writes < length {
+            counts.add_failed(&ended, wanted.as_slice(), TrialFault::Write);
+        } else {
+            counts.add_whole(&ended, wanted.as_slice());
+        }
+    }
+    Ok(())
+}
+
+/// Counts what a run comes to where the writer takes all and fails at its flush, and where it takes no byte.
+fn count_ends<R: Threads + Wait + Sync>(
+    rt: &R,
+    alloc: Global,
+    log: &[u8],
+    run: &Run,
+    counts: &mut Counts,
+) -> Result<(), TrialFault> {
+    let wanted = run.text(rt, alloc, log)?;
+    for (most, flushes) in [(4096, false), (1, false), (0, true)] {
+        let writer = Taking {
+            taken: Vec::new(alloc),
+            most,
+            writes: u64::MAX,
+            flushes,
+        };
+        let ended = with_writer(rt, alloc, log, run, writer);
+        counts.add_failed(&ended, wanted.as_slice(), TrialFault::Write);
+    }
+    Ok(())
+}
+
+/// What the runs of a log end with where the reader fails at each of its reads.
+pub fn failing_reads<R: Files + Threads + Wait + Sync>(
+    rt: &R,
+    alloc: Global,
+    case: &Runs<'_>,
+) -> Result<String, TrialFault> {
+    let log = case.log.bytes(rt, alloc)?;
+    let mut counts = Counts::default();
+    for run in case.runs.as_slice() {
+        count_reads(rt, alloc, log.as_slice(), run, &mut counts)?;
+    }
+    Ok(counts.outcome(alloc)?)
+}
+
+/// What the runs of a log end with where the writer fails at each of its writes.
+pub fn failing_writes<R: Files + Threads + Wait + Sync>(
+    rt: &R,
+    alloc: Global,
+    case: &Runs<'_>,
+) -> Result<String, TrialFault> {
+    let log = case.log.bytes(rt, alloc)?;
+    let mut counts = Counts::default();
+    for run in case.runs.as_slice() {
+        count_writes(rt, alloc, log.as_slice(), run, &mut counts)?;
+    }
+    Ok(counts.outcome(alloc)?)
+}
+
+/// What the runs of a log end with where the writer fails at its flush, and where it takes no byte.
+pub fn failing_ends<R: Files + Threads + Wait + Sync>(
+    rt: &R,
+    alloc: Global,
+    case: &Runs<'_>,
+) -> Result<String, TrialFault> {
+    let log = case.log.bytes(rt, alloc)?;
+    let mut counts = Counts::default();
+    for run in case.runs.as_slice() {
+        count_ends(rt, alloc, log.as_slice(), run, &mut counts)?;
+    }
+    Ok(counts.outcome(alloc)?)
+}
