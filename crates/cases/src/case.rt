@@ -1,5 +1,6 @@
 //! What a line of a file of cases asks for.
 
+use crate::failing::Failing;
 use crate::logs::Log;
 use crate::run::Run;
 use crate::tail::Bits;
@@ -39,13 +40,10 @@ pub enum Case<'a> {
     Print(Runs<'a>),
     /// `ends LOG RUN..`: how each run ends, and how much it reads and writes.
     Ends(Runs<'a>),
-    /// `fail-reads LOG RUN..`: what the runs end with where the reader fails, at each of its reads.
-    FailReads(Runs<'a>),
-    /// `fail-writes LOG RUN..`: what the runs end with where the writer fails, at each of its writes.
-    FailWrites(Runs<'a>),
-    /// `fail-ends LOG RUN..`: what the runs end with where the writer fails at its flush, and where it takes no byte.
-    FailEnds(Runs<'a>),
-    /// `tail BITS LOG RUN..`: how often each run reads and writes where the log comes bit by bit, and how many reads are late.
+    /// `fail reads|writes|ends LOG RUN..`: what the runs end with where the reader fails, at each of its reads; where the writer fails,
+    /// at each of its writes; and where it fails at its flush or takes no byte.
+    Fail(Failing, Runs<'a>),
+    /// `tail lines|halves|pieces LOG RUN..`: how often each run reads and writes where the log comes bit by bit, and how many reads are late.
     Tail(Bits, Runs<'a>),
     /// `drawn SEED LOGS LINES USERS DEEDS LAST RUN..`: how many runs of drawn logs write the report of the plain run, and how often
     /// each ending is in these. LAST is a log whose lines end each drawn one, or `-`.

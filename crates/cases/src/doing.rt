@@ -3,7 +3,7 @@
 use crate::case::Case;
 use crate::command::{endings, read_command};
 use crate::drawn::drawn_reports;
-use crate::failing::{failing_ends, failing_reads, failing_writes};
+use crate::failing::failing_runs;
 use crate::fault::TrialFault;
 use crate::guide::guide_examples;
 use crate::printing::{ended_runs, printed_texts};
@@ -27,9 +27,7 @@ pub fn outcome_of<R: Files + Threads + Wait + Sync>(
         Case::Beginnings(runs) => beginnings(rt, alloc, runs),
         Case::Print(runs) => printed_texts(rt, alloc, runs),
         Case::Ends(runs) => ended_runs(rt, alloc, runs),
-        Case::FailReads(runs) => failing_reads(rt, alloc, runs),
-        Case::FailWrites(runs) => failing_writes(rt, alloc, runs),
-        Case::FailEnds(runs) => failing_ends(rt, alloc, runs),
+        Case::Fail(failing, runs) => failing_runs(rt, alloc, *failing, runs),
         Case::Tail(bits, runs) => tailed_runs(rt, alloc, *bits, runs),
         Case::Drawn(drawn) => drawn_reports(rt, alloc, drawn),
         Case::Words(words) => read_command(alloc, words),

@@ -13,6 +13,17 @@ use std::thread::Threads;
 /// How many tries there are beside those that have to fail.
 const TRIES: u64 = 200;
 
+/// What fails.
+#[derive(Clone, Copy, Debug, PartialEq, Eq)]
+pub enum Failing {
+    /// The reader, at each of its reads in turn.
+    Reads,
+    /// The writer, at each of its writes in turn.
+    Writes,
+    /// The writer, at its flush; and one that takes no byte.
+    Ends,
+}
+
 /// How a run ended: with which fault, how many failures were counted, and what was written.
 #[derive(Drop)]
 struct Ended {
@@ -172,44 +183,22 @@ fn count_ends<R: Threads + Wait + Sync>(
     Ok(())
 }
 
-/// What the runs of a log end with where the reader fails at each of its reads.
-pub fn failing_reads<R: Files + Threads + Wait + Sync>(
+/// What the runs of a log end with where this fails.
+pub fn failing_runs<R: Files + Threads + Wait + Sync>(
     rt: &R,
     alloc: Global,
+    failing: Failing,
     case: &Runs<'_>,
 ) -> Result<String, TrialFault> {
     let log = case.log.bytes(rt, alloc)?;
+    let log = log.as_slice();
     let mut counts = Counts::default();
     for run in case.runs.as_slice() {
-        count_reads(rt, alloc, log.as_slice(), run, &mut counts)?;
-    }
-    Ok(counts.outcome(alloc)?)
-}
-
-/// What the runs of a log end with where the writer fails at each of its writes.
-pub fn failing_writes<R: Files + Threads + Wait + Sync>(
-    rt: &R,
-    alloc: Global,
-    case: &Runs<'_>,
-) -> Result<String, TrialFault> {
-    let log = case.log.bytes(rt, alloc)?;
-    let mut counts = Counts::default();
-    for run in case.runs.as_slice() {
-        count_writes(rt, alloc, log.as_slice(), run, &mut counts)?;
-    }
-    Ok(counts.outcome(alloc)?)
-}
-
-/// What the runs of a log end with where the writer fails at its flush, and where it takes no byte.
-pub fn failing_ends<R: Files + Threads + Wait + Sync>(
-    rt: &R,
-    alloc: Global,
-    case: &Runs<'_>,
-) -> Result<String, TrialFault> {
-    let log = case.log.bytes(rt, alloc)?;
-    let mut counts = Counts::default();
-    for run in case.runs.as_slice() {
-        count_ends(rt, alloc, log.as_slice(), run, &mut counts)?;
+        match failing {
+            Failing::Reads => count_reads(rt, alloc, log, run, &mut counts)?,
+            Failing::Writes => count_writes(rt, alloc, log, run, &mut counts)?,
+            Failing::Ends => count_ends(rt, alloc, log, run, &mut counts)?,
+        }
     }
     Ok(counts.outcome(alloc)?)
 }

@@ -1,6 +1,7 @@
 //! A line of a file of cases, read as a case.
 
 use crate::case::{Case, Drawn, Runs};
+use crate::failing::Failing;
 use crate::fault::TrialFault;
 use crate::logs::Log;
 use crate::run::Run;
@@ -169,6 +170,20 @@ fn parse_tail<'a>(alloc: Global, words: &[&'a str]) -> Result<Case<'a>, TrialFau
     Ok(Case::Tail(bits, parse_runs(alloc, rest)?))
 }
 
+/// What fails, and then the log and its runs.
+fn parse_fail<'a>(alloc: Global, words: &[&'a str]) -> Result<Case<'a>, TrialFault> {
+    let [failing, rest @ ..] = words else {
+        return Err(TrialFault::Words);
+    };
+    let failing = match *failing {
+        "reads" => Failing::Reads,
+        "writes" => Failing::Writes,
+        "ends" => Failing::Ends,
+        _ => return Err(TrialFault::Words),
+    };
+    Ok(Case::Fail(failing, parse_runs(alloc, rest)?))
+}
+
 /// How logs are drawn, and their runs.
 fn parse_drawn<'a>(alloc: Global, words: &[&'a str]) -> Result<Case<'a>, TrialFault> {
     let [seed, logs, lines, users, deeds, last, runs @ ..] = words else {
@@ -206,9 +221,7 @@ fn parse_case_of_runs<'a>(
         "beginnings" => Ok(Case::Beginnings(parse_runs(alloc, words)?)),
         "print" => Ok(Case::Print(parse_runs(alloc, words)?)),
         "ends" => Ok(Case::Ends(parse_runs(alloc, words)?)),
-        "fail-reads" => Ok(Case::FailReads(parse_runs(alloc, words)?)),
-        "fail-writes" => Ok(Case::FailWrites(parse_runs(alloc, words)?)),
-        "fail-ends" => Ok(Case::FailEnds(parse_runs(alloc, words)?)),
+        "fail" => parse_fail(alloc, words),
         "tail" => parse_tail(alloc, words),
         "drawn" => parse_drawn(alloc, words),
         _ => Err(TrialFault::NoSuchVerb),
