@@ -40,7 +40,7 @@ pub enum Case<'a> {
     Print(Runs<'a>),
     /// `ends LOG RUN..`: how each run ends, and how much it reads and writes.
     Ends(Runs<'a>),
-    /// `fail reads|writes|ends LOG RUN..`: what the runs end with where the reader fails, at each of its reads; where the writer fails,
+    /// `fail reads|writes|ends LOG RUN..`: how the runs end where the reader fails, at each of its reads; where the writer fails,
     /// at each of its writes; and where it fails at its flush or takes no byte.
     Fail(Failing, Runs<'a>),
     /// `tail lines|halves|pieces LOG RUN..`: how often each run reads and writes where the log comes bit by bit, and how many reads are late.

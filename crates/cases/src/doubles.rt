@@ -1,4 +1,4 @@
-//! Readers and writers that give and take little, and fail when they are told.
+//! Readers and writers that give and take little, and fail where they are made to.
 
 ghost use Rattle.std.specs.Prelude.{None};
 

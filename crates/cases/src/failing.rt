@@ -26,13 +26,13 @@ pub enum Failing {
 
 /// How a run ended: with which fault, how many failures were counted, and what was written.
 #[derive(Drop)]
-struct Ended {
-    answer: Result<(), TrialFault>,
+struct Trial {
+    ended: Result<(), TrialFault>,
     failures: u64,
     written: Vec<u8>,
 }
 
-/// What runs with a failing reader or writer came to.
+/// How runs with a failing reader or writer ended.
 #[derive(Clone, Copy, Debug, Default, PartialEq, Eq)]
 struct Counts {
     /// How many didn't fail, and wrote the whole text.
@@ -46,8 +46,8 @@ struct Counts {
 
 impl Counts {
     /// Counts a run that has to write the wanted text, with no failure counted.
-    fn add_whole(&mut self, ended: &Ended, wanted: &[u8]) {
-        if ended.answer == Ok(()) && ended.failures == 0 && ended.written.as_slice() == wanted {
+    fn add_whole(&mut self, trial: &Trial, wanted: &[u8]) {
+        if trial.ended == Ok(()) && trial.failures == 0 && trial.written.as_slice() == wanted {
             self.whole = self.whole.saturating_add(1);
         } else {
             self.wrong = self.wrong.saturating_add(1);
@@ -55,9 +55,9 @@ impl Counts {
     }
 
     /// Counts a run that has to end with this fault, with one failure counted and a beginning of the wanted text written.
-    fn add_failed(&mut self, ended: &Ended, wanted: &[u8], fault: TrialFault) {
-        let written = ended.written.as_slice();
-        if ended.answer == Err(fault) && ended.failures == 1 && wanted.starts_with(written) {
+    fn add_failed(&mut self, trial: &Trial, wanted: &[u8], fault: TrialFault) {
+        let written = trial.written.as_slice();
+        if trial.ended == Err(fault) && trial.failures == 1 && wanted.starts_with(written) {
             self.failed = self.failed.saturating_add(1);
             self.written = self.written.saturating_add(written.len() as u64);
         } else {
@@ -81,16 +81,16 @@ fn with_reads<R: Threads + Wait + Sync>(
     log: &[u8],
     run: &Run,
     reads: u64,
-) -> Ended {
+) -> Trial {
     let mut log = Counted::new(Giving {
         bytes: log,
         most: 1,
         reads,
     });
     let mut text = Counted::new(Vec::new(alloc));
-    let answer = run.execute(rt, alloc, &mut log, &mut text);
-    Ended {
-        answer,
+    let ended = run.execute(rt, alloc, &mut log, &mut text);
+    Trial {
+        ended,
         failures: log.errors,
         written: text.inner,
     }
@@ -103,17 +103,17 @@ fn with_writer<R: Threads + Wait + Sync>(
     log: &[u8],
     run: &Run,
     writer: Taking,
-) -> Ended {
+) -> Trial {
     let mut text = Counted::new(writer);
-    let answer = run.execute(rt, alloc, &mut Counted::new(log), &mut text);
-    Ended {
-        answer,
+    let ended = run.execute(rt, alloc, &mut Counted::new(log), &mut text);
+    Trial {
+        ended,
         failures: text.errors,
         written: text.inner.taken,
     }
 }
 
-/// Counts what a run comes to where the reader fails at each of its reads. The end of the log is found by a read too.
+/// Counts how a run ends where the reader fails at each of its reads. The end of the log is found by a read too.
 fn count_reads<R: Threads + Wait + Sync>(
     rt: &R,
     alloc: Global,
@@ -124,17 +124,17 @@ fn count_reads<R: Threads + Wait + Sync>(
     let wanted = run.text(rt, alloc, log)?;
     let length = log.len() as u64;
     for reads in 0..length.saturating_add(TRIES) {
-        let ended = with_reads(rt, alloc, log, run, reads);
+        let trial = with_reads(rt, alloc, log, run, reads);
         if reads <= length {
-            counts.add_failed(&ended, wanted.as_slice(), TrialFault::Read);
+            counts.add_failed(&trial, wanted.as_slice(), TrialFault::Read);
         } else {
-            counts.add_whole(&ended, wanted.as_slice());
+            counts.add_whole(&trial, wanted.as_slice());
         }
     }
     Ok(())
 }
 
-/// Counts what a run comes to where the writer takes a byte a write, and fails at each of its writes.
+/// Counts how a run ends where the writer takes a byte a write, and fails at each of its writes.
 fn count_writes<R: Threads + Wait + Sync>(
     rt: &R,
     alloc: Global,
@@ -151,17 +151,17 @@ fn count_writes<R: Threads + Wait + Sync>(
             writes,
             flushes: true,
         };
-        let ended = with_writer(rt, alloc, log, run, writer);
+        let trial = with_writer(rt, alloc, log, run, writer);
         if writes < length {
-            counts.add_failed(&ended, wanted.as_slice(), TrialFault::Write);
+            counts.add_failed(&trial, wanted.as_slice(), TrialFault::Write);
         } else {
-            counts.add_whole(&ended, wanted.as_slice());
+            counts.add_whole(&trial, wanted.as_slice());
         }
     }
     Ok(())
 }
 
-/// Counts what a run comes to where the writer takes all and fails at its flush, and where it takes no byte.
+/// Counts how a run ends where the writer takes all and fails at its flush, and where it takes no byte.
 fn count_ends<R: Threads + Wait + Sync>(
     rt: &R,
     alloc: Global,
@@ -177,13 +177,13 @@ fn count_ends<R: Threads + Wait + Sync>(
             writes: u64::MAX,
             flushes,
         };
-        let ended = with_writer(rt, alloc, log, run, writer);
-        counts.add_failed(&ended, wanted.as_slice(), TrialFault::Write);
+        let trial = with_writer(rt, alloc, log, run, writer);
+        counts.add_failed(&trial, wanted.as_slice(), TrialFault::Write);
     }
     Ok(())
 }
 
-/// What the runs of a log end with where this fails.
+/// How the runs of a log end where this fails.
 pub fn failing_runs<R: Files + Threads + Wait + Sync>(
     rt: &R,
     alloc: Global,

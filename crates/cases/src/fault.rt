@@ -24,7 +24,7 @@ pub enum TrialFault {
     /// A word names no log.
     #[error("no such log")]
     NoSuchLog,
-    /// A verb, a run or a log has too few words behind it, or too many.
+    /// A verb, a run or a log has too few words after it, or too many.
     #[error("too few words, or too many")]
     Words,
     /// A word is no number, or a number that is too large.

@@ -50,7 +50,7 @@ fn log_of_letters(alloc: Global, count: u32) -> Result<Vec<u8>, AllocError> {
     Ok(log)
 }
 
-/// Lines of so many users behind the creation of a table by `owner`, and then one of the owner.
+/// Lines of so many users after the creation of a table by `owner`, and then one of the owner.
 fn log_of_users(alloc: Global, count: u32) -> Result<Vec<u8>, AllocError> {
     let mut log = Vec::from_slice(alloc, b"owner CREATE t 1\n")?;
     for number in 0..count {
@@ -109,7 +109,7 @@ impl Log<'_> {
         }
     }
 
-    /// The report that stands beside the log, in the file NAME.report.
+    /// The report that was worked out for the log: the file NAME.report.
     pub fn report<R: Files>(self, rt: &R, alloc: Global) -> Result<Vec<u8>, TrialFault> {
         let Log::Worked(name) = self else {
             return Err(TrialFault::NoReport);

@@ -14,6 +14,7 @@ use std::io::{Read, Write};
 use std::rt::Files;
 use std::sync::Wait;
 use std::thread::Threads;
+
 /// How much a read gives.
 #[derive(Clone, Copy, Debug, PartialEq, Eq)]
 pub enum Bits {
@@ -136,12 +137,12 @@ fn tailed_run<R: Threads + Wait + Sync>(
     });
     run.execute(rt, alloc, &mut tail, &mut report)?;
     let (reads, late, writes) = (tail.inner.reads, tail.inner.late, report.inner.writes);
-    let told = if report.inner.text.as_slice() == wanted {
+    let same = if report.inner.text.as_slice() == wanted {
         "same"
     } else {
         "other"
     };
-    Ok(format!(in alloc; "{reads} reads, {late} late, {writes} writes, the {told} report")?)
+    Ok(format!(in alloc; "{reads} reads, {late} late, {writes} writes, the {same} report")?)
 }
 
 /// How often each run reads and writes where a log comes so, how many reads are late, and whether the report is that of the plain run.
