@@ -1,7 +1,7 @@
 //! A batch in which each place is referred to the one before it.
 
 ghost use Rattle.std.specs.Prelude.{◌<◌, ◌^◌, []};
-ghost use Rattle.filling_trials.specs.Chained.{chain};
+ghost use Rattle.word_trials.specs.Chained.{chain};
 
 use filling_base::{Fills, store};
 use std::alloc::AllocError;

@@ -1,8 +1,8 @@
 use Rattle.std.proofs.Common.{◌≡◌, subst, sym}
 use Rattle.bohm_core_base.specs.Batch.{Batch}
 use Rattle.words.specs.Views.{KnowsReferences}
-use Rattle.filling_trials.specs.Chained.{chain}
-use Rattle.filling_trials.proofs.chain.ChainFills.fill.Goals as goal
+use Rattle.word_trials.specs.Chained.{chain}
+use Rattle.word_trials.proofs.chain.ChainFills.fill.Goals as goal
 
 pub store-requires-clause-ready : goal.store-requires-clause-ready
 store-requires-clause-ready c =

@@ -1,6 +1,6 @@
 use Rattle.std.proofs.Common.{◌≡◌, arith}
-use Rattle.filling_trials.proofs.Chains.{chain_length}
-use Rattle.filling_trials.proofs.asking.last_word.Goals as goal
+use Rattle.word_trials.proofs.Chains.{chain_length}
+use Rattle.word_trials.proofs.asking.last_word.Goals as goal
 
 pub own-word-requires-clause-within : goal.own-word-requires-clause-within
 own-word-requires-clause-within c =

@@ -1,6 +1,6 @@
 use Rattle.std.proofs.Common.{◌<◌, sym, subst}
-use Rattle.filling_trials.specs.declared.chain.Chain.{Chain}
-use Rattle.filling_trials.proofs.asking.tell_shared.Goals as goal
+use Rattle.word_trials.specs.declared.chain.Chain.{Chain}
+use Rattle.word_trials.proofs.asking.tell_shared.Goals as goal
 
 pub claim-requires-clause-begins : goal.claim-requires-clause-begins
 claim-requires-clause-begins g c =
