@@ -14,6 +14,9 @@ pub enum TrialFault {
     /// The store has another end than the versions before, or takes no mark there.
     #[error("the store has another end")]
     Store,
+    /// The store and the list of its versions don't tell the same.
+    #[error("the store and the list differ")]
+    Different,
     /// A growth was refused.
     #[error("out of memory")]
     NoMemory,
@@ -23,8 +26,11 @@ pub enum TrialFault {
 }
 
 impl From<ArgumentFault> for TrialFault {
-    fn from(_e: ArgumentFault) -> TrialFault {
-        TrialFault::Words
+    fn from(fault: ArgumentFault) -> TrialFault {
+        match fault {
+            ArgumentFault::NotUtf8 => TrialFault::Words,
+            ArgumentFault::NoMemory => TrialFault::NoMemory,
+        }
     }
 }
 
