@@ -1,6 +1,5 @@
 //! Why the program ends without success.
 
-use bohm_base::ArgumentFault;
 use std::alloc::{AllocError, AllocFailed};
 use std::io;
 use thiserror::Error;
@@ -20,18 +19,9 @@ pub enum TrialFault {
     /// A growth was refused.
     #[error("out of memory")]
     NoMemory,
-    /// Standard output can't be written.
-    #[error("cannot write")]
-    Write,
-}
-
-impl From<ArgumentFault> for TrialFault {
-    fn from(fault: ArgumentFault) -> TrialFault {
-        match fault {
-            ArgumentFault::NotUtf8 => TrialFault::Words,
-            ArgumentFault::NoMemory => TrialFault::NoMemory,
-        }
-    }
+    /// The words of the command line can't be read, or standard output can't be written.
+    #[error("cannot read or print")]
+    Io,
 }
 
 impl From<AllocError> for TrialFault {
@@ -47,7 +37,11 @@ impl<T: Drop> From<AllocFailed<T>> for TrialFault {
 }
 
 impl From<io::Error> for TrialFault {
-    fn from(_e: io::Error) -> TrialFault {
-        TrialFault::Write
+    fn from(error: io::Error) -> TrialFault {
+        if error.kind() == io::ErrorKind::OutOfMemory {
+            TrialFault::NoMemory
+        } else {
+            TrialFault::Io
+        }
     }
 }

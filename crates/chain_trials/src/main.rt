@@ -17,13 +17,13 @@ mod refused;
 mod telling;
 mod worked;
 
-use bohm_base::arguments;
 use drawn::tell_drawn;
 use fault::TrialFault;
 use long::{Work, tell_long};
 use marks::tell_marks;
 use refused::tell_refused;
 use std::alloc::Global;
+use std::env;
 use std::process::ExitCode;
 use std::rt::Env;
 use worked::tell_worked;
@@ -80,7 +80,7 @@ fn tell_words(rt: &impl Print, alloc: Global, words: &[String]) -> Result<(), Tr
 
 /// Does what the words of the command line tell.
 fn run<R: Env + Print + AllocGlobal>(rt: &R) -> Result<(), TrialFault> {
-    let words = arguments(rt)?;
+    let words = env::args(rt)?.collect::<Vec<String>>(rt.alloc())?;
     tell_words(rt, rt.alloc(), words.as_slice())
 }
 
