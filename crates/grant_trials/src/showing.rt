@@ -1,4 +1,4 @@
-//! What is found, a line for each.
+//! What is shown of needs and what is accepted, a line for each.
 
 use crate::fault::TrialFault;
 use explain_base::{are_sound, explain_needs};

@@ -16,7 +16,7 @@ use Rattle.grants.proofs.GrantLaws.{sound_grant}
 use Rattle.grants.proofs.LaterLaws.{later_grant}
 use Rattle.grants.proofs.Lookups.{ended_none}
 use Rattle.grants.proofs.RevokeLaws.{sound_revoke}
-use Rattle.refused_trials.proofs.refused.extended.Goals as goal
+use Rattle.grant_trials.proofs.refused.extended.Goals as goal
 
 -- the owner of the last table
 last_owner : (tables : List Creation) (creation : Creation) → slice_get (owners_of (tables ++ creation ∷ [])) (length tables) ≡ Some creation.owner

@@ -1,9 +1,8 @@
 //! A book and the plain one beside it: each call is made in both, and the answers are compared.
 
-ghost use Rattle.std.specs.Prelude.{Decides, ◌<◌, length};
-
-use crate::fault::TrialFault;
-use grants::{Book, Creation, PlainBook, Records, denial, holds, holds_option, last_loss, to_end};
+use crate::deeds::{ends_in, enter, give, has_table, take};
+use crate::fault::{TrialFault, expect};
+use grants::{Book, PlainBook, Records, denial, holds, holds_option, last_loss};
 use model_base::{Cause, Grant, Kind, Need, Place, Revocation, Table, User};
 use std::alloc::Global;
 
@@ -30,15 +29,6 @@ impl Told {
             Told::Lost(place) => Some(Cause::Taken(place)),
             Told::Never => Some(Cause::Never),
         }
-    }
-}
-
-/// Nothing, if what was compared is the same.
-fn expect(same: bool) -> Result<(), TrialFault> {
-    if same {
-        Ok(())
-    } else {
-        Err(TrialFault::Different)
     }
 }
 
@@ -174,52 +164,11 @@ impl Both {
     }
 }
 
-/// The places that a revocation would end, as a view tells.
-fn ends_in<V: Records>(
-    alloc: Global,
-    view: &mut V,
-    revocation: &Revocation,
-) -> Result<Vec<Place>, TrialFault> {
-    if view.at() != revocation.place || !view.covers(revocation.table) {
-        return Err(TrialFault::Deed);
-    }
-    Ok(to_end(alloc, view, revocation)?)
-}
-
-/// Whether a table is one of these.
-fn has_table(tables: &[Creation], table: Table) -> bool
-    ensures { Decides result (table < length tables.now) }
-{
-    (table.0 as usize) < tables.len()
-}
-
-fn enter(book: &mut Book, owner: User, place: Place) -> Result<Table, TrialFault> {
-    if !book.is_later(place) || book.tables().len() >= 65_536 {
-        return Err(TrialFault::Deed);
-    }
-    Ok(book.add_table(owner, place)?)
-}
-
 fn enter_plain(book: &mut PlainBook, owner: User, place: Place) -> Result<Table, TrialFault> {
     if !book.is_later(place) || book.tables().len() >= 65_536 {
         return Err(TrialFault::Deed);
     }
     Ok(book.add_table(owner, place)?)
-}
-
-fn give(book: &mut Book, grant: &Grant) -> Result<bool, TrialFault> {
-    let (place, table) = (grant.place, grant.table);
-    if !book.is_later(place) || !has_table(book.tables(), table) {
-        return Err(TrialFault::Deed);
-    }
-    if !book.at(place).covers(table) {
-        return Err(TrialFault::Deed);
-    }
-    let held = holds_option(&mut book.at(place), grant.grantor, grant.kind, table);
-    if held {
-        book.grant(*grant)?;
-    }
-    Ok(held)
 }
 
 fn give_plain(book: &mut PlainBook, grant: &Grant) -> Result<bool, TrialFault> {
@@ -235,14 +184,6 @@ fn give_plain(book: &mut PlainBook, grant: &Grant) -> Result<bool, TrialFault> {
         book.grant(*grant)?;
     }
     Ok(held)
-}
-
-fn take(alloc: Global, book: &mut Book, revocation: &Revocation) -> Result<Vec<Place>, TrialFault> {
-    let (place, table) = (revocation.place, revocation.table);
-    if !book.is_later(place) || !has_table(book.tables(), table) {
-        return Err(TrialFault::Deed);
-    }
-    Ok(book.revoke(alloc, revocation)?)
 }
 
 fn take_plain(

@@ -1,9 +1,9 @@
-//! A worked list of deeds: a user is granted an option twice, in two ways, grants further by the one and the other, and loses
-//! the first.
+//! By which grants needs are held, on a worked list of deeds: a user is granted an option twice, in two ways, grants further by
+//! the one and the other, and loses the first.
 
-use crate::deeds::{create, give, take};
+use crate::deeds::{enter, give_held, take};
 use crate::fault::TrialFault;
-use crate::findings::{chain_of, tell_accepted, tell_lines, tell_need};
+use crate::showing::{chain_of, tell_accepted, tell_lines, tell_need};
 use grant_paths::Shown;
 use grants::Book;
 use model_base::{Grant, Kind, Need, Place, Revocation, Table, User};
@@ -45,23 +45,21 @@ fn grant(place: Place, grantor: User, grantee: User, option: bool) -> Grant {
 
 /// The deeds of the places 0 to 6.
 fn put_deeds(book: &mut Book, alloc: Global) -> Result<(), TrialFault> {
-    create(book, ALICE, 0)?;
-    give(book, &grant(1, ALICE, BOB, true))?;
-    give(book, &grant(2, ALICE, DAVE, true))?;
-    give(book, &grant(3, BOB, CAROL, false))?;
-    give(book, &grant(4, DAVE, BOB, true))?;
-    give(book, &grant(5, BOB, EVE, false))?;
-    take(
-        book,
-        alloc,
-        &Revocation {
-            place: 6,
-            grantor: ALICE,
-            grantee: BOB,
-            kind: Kind::Read,
-            table: Table(0),
-        },
-    )
+    enter(book, ALICE, 0)?;
+    give_held(book, &grant(1, ALICE, BOB, true))?;
+    give_held(book, &grant(2, ALICE, DAVE, true))?;
+    give_held(book, &grant(3, BOB, CAROL, false))?;
+    give_held(book, &grant(4, DAVE, BOB, true))?;
+    give_held(book, &grant(5, BOB, EVE, false))?;
+    let revocation = Revocation {
+        place: 6,
+        grantor: ALICE,
+        grantee: BOB,
+        kind: Kind::Read,
+        table: Table(0),
+    };
+    take(alloc, book, &revocation)?;
+    Ok(())
 }
 
 /// Tells what there is to show of each user's need.
@@ -166,11 +164,15 @@ fn tell_needs_in_order(rt: &impl Print, alloc: Global, book: &Book) -> Result<()
     )
 }
 
+/// Tells all of the worked deeds, which are put into a new book.
+fn tell_in(rt: &impl Print, alloc: Global, book: &mut Book) -> Result<(), TrialFault> {
+    put_deeds(book, alloc)?;
+    tell_needs(rt, alloc, book)?;
+    tell_chains(rt, alloc, book)?;
+    tell_needs_in_order(rt, alloc, book)
+}
+
 /// Tells all of the worked deeds.
-pub fn tell_worked(rt: &impl Print, alloc: Global) -> Result<(), TrialFault> {
-    let mut book = Book::new(alloc);
-    put_deeds(&mut book, alloc)?;
-    tell_needs(rt, alloc, &book)?;
-    tell_chains(rt, alloc, &book)?;
-    tell_needs_in_order(rt, alloc, &book)
+pub fn tell_paths(rt: &impl Print, alloc: Global) -> Result<(), TrialFault> {
+    tell_in(rt, alloc, &mut Book::new(alloc))
 }

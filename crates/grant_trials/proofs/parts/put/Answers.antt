@@ -1,6 +1,6 @@
 use Rattle.std.proofs.Common.{refl}
-use Rattle.book_trials.proofs.PartLaws.{sound_parts}
-use Rattle.book_trials.proofs.parts.put.Goals as goal
+use Rattle.grant_trials.proofs.PartLaws.{sound_parts}
+use Rattle.grant_trials.proofs.parts.put.Goals as goal
 
 pub extend-requires-clause-sound : goal.extend-requires-clause-sound
 extend-requires-clause-sound c =
