@@ -1,13 +1,13 @@
 //! Drawn lists of versions, marks and questions, against the list of all versions by the definition.
 
-ghost use Rattle.std.specs.Prelude.{◌≡◌, ◌∷◌, [], IfOk};
+ghost use Rattle.std.specs.Prelude.{◌≡◌};
 
+use crate::fault::TrialFault;
 use crate::generator::Generator;
+use crate::telling::{put, row_of};
 use chains::{Chains, Trimmed, Version};
 use model_base::{Key, Place, Row, Table};
 use std::alloc::{AllocError, Global};
-use std::process::Abort;
-use std::test::Fail;
 
 const TRIALS: u32 = 200;
 
@@ -16,10 +16,15 @@ const PLACES: u32 = 60;
 /// How often each came up.
 #[derive(Clone, Copy, Default, Debug)]
 struct Counts {
+    /// The versions that a mark dropped.
     gone: usize,
+    /// The versions that a sweep took out.
     swept: usize,
+    /// The marks that weren't taken.
     bad: u32,
+    /// The rows that were told.
     told: u32,
+    /// The rows that weren't, since their place was below the mark.
     hidden: u32,
 }
 
@@ -29,7 +34,6 @@ struct Both {
     chains: Chains,
     versions: Vec<Version>,
     mark: Place,
-    counts: Counts,
 }
 
 /// A key of two tables and two rows.
@@ -48,9 +52,7 @@ fn drawn_version(draws: &mut Generator, place: Place) -> Version
     let row = if draws.below(3) == 0 {
         None
     } else {
-        let mut row = Row::new();
-        row.push(i64::from(draws.below(100)));
-        Some(row)
+        Some(row_of(i64::from(draws.below(100))))
     };
     Version { place, key, row }
 }
@@ -100,96 +102,117 @@ fn swept(alloc: Global, versions: &[Version], mark: Place) -> Result<Vec<Version
     Ok(left)
 }
 
+/// Nothing, if what was compared is the same.
+fn expect(same: bool) -> Result<(), TrialFault> {
+    if same {
+        Ok(())
+    } else {
+        Err(TrialFault::Different)
+    }
+}
+
 impl Both {
+    /// A store and a list without versions.
+    fn new(alloc: Global) -> Self {
+        Both {
+            chains: Chains::new(alloc),
+            versions: Vec::new(alloc),
+            mark: 0,
+        }
+    }
+
     /// Appends a version of the next place, which is the last then.
-    fn append(&mut self, rt: &impl Abort, alloc: Global, version: Version) -> Result<(), Fail> {
-        let place = version.place;
-        let new_end = place.saturating_add(1);
-        assert!(rt; self.chains.end() <= place, "at {place}");
-        assert!(rt; place < new_end, "at {place}");
-        self.chains.append(vec![in alloc; version]?, new_end)?;
+    fn append(&mut self, alloc: Global, version: Version) -> Result<(), TrialFault> {
+        let end = version.place.saturating_add(1);
+        put(alloc, &mut self.chains, version, end)?;
         self.versions.push(version)?;
         Ok(())
     }
 
-    /// Trims to the mark, if it is a good one.
-    fn trim(&mut self, rt: &impl Abort, alloc: Global, mark: Place) -> Result<(), Fail> {
-        if mark < self.mark || self.chains.end() < mark {
-            assert!(rt; self.chains.trim(mark).is_err(), "to {mark}");
-            self.counts.bad = self.counts.bad.saturating_add(1);
-            return Ok(());
-        }
+    /// Trims to the mark, which is a good one.
+    fn trim_good(&mut self, alloc: Global, mark: Place) -> Result<usize, TrialFault> {
         let left = trimmed(alloc, self.versions.as_slice(), mark)?;
         let gone = self.versions.len().saturating_sub(left.len());
-        assert_eq!(rt; self.chains.trim(mark), Ok(gone), "to {mark}");
-        self.counts.gone = self.counts.gone.saturating_add(gone);
         self.versions = left;
         self.mark = mark;
+        expect(self.chains.trim(mark) == Ok(gone))?;
+        Ok(gone)
+    }
+
+    /// Trims to the mark, if it is a good one.
+    fn trim(&mut self, alloc: Global, mark: Place, counts: &mut Counts) -> Result<(), TrialFault> {
+        if mark < self.mark || self.chains.end() < mark {
+            counts.bad = counts.bad.saturating_add(1);
+            return expect(self.chains.trim(mark).is_err());
+        }
+        let gone = self.trim_good(alloc, mark)?;
+        counts.gone = counts.gone.saturating_add(gone);
         Ok(())
     }
 
     /// Sweeps.
-    fn sweep(&mut self, rt: &impl Abort, alloc: Global) -> Result<(), Fail> {
+    fn sweep(&mut self, alloc: Global, counts: &mut Counts) -> Result<(), TrialFault> {
         let left = swept(alloc, self.versions.as_slice(), self.mark)?;
         let gone = self.versions.len().saturating_sub(left.len());
-        assert_eq!(rt; self.chains.sweep(), gone);
-        self.counts.swept = self.counts.swept.saturating_add(gone);
         self.versions = left;
-        Ok(())
+        counts.swept = counts.swept.saturating_add(gone);
+        expect(self.chains.sweep() == gone)
     }
 
     /// Asks for the row of the key before the place.
-    fn ask(&mut self, rt: &impl Abort, place: Place, key: Key) {
+    fn ask(&self, place: Place, key: Key, counts: &mut Counts) -> Result<(), TrialFault> {
         if self.chains.end() < place {
-            return;
+            return Ok(());
         }
-        let wanted = row_by(self.versions.as_slice(), place, &key);
-        let answer = self.chains.row_before(place, key);
+        let found = self.chains.row_before(place, key);
         if place < self.mark {
-            assert_eq!(rt; answer, Err(Trimmed), "at {place}");
-            self.counts.hidden = self.counts.hidden.saturating_add(1);
-        } else {
-            assert_eq!(rt; answer, Ok(wanted), "at {place}");
-            self.counts.told = self.counts.told.saturating_add(1);
+            counts.hidden = counts.hidden.saturating_add(1);
+            return expect(found == Err(Trimmed));
         }
+        counts.told = counts.told.saturating_add(1);
+        expect(found == Ok(row_by(self.versions.as_slice(), place, &key)))
     }
 }
 
+/// Appends a drawn version, and then trims, sweeps and asks, or doesn't.
+fn try_place(
+    alloc: Global,
+    both: &mut Both,
+    draws: &mut Generator,
+    counts: &mut Counts,
+    place: u32,
+) -> Result<(), TrialFault> {
+    both.append(alloc, drawn_version(draws, Place::from(place)))?;
+    if draws.below(8) == 0 {
+        both.trim(alloc, Place::from(draws.below(PLACES)), counts)?;
+    }
+    if draws.below(8) == 0 {
+        both.sweep(alloc, counts)?;
+    }
+    let asked = drawn_key(draws);
+    both.ask(Place::from(draws.below(PLACES)), asked, counts)
+}
+
 /// Makes one drawn list.
-fn run(rt: &impl Abort, alloc: Global, both: &mut Both, draws: &mut Generator) -> Result<(), Fail> {
+fn try_list(
+    alloc: Global,
+    both: &mut Both,
+    draws: &mut Generator,
+    counts: &mut Counts,
+) -> Result<(), TrialFault> {
     for place in 0..PLACES {
-        let version = drawn_version(draws, Place::from(place));
-        both.append(rt, alloc, version)?;
-        if draws.below(8) == 0 {
-            both.trim(rt, alloc, Place::from(draws.below(PLACES)))?;
-        }
-        if draws.below(8) == 0 {
-            both.sweep(rt, alloc)?;
-        }
-        let asked = drawn_key(draws);
-        both.ask(rt, Place::from(draws.below(PLACES)), asked);
+        try_place(alloc, both, draws, counts, place)?;
     }
     Ok(())
 }
 
-#[test]
-fn stores_tell_what_the_list_tells(rt: HostRuntime) -> Result<(), Fail> {
+/// Tries drawn lists, and tells how much was compared.
+pub fn tell_drawn(rt: &impl Print, alloc: Global) -> Result<(), TrialFault> {
     let mut draws = Generator::new(18);
     let mut counts = Counts::default();
     for _ in 0..TRIALS {
-        let mut both = Both {
-            chains: Chains::new(rt.alloc()),
-            versions: Vec::new(rt.alloc()),
-            mark: 0,
-            counts,
-        };
-        run(&rt, rt.alloc(), &mut both, &mut draws)?;
-        counts = both.counts;
+        try_list(alloc, &mut Both::new(alloc), &mut draws, &mut counts)?;
     }
-    assert!(rt; counts.gone > 1000, "{counts:?}");
-    assert!(rt; counts.swept > 30, "{counts:?}");
-    assert!(rt; counts.bad > 500, "{counts:?}");
-    assert!(rt; counts.told > 2000, "{counts:?}");
-    assert!(rt; counts.hidden > 500, "{counts:?}");
+    let _ = println!(rt; "{TRIALS} drawn lists of {PLACES} versions: {counts:?}");
     Ok(())
 }

@@ -1,6 +1,5 @@
 //! Why the program ends without success.
 
-use bohm_base::ArgumentFault;
 use std::alloc::{AllocError, AllocFailed};
 use std::io;
 use thiserror::Error;
@@ -14,18 +13,15 @@ pub enum TrialFault {
     /// The store has another end than the versions before, or takes no mark there.
     #[error("the store has another end")]
     Store,
+    /// The store and the list of its versions don't tell the same.
+    #[error("the store and the list differ")]
+    Different,
     /// A growth was refused.
     #[error("out of memory")]
     NoMemory,
-    /// Standard output can't be written.
-    #[error("cannot write")]
-    Write,
-}
-
-impl From<ArgumentFault> for TrialFault {
-    fn from(_e: ArgumentFault) -> TrialFault {
-        TrialFault::Words
-    }
+    /// The words of the command line can't be read, or standard output can't be written.
+    #[error("cannot read or print")]
+    Io,
 }
 
 impl From<AllocError> for TrialFault {
@@ -41,7 +37,11 @@ impl<T: Drop> From<AllocFailed<T>> for TrialFault {
 }
 
 impl From<io::Error> for TrialFault {
-    fn from(_e: io::Error) -> TrialFault {
-        TrialFault::Write
+    fn from(error: io::Error) -> TrialFault {
+        if error.kind() == io::ErrorKind::OutOfMemory {
+            TrialFault::NoMemory
+        } else {
+            TrialFault::Io
+        }
     }
 }

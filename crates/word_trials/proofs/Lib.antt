@@ -1,3 +1,4 @@
 pub mod Aparts
 pub mod Chains
+pub mod Holding
 pub mod Lates

@@ -1,3 +1,4 @@
 pub mod Apart
 pub mod Chained
+pub mod Holding
 pub mod Late

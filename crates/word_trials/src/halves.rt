@@ -3,7 +3,7 @@
 ghost use Rattle.std.specs.Prelude.{◌≡◌, ◌<◌, ◌≤◌};
 ghost use Rattle.words.specs.Passes.{IsPassOf};
 ghost use Rattle.words.specs.Views.{HoldsNone};
-ghost use Rattle.word_trials.specs.Chained.{HoldsOnly};
+ghost use Rattle.word_trials.specs.Holding.{HoldsOnly};
 
 use crate::apart::Apart;
 use crate::fault::TrialFault;

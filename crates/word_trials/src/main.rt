@@ -1,27 +1,52 @@
 //! The shared words of a batch, tried by threads: sixteen claim the same places, and the parts of a split pass fill different
-//! ones; and two passes make a row of calls on a reader and a later revocation. What is printed is compared with `stdout`.
+//! ones; two passes make a row of calls on a reader and a later revocation. Then places are run on such words, each after the
+//! one that it is referred to: a long chain from its end, a place that another pass holds, two threads on one chain, and so
+//! many workers. What is printed is compared with `stdout`.
 #![tactic(auto)]
 
 mod apart;
+mod asking;
+mod chain;
 mod claiming;
 mod fault;
 mod halves;
 mod late;
 mod row;
+mod working;
 
+use asking::{tell_held, tell_long, tell_shared};
 use claiming::tell_claiming;
 use fault::TrialFault;
 use halves::tell_filling;
 use row::tell_row;
 use std::alloc::Global;
 use std::process::ExitCode;
+use std::sync::Wait;
 use std::thread::Threads;
+use working::tell_workers;
 
-/// Tells the trials one after another.
-fn run<R: Threads + Print + Sync>(rt: &R, alloc: Global) -> Result<(), TrialFault> {
+/// Tells what passes find on the shared words of a batch.
+fn tell_words<R: Threads + Print + Sync>(rt: &R, alloc: Global) -> Result<(), TrialFault> {
     tell_claiming(rt, alloc)?;
     tell_filling(rt, alloc)?;
     tell_row(rt, alloc)
+}
+
+/// Tells what comes of places that are run on shared words.
+fn tell_places<R: Threads + Wait + Print + Sync>(rt: &R, alloc: Global) -> Result<(), TrialFault> {
+    tell_long(rt, alloc)?;
+    tell_held(rt, alloc)?;
+    tell_shared(rt, alloc)?;
+    for workers in [0, 1, 2, 3, 8, 64] {
+        tell_workers(rt, alloc, workers)?;
+    }
+    Ok(())
+}
+
+/// Tells the trials one after another.
+fn run<R: Threads + Wait + Print + Sync>(rt: &R, alloc: Global) -> Result<(), TrialFault> {
+    tell_words(rt, alloc)?;
+    tell_places(rt, alloc)
 }
 
 fn main(rt: HostRuntime) -> ExitCode {

@@ -1,9 +1,9 @@
 use Rattle.std.proofs.Common.{ℕ, [], sym, subst}
 use Rattle.words.specs.declared.view.View.{View}
 use Rattle.words.specs.Views.{Holds}
-use Rattle.word_trials.specs.Chained.{HoldsOnly}
+use Rattle.word_trials.specs.Holding.{HoldsOnly}
 use Rattle.word_trials.proofs.Aparts.{apart_whole}
-use Rattle.word_trials.proofs.Chains.{claimed}
+use Rattle.word_trials.proofs.Holding.{claimed}
 use Rattle.word_trials.proofs.halves.fill_place.Goals as goal
 
 pub store_words-requires-clause-held : goal.store_words-requires-clause-held

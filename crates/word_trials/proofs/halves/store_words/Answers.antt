@@ -2,9 +2,9 @@ use Rattle.std.proofs.Common.{◌≡◌, ◌+◌, ℕ, suc, [], sym, ap, ◌∙�
 use Rattle.bohm_core_base.specs.declared.event.Event.TheVariants.{Fill}
 use Rattle.words.specs.Passes.{Passing}
 use Rattle.words.specs.Views.{with_event}
-use Rattle.word_trials.specs.Chained.{HoldsOnly}
+use Rattle.word_trials.specs.Holding.{HoldsOnly}
 use Rattle.word_trials.proofs.Aparts.{apart_length, apart_references, apart_serial}
-use Rattle.word_trials.proofs.Chains.{filled}
+use Rattle.word_trials.proofs.Holding.{filled}
 use Rattle.word_trials.proofs.halves.store_words.Goals as goal
 
 pub fill-requires-clause-missing : goal.fill-requires-clause-missing

@@ -1,5 +1,5 @@
 use Rattle.words.specs.Passes.{IsPassOf}
-use Rattle.word_trials.specs.Chained.{HoldsOnly}
+use Rattle.word_trials.specs.Holding.{HoldsOnly}
 use Rattle.word_trials.proofs.halves.store_words.Given as goal
 
 abbrev pub invariant-loop-number : goal.invariant-loop-number

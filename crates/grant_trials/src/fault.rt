@@ -1,0 +1,61 @@
+//! Why the program ends without success.
+
+use std::alloc::{AllocError, AllocFailed};
+use std::io;
+use thiserror::Error;
+
+/// Why the program ends without success.
+#[derive(Clone, Copy, Debug, PartialEq, Eq, Error)]
+pub enum TrialFault {
+    /// The words of the command line can't be read, or tell nothing to do.
+    #[error("no such trial")]
+    Words,
+    /// A book doesn't take a deed that it should, or doesn't cover a table.
+    #[error("a deed isn't taken")]
+    Deed,
+    /// The book and the plain one don't tell the same, or a book isn't as it should be.
+    #[error("the books differ")]
+    Different,
+    /// A growth was refused.
+    #[error("out of memory")]
+    NoMemory,
+}
+
+impl From<AllocError> for TrialFault {
+    fn from(_e: AllocError) -> TrialFault {
+        TrialFault::NoMemory
+    }
+}
+
+impl<T: Drop> From<AllocFailed<T>> for TrialFault {
+    fn from(_e: AllocFailed<T>) -> TrialFault {
+        TrialFault::NoMemory
+    }
+}
+
+impl From<io::Error> for TrialFault {
+    fn from(error: io::Error) -> TrialFault {
+        if error.kind() == io::ErrorKind::OutOfMemory {
+            TrialFault::NoMemory
+        } else {
+            TrialFault::Words
+        }
+    }
+}
+
+/// Nothing, if what was compared is the same.
+pub fn expect(same: bool) -> Result<(), TrialFault> {
+    if same {
+        Ok(())
+    } else {
+        Err(TrialFault::Different)
+    }
+}
+
+/// The first fault among what some trials came to, if there is one.
+pub fn first_fault(trials: &[Result<(), TrialFault>]) -> Result<(), TrialFault> {
+    for trial in trials {
+        (*trial)?;
+    }
+    Ok(())
+}

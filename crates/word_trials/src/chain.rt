@@ -1,0 +1,65 @@
+//! A batch in which each place is referred to the one before it.
+
+ghost use Rattle.std.specs.Prelude.{◌<◌, ◌^◌, []};
+ghost use Rattle.word_trials.specs.Chained.{chain};
+
+use filling_base::{Fills, store};
+use std::alloc::AllocError;
+use words::{BatchWords, Holding, Placed};
+
+/// So many places that all write one row.
+#[derive(Drop)]
+pub struct Chain {
+    pub size: usize,
+    pub ghost some: { 0 < size },
+    pub ghost small: { size < 2 ^ 63 },
+}
+
+impl Placed for Chain {
+    ghost batch = { λ key. chain key.size };
+
+    ghost listed = { λ _. [] };
+
+    #[tactic(auto, using(crate::proofs::Chains::chain_sound))]
+    fn places(&self) -> usize {
+        self.size
+    }
+
+    #[tactic(auto, using(crate::proofs::Chains::chain_length))]
+    fn words_length(&self, _index: usize) -> usize {
+        3
+    }
+
+    #[tactic(auto, using(crate::proofs::Chains::chain_listed))]
+    fn ends(&self) -> usize {
+        0
+    }
+}
+
+impl Fills for Chain {
+    // no place has a body
+    ghost runs = { λ _ _. 0 };
+
+    #[tactic(auto, using(crate::proofs::Chains::chain_one))]
+    fn references_length(&self, _index: usize) -> usize {
+        1
+    }
+
+    #[tactic(auto, using(crate::proofs::Chains::chain_one, crate::proofs::Chains::chain_reference))]
+    fn reference(&self, index: usize, _number: usize) -> Option<usize> {
+        if index == 0 { None } else { Some(index - 1) }
+    }
+
+    #[tactic(auto, using(crate::proofs::Chains::chain_serial, crate::proofs::Chains::chain_length, crate::proofs::Chains::chain_ending))]
+    fn fill(
+        &self,
+        words: &BatchWords<Chain>,
+        mut holding: Holding,
+        index: usize,
+    ) -> (Holding, Result<(), AllocError>) {
+        let own = [1, 1, index as u64];
+        let ends: [usize; 0] = [];
+        store(words, &mut holding, index, index as u64, &own, &ends);
+        (holding, Ok(()))
+    }
+}
