@@ -10,7 +10,7 @@ ghost use Rattle.body.specs.Laws.{AreApart};
 ghost use Rattle.body.specs.Premises.{IsRunnable};
 ghost use Rattle.body.specs.Shown.{WindowShows};
 ghost use Rattle.checker.specs.Missing.{Covers};
-ghost use Rattle.grants.specs.View.{ShowsDeeds};
+ghost use Rattle.grants_base.specs.View.{ShowsDeeds};
 ghost use Rattle.own_words.specs.Words.{outputs_told, second_detail};
 ghost use Rattle.answering.specs.Judged.{KeepsShaped, Tells};
 

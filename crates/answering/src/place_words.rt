@@ -11,7 +11,7 @@ ghost use Rattle.body.specs.Premises.{IsRunnable};
 ghost use Rattle.body.specs.Shape.{FormFits};
 ghost use Rattle.body.specs.Shown.{WindowShows};
 ghost use Rattle.checker.specs.Missing.{Covers};
-ghost use Rattle.grants.specs.View.{ShowsDeeds};
+ghost use Rattle.grants_base.specs.View.{ShowsDeeds};
 ghost use Rattle.own_words.specs.Places.{own_words};
 ghost use Rattle.answering.specs.Answering.{IsShaped, columns_in};
 ghost use Rattle.answering.specs.Judged.{cells_at};

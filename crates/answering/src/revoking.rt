@@ -4,7 +4,7 @@ ghost use Rattle.std.specs.Prelude.{◌≡◌, ℕ, All, IfOk, IsSome, List};
 ghost use Rattle.model_base.specs.declared.deed.Deed.{Deed};
 ghost use Rattle.model_base.specs.Outcomes.{deed_of};
 ghost use Rattle.model_base.specs.References.{deed_tables};
-ghost use Rattle.grants.specs.View.{ShowsDeeds};
+ghost use Rattle.grants_base.specs.View.{ShowsDeeds};
 ghost use Rattle.answering.specs.Answering.{ended_by_deed};
 
 use grants::{Records, to_end};

@@ -10,7 +10,7 @@ use Rattle.log_text_base.specs.Lines.{lines_of, first_line, other_lines}
 use Rattle.log_text_base.proofs.LinesLaws.{lines_first}
 use Rattle.log_text.specs.Statement.{Sentence, Reads}
 use Rattle.log_text.specs.Fault.{line_fault}
-use Rattle.log_text.specs.declared.fault.LineFault.{LineFault}
+use Rattle.line_words.specs.declared.fault.LineFault.{LineFault}
 use Rattle.sequencer.specs.Log.{Accepted, empty_log}
 use Rattle.report.specs.Report.{AreReadings, IsReading, Reading}
 use Rattle.bohm_base.specs.declared.collecting.Became.{Became}

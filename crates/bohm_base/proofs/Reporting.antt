@@ -17,7 +17,7 @@ use Rattle.log_text.specs.Statement.{Sentence, kind_word}
 use Rattle.sequencer.specs.Catalog.{Names, no_names, numbered, with_statement}
 use Rattle.sequencer.specs.Refusal.{refusal}
 use Rattle.sequencer.specs.declared.refused.Refused.{Refused}
-use Rattle.grants.specs.Book.{owners_of}
+use Rattle.grants_base.specs.Book.{owners_of}
 use Rattle.plain.specs.State.{Leads, StateStands, world_with}
 use Rattle.plain.specs.declared.plain_state.State.{State}
 use Rattle.report.specs.Text.{IsNamed, cause_text, fault_word, outcome_text, refused_text, refused_word, table_name}

@@ -15,8 +15,8 @@ use Rattle.sequencer.specs.Names.{is_known, number_of, with_name}
 use Rattle.sequencer.specs.Catalog.{Names, no_names, numbered, numbered_deed, numbered_form, with_form, with_statement}
 use Rattle.sequencer.specs.Refusal.{accesses_refusal, create_refusal, deed_refusal, form_refusal, name_refusal, refusal, steps_refusal, table_refusal, refuse_unless}
 use Rattle.sequencer.specs.declared.refused.Refused.{Refused}
-use Rattle.grants.specs.Book.{IsLater, owners_of}
-use Rattle.grants.specs.declared.book.Creation.{Creation}
+use Rattle.grants_base.specs.Book.{IsLater, owners_of}
+use Rattle.grants_base.specs.declared.entries.Creation.{Creation}
 use Rattle.plain.specs.State.{Leads, NamesTables, StateStands, world_with}
 use Rattle.plain.specs.declared.plain_state.State.{State}
 use Rattle.report.specs.Text.{IsNamed}

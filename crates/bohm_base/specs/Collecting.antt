@@ -5,7 +5,7 @@ use Rattle.model_base.specs.declared.statement.Statement.{Statement}
 use Rattle.log_text_base.specs.Lines.{lines_of}
 use Rattle.log_text_base.specs.declared.limits.TheConstants.{KEPT_BYTES}
 use Rattle.log_text.specs.Statement.{Sentence}
-use Rattle.log_text.specs.declared.fault.LineFault.{LineFault}
+use Rattle.line_words.specs.declared.fault.LineFault.{LineFault}
 use Rattle.sequencer.specs.Catalog.{Names, no_names}
 use Rattle.sequencer.specs.Log.{Accepted}
 use Rattle.sequencer.specs.Refusal.{refusal}

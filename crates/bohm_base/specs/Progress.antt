@@ -12,7 +12,7 @@ use Rattle.log_text.specs.Statement.{Sentence}
 use Rattle.sequencer.specs.Catalog.{Names, no_names, numbered, with_statement}
 use Rattle.sequencer.specs.Refusal.{refusal}
 use Rattle.sequencer.specs.declared.refused.Refused.{Refused}
-use Rattle.grants.specs.Book.{IsLater, owners_of}
+use Rattle.grants_base.specs.Book.{IsLater, owners_of}
 use Rattle.plain.specs.State.{Leads, StateStands, world_with}
 use Rattle.plain.specs.declared.plain_state.State.{State}
 use Rattle.report.specs.Text.{IsNamed, fault_word, outcome_text, refused_text, refused_word}

@@ -6,7 +6,7 @@ ghost use Rattle.std.specs.Result.{ForOk};
 ghost use Rattle.log_text_base.specs.Ahead.{ahead, found_line};
 ghost use Rattle.log_text_base.specs.Known.{AppendsFront, HadSome, TookLine, raised};
 ghost use Rattle.body.specs.Premises.{IsRunnable};
-ghost use Rattle.grants.specs.Book.{IsLater};
+ghost use Rattle.grants_base.specs.Book.{IsLater};
 ghost use Rattle.log_text.specs.Statement.{IsInGrammar};
 ghost use Rattle.model_base.specs.Outcomes.{empty_world};
 ghost use Rattle.plain.specs.State.{NamesTables, StateStands, world_with};

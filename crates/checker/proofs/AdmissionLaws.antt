@@ -9,7 +9,7 @@ use Rattle.model_base.specs.declared.deed.Cause.TheVariants.{Never, Taken}
 use Rattle.model_base.specs.declared.deed.Deed.{Deed}
 use Rattle.model_base.specs.declared.deed.Need.{Need}
 use Rattle.grants.specs.Loss.{last_end}
-use Rattle.grants.specs.View.{ShowsDeeds, View, entries, holds_in}
+use Rattle.grants_base.specs.View.{ShowsDeeds, View, entries, holds_in}
 use Rattle.checker.specs.Admission.{admitted_if, told_if}
 use Rattle.checker.specs.Missing.{Covers, first_lacking, lack_of}
 use Rattle.checker.specs.declared.admission.Admission.{Admission}

@@ -11,7 +11,7 @@ use Rattle.model_base.specs.declared.statement.Access.{Access}
 use Rattle.model_base.specs.declared.statement.DeedForm.{DeedForm}
 use Rattle.model_base.specs.Outcomes.{kinds_in, need_of, needs_of_access, needs_of_deed}
 use Rattle.model_base.proofs.Replay.{by_cases}
-use Rattle.grants.specs.View.{View, covers}
+use Rattle.grants_base.specs.View.{View, covers}
 use Rattle.checker.specs.Missing.{Covers}
 
 module _ (view : View) where

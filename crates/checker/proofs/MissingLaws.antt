@@ -15,7 +15,7 @@ use Rattle.model_base.specs.declared.statement.Access.{Access}
 use Rattle.model_base.specs.Outcomes.{kind_if, need_of, needs_of_access}
 use Rattle.model_base.specs.Privileges.{has_kind, holds}
 use Rattle.model_base.proofs.Replay.{by_cases}
-use Rattle.grants.specs.View.{ShowsDeeds, View, covers, holds_in}
+use Rattle.grants_base.specs.View.{ShowsDeeds, View, covers, holds_in}
 use Rattle.grants.proofs.ViewLaws.{held_after}
 use Rattle.checker.specs.Missing.{Covers, first_lack, first_lacking, lack_of, lacks}
 

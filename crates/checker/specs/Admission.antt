@@ -11,7 +11,7 @@ use Rattle.model_base.specs.declared.statement.Form.{Form}
 use Rattle.model_base.specs.Outcomes.{cause, needs}
 use Rattle.model_base.specs.Privileges.{holds}
 use Rattle.grants.specs.Loss.{last_end}
-use Rattle.grants.specs.View.{View, entries}
+use Rattle.grants_base.specs.View.{View, entries}
 use Rattle.checker.specs.declared.admission.Admission.{Admission}
 
 -- the first missing need denies, with its cause

@@ -5,7 +5,7 @@ use Rattle.std.specs.Option.{option_map, option_map_or}
 use Rattle.model_base.specs.declared.deed.Cause.TheVariants.{Never, Taken}
 use Rattle.model_base.specs.declared.deed.Need.{Need}
 use Rattle.grants.specs.Loss.{last_end}
-use Rattle.grants.specs.View.{View, covers, entries, holds_in}
+use Rattle.grants_base.specs.View.{View, covers, entries, holds_in}
 use Rattle.checker.specs.declared.missing.Lack.{Lack}
 
 -- whether the user doesn't hold the need by the records of the view

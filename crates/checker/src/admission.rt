@@ -4,7 +4,7 @@ ghost use Rattle.std.specs.Prelude.{◌≡◌, ℕ, List, All, true};
 ghost use Rattle.model_base.specs.Outcomes.{needs};
 ghost use Rattle.model_base.specs.declared.deed.Deed.{Deed};
 ghost use Rattle.model_base.specs.declared.deed.Need.{Need};
-ghost use Rattle.grants.specs.View.{ShowsDeeds, holds_in};
+ghost use Rattle.grants_base.specs.View.{ShowsDeeds, holds_in};
 ghost use Rattle.checker.specs.Admission.{admission, told_if};
 ghost use Rattle.checker.specs.Missing.{Covers, first_lacking};
 ghost use Rattle.checker.specs.declared.admission.Admission.TheVariants.{Admitted};

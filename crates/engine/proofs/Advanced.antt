@@ -10,8 +10,8 @@ use Rattle.model_base.specs.declared.outcome.Outcome.{Outcome}
 use Rattle.model_base.specs.declared.statement.Statement.{Statement}
 use Rattle.model_base.specs.Outcomes.{outcome}
 use Rattle.chains.specs.Store.{IsRight, Store}
-use Rattle.grants.specs.Book.{Entries, table_of_deed}
-use Rattle.grants.specs.declared.book.Creation.{Creation}
+use Rattle.grants_base.specs.Book.{Entries, table_of_deed}
+use Rattle.grants_base.specs.declared.entries.Creation.{Creation}
 use Rattle.sequencer.specs.Log.{Accepted, empty_log}
 use Rattle.sequencer.specs.Tail.{Tail}
 use Rattle.standing.specs.Known.{AreKnown}

@@ -10,7 +10,7 @@ use Rattle.model_base.specs.Rows.{Rows}
 use Rattle.model_base.proofs.MoreOwners.{all_same-more, proper-more, tables-proper}
 use Rattle.model_base.proofs.Owners.{records-owners}
 use Rattle.chains.specs.Store.{Store}
-use Rattle.grants.specs.Book.{Entries, ShowsBook, owners_of}
+use Rattle.grants_base.specs.Book.{Entries, ShowsBook, owners_of}
 use Rattle.model_base.specs.Growing.{NeedsOwnTables}
 use Rattle.model_base.proofs.Growing.{outcome-stands, world-stands, owners-append}
 use Rattle.standing.specs.Known.{AreKnown, AreKnownFrom, IsKnown}

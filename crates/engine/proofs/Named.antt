@@ -18,7 +18,7 @@ use Rattle.sequencer.specs.Catalog.{Names, numbered, numbered_deed, numbered_for
 use Rattle.sequencer.specs.Refusal.{accesses_refusal, create_refusal, deed_refusal, form_refusal, name_refusal, refusal, steps_refusal, table_refusal, refuse_unless}
 use Rattle.sequencer.specs.declared.refused.Refused.{Refused}
 use Rattle.sequencer.proofs.Passed.{both_none, known-table, passes}
-use Rattle.grants.specs.declared.book.Creation.{Creation}
+use Rattle.grants_base.specs.declared.entries.Creation.{Creation}
 use Rattle.standing.specs.Known.{IsKnown}
 use Rattle.engine.specs.Engine.{AreNamed, AreNamedFrom, IsRun, Run, finished}
 

@@ -5,7 +5,7 @@ use Rattle.std.proofs.lemmas.List.{length-append}
 use Rattle.model_base.specs.declared.outcome.Outcome.{Outcome}
 use Rattle.model_base.specs.Outcomes.{owners}
 use Rattle.chains.specs.Store.{Store}
-use Rattle.grants.specs.Book.{Entries}
+use Rattle.grants_base.specs.Book.{Entries}
 use Rattle.log_text.specs.Statement.{Sentence}
 use Rattle.sequencer.specs.Catalog.{numbered}
 use Rattle.sequencer.specs.Log.{Accepted, with_accepted}

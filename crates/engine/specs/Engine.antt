@@ -9,7 +9,7 @@ use Rattle.model_base.specs.declared.statement.Statement.{Statement}
 use Rattle.model_base.specs.Growing.{NeedsWithin}
 use Rattle.model_base.specs.Outcomes.{creator}
 use Rattle.chains.specs.Store.{Store}
-use Rattle.grants.specs.Book.{Entries}
+use Rattle.grants_base.specs.Book.{Entries}
 use Rattle.sequencer.specs.Log.{Accepted}
 use Rattle.engine.specs.declared.crew.Crew.{Crew}
 use Rattle.standing.specs.Known.{AreKnown}

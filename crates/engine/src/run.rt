@@ -101,7 +101,7 @@ impl Engine {
     ghost use Rattle.std.specs.Option.{MatchOption};
     ghost use Rattle.model_base.specs.Outcomes.{deeds_before, outcome, owners, rows_before};
     ghost use Rattle.chains.specs.Store.{Sweeps, Trims};
-    ghost use Rattle.grants.specs.Book.{ShowsBook};
+    ghost use Rattle.grants_base.specs.Book.{ShowsBook};
     ghost use Rattle.sequencer.specs.Log.{empty_log, with_accepted};
     ghost use Rattle.sequencer.specs.Refusal.{IsRefusal, refusal};
     ghost use Rattle.engine.specs.Engine.{IsRun, finished, may_run};

@@ -4,7 +4,7 @@ ghost use Rattle.std.specs.Prelude.{◌≡◌, ◌<◌, ◌≤◌, ℕ, All, Dec
 ghost use Rattle.model_base.specs.Outcomes.{needs};
 ghost use Rattle.model_base.specs.declared.deed.Deed.{Deed};
 ghost use Rattle.model_base.specs.declared.deed.Need.{Need};
-ghost use Rattle.grants.specs.Book.{ShowsBook};
+ghost use Rattle.grants_base.specs.Book.{ShowsBook};
 ghost use Rattle.explain_base.specs.Explained.{AreSound, Explains};
 ghost use Rattle.engine.specs.Engine.{IsRun, Run, finished};
 ghost use Rattle.explain.specs.Explained.{IsExplainedBy};

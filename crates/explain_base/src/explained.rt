@@ -3,7 +3,7 @@
 ghost use Rattle.std.specs.Prelude.{◌≡◌, ◌<◌, ℕ, All, IfOk, List, length};
 ghost use Rattle.model_base.specs.declared.deed.Deed.{Deed};
 ghost use Rattle.model_base.specs.declared.deed.Need.{Need};
-ghost use Rattle.grants.specs.Book.{ShowsBook};
+ghost use Rattle.grants_base.specs.Book.{ShowsBook};
 ghost use Rattle.explain_base.specs.Explained.{explaining_lines, tells_held};
 
 use grant_paths::{Line, Shown, explain_need};

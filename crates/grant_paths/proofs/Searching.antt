@@ -12,8 +12,8 @@ use Rattle.model_base.specs.Privileges.{gives, has, owns}
 use Rattle.model_base.specs.Records.{in_force}
 use Rattle.model_base.proofs.Paths.{path-earliest, path-none}
 use Rattle.model_base.proofs.Replay.{by_cases}
-use Rattle.grants.specs.Index.{AreAsked, IsNext, is_to}
-use Rattle.grants.specs.View.{View, flatten, slot_at, slot_gives}
+use Rattle.grants_base.specs.Index.{AreAsked, IsNext, is_to}
+use Rattle.grants_base.specs.View.{View, flatten, slot_at, slot_gives}
 use Rattle.grants.proofs.Found.{idle}
 use Rattle.grants.proofs.Passing.{given}
 use Rattle.grant_paths.specs.declared.paths.Giving.{Giving}

@@ -23,9 +23,9 @@ use Rattle.model_base.proofs.Paths.{leads-path, part-path, rising-path}
 use Rattle.model_base.proofs.Places.{IsRising-kept}
 use Rattle.model_base.proofs.Records.{in_force-records}
 use Rattle.model_base.proofs.Replay.{by_cases}
-use Rattle.grants.specs.Book.{Entries, ShowsBook, owners_of, view_of}
-use Rattle.grants.specs.View.{entries}
-use Rattle.grants.specs.declared.book.Creation.{Creation}
+use Rattle.grants_base.specs.Book.{Entries, ShowsBook, owners_of, view_of}
+use Rattle.grants_base.specs.View.{entries}
+use Rattle.grants_base.specs.declared.entries.Creation.{Creation}
 use Rattle.grants.proofs.BookLaws.{get_more}
 use Rattle.grants.proofs.Passing.{owns_owner}
 use Rattle.grants.proofs.SeenLaws.{entries-view}

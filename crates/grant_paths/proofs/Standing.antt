@@ -9,7 +9,7 @@ use Rattle.model_base.specs.declared.deed.Record.{Record}
 use Rattle.model_base.specs.Laws.{IsRising}
 use Rattle.model_base.specs.Records.{end_below, is_in_force_at, recorded}
 use Rattle.model_base.proofs.Replay.{by_cases}
-use Rattle.grants.proofs.Lookups.{rise_at}
+use Rattle.grants_base.proofs.Lookups.{rise_at}
 use Rattle.grant_paths.specs.Steps.{grant_at, in_force_at}
 
 -- a record in force comes first among those that are

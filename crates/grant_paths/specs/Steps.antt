@@ -8,7 +8,7 @@ use Rattle.model_base.specs.declared.deed.Record.{Record}
 use Rattle.model_base.specs.Paths.{path}
 use Rattle.model_base.specs.Privileges.{gives, option_of}
 use Rattle.model_base.specs.Records.{cut, in_force}
-use Rattle.grants.specs.View.{View, slot_at, slot_gives}
+use Rattle.grants_base.specs.View.{View, slot_at, slot_gives}
 use Rattle.grant_paths.specs.declared.paths.Giving.{Giving}
 
 -- the grants in force of the first so many slots of a view

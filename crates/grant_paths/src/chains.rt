@@ -5,7 +5,7 @@ ghost use Rattle.std.specs.Prelude.{◌≡◌, ◌<◌, ℕ, Decides, List, Some
 ghost use Rattle.model_base.specs.Laws.{IsRising};
 ghost use Rattle.model_base.specs.Records.{is_in_force_at, recorded};
 ghost use Rattle.model_base.specs.declared.deed.Deed.{Deed};
-ghost use Rattle.grants.specs.Book.{ShowsBook, owners_of};
+ghost use Rattle.grants_base.specs.Book.{ShowsBook, owners_of};
 ghost use Rattle.grant_paths.specs.Lines.{IsChain, kept_before};
 ghost use Rattle.grant_paths.specs.Steps.{bears_path, leads_to_next, grant_at, in_force_at, leads_on};
 

@@ -3,7 +3,7 @@
 ghost use Rattle.std.specs.Prelude.{◌≡◌, ◌<◌, ℕ, Decides, IfOk, List, None, Some, length, if◌then◌else◌};
 ghost use Rattle.model_base.specs.Privileges.{owns};
 ghost use Rattle.model_base.specs.declared.deed.Deed.{Deed};
-ghost use Rattle.grants.specs.Book.{ShowsBook};
+ghost use Rattle.grants_base.specs.Book.{ShowsBook};
 ghost use Rattle.grant_paths.specs.Lines.{IsSound, cause_before, holds_before, shown_of};
 
 use crate::chains::{is_chain, owner_of};

@@ -2,8 +2,9 @@
 
 use crate::deeds::{ends_in, enter, give, has_table, take};
 use crate::fault::{TrialFault, expect};
-use grants::{Book, PlainBook, Records, denial, holds, holds_option, last_loss};
+use grants::{Book, Records, denial, holds, holds_option, last_loss};
 use model_base::{Cause, Grant, Kind, Need, Place, Revocation, Table, User};
+use plain_book::PlainBook;
 use std::alloc::Global;
 
 /// A book, and the plain one in which the same was done.

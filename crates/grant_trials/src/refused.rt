@@ -2,7 +2,7 @@
 //! refused, each is made once.
 
 ghost use Rattle.std.specs.Prelude.{◌≡◌, ◌<◌, OnErr, length};
-ghost use Rattle.grants.specs.Book.{IsLater};
+ghost use Rattle.grants_base.specs.Book.{IsLater};
 
 use crate::deeds::{ends_in, enter, give_held, take};
 use crate::fault::{TrialFault, expect};

@@ -8,10 +8,11 @@ use Rattle.model_base.specs.declared.deed.Record.{Record}
 use Rattle.model_base.specs.declared.deed.Revocation.{Revocation}
 use Rattle.model_base.specs.Privileges.{concerns, names}
 use Rattle.model_base.proofs.Replay.{by_cases}
-use Rattle.grants.specs.View.{View, flatten, grant_in, slot_at}
-use Rattle.grants.specs.Pass.{concerned, is_one_of}
+use Rattle.grants_base.specs.View.{View, flatten, grant_in, slot_at}
+use Rattle.grants.specs.Pass.{concerned}
+use Rattle.grants_base.specs.Index.{is_one_of}
 use Rattle.grants.specs.Work.{bears}
-use Rattle.grants.specs.Index.{AreAsked, is_by, is_to, passes_at}
+use Rattle.grants_base.specs.Index.{AreAsked, is_by, is_to, passes_at}
 use Rattle.grants.proofs.SlotLaws.{about_concerned}
 use Rattle.grants.proofs.Worklist.{borne_by}
 

@@ -7,8 +7,8 @@ use Rattle.std.proofs.lemmas.Bool.{and_parts, cases_lt, eqb-true, le-ltb, lt-ltb
 use Rattle.std.proofs.lemmas.Bool.Decides.{nat_tests}
 use Rattle.model_base.specs.declared.deed.Revocation.{Revocation}
 use Rattle.model_base.proofs.Replay.{by_cases}
-use Rattle.grants.specs.Pass.{is_one_of}
-use Rattle.grants.specs.View.{View, slot_at}
+use Rattle.grants_base.specs.Index.{is_one_of}
+use Rattle.grants_base.specs.View.{View, slot_at}
 use Rattle.grants.specs.Work.{AllPassed, ArePassed, AreWalked, HaveSameKeys, bears, keepers}
 use Rattle.grants.proofs.Asked.{not_false}
 use Rattle.grants.proofs.Worklist.{keepers-none, keeps_by}

@@ -15,7 +15,7 @@ use Rattle.model_base.specs.Privileges.{concerns, erased, gives, has, kept, opti
 use Rattle.model_base.specs.Records.{covered, in_force, records}
 use Rattle.model_base.proofs.Replay.{by_cases}
 use Rattle.model_base.proofs.Records.{in_force-records}
-use Rattle.grants.specs.View.{View, ShowsDeeds, covers, entries, flatten}
+use Rattle.grants_base.specs.View.{View, ShowsDeeds, covers, entries, flatten}
 use Rattle.grants.specs.Pass.{concerned}
 use Rattle.grants.specs.Work.{AreBorne, bears}
 use Rattle.grants.proofs.Passing.{IsBorne, given, owns_owner, replayed_borne, same_kind-same, same_need}

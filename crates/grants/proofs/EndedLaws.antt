@@ -14,14 +14,15 @@ use Rattle.model_base.specs.Laws.{IsRising}
 use Rattle.model_base.specs.Privileges.{concerns}
 use Rattle.model_base.specs.Records.{end_below, ended_at, recorded}
 use Rattle.model_base.proofs.Replay.{by_cases}
-use Rattle.grants.specs.Book.{Entries, IsLater, end_slot, end_slots, reopened, slot_below, view_of}
-use Rattle.grants.specs.Pass.{concerned, is_one_of}
-use Rattle.grants.specs.Sides.{AreAscending}
-use Rattle.grants.specs.View.{View, flatten}
+use Rattle.grants_base.specs.Book.{Entries, IsLater, end_slot, end_slots, reopened, slot_below, view_of}
+use Rattle.grants.specs.Pass.{concerned}
+use Rattle.grants_base.specs.Index.{is_one_of}
+use Rattle.grants_base.specs.Sides.{AreAscending}
+use Rattle.grants_base.specs.View.{View, flatten}
 use Rattle.grants.specs.Work.{AreEnds, IsEnd, slots_of}
-use Rattle.grants.specs.declared.book.End.{End}
-use Rattle.grants.proofs.Lookups.{ended_none, ends_one, less_false, less_true, rise_at}
-use Rattle.grants.proofs.SlotsLaws.{none_under}
+use Rattle.grants_base.specs.declared.entries.End.{End}
+use Rattle.grants_base.proofs.Lookups.{ended_none, ends_one, less_false, less_true, rise_at}
+use Rattle.grants_base.proofs.SlotsLaws.{none_under}
 
 or_none : (b : Bool) → (b || false) ≡ b
 or_none true = refl

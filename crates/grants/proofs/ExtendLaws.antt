@@ -9,9 +9,9 @@ use Rattle.model_base.specs.declared.deed.Deed.{Deed}
 use Rattle.model_base.specs.Records.{grants_of, records}
 use Rattle.model_base.proofs.Owners.{records-owners}
 use Rattle.model_base.proofs.MoreOwners.{all_same-fewer, all_same-more}
-use Rattle.grants.specs.Book.{Continues, Entries, ShowsBook, end_slots, extended, owners_of, table_of_deed, unended}
-use Rattle.grants.specs.declared.book.Creation.{Creation}
-use Rattle.grants.specs.declared.book.End.{End}
+use Rattle.grants_base.specs.Book.{Continues, Entries, ShowsBook, end_slots, extended, owners_of, table_of_deed, unended}
+use Rattle.grants_base.specs.declared.entries.Creation.{Creation}
+use Rattle.grants_base.specs.declared.entries.End.{End}
 use Rattle.grants.proofs.CutLaws.{grants_on}
 
 -- the records of deeds on some tables are the same by all owners that begin with those of the tables

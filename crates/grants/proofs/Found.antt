@@ -10,8 +10,8 @@ use Rattle.model_base.specs.declared.deed.Need.{Need}
 use Rattle.model_base.specs.Privileges.{gives}
 use Rattle.model_base.proofs.Replay.{by_cases}
 use Rattle.grants.specs.Loss.{last_end, later_of, slot_loss}
-use Rattle.grants.specs.View.{View, grant_in, slot_at, slot_gives}
-use Rattle.grants.specs.Index.{AreAsked, is_to, passes_at}
+use Rattle.grants_base.specs.View.{View, grant_in, slot_at, slot_gives}
+use Rattle.grants_base.specs.Index.{AreAsked, is_to, passes_at}
 use Rattle.grants.proofs.Passing.{given, same_kind-same}
 use Rattle.grants.proofs.LossLaws.{last_from}
 use Rattle.grants.proofs.ViewLaws.{any_next}

@@ -5,10 +5,8 @@ pub mod ViewLaws
 pub mod BookLaws
 pub mod SeenLaws
 pub mod GrantLaws
-pub mod RevokeLaws
 pub mod LaterLaws
 pub mod CutLaws
-pub mod SlotEnds
 pub mod ShownLaws
 pub mod LossLaws
 pub mod Standings
@@ -19,10 +17,4 @@ pub mod Asking
 pub mod Asked
 pub mod Borne
 pub mod Found
-pub mod Walks
-pub mod Indexing
-pub mod SideLaws
-pub mod SlotsLaws
-pub mod Lookups
-pub mod EndingLaws
 pub mod EndedLaws

@@ -3,7 +3,7 @@ use Rattle.std.proofs.Common.{◌≡◌, ℕ, Bool, true, false, Option, Some, r
 use Rattle.std.specs.Prelude.{◌==◌, if◌then◌else◌}
 use Rattle.std.specs.List.{list_any}
 use Rattle.model_base.specs.declared.deed.Need.{Need}
-use Rattle.grants.specs.View.{View, holds_in, slot_gives}
+use Rattle.grants_base.specs.View.{View, holds_in, slot_gives}
 use Rattle.grants.specs.declared.holding.Standing.TheVariants.{Held, Lost}
 use Rattle.grants.proofs.ViewLaws.{told_by}
 

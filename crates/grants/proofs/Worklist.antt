@@ -13,8 +13,9 @@ use Rattle.model_base.specs.declared.deed.Record.{Record}
 use Rattle.model_base.specs.declared.deed.Revocation.{Revocation}
 use Rattle.model_base.specs.Privileges.{names}
 use Rattle.model_base.proofs.Replay.{by_cases}
-use Rattle.grants.specs.View.{View, slot_at}
-use Rattle.grants.specs.Pass.{cascade, concerned, concerned_grants, holders_after, is_one_of, outlasts}
+use Rattle.grants_base.specs.View.{View, slot_at}
+use Rattle.grants.specs.Pass.{cascade, concerned, concerned_grants, holders_after, outlasts}
+use Rattle.grants_base.specs.Index.{is_one_of}
 use Rattle.grants.specs.Work.{AreBorne, AreDue, AreWalked, bears, keepers, keepers_after}
 use Rattle.grants.proofs.Holders.{inserted}
 use Rattle.grants.proofs.SlotLaws.{about_concerned, step_on, step_over}
@@ -235,10 +236,6 @@ module _ (revocation : Revocation) (view : View) (slot : ℕ) where
 pub unended_at : (ended : List ℕ) (slot : ℕ) → ((e : ℕ) → is_one_of ended e ≡ true → e < slot) → is_one_of ended slot ≡ false
 unended_at ended slot behind =
     by_cases (is_one_of ended slot) (λ gone. let less = behind slot gone in absurd (omega arith)) (λ here. here)
-
-pub nothing : {X : Type 0} (found : Option X) → ((x : X) → found ≡ Some x → ⊥) → found ≡ None
-nothing None never = refl
-nothing (Some x) never = absurd (never x refl)
 
 less_is : (a b : ℕ) → nat_cmp a b ≡ Less → a < b
 less_is a b is = grind (arith, nat_tests)

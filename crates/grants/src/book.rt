@@ -5,32 +5,18 @@ ghost use Rattle.model_base.specs.declared.deed.Deed.TheVariants.{Granting, Revo
 ghost use Rattle.model_base.specs.declared.deed.Deed.{Deed};
 ghost use Rattle.model_base.specs.Privileges.{ended_by, option_of, place_of};
 ghost use Rattle.model_base.specs.Records.{deeds_below, ended_at, recorded};
-ghost use Rattle.grants.specs.Index.{IsNext, is_by, is_to};
-ghost use Rattle.grants.specs.declared.book.End.{End};
-ghost use Rattle.grants.specs.declared.book.Creation.{Creation};
+ghost use Rattle.grants_base.specs.Index.{IsNext, is_by, is_to};
+ghost use Rattle.grants_base.specs.declared.entries.End.{End};
+ghost use Rattle.grants_base.specs.declared.entries.Creation.{Creation};
 
 use crate::cascade::cascade;
 use crate::ended::Ended;
-use crate::entries::{append_tables, lies_below, records_below, tables_below};
-use crate::indexed::IndexedRecords;
-use crate::records::Records;
+use grants_base::{
+    Creation, End, IndexedRecords, Records, append_tables, lies_below, records_below, tables_below,
+};
 use model_base::{Grant, Kind, MOST_NAMES, Place, Record, Revocation, Table, User};
 use std::alloc::{AllocError, Global};
 use std::marker::Model;
-
-/// Who created a table, and at which place.
-#[derive(Clone, Copy, PartialEq, Eq, Debug)]
-pub struct Creation {
-    pub owner: User,
-    pub place: Place,
-}
-
-/// That the record of a slot ends at a place.
-#[derive(Clone, Copy, PartialEq, Eq, Debug)]
-pub struct End {
-    pub slot: usize,
-    pub place: Place,
-}
 
 /// The tables in the order of their creation, and each grant that was made on them, with its end, in the order of their
 /// places. No grant is dropped and none is kept twice: a repeated grant stands with its own place, as R. Fagin found that
@@ -43,7 +29,7 @@ pub struct Book {
 }
 
 impl Model for Book {
-    ghost use Rattle.grants.specs.Book.{Entries, IsSoundBook};
+    ghost use Rattle.grants_base.specs.Book.{Entries, IsSoundBook};
 
     ghost Value = { Entries };
 
@@ -53,8 +39,8 @@ impl Model for Book {
 }
 
 impl Book {
-    ghost use Rattle.grants.specs.Book.{Continues, IsLater, IsSoundBook, ShowsBook, cut_book, end_slots, extended, owners_of, table_of_deed, view_of, with_ends, with_grant, with_table};
-    ghost use Rattle.grants.specs.View.{ShowsDeeds, holds_in};
+    ghost use Rattle.grants_base.specs.Book.{Continues, IsLater, IsSoundBook, ShowsBook, cut_book, end_slots, extended, owners_of, table_of_deed, view_of, with_ends, with_grant, with_table};
+    ghost use Rattle.grants_base.specs.View.{ShowsDeeds, holds_in};
 
     /// A book without tables and grants. It takes no memory.
     #[tactic(auto, using(crate::proofs::BookLaws::sound_empty))]
@@ -250,8 +236,8 @@ pub struct BookView<'a> {
 }
 
 impl Records for BookView<'_> {
-    ghost use Rattle.grants.specs.Book.{view_of};
-    ghost use Rattle.grants.specs.View.{IsLawful};
+    ghost use Rattle.grants_base.specs.Book.{view_of};
+    ghost use Rattle.grants_base.specs.View.{IsLawful};
 
     ghost shown = { λ view. view_of view.book.now view.place };
 

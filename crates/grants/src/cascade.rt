@@ -7,12 +7,13 @@ ghost use Rattle.std.specs.Ordering.{nat_cmp};
 ghost use Rattle.model_base.specs.Privileges.{concerns, ended_by, names};
 ghost use Rattle.model_base.specs.declared.deed.Deed.{Deed};
 ghost use Rattle.model_base.specs.declared.deed.Grant.{Grant};
-ghost use Rattle.grants.specs.Pass.{cascade, concerned, concerned_grants, is_one_of, outlasts};
+ghost use Rattle.grants.specs.Pass.{cascade, concerned, concerned_grants, outlasts};
+ghost use Rattle.grants_base.specs.Index.{is_one_of};
 ghost use Rattle.grants.specs.Work.{AllPassed, AreDue, AreEnds, ArePassed, AreWalked, HaveSameKeys, bears, keepers, slots_of};
-ghost use Rattle.grants.specs.View.{ShowsDeeds, slot_at};
+ghost use Rattle.grants_base.specs.View.{ShowsDeeds, slot_at};
 
 use crate::ended::Ended;
-use crate::records::Records;
+use grants_base::Records;
 use model_base::{Grant, Place, Revocation, User};
 use std::alloc::{AllocError, Global};
 use std::collections::{BTreeMap, BTreeSet};

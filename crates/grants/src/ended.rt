@@ -2,12 +2,12 @@
 
 ghost use Rattle.std.specs.Prelude.{◌==◌, ◌≡◌, ◌<◌, ◌++◌, ◌∷◌, [], ℕ, false, true, OnOk, slice_get};
 ghost use Rattle.std.specs.Option.{option_map_or};
-ghost use Rattle.grants.specs.Pass.{is_one_of};
-ghost use Rattle.grants.specs.Sides.{AreAscending};
+ghost use Rattle.grants_base.specs.Index.{is_one_of};
+ghost use Rattle.grants_base.specs.Sides.{AreAscending};
 ghost use Rattle.grants.specs.Work.{slots_of};
-ghost use Rattle.grants.specs.declared.book.End.{End};
+ghost use Rattle.grants_base.specs.declared.entries.End.{End};
 
-use crate::book::End;
+use grants_base::End;
 use model_base::Place;
 use std::alloc::{AllocError, Global};
 use std::marker::Model;
@@ -39,7 +39,7 @@ pub(crate) struct Ended {
 }
 
 impl Model for Ended {
-    ghost use Rattle.grants.specs.Sides.{AreAscending};
+    ghost use Rattle.grants_base.specs.Sides.{AreAscending};
     ghost use Rattle.grants.specs.Work.{Ends, slots_of};
 
     ghost Value = { Ends };

@@ -5,7 +5,7 @@ use Rattle.std.proofs.lemmas.Grind.{flat_map-append}
 use Rattle.std.proofs.lemmas.List.{append-nil, length-take-le, take_more}
 use Rattle.std.proofs.lemmas.List.Elements.{filter-append}
 use Rattle.std.specs.Prelude.{nat_lt}
-use Rattle.grants.specs.declared.book.Creation.{Creation}
+use Rattle.grants_base.specs.declared.entries.Creation.{Creation}
 use Rattle.grants_graph.specs.Drawn.{is_created_below, tables_drawn}
 use Rattle.model_base.proofs.Replay.{by_cases}
 

@@ -4,7 +4,7 @@ use Rattle.std.specs.List.{enumerate_from}
 use Rattle.std.specs.Option.{option_map_or}
 use Rattle.model_base.specs.declared.deed.Record.{Record}
 use Rattle.model_base.specs.Records.{is_in_force_at}
-use Rattle.grants.specs.declared.book.Creation.{Creation}
+use Rattle.grants_base.specs.declared.entries.Creation.{Creation}
 
 -- whether the grant fell at the place
 abbrev pub fell_at : ℕ → Record → Bool

@@ -7,8 +7,8 @@ use Rattle.model_base.specs.declared.deed.Cause.TheVariants.{Taken}
 use Rattle.model_base.specs.declared.deed.Grant.{Grant}
 use Rattle.model_base.specs.declared.deed.Need.{Need}
 use Rattle.model_base.specs.declared.deed.Record.{Record}
-use Rattle.grants.specs.Book.{Entries}
-use Rattle.grants.specs.declared.book.Creation.{Creation}
+use Rattle.grants_base.specs.Book.{Entries}
+use Rattle.grants_base.specs.declared.entries.Creation.{Creation}
 use Rattle.report.specs.Text.{cause_text, need_text, table_name}
 use Rattle.grants_graph.specs.Drawn.{drawn, fell_at, tables_drawn}
 

@@ -6,7 +6,7 @@ ghost use Rattle.model_base.specs.declared.deed.Deed.TheVariants.{Revoking};
 ghost use Rattle.model_base.specs.declared.deed.Revocation.{Revocation};
 ghost use Rattle.model_base.specs.Privileges.{ended_by, kept};
 ghost use Rattle.model_base.specs.Records.{deeds_below, recorded};
-ghost use Rattle.grants.specs.Book.{Entries, ShowsBook};
+ghost use Rattle.grants_base.specs.Book.{Entries, ShowsBook};
 ghost use Rattle.grants_graph.specs.Drawn.{drawn, fallen};
 
 use model_base::{

@@ -6,7 +6,7 @@ use Rattle.model_base.specs.Outcomes.{deeds_before, owners}
 use Rattle.model_base.specs.Records.{grants_of, recorded, records}
 use Rattle.model_base.proofs.Recorded.{recorded-records}
 use Rattle.bohm_core_base.specs.Batch.{batch_slots}
-use Rattle.grants.specs.Book.{Entries}
+use Rattle.grants_base.specs.Book.{Entries}
 use Rattle.log_batch.specs.LogBatch.{Range, batch_of}
 use Rattle.log_batch.specs.Earlier.{earlier_count, earlier_grants, own_grants}
 use Rattle.log_batch.proofs.Named.{slots-split}

@@ -6,7 +6,7 @@ use Rattle.std.proofs.lemmas.Bool.{cases_lt}
 use Rattle.std.proofs.lemmas.List.{length-take}
 use Rattle.std.proofs.lemmas.Option.{slice_get_past}
 use Rattle.model_base.specs.declared.deed.Grant.{Grant}
-use Rattle.grants.specs.Index.{IsNext, passes_at}
+use Rattle.grants_base.specs.Index.{IsNext, passes_at}
 
 -- what is taken of a list is there as it was, and behind that there is nothing
 taken-at : (grants : List Grant) (count k : ℕ) → k < count → slice_get (take count grants) k ≡ slice_get grants k

@@ -3,7 +3,7 @@
 ghost use Rattle.std.specs.Prelude.{◌≡◌, ◌≢◌, ◌<◌, ◌≤◌, ℕ, Some, length, slice_get};
 ghost use Rattle.std.specs.Option.{MatchOption};
 ghost use Rattle.model_base.specs.declared.deed.Grant.{Grant};
-ghost use Rattle.grants.specs.Index.{IsNext, is_by, is_to};
+ghost use Rattle.grants_base.specs.Index.{IsNext, is_by, is_to};
 ghost use Rattle.bohm_core_base.specs.Batch.{batch_slots};
 ghost use Rattle.log_batch.specs.Supplied.{batch_in};
 

@@ -9,11 +9,11 @@ use Rattle.std.proofs.lemmas.Str.Parse.{digit_from_value}
 use Rattle.std.proofs.lemmas.Fmt.{decimal_is_IsNumeral, decimal_injective}
 use Rattle.std.proofs.lemmas.Bool.{ne_eqb, cond-true, and_parts, and_from, not_from_false}
 use Rattle.std.proofs.lemmas.Bool.Decides.{nat_tests}
-use Rattle.log_text.specs.Words.{plain, is_name, is_name_byte, is_letter}
-use Rattle.log_text.proofs.Plain.{plain_of_decimal}
-use Rattle.log_text.specs.Access.{letter_if, is_in_order, is_letters, before_colon, after_colon, access_fault, access_word, letters, IsAccess}
+use Rattle.line_words.specs.Words.{plain, is_name, is_name_byte, is_letter}
+use Rattle.line_words.proofs.Plain.{plain_of_decimal}
+use Rattle.line_words.specs.Access.{letter_if, is_in_order, is_letters, before_colon, after_colon, access_fault, access_word, letters, IsAccess}
 use Rattle.model_base.specs.declared.deed.Kinds.{Kinds}
-use Rattle.log_text.specs.declared.access.RawAccess.{RawAccess}
+use Rattle.line_words.specs.declared.access.RawAccess.{RawAccess}
 
 -- where the first colon stands
 seam : (xs ys : List ℕ) → list_all (λ b. not (eqb b 58)) xs ≡ true → position_or_len (λ b. eqb b 58) (xs ++ 58 ∷ ys) ≡ length xs

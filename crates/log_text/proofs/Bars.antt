@@ -6,10 +6,10 @@ use Rattle.std.specs.List.{list_all}
 use Rattle.std.proofs.lemmas.Fmt.{decimal_is_IsNumeral, decimal_injective}
 use Rattle.std.proofs.lemmas.Slice.Eq.{bytes_eq-Decides}
 use Rattle.std.proofs.lemmas.Bool.{and_parts, leb-true, false_from_ne_true}
-use Rattle.log_text.specs.Words.{is_name, is_letter, is_name_byte}
+use Rattle.line_words.specs.Words.{is_name, is_letter, is_name_byte}
 use Rattle.log_text.specs.Fault.{is_bar}
-use Rattle.log_text.specs.Access.{access_word, IsAccess, letters}
-use Rattle.log_text.specs.declared.access.RawAccess.{RawAccess}
+use Rattle.line_words.specs.Access.{access_word, IsAccess, letters}
+use Rattle.line_words.specs.declared.access.RawAccess.{RawAccess}
 use Rattle.model_base.specs.declared.statement.RowName.{RowName}
 use Rattle.model_base.specs.declared.statement.RowName.TheVariants.{Number, Held}
 use Rattle.log_text.specs.Statement.{row_word, IsRowNumber}

@@ -4,22 +4,22 @@ use Rattle.std.specs.Prelude.{decimal}
 use Rattle.std.specs.List.{AllByRecursion, sum_by}
 use Rattle.std.proofs.lemmas.List.Sums.{sum_by-cons}
 use Rattle.std.proofs.lemmas.Bool.{lt-ltb}
-use Rattle.log_text.specs.Words.{plain}
+use Rattle.line_words.specs.Words.{plain}
 use Rattle.log_text.specs.declared.statement.RawStep.{RawStep}
 use Rattle.log_text.specs.declared.statement.RawStep.TheVariants.{Const, Compute, Has, Load, Store, Insert, Delete, Check, Skip, Out}
 use Rattle.log_text.specs.declared.statement.RawForm.{RawForm}
 use Rattle.log_text.specs.declared.statement.RawForm.TheVariants.{Create, Run, Deed}
 use Rattle.log_text.specs.declared.statement.RawDeed.{RawDeed}
 use Rattle.log_text.specs.declared.statement.RawDeed.TheVariants.{Grant, Revoke}
-use Rattle.log_text.specs.Access.{access_fault, access_word, IsAccess}
-use Rattle.log_text.specs.declared.access.RawAccess.{RawAccess}
+use Rattle.line_words.specs.Access.{access_fault, access_word, IsAccess}
+use Rattle.line_words.specs.declared.access.RawAccess.{RawAccess}
 use Rattle.log_text.specs.Statement.{body_words, deed_words, step_words, form_words, IsDeed, IsFormInGrammar, IsLastDeed, IsStep, IsRegister, outs_of}
 use Rattle.log_text.specs.Fault.{fault_from, OfForm, OfNext, OfStep, OfBar, OfMore, register_fault, is_bar}
-use Rattle.log_text.proofs.Plain.{plain_of_decimal}
+use Rattle.line_words.proofs.Plain.{plain_of_decimal}
 use Rattle.log_text.proofs.Rows.{register_fits, row_fits}
 use Rattle.log_text.proofs.Bars.{no_bar, decimal_ne_bar, access_ne_bar}
 use Rattle.log_text.proofs.AccessFit.{access_fits}
-use Rattle.log_text.proofs.Whole.{whole_of_decimal}
+use Rattle.line_words.proofs.Whole.{whole_of_decimal}
 use Rattle.log_text.proofs.KindWords.{kind_of_word}
 use Rattle.log_text.proofs.OperationWords.{begins_no_deed, named_operation}
 use Rattle.log_text.proofs.Tails.{IsTail, body_is_tail, body_more}

@@ -14,13 +14,13 @@ use Rattle.log_text.specs.declared.statement.RawDeed.{RawDeed}
 use Rattle.log_text.specs.declared.statement.RawDeed.TheVariants.{Grant, Revoke}
 use Rattle.model_base.specs.declared.deed.Kind.{Kind}
 use Rattle.model_base.specs.declared.deed.Kind.TheVariants as kind
-use Rattle.log_text.specs.Access.{access_word, letters, letter_if, IsAccess}
+use Rattle.line_words.specs.Access.{access_word, letters, letter_if, IsAccess}
 use Rattle.log_text.specs.Statement.{body_words, deed_words, kind_word, last_deed, further_step, operation_word, step_words, row_word, form_words, IsDeed, IsFormInGrammar, IsLastDeed, IsStep, IsRowNumber, IsRegister}
-use Rattle.log_text.specs.Fault.{is_printable}
+use Rattle.line_words.specs.Words.{is_printable}
 use Rattle.model_base.specs.declared.deed.Kinds.{Kinds}
-use Rattle.log_text.specs.declared.access.RawAccess.{RawAccess}
+use Rattle.line_words.specs.declared.access.RawAccess.{RawAccess}
 use Rattle.std.proofs.lemmas.Bool.{and_from}
-use Rattle.log_text.proofs.Printable.{IsPrintable, printable_name, printable_decimal, printable_signed, printable_append}
+use Rattle.line_words.proofs.Printable.{IsPrintable, printable_name, printable_decimal, printable_signed, printable_append}
 
 both : (xs ys : List (List ℕ)) → AllByRecursion IsPrintable xs → AllByRecursion IsPrintable ys → AllByRecursion IsPrintable (xs ++ ys)
 both [] ys h k = k

@@ -4,19 +4,20 @@ use Rattle.std.specs.Prelude.{MatchResult, IfOk, IfErr, OnOk}
 use Rattle.std.specs.List.{list_all, join_with_byte}
 use Rattle.std.proofs.lemmas.List.Splits.{join_with_byte-slice_split}
 use Rattle.std.proofs.lemmas.Bool.{le-ltb, cond-true, cond-false, ne_eqb}
-use Rattle.log_text.specs.Words.{words, is_name}
+use Rattle.line_words.specs.Words.{words, is_name}
 use Rattle.log_text.specs.Statement.{Sentence, form_words, statement_words, spelling, IsFormInGrammar, IsInGrammar, Reads}
 use Rattle.log_text.specs.declared.statement.RawForm.{RawForm}
 use Rattle.log_text.specs.declared.statement.RawForm.TheVariants.{Create, Run, Deed}
 use Rattle.log_text.specs.declared.statement.RawDeed.TheVariants.{Grant, Revoke}
-use Rattle.log_text.specs.Fault.{line_fault, fault_from, is_printable, OfName, OfForm}
-use Rattle.log_text.specs.Faults.{IsFault}
-use Rattle.log_text.specs.declared.fault.LineFault.{LineFault}
-use Rattle.log_text.specs.declared.fault.LineFault.TheVariants.{TooLong, NotAscii, Empty, UnknownWord, BadNumber, BadName, TooManySteps, TooManyAccesses, BadRegister, NoMemory}
+use Rattle.log_text.specs.Fault.{line_fault, fault_from, OfName, OfForm}
+use Rattle.line_words.specs.Words.{is_printable}
+use Rattle.line_words.specs.Faults.{IsFault}
+use Rattle.line_words.specs.declared.fault.LineFault.{LineFault}
+use Rattle.line_words.specs.declared.fault.LineFault.TheVariants.{TooLong, NotAscii, Empty, UnknownWord, BadNumber, BadName, TooManySteps, TooManyAccesses, BadRegister, NoMemory}
 use Rattle.log_text.proofs.OneSpelling.{one_form}
 use Rattle.log_text.proofs.Fits.{form_fits}
 use Rattle.log_text.proofs.FormPrintable.{form_printable}
-use Rattle.log_text.proofs.Printable.{IsPrintable, printable_name, printable_join}
+use Rattle.line_words.proofs.Printable.{IsPrintable, printable_name, printable_join}
 
 -- a line is the spelling of what it reads as
 pub line_is_spelling : (line : List ℕ) (s : Sentence) → Reads line s → line ≡ spelling s

@@ -1,9 +1,5 @@
-pub mod Digits
-pub mod Plain
-pub mod Whole
 pub mod Rows
-pub mod Splits
-pub mod NameWords
+pub mod Missing
 pub mod OperationWords
 pub mod StepNames
 pub mod StepLetters
@@ -11,13 +7,11 @@ pub mod TakenSteps
 pub mod TakenAccesses
 pub mod KindWords
 pub mod Tails
-pub mod Printable
 pub mod Bars
 pub mod OneSpelling
 pub mod Fits
 pub mod FormPrintable
 pub mod Joined
-pub mod AccessLemmas
 pub mod AccessFit
 pub mod Grammar
 pub mod TotalWords

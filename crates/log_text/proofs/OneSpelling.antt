@@ -4,9 +4,9 @@ use Rattle.std.specs.Prelude.{decimal, codes}
 use Rattle.std.specs.List.{AllByRecursion}
 use Rattle.std.proofs.lemmas.Fmt.{decimal_injective}
 use Rattle.std.proofs.lemmas.Bool.{eqb-false}
-use Rattle.log_text.specs.Words.{first_word}
-use Rattle.log_text.specs.Access.{access_word, IsAccess}
-use Rattle.log_text.specs.declared.access.RawAccess.{RawAccess}
+use Rattle.line_words.specs.Words.{first_word}
+use Rattle.line_words.specs.Access.{access_word, IsAccess}
+use Rattle.line_words.specs.declared.access.RawAccess.{RawAccess}
 use Rattle.log_text.specs.declared.statement.RawStep.{RawStep}
 use Rattle.log_text.specs.declared.statement.RawStep.TheVariants.{Const, Compute, Has, Load, Store, Insert, Delete, Check, Skip, Out}
 use Rattle.log_text.specs.declared.statement.RawForm.{RawForm}
@@ -19,7 +19,7 @@ use Rattle.log_text.specs.declared.step_name.StepName.{StepName}
 use Rattle.log_text.specs.declared.step_name.StepName.TheVariants as name
 use Rattle.model_base.specs.declared.statement.Operation.{Operation}
 use Rattle.log_text.proofs.Bars.{decimal_ne_bar, access_ne_bar, one_row}
-use Rattle.log_text.proofs.Whole.{one_whole}
+use Rattle.line_words.proofs.Whole.{one_whole}
 use Rattle.log_text.proofs.AccessFit.{one_access}
 use Rattle.log_text.proofs.KindWords.{one_kind}
 use Rattle.log_text.proofs.OperationWords.{named_operation}

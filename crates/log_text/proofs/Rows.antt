@@ -8,8 +8,8 @@ use Rattle.model_base.specs.declared.statement.RowName.{RowName}
 use Rattle.model_base.specs.declared.statement.RowName.TheVariants.{Number, Held}
 use Rattle.log_text.specs.Statement.{row_word, IsRowNumber}
 use Rattle.log_text.specs.Fault.{misfit, OfRow, register_fault, row_fault}
-use Rattle.log_text.specs.Words.{plain}
-use Rattle.log_text.proofs.Plain.{plain_of_decimal}
+use Rattle.line_words.specs.Words.{plain}
+use Rattle.line_words.proofs.Plain.{plain_of_decimal}
 
 pub register_fits : (n : ℕ) → n < 16 → register_fault (plain (decimal n)) ≡ None
 register_fits n low = rw (plain_of_decimal n (omega arith), lt-ltb n 16 low) refl

@@ -4,7 +4,7 @@ use Rattle.std.specs.Prelude.{codes, bytes_eq}
 use Rattle.std.proofs.lemmas.Slice.Eq.{bytes_eq-Decides, text_from_reads}
 use Rattle.std.proofs.lemmas.Bool.{lt-ltb}
 use Rattle.std.proofs.lemmas.List.{append-nil}
-use Rattle.log_text.specs.Faults.{or_else}
+use Rattle.line_words.specs.Faults.{or_else}
 use Rattle.log_text.specs.Fault.{OfStep, expected_in, fault_from, is_deed, step_fault, step_name}
 use Rattle.log_text.specs.Parsing.{fault_behind, step_word}
 use Rattle.model_base.specs.declared.statement.Operation.TheVariants.{Add, Sub, Mul, Less, Same}

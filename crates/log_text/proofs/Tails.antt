@@ -2,7 +2,7 @@
 use Rattle.std.proofs.Common.{◌≡◌, ℕ, true, false, List, [], ◌∷◌, ◌++◌, Option, Some, None, refl, ap, sym, ◌∙◌, append_assoc}
 use Rattle.std.specs.Prelude.{codes}
 use Rattle.std.specs.List.{flat_map}
-use Rattle.log_text.specs.Words.{first_word}
+use Rattle.line_words.specs.Words.{first_word}
 use Rattle.log_text.specs.Fault.{is_deed}
 use Rattle.log_text.specs.Statement.{body_words, deed_words, further_step, last_deed, step_words}
 use Rattle.log_text.specs.declared.statement.RawDeed.{RawDeed}

@@ -3,9 +3,9 @@ use Rattle.std.proofs.Common.{◌≡◌, ◌<◌, ◌≤◌, ℕ, ◌+◌, false
 use Rattle.std.specs.List.{AllByRecursion}
 use Rattle.std.proofs.lemmas.List.{map-append}
 use Rattle.std.proofs.lemmas.Bool.{lt-ltb}
-use Rattle.log_text.specs.Access.{IsAccess, access_fault, access_word}
+use Rattle.line_words.specs.Access.{IsAccess, access_fault, access_word}
 use Rattle.log_text.specs.Fault.{OfAccess, OfNext, fault_from, is_bar}
-use Rattle.log_text.specs.declared.access.RawAccess.{RawAccess}
+use Rattle.line_words.specs.declared.access.RawAccess.{RawAccess}
 
 -- its word too
 pub one_more : (all before left : List (List ℕ)) (word : List ℕ) (found more : List RawAccess) (a : RawAccess) → all ≡ map access_word found ++ before

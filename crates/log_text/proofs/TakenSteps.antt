@@ -7,11 +7,11 @@ use Rattle.std.proofs.lemmas.List.{append-nil}
 use Rattle.std.proofs.lemmas.List.Concat.{flat_map-append}
 use Rattle.std.proofs.lemmas.List.Sums.{sum_by-append}
 use Rattle.log_text.specs.Statement.{IsStep, further_step, outs_of, step_words}
-use Rattle.log_text.specs.Faults.{IsFault, or_else, unless}
+use Rattle.line_words.specs.Faults.{IsFault, or_else, unless}
 use Rattle.log_text.specs.Fault.{OfStep, expected_in, fault_from, step_fault, step_name}
 use Rattle.log_text.specs.Parsing.{TakesStep, fault_behind, step_word}
-use Rattle.log_text.specs.declared.fault.LineFault.{LineFault}
-use Rattle.log_text.specs.declared.fault.LineFault.TheVariants.{TooLong, NotAscii, Empty, UnknownWord, BadNumber, BadName, TooManySteps, TooManyAccesses, BadRegister, NoMemory}
+use Rattle.line_words.specs.declared.fault.LineFault.{LineFault}
+use Rattle.line_words.specs.declared.fault.LineFault.TheVariants.{TooLong, NotAscii, Empty, UnknownWord, BadNumber, BadName, TooManySteps, TooManyAccesses, BadRegister, NoMemory}
 use Rattle.log_text.specs.declared.statement.RawStep.{RawStep}
 use Rattle.log_text.specs.declared.step_name.StepName.{StepName}
 use Rattle.log_text.specs.declared.step_name.StepName.TheVariants.{Const, Compute, Has, Load, Store, Insert, Delete, Check, Skip, Out}

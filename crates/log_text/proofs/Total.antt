@@ -4,13 +4,14 @@ use Rattle.std.specs.Prelude.{codes, bytes_eq}
 use Rattle.std.specs.List.{AllByRecursion, list_all}
 use Rattle.std.proofs.lemmas.Bool.{cases_Bool, cond-true, cond-false, ltb-true, ltb-false}
 use Rattle.std.proofs.lemmas.Slice.Eq.{bytes_eq-Decides}
-use Rattle.log_text.specs.Words.{words}
-use Rattle.log_text.specs.Access.{access_word, access_fault, IsAccess}
-use Rattle.log_text.specs.Faults.{unless, or_else}
-use Rattle.log_text.specs.Fault.{OfName, OfPlain, OfForm, OfAccess, OfNext, OfBar, fault_from, line_fault, expected_behind, is_bar, is_deed, is_printable}
+use Rattle.line_words.specs.Words.{words}
+use Rattle.line_words.specs.Access.{access_word, access_fault, IsAccess}
+use Rattle.line_words.specs.Faults.{unless, or_else}
+use Rattle.log_text.specs.Fault.{OfName, OfPlain, OfForm, OfAccess, OfNext, OfBar, fault_from, line_fault, expected_behind, is_bar, is_deed}
+use Rattle.line_words.specs.Words.{is_printable}
 use Rattle.log_text.specs.Statement.{Sentence, Reads, form_words, IsFormInGrammar}
-use Rattle.log_text.specs.declared.fault.LineFault.TheVariants.{TooLong, NotAscii, Empty, UnknownWord, TooManyAccesses}
-use Rattle.log_text.specs.declared.access.RawAccess.{RawAccess}
+use Rattle.line_words.specs.declared.fault.LineFault.TheVariants.{TooLong, NotAscii, Empty, UnknownWord, TooManyAccesses}
+use Rattle.line_words.specs.declared.access.RawAccess.{RawAccess}
 use Rattle.log_text.specs.declared.statement.RawForm.{RawForm}
 use Rattle.log_text.specs.declared.statement.RawForm.TheVariants.{Create, Run, Deed}
 use Rattle.log_text.proofs.Grammar.{reads}

@@ -4,23 +4,23 @@ use Rattle.std.specs.Prelude.{codes, decimal, is_some, IsTrue}
 use Rattle.std.specs.Fmt.{signed_decimal}
 use Rattle.std.proofs.lemmas.List.{append-nil}
 use Rattle.std.proofs.lemmas.Bool.{cases_Bool, cond-true, cond-false, eqb-true, ltb-true, and_parts}
-use Rattle.log_text.specs.Words.{plain, signed_of, is_name}
-use Rattle.log_text.specs.Access.{letter_if, letters, access_word, IsAccess, is_in_order, is_letters, before_colon, after_colon, access_fault}
-use Rattle.log_text.specs.Faults.{unless, or_else}
+use Rattle.line_words.specs.Words.{plain, signed_of, is_name}
+use Rattle.line_words.specs.Access.{letter_if, letters, access_word, IsAccess, is_in_order, is_letters, before_colon, after_colon, access_fault}
+use Rattle.line_words.specs.Faults.{unless, or_else}
 use Rattle.log_text.specs.Fault.{kind_named, register_fault, row_fault}
 use Rattle.log_text.specs.Statement.{kind_word, row_word, IsRegister, IsRowNumber}
-use Rattle.log_text.specs.declared.fault.LineFault.{LineFault}
-use Rattle.log_text.specs.declared.fault.LineFault.TheVariants.{UnknownWord, BadNumber, BadName, BadRegister}
-use Rattle.log_text.specs.declared.access.RawAccess.{RawAccess}
+use Rattle.line_words.specs.declared.fault.LineFault.{LineFault}
+use Rattle.line_words.specs.declared.fault.LineFault.TheVariants.{UnknownWord, BadNumber, BadName, BadRegister}
+use Rattle.line_words.specs.declared.access.RawAccess.{RawAccess}
 use Rattle.model_base.specs.declared.deed.Kind.{Kind}
 use Rattle.model_base.specs.declared.deed.Kinds.{Kinds}
 use Rattle.model_base.specs.declared.statement.RowName.{RowName}
 use Rattle.model_base.specs.declared.statement.RowName.TheVariants.{Number, Held}
 use Rattle.model_base.specs.Body.{fits_64_bits}
-use Rattle.log_text.proofs.Plain.{plain_some}
-use Rattle.log_text.proofs.Whole.{whole_some}
+use Rattle.line_words.proofs.Plain.{plain_some}
+use Rattle.line_words.proofs.Whole.{whole_some}
 use Rattle.log_text.proofs.KindWords.{named_kind}
-use Rattle.log_text.proofs.AccessLemmas.{order_nil, access_is}
+use Rattle.line_words.proofs.AccessLemmas.{order_nil, access_is}
 
 -- a word spells a value of this kind
 pub record Spells (A : Type 0) (word_of : A → List ℕ) (Is : A → Type 0) (w : List ℕ) : Type 0 where

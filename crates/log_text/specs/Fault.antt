@@ -1,11 +1,11 @@
 -- Which fault a line has: of its words, the first that doesn't fit what is expected there decides.
-use Rattle.std.specs.Prelude.{ℕ, ◌+◌, Bool, true, false, ◌&&◌, ◌||◌, List, [], ◌∷◌, ◌++◌, length, nat_lt, nat_le, ◌==◌, bytes_eq, is_some, if◌then◌else◌, Option, Some, None, codes}
+use Rattle.std.specs.Prelude.{ℕ, ◌+◌, Bool, true, false, ◌&&◌, ◌||◌, List, [], ◌∷◌, ◌++◌, length, nat_lt, ◌==◌, bytes_eq, is_some, if◌then◌else◌, Option, Some, None, codes}
 use Rattle.std.specs.List.{list_all}
-use Rattle.log_text.specs.Words.{words, plain, signed_of, is_name}
-use Rattle.log_text.specs.Faults.{unless, or_else}
-use Rattle.log_text.specs.Access.{access_fault}
-use Rattle.log_text.specs.declared.fault.LineFault.{LineFault}
-use Rattle.log_text.specs.declared.fault.LineFault.TheVariants.{TooLong, NotAscii, Empty, UnknownWord, BadNumber, BadName, TooManySteps, TooManyAccesses, BadRegister}
+use Rattle.line_words.specs.Words.{words, plain, signed_of, is_name, is_printable}
+use Rattle.line_words.specs.Faults.{unless, or_else}
+use Rattle.line_words.specs.Access.{access_fault}
+use Rattle.line_words.specs.declared.fault.LineFault.{LineFault}
+use Rattle.line_words.specs.declared.fault.LineFault.TheVariants.{TooLong, NotAscii, Empty, UnknownWord, BadNumber, BadName, TooManySteps, TooManyAccesses, BadRegister}
 use Rattle.model_base.specs.declared.limits.TheConstants.{MOST_ACCESSES, MOST_COLUMNS, MOST_OUTPUTS, MOST_REGISTERS, MOST_STEPS}
 use Rattle.log_text_base.specs.declared.limits.TheConstants.{MOST_LINE_BYTES}
 use Rattle.model_base.specs.declared.deed.Kind.{Kind}
@@ -161,10 +161,6 @@ fault_from [] [] = None
 fault_from [] (w ∷ ws) = Some UnknownWord
 fault_from (p ∷ ps) [] = if may_end p then None else misfit p []
 fault_from (p ∷ ps) (w ∷ ws) = or_else (misfit p w) (fault_from (expected_behind p w ++ ps) ws)
-
--- a byte from 32 to 126
-abbrev pub is_printable : ℕ → Bool
-is_printable b = nat_le 32 b && nat_le b 126
 
 -- the fault of a line, if it has one
 abbrev pub line_fault : List ℕ → Option LineFault

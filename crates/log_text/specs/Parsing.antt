@@ -1,12 +1,11 @@
 -- A line while it is read or written.
-use Rattle.std.specs.Prelude.{◌≡◌, ℕ, ◌≤◌, Bool, true, false, List, [], ◌∷◌, ◌++◌, Option, None, codes, decimal, length, map, drop, nat_le, if◌then◌else◌}
+use Rattle.std.specs.Prelude.{◌≡◌, ℕ, ◌≤◌, Bool, true, false, List, [], ◌∷◌, ◌++◌, Option, None, codes, decimal, length, map}
 use Rattle.std.specs.List.{flat_map, AllByRecursion}
 use Rattle.model_base.specs.declared.limits.TheConstants.{MOST_COLUMNS}
-use Rattle.log_text.specs.Words.{words}
 use Rattle.log_text.specs.Statement.{operation_word, step_words, IsRegister}
 use Rattle.log_text.specs.Fault.{OfMore, OfStep, fault_from}
-use Rattle.log_text.specs.Faults.{IsFault}
-use Rattle.log_text.specs.declared.fault.LineFault.{LineFault}
+use Rattle.line_words.specs.Faults.{IsFault}
+use Rattle.line_words.specs.declared.fault.LineFault.{LineFault}
 use Rattle.log_text.specs.declared.statement.RawStep.{RawStep}
 use Rattle.log_text.specs.declared.step_name.StepName.{StepName}
 use Rattle.log_text.specs.declared.step_name.StepName.TheVariants.{Const, Compute, Has, Load, Store, Insert, Delete, Check, Skip, Out}
@@ -56,7 +55,3 @@ FailAsRegisters registers words fault =
 -- each word behind a space
 abbrev pub spaced : List (List ℕ) → List ℕ
 spaced ws = flat_map (λ w. 32 ∷ w) ws
-
--- the words of a line from this index on, and none past its end
-abbrev pub words_from : ℕ → List ℕ → List (List ℕ)
-words_from start line = if nat_le start (length line) then words (drop start line) else []

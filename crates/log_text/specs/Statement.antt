@@ -10,8 +10,8 @@ use Rattle.model_base.specs.declared.statement.Operation.{Operation}
 use Rattle.model_base.specs.declared.statement.Operation.TheVariants.{Add, Sub, Mul, Less, Same}
 use Rattle.model_base.specs.declared.statement.RowName.{RowName}
 use Rattle.model_base.specs.declared.statement.RowName.TheVariants.{Number, Held}
-use Rattle.log_text.specs.Words.{words, is_name}
-use Rattle.log_text.specs.Access.{access_word, IsAccess}
+use Rattle.line_words.specs.Words.{words, is_name}
+use Rattle.line_words.specs.Access.{access_word, IsAccess}
 use Rattle.log_text.specs.declared.statement.RawDeed.{RawDeed}
 use Rattle.log_text.specs.declared.statement.RawDeed.TheVariants.{Grant, Revoke}
 use Rattle.log_text.specs.declared.statement.RawForm.{RawForm}

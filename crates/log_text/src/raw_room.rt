@@ -2,8 +2,8 @@
 
 ghost use Rattle.std.specs.Prelude.{◌≡◌, []};
 
-use crate::access::RawAccess;
 use crate::statement::RawStep;
+use line_words::RawAccess;
 use std::alloc::Global;
 
 /// Where the accesses and the steps of a line go when it is read. `read_line` takes them out of it, and whoever is done with

@@ -1,7 +1,6 @@
 //! Statements with names as text, as a line spells them.
 
-use crate::access::RawAccess;
-use crate::name::Name;
+use line_words::{Name, RawAccess};
 use model_base::{Items, Kind, Operation, Register, RowName};
 use std::marker::Model;
 

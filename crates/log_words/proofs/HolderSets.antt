@@ -12,10 +12,10 @@ use Rattle.model_base.specs.declared.deed.Grant.{Grant}
 use Rattle.model_base.specs.declared.deed.Kind.{Kind}
 use Rattle.model_base.specs.declared.deed.Kind.TheVariants.{Read, Insert, Update, Delete}
 use Rattle.model_base.specs.Privileges.{same_kind}
-use Rattle.grants.specs.Index.{is_by, is_to}
+use Rattle.grants_base.specs.Index.{is_by, is_to}
 use Rattle.log_words.specs.declared.holders.Holder.{Holder}
 use Rattle.log_words.specs.Holders.{grantee_holder, grantor_of, holder_cmp, holder_of, same_holder}
-use Rattle.grants.specs.Sides.{kind_code}
+use Rattle.grants_base.specs.Sides.{kind_code}
 use Rattle.model_base.proofs.Replay.{by_cases}
 
 is_eq-nat_cmp : (x y : ℕ) → is_eq (nat_cmp x y) ≡ eqb x y

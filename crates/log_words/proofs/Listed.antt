@@ -10,7 +10,7 @@ use Rattle.model_base.specs.declared.statement.Statement.{Statement}
 use Rattle.model_base.specs.declared.deed.Grant.{Grant}
 use Rattle.model_base.specs.Outcomes.{deed_of}
 use Rattle.model_base.specs.Privileges.{concerns, gives, names, option_of, same_kind}
-use Rattle.grants.specs.Index.{is_to}
+use Rattle.grants_base.specs.Index.{is_to}
 use Rattle.bohm_core_base.specs.declared.event.Event.{Event}
 use Rattle.bohm_core_base.specs.Batch.{Batch, IsSoundBatch, batch_slots, words_by}
 use Rattle.bohm_core_base.specs.Cascades.{EndsByCascade}

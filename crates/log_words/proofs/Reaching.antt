@@ -12,7 +12,7 @@ use Rattle.std.proofs.lemmas.List.Elements.{All-head, All-tail}
 use Rattle.std.proofs.lemmas.List.Folds.{list_any-append}
 use Rattle.model_base.specs.declared.deed.Grant.{Grant}
 use Rattle.model_base.specs.declared.deed.Kind.{Kind}
-use Rattle.grants.specs.Index.{IsNext, is_by, is_to, passes_at}
+use Rattle.grants_base.specs.Index.{IsNext, is_by, is_to, passes_at}
 use Rattle.bohm_core_base.specs.Batch.{Batch, batch_slots}
 use Rattle.log_batch.specs.Earlier.{earlier_count, earlier_grants}
 use Rattle.log_words.specs.declared.holders.Holders.{Holders}
@@ -20,9 +20,9 @@ use Rattle.log_words.specs.declared.reach.Reach.{Reach}
 use Rattle.log_words.specs.Holders.{grantee_holder, grantor_of, has_holder, holder_of, same_holder}
 use Rattle.log_words.specs.Listing.{is_against, is_lent, is_open, is_reached, is_revoked, lends, listed_below}
 use Rattle.log_words.specs.Reach.{Adds, AreSeeds, IsDue, IsReach}
-use Rattle.grants.specs.Pass.{is_one_of}
+use Rattle.grants_base.specs.Index.{is_one_of}
 use Rattle.log_words.proofs.HolderSets.{by-holder, same_holder-true, to-holder}
-use Rattle.grants.proofs.Worklist.{nothing}
+use Rattle.grants_base.proofs.Walks.{nothing}
 use Rattle.model_base.proofs.Replay.{by_cases}
 
 -- a set of numbers, and one with a number more

@@ -7,7 +7,7 @@ use Rattle.model_base.specs.declared.deed.Grant.{Grant}
 use Rattle.model_base.specs.declared.deed.Kind.{Kind}
 use Rattle.log_words.specs.declared.holders.Holder.{Holder}
 use Rattle.log_words.specs.declared.holders.Holders.{Holders}
-use Rattle.grants.specs.Sides.{kind_code}
+use Rattle.grants_base.specs.Sides.{kind_code}
 
 -- a user with a kind on a table
 abbrev pub holder_of : ℕ → Kind → ℕ → Holder

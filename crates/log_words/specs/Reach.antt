@@ -2,7 +2,7 @@
 use Rattle.std.specs.Prelude.{◌≡◌, ◌<◌, ◌≤◌, ◌⊎◌, ℕ, Bool, true, List}
 use Rattle.model_base.specs.declared.deed.Grant.{Grant}
 use Rattle.model_base.specs.declared.deed.Kind.{Kind}
-use Rattle.grants.specs.Index.{is_by, is_to, passes_at}
+use Rattle.grants_base.specs.Index.{is_by, is_to, passes_at}
 use Rattle.bohm_core_base.specs.Batch.{Batch, batch_slots}
 use Rattle.log_batch.specs.Earlier.{earlier_count}
 use Rattle.log_words.specs.declared.holders.Holders.{Holders}
@@ -11,7 +11,7 @@ use Rattle.log_words.specs.declared.reach.Party.TheVariants.{Grantee, Grantor}
 use Rattle.log_words.specs.declared.reach.Reach.{Reach}
 use Rattle.log_words.specs.Holders.{grantee_holder, grantor_of, has_holder}
 use Rattle.log_words.specs.Listing.{is_lent, is_open, is_reached, is_revoked, listed_below}
-use Rattle.grants.specs.Pass.{is_one_of}
+use Rattle.grants_base.specs.Index.{is_one_of}
 
 -- whether the grant has the user as this party, and is of the kind on the table
 abbrev pub has_party : Party → ℕ → Kind → ℕ → Grant → Bool

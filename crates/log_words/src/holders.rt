@@ -3,7 +3,7 @@
 ghost use Rattle.std.specs.Prelude.{◌≡◌, ◌||◌, not, false, IfOk, OnOk};
 ghost use Rattle.log_words.specs.Holders.{has_holder, holder_of, same_holder};
 ghost use Rattle.log_words.specs.declared.holders.Holder.{Holder};
-ghost use Rattle.grants.specs.Sides.{kind_code};
+ghost use Rattle.grants_base.specs.Sides.{kind_code};
 
 use model_base::{Kind, Table, User};
 use std::alloc::{AllocError, Global};

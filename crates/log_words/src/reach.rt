@@ -2,14 +2,14 @@
 
 ghost use Rattle.std.specs.Prelude.{◌≡◌, ◌<◌, ◌≤◌, ◌+◌, ◌++◌, ◌∷◌, ◌||◌, ◌&&◌, ◌==◌, [], ℕ, suc, not, true, IfOk, OnOk, length, slice_get, Some};
 ghost use Rattle.model_base.specs.declared.deed.Grant.{Grant};
-ghost use Rattle.grants.specs.Index.{IsNext};
+ghost use Rattle.grants_base.specs.Index.{IsNext};
 ghost use Rattle.bohm_core_base.specs.Batch.{batch_slots};
 ghost use Rattle.log_batch.specs.Earlier.{earlier_count, earlier_grants};
 ghost use Rattle.log_batch.specs.Supplied.{batch_in};
 ghost use Rattle.log_words.specs.Holders.{grantee_holder, grantor_of, has_holder};
 ghost use Rattle.log_words.specs.Listing.{is_open, is_reached, lends};
 ghost use Rattle.log_words.specs.Reach.{Adds, AreSeeds, IsDue, IsReach, has_party};
-ghost use Rattle.grants.specs.Pass.{is_one_of};
+ghost use Rattle.grants_base.specs.Index.{is_one_of};
 
 use crate::holders::{Holders, holder_of};
 use log_batch::LogBatch;

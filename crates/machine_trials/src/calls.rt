@@ -1,10 +1,11 @@
 //! What a batch tells of itself, each call once.
 
 ghost use Rattle.std.specs.Prelude.{◌≡◌};
-ghost use Rattle.machine_trials_base.specs.Before.{IsBefore};
+ghost use Rattle.machine_trials.specs.Before.{IsBefore};
 
+use crate::batches::{Before, batch_of, log_of, nothing};
+use crate::fault::TrialFault;
 use log_batch::LogBatch;
-use machine_trials_base::{Before, TrialFault, batch_of, log_of, nothing};
 use model_base::{Form, Key, Table};
 use sequencer::LogTail;
 use std::alloc::Global;

@@ -1,15 +1,31 @@
-//! The machine over logs, tried: rows of events on a whole log and on a batch in the middle of it, each event told with what
-//! it changed, and the calls of a batch. What is printed is compared with `stdout`.
+//! The machine over logs, tried. Rows of events on a whole log and on a batch in the middle of it, each event told with what it
+//! changed, and the calls of a batch; a row of calls of two passes on the shared words of two places, which grants a batch may
+//! end, and a log completed on one thread; and drawn lists of events against the slow serial run. What is printed is compared
+//! with `stdout`.
 #![tactic(auto)]
 
+mod batches;
 mod calls;
+mod completed;
+mod drawn;
+mod drawn_events;
+mod ended;
+mod fault;
+mod generator;
 mod middle;
+mod outcome;
+mod shared;
 mod telling;
 mod whole;
+mod worked;
 
 use calls::tell_calls;
-use machine_trials_base::TrialFault;
+use completed::tell_completed;
+use drawn::tell_drawn;
+use ended::tell_ended;
+use fault::TrialFault;
 use middle::tell_middle;
+use shared::tell_shared;
 use std::alloc::Global;
 use std::process::ExitCode;
 use whole::tell_whole;
@@ -18,7 +34,11 @@ use whole::tell_whole;
 fn run(rt: &impl Print, alloc: Global) -> Result<(), TrialFault> {
     tell_whole(rt, alloc)?;
     tell_middle(rt, alloc)?;
-    tell_calls(rt, alloc)
+    tell_calls(rt, alloc)?;
+    tell_shared(rt, alloc)?;
+    tell_ended(rt, alloc)?;
+    tell_completed(rt, alloc)?;
+    tell_drawn(rt, alloc)
 }
 
 fn main(rt: HostRuntime) -> ExitCode {

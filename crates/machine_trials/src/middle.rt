@@ -1,16 +1,16 @@
 //! The reader and the revocation of the worked log alone, as a batch in the middle of the log.
 
 ghost use Rattle.std.specs.Prelude.{◌≡◌, ◌≤◌, length};
-ghost use Rattle.machine_trials_base.specs.Before.{IsBefore};
+ghost use Rattle.machine_trials.specs.Before.{IsBefore};
 
+use crate::batches::{Before, log_of, machine_of};
 use crate::calls::tell_batch;
+use crate::fault::TrialFault;
 use crate::telling::{tell_events, tell_found};
+use crate::worked::{LINES, before_the_reader, begins_worked};
 use bohm_core::Machine;
 use bohm_core_base::Event;
 use log_machine::OfLog;
-use machine_trials_base::{
-    Before, LINES, TrialFault, before_the_reader, begins_worked, log_of, machine_of,
-};
 use sequencer::LogTail;
 use std::alloc::Global;
 

@@ -1,9 +1,11 @@
 //! Events as they are made, and what places and records came to, a line for each.
 
+use crate::batches::make;
+use crate::fault::TrialFault;
+use crate::outcome::outcome_at;
 use bohm_core::{Machine, State};
 use bohm_core_base::Event;
 use log_machine::OfLog;
-use machine_trials_base::{TrialFault, make, outcome_at};
 use model_base::{DeedDone, Outcome};
 use std::alloc::{AllocError, Global};
 use std::fmt::Write;

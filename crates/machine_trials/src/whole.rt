@@ -1,13 +1,15 @@
 //! The whole worked log as one batch: the revocation is done before the reader has a word, and the reader still reads.
 
 ghost use Rattle.std.specs.Prelude.{◌≡◌, ◌<◌, length};
-ghost use Rattle.machine_trials_base.specs.Before.{IsBefore};
+ghost use Rattle.machine_trials.specs.Before.{IsBefore};
 
+use crate::batches::{Before, log_of, machine_of, nothing};
+use crate::fault::TrialFault;
 use crate::telling::{tell_events, tell_found};
+use crate::worked::LINES;
 use bohm_core::Machine;
 use bohm_core_base::Event;
 use log_machine::OfLog;
-use machine_trials_base::{Before, LINES, TrialFault, log_of, machine_of, nothing};
 use sequencer::LogTail;
 use std::alloc::Global;
 

@@ -22,9 +22,9 @@ use Rattle.model_base.specs.Privileges.{place_of}
 use Rattle.model_base.specs.Records.{deeds_below}
 use Rattle.model_base.proofs.Cuts.{deeds_below-whole}
 use Rattle.body.specs.RowMap.{rows_of}
-use Rattle.grants.specs.Book.{Entries, ShowsBook, owners_of, view_of, with_table}
-use Rattle.grants.specs.View.{ShowsDeeds, covers, holds_in}
-use Rattle.grants.specs.declared.book.Creation.{Creation}
+use Rattle.grants_base.specs.Book.{Entries, ShowsBook, owners_of, view_of, with_table}
+use Rattle.grants_base.specs.View.{ShowsDeeds, covers, holds_in}
+use Rattle.grants_base.specs.declared.entries.Creation.{Creation}
 use Rattle.checker.specs.Admission.{admission, admitted_if}
 use Rattle.checker.specs.Missing.{Covers}
 use Rattle.checker.specs.declared.admission.Admission.{Admission}

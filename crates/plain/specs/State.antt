@@ -17,8 +17,8 @@ use Rattle.model_base.specs.Versions.{accesses_of}
 use Rattle.body.specs.RowMap.{rows_of}
 use Rattle.body.specs.Shown.{with_rows}
 use Rattle.body.specs.declared.window.Window.{Window}
-use Rattle.grants.specs.Book.{Entries, IsLater, ShowsBook, owners_of, view_of}
-use Rattle.grants.specs.View.{holds_in}
+use Rattle.grants_base.specs.Book.{Entries, IsLater, ShowsBook, owners_of, view_of}
+use Rattle.grants_base.specs.View.{holds_in}
 use Rattle.plain.specs.declared.plain_state.State.{State}
 use Rattle.model_base.specs.References.{table_of}
 

@@ -2,7 +2,7 @@
 
 ghost use Rattle.std.specs.Prelude.{◌≡◌, IfOk, OnErr};
 ghost use Rattle.model_base.specs.Outcomes.{deed_of};
-ghost use Rattle.grants.specs.Book.{IsLater};
+ghost use Rattle.grants_base.specs.Book.{IsLater};
 ghost use Rattle.plain.specs.State.{IsMade, MayMake};
 
 use grants::Book;

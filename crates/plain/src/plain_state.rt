@@ -9,7 +9,7 @@ ghost use Rattle.body.specs.Shown.{with_rows};
 ghost use Rattle.body.specs.Premises.{IsRunnable};
 ghost use Rattle.body.specs.Room.{IsLean};
 ghost use Rattle.body.specs.RowMap.{HasEntry, rows_of};
-ghost use Rattle.grants.specs.Book.{IsLater, owners_of};
+ghost use Rattle.grants_base.specs.Book.{IsLater, owners_of};
 
 use crate::deeds::make;
 use body::{

@@ -2,8 +2,8 @@
 use Rattle.std.proofs.Common.{◌≡◌, ◌++◌, ◌<◌, ℕ, List, [], length, ap, sym}
 use Rattle.std.proofs.lemmas.List.Elements.{All-nil}
 use Rattle.model_base.specs.declared.deed.Deed.{Deed}
-use Rattle.grants.specs.declared.book.Creation.{Creation}
-use Rattle.grants.specs.Book.{Entries, ShowsBook, owners_of, table_of_deed}
+use Rattle.grants_base.specs.declared.entries.Creation.{Creation}
+use Rattle.grants_base.specs.Book.{Entries, ShowsBook, owners_of, table_of_deed}
 
 -- an empty book shows that no deed was made, whatever tables are created later
 pub empty_book : (book : Entries) (owners : List ℕ) → book.tables ≡ [] → book.records ≡ [] → ShowsBook book owners []

@@ -3,7 +3,7 @@ use Rattle.std.specs.Prelude.{◌≡◌, ℕ, List, length}
 use Rattle.model_base.specs.declared.statement.Statement.{Statement}
 use Rattle.model_base.specs.Outcomes.{deeds_before, owners}
 use Rattle.chains.specs.Store.{IsRight}
-use Rattle.grants.specs.Book.{ShowsBook}
+use Rattle.grants_base.specs.Book.{ShowsBook}
 use Rattle.log_batch.specs.Supplied.{Ranged}
 use Rattle.sequencer.specs.Log.{Accepted}
 use Rattle.range_trials_base.specs.declared.batches.Before.{Before}

@@ -3,8 +3,8 @@ use Rattle.std.proofs.Common.{◌≡◌, ◌+◌, ◌&&◌, ℕ, zero, suc, Bool
 use Rattle.std.specs.Prelude.{nat_lt, slice_get}
 use Rattle.model_base.specs.declared.deed.Grant.{Grant}
 use Rattle.model_base.proofs.Replay.{by_cases}
-use Rattle.grants.specs.Index.{AreAsked}
-use Rattle.grants.specs.View.{flatten, grant_in}
+use Rattle.grants_base.specs.Index.{AreAsked}
+use Rattle.grants_base.specs.View.{flatten, grant_in}
 use Rattle.bohm_core_base.specs.Batch.{is_listed, batch_slots}
 use Rattle.log_batch.specs.Laws.{IsOfLog}
 use Rattle.log_batch.specs.Supplied.{Ranged, batch_in, range_of}

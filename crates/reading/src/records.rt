@@ -2,7 +2,7 @@
 
 ghost use Rattle.std.specs.Prelude.{◌≡◌, ◌<◌, None, Option, Some, length};
 ghost use Rattle.model_base.specs.Records.{end_below};
-ghost use Rattle.grants.specs.View.{end_in, grant_in, slot_at};
+ghost use Rattle.grants_base.specs.View.{end_in, grant_in, slot_at};
 ghost use Rattle.bohm_core_base.specs.Batch.{batch_slots};
 ghost use Rattle.log_batch.specs.Supplied.{batch_in};
 ghost use Rattle.reading.specs.Seen.{seen_at, seen_view};

@@ -6,7 +6,7 @@ use Rattle.model_base.specs.Outcomes.{outcome}
 use Rattle.log_text_base.specs.Lines.{lines_of}
 use Rattle.log_text.specs.Statement.{Sentence, Reads}
 use Rattle.log_text.specs.Fault.{line_fault}
-use Rattle.log_text.specs.declared.fault.LineFault.{LineFault}
+use Rattle.line_words.specs.declared.fault.LineFault.{LineFault}
 use Rattle.sequencer.specs.Catalog.{Names, no_names, numbered, with_statement}
 use Rattle.sequencer.specs.Refusal.{refusal}
 use Rattle.sequencer.specs.declared.refused.Refused.{Refused}

@@ -12,7 +12,7 @@ use Rattle.model_base.specs.declared.outcome.Reason.TheVariants.{NoRow, RowExist
 use Rattle.model_base.specs.declared.outcome.DeedDone.{DeedDone}
 use Rattle.model_base.specs.declared.outcome.Outcome.{Outcome}
 use Rattle.log_text.specs.Statement.{kind_word}
-use Rattle.log_text.specs.declared.fault.LineFault.{LineFault}
+use Rattle.line_words.specs.declared.fault.LineFault.{LineFault}
 use Rattle.sequencer.specs.declared.refused.Refused.{Refused}
 
 -- the word of a line's fault; want of memory is no line's fault, and has none

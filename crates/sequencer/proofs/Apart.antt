@@ -13,7 +13,7 @@ use Rattle.model_base.specs.Body.{is_of}
 use Rattle.model_base.specs.Versions.{accesses_of}
 use Rattle.body.specs.Laws.{AreApart, IsOther}
 use Rattle.log_text.specs.Statement.{Sentence}
-use Rattle.log_text.specs.declared.access.RawAccess.{RawAccess}
+use Rattle.line_words.specs.declared.access.RawAccess.{RawAccess}
 use Rattle.log_text.specs.declared.statement.RawForm.{RawForm}
 use Rattle.sequencer.specs.Names.{is_known, number_of, with_name}
 use Rattle.sequencer.specs.Catalog.{Names, numbered, numbered_access, numbered_form}

@@ -13,7 +13,7 @@ use Rattle.model_base.specs.Outcomes.{kinds_in, need_of, needs, needs_of_access,
 use Rattle.model_base.specs.References.{deed_tables, each_once, table_of, tables_of}
 use Rattle.model_base.specs.Versions.{accesses_of}
 use Rattle.log_text.specs.Statement.{Sentence}
-use Rattle.log_text.specs.declared.access.RawAccess.{RawAccess}
+use Rattle.line_words.specs.declared.access.RawAccess.{RawAccess}
 use Rattle.log_text.specs.declared.statement.RawDeed.{RawDeed}
 use Rattle.log_text.specs.declared.statement.RawForm.{RawForm}
 use Rattle.sequencer.specs.Names.{is_known, with_name}

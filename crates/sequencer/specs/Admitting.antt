@@ -1,7 +1,7 @@
 -- What the statements of src/admitting.rt ask for, what entering their users asks of names, and what is taken out of a step.
 use Rattle.std.specs.Prelude.{ℕ, Option, List, []}
 use Rattle.log_text.specs.Statement.{Sentence}
-use Rattle.log_text.specs.declared.access.RawAccess.{RawAccess}
+use Rattle.line_words.specs.declared.access.RawAccess.{RawAccess}
 use Rattle.log_text.specs.declared.statement.RawDeed.{RawDeed}
 use Rattle.log_text.specs.declared.statement.RawForm.{RawForm}
 use Rattle.log_text.specs.declared.statement.RawStep.{RawStep}

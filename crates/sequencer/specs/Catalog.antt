@@ -7,7 +7,7 @@ use Rattle.model_base.specs.declared.statement.DeedForm.{DeedForm}
 use Rattle.model_base.specs.declared.statement.Form.{Form}
 use Rattle.model_base.specs.declared.statement.Statement.{Statement}
 use Rattle.log_text.specs.Statement.{Sentence}
-use Rattle.log_text.specs.declared.access.RawAccess.{RawAccess}
+use Rattle.line_words.specs.declared.access.RawAccess.{RawAccess}
 use Rattle.log_text.specs.declared.statement.RawDeed.{RawDeed}
 use Rattle.log_text.specs.declared.statement.RawForm.{RawForm}
 use Rattle.log_text.specs.declared.statement.RawStep.{RawStep}

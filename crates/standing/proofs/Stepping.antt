@@ -15,8 +15,8 @@ use Rattle.model_base.specs.Outcomes.{World, at_place, body, changed, creator, d
 use Rattle.model_base.specs.Privileges.{place_of}
 use Rattle.model_base.specs.References.{deed_tables}
 use Rattle.model_base.proofs.Growth.{deed_of-place}
-use Rattle.grants.specs.Book.{Entries, IsLater, ShowsBook, owners_of, table_of_deed, with_table}
-use Rattle.grants.specs.declared.book.Creation.{Creation}
+use Rattle.grants_base.specs.Book.{Entries, IsLater, ShowsBook, owners_of, table_of_deed, with_table}
+use Rattle.grants_base.specs.declared.entries.Creation.{Creation}
 use Rattle.own_words.specs.Words.{creates}
 use Rattle.taking.proofs.CellsTold.{took, world-next}
 use Rattle.standing.specs.Known.{AreKnown, AreKnownFrom, IsKnown}

@@ -1,15 +1,13 @@
 //! The accesses of a RUN.
 ghost use Rattle.std.specs.Prelude.{MatchBool, ◌≡◌, ◌∷◌, ◌++◌, ◌≤◌, [], vec_len, None, Some, IfOk, IfErr, codes, map};
 ghost use Rattle.std.specs.List.{AllByRecursion};
-ghost use Rattle.log_text.specs.Words.{first_word};
-ghost use Rattle.log_text.specs.Access.{access_word, IsAccess};
-ghost use Rattle.log_text.specs.Faults.{IsFault};
+ghost use Rattle.line_words.specs.Words.{first_word};
+ghost use Rattle.line_words.specs.Access.{access_word, IsAccess};
+ghost use Rattle.line_words.specs.Faults.{IsFault};
 ghost use Rattle.log_text.specs.Fault.{OfAccess, OfNext, misfit, fault_from};
 ghost use Rattle.log_text.specs.Parsing.{fault_behind};
 
-use crate::access::{RawAccess, access_of};
-use crate::fault::LineFault;
-use crate::word_list::Words;
+use line_words::{LineFault, RawAccess, Words, access_of};
 use model_base::MOST_ACCESSES;
 
 /// For so many accesses a statement has room at first.

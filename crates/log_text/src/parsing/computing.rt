@@ -6,9 +6,8 @@ ghost use Rattle.log_text.specs.Parsing.{TakesStep, fault_behind, step_word};
 ghost use Rattle.log_text.specs.declared.step_name.StepName.TheVariants.{Const, Compute, Check, Skip, Out};
 
 use super::places::{bar_or_end, number, register, whole_number};
-use crate::fault::LineFault;
 use crate::statement::RawStep;
-use crate::word_list::Words;
+use line_words::{LineFault, Words};
 use model_base::Operation;
 
 /// What stands behind CONST, up to the next step or the end.

@@ -4,9 +4,8 @@ ghost use Rattle.log_text.specs.Statement.{deed_words, option_words, IsDeed};
 ghost use Rattle.log_text.specs.Fault.{OfOption, expected_in_deed, expected_in_grant, expected_in_revoke, fault_from, is_deed};
 
 use super::places::{end, kind, name};
-use crate::fault::LineFault;
 use crate::statement::RawDeed;
-use crate::word_list::Words;
+use line_words::{LineFault, Words};
 
 /// Takes the word OPTION, or finds the end.
 fn option_or_end(words: &mut Words<'_>) -> Result<bool, LineFault>

@@ -1,17 +1,16 @@
 //! What a statement asks for.
 ghost use Rattle.std.specs.Prelude.{◌≡◌, ◌∷◌, [], Some, IfOk, IfErr, codes};
 ghost use Rattle.log_text.specs.Statement.{form_words, IsFormInGrammar};
-ghost use Rattle.log_text.specs.Faults.{IsFault};
+ghost use Rattle.line_words.specs.Faults.{IsFault};
 ghost use Rattle.log_text.specs.Fault.{OfName, OfPlain, OfForm, OfAccess, OfNext, fault_from};
 
 use super::accesses::accesses;
 use super::deeds::{begins_deed, deed};
 use super::places::{end, name, number};
 use super::steps::steps;
-use crate::fault::LineFault;
 use crate::raw_room::RawRoom;
 use crate::statement::RawForm;
-use crate::word_list::Words;
+use line_words::{LineFault, Words};
 use model_base::Items;
 use std::alloc::Global;
 use std::mem;

@@ -2,15 +2,15 @@
 ghost use Rattle.std.specs.Prelude.{◌≡◌, ◌≢◌, List, ℕ, None, Some, MatchResult, IfOk, IfErr, OnOk};
 ghost use Rattle.std.specs.List.{list_all};
 ghost use Rattle.log_text.specs.Statement.{Sentence, Reads};
-ghost use Rattle.log_text.specs.Faults.{IsFault};
-ghost use Rattle.log_text.specs.Fault.{is_printable, line_fault};
+ghost use Rattle.line_words.specs.Faults.{IsFault};
+ghost use Rattle.log_text.specs.Fault.{line_fault};
+ghost use Rattle.line_words.specs.Words.{is_printable};
 
 use super::form::form;
 use super::places::name;
-use crate::fault::LineFault;
 use crate::raw_room::RawRoom;
 use crate::statement::RawStatement;
-use crate::word_list::Words;
+use line_words::{LineFault, Words};
 use log_text_base::MOST_LINE_BYTES;
 use std::alloc::Global;
 

@@ -1,16 +1,13 @@
 //! What stands in one place of a line: a name, a number, a register, a row, a kind, a bar.
 ghost use Rattle.std.specs.Prelude.{MatchBool, ◌≡◌, ◌∷◌, ◌<◌, ◌^◌, [], Some, None, List, ℕ, IfOk, IfErr, IsTrue, OnOk, codes};
 ghost use Rattle.std.specs.Fmt.{decimal, signed_decimal};
-ghost use Rattle.log_text.specs.Words.{is_name, plain, signed_of, first_word};
+ghost use Rattle.line_words.specs.Words.{is_name, plain, signed_of, first_word};
 ghost use Rattle.log_text.specs.Statement.{kind_word, row_word, IsRowNumber};
 ghost use Rattle.log_text.specs.Fault.{OfName, OfPlain, OfWhole, OfRegister, OfRow, OfKind, OfBar, misfit, fault_from};
 ghost use Rattle.model_base.specs.Body.{fits_64_bits};
 
-use crate::fault::LineFault;
 use crate::kind::kind_of;
-use crate::name::Name;
-use crate::number::{plain_value, whole_value};
-use crate::word_list::Words;
+use line_words::{LineFault, Name, Words, plain_value, whole_value};
 use model_base::{Kind, MOST_REGISTERS, Register, RowName};
 
 /// Takes a name.
@@ -25,7 +22,7 @@ pub(crate) fn name<'a>(words: &mut Words<'a>) -> Result<Name<'a>, LineFault>
 }
 
 /// Takes a plain number.
-#[tactic(auto, using(crate::proofs::Plain::plain_some, crate::proofs::Plain::plain_of_decimal, crate::proofs::Plain::plain_empty))]
+#[tactic(auto, using(line_words::proofs::Plain::plain_some, line_words::proofs::Plain::plain_of_decimal, line_words::proofs::Plain::plain_empty))]
 pub(crate) fn number(words: &mut Words<'_>) -> Result<u32, LineFault>
     ensures ok { IfOk result (λ n. (words.old ≡ decimal n ∷ words.new) × (n < 2 ^ 32) × (plain (decimal n) ≡ Some n)) }
     ensures fault { IfErr result (λ f. misfit OfPlain (first_word words.old) ≡ Some f) }
@@ -37,7 +34,7 @@ pub(crate) fn number(words: &mut Words<'_>) -> Result<u32, LineFault>
 }
 
 /// Takes a whole number.
-#[tactic(auto, using(crate::proofs::Whole::whole_some, crate::proofs::Whole::whole_of_decimal, crate::proofs::Whole::whole_missing))]
+#[tactic(auto, using(line_words::proofs::Whole::whole_some, line_words::proofs::Whole::whole_of_decimal, crate::proofs::Missing::whole_missing))]
 pub(crate) fn whole_number(words: &mut Words<'_>) -> Result<i64, LineFault>
     ensures ok { IfOk result (λ z. (words.old ≡ signed_decimal z ∷ words.new) × IsTrue (fits_64_bits z)
         × (signed_of (signed_decimal z) ≡ Some z)) }
@@ -50,7 +47,7 @@ pub(crate) fn whole_number(words: &mut Words<'_>) -> Result<i64, LineFault>
 }
 
 /// The register that a word spells.
-#[tactic(auto, using(crate::proofs::Plain::plain_some))]
+#[tactic(auto, using(line_words::proofs::Plain::plain_some))]
 pub(crate) fn register_of(word: &[u8]) -> Result<Register, LineFault>
     ensures ok { IfOk result (λ n. (word.now ≡ decimal n) × (n < MOST_REGISTERS)) }
     ensures fault { IfErr result (λ f. misfit OfRegister word.now ≡ Some f) }
@@ -66,7 +63,7 @@ pub(crate) fn register_of(word: &[u8]) -> Result<Register, LineFault>
 }
 
 /// Takes a register.
-#[tactic(auto, using(crate::proofs::Plain::plain_empty))]
+#[tactic(auto, using(line_words::proofs::Plain::plain_empty))]
 pub(crate) fn register(words: &mut Words<'_>) -> Result<Register, LineFault>
     ensures ok { IfOk result (λ n. (words.old ≡ decimal n ∷ words.new) × (n < MOST_REGISTERS) × (misfit OfRegister (decimal n) ≡ None)) }
     ensures fault { IfErr result (λ f. misfit OfRegister (first_word words.old) ≡ Some f) }
@@ -78,7 +75,7 @@ pub(crate) fn register(words: &mut Words<'_>) -> Result<Register, LineFault>
 }
 
 /// Takes a row.
-#[tactic(auto, using(crate::proofs::Plain::plain_empty, crate::proofs::Plain::plain_some, crate::proofs::Rows::row_fits))]
+#[tactic(auto, using(line_words::proofs::Plain::plain_empty, line_words::proofs::Plain::plain_some, crate::proofs::Rows::row_fits))]
 #[inline(always)]
 pub(crate) fn row(words: &mut Words<'_>) -> Result<RowName, LineFault>
     ensures ok { IfOk result (λ r. (words.old ≡ row_word r ∷ words.new) × IsRowNumber r × (misfit OfRow (row_word r) ≡ None)) }

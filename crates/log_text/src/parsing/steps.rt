@@ -2,17 +2,16 @@
 ghost use Rattle.std.specs.Prelude.{◌≡◌, ◌∷◌, ◌+◌, ◌≤◌, ◌<◌, [], vec_len, Some, None, false, IfOk, IfErr, codes};
 ghost use Rattle.std.specs.List.{AllByRecursion, sum_by};
 ghost use Rattle.log_text.specs.Statement.{body_words, IsLastDeed, IsStep, outs_of};
-ghost use Rattle.log_text.specs.Faults.{IsFault};
+ghost use Rattle.line_words.specs.Faults.{IsFault};
 ghost use Rattle.log_text.specs.Fault.{OfStep, step_fault, step_name, fault_from, is_deed};
 ghost use Rattle.log_text.specs.Parsing.{TakesStep, fault_behind, step_word};
 
 use super::computing::{check, compute, constant, out, skip};
 use super::deeds::{begins_deed, deed};
 use super::touching::{delete, has, insert, load, store};
-use crate::fault::LineFault;
 use crate::statement::{RawDeed, RawStep};
 use crate::step_name::StepName;
-use crate::word_list::Words;
+use line_words::{LineFault, Words};
 use model_base::{MOST_OUTPUTS, MOST_STEPS};
 use std::alloc::Global;
 

@@ -1,18 +1,16 @@
 //! The steps that touch a row.
 ghost use Rattle.std.specs.Prelude.{◌≡◌, ◌∷◌, ◌+◌, ◌<◌, vec_len, Some, List, ℕ, IfOk, IfErr, IsTrue, ◌^◌};
 ghost use Rattle.std.specs.Fmt.{decimal};
-ghost use Rattle.log_text.specs.Words.{is_name};
+ghost use Rattle.line_words.specs.Words.{is_name};
 ghost use Rattle.log_text.specs.Statement.{row_word, IsStep, IsRowNumber, outs_of};
-ghost use Rattle.log_text.specs.Faults.{IsFault};
+ghost use Rattle.line_words.specs.Faults.{IsFault};
 ghost use Rattle.log_text.specs.Fault.{Expected, OfName, OfRow, OfPlain, expected_in, fault_from};
 ghost use Rattle.log_text.specs.Parsing.{AreInsertable, FailAsRegisters, FitAsRegisters, TakesStep, TakesRegisters, fault_behind, step_word};
 ghost use Rattle.log_text.specs.declared.step_name.StepName.TheVariants.{Has, Load, Store, Insert, Delete};
 
 use super::places::{bar_or_end, name, number, register, register_of, row};
-use crate::fault::LineFault;
-use crate::name::Name;
 use crate::statement::RawStep;
-use crate::word_list::Words;
+use line_words::{LineFault, Name, Words};
 use model_base::{Items, MOST_COLUMNS, Register, RowName};
 use std::alloc::Global;
 

@@ -2,7 +2,7 @@ use Rattle.std.proofs.Common.{◌≡◌, not, true, false, sym, ◌∙◌, ap}
 use Rattle.std.specs.Prelude.{is_some}
 use Rattle.std.specs.List.{flat_map}
 use Rattle.model_base.specs.Outcomes.{needs_of_access, needs_of_deed}
-use Rattle.grants.specs.View.{View}
+use Rattle.grants_base.specs.View.{View}
 use Rattle.checker.specs.Missing.{first_lack}
 use Rattle.checker.proofs.MissingLaws.{lack-left, lack-right}
 use Rattle.checker.proofs.missing.first_lack.Goals as goal

@@ -2,7 +2,7 @@ use Rattle.std.proofs.Common.{◌≡◌, ◌<◌, ◌≤◌, List, Some, ap, ari
 use Rattle.std.specs.Prelude.{All, Decides, slice_get}
 use Rattle.model_base.specs.declared.deed.Need.{Need}
 use Rattle.model_base.specs.Outcomes.{deeds_before, needs, owners}
-use Rattle.grants.specs.Book.{Entries, ShowsBook}
+use Rattle.grants_base.specs.Book.{Entries, ShowsBook}
 use Rattle.grant_paths.specs.declared.line.Line.{Line}
 use Rattle.sequencer.specs.Log.{Accepted}
 use Rattle.engine.specs.Engine.{finished}

@@ -3,7 +3,7 @@ use Rattle.std.specs.Prelude.{All}
 use Rattle.model_base.specs.declared.deed.Deed.{Deed}
 use Rattle.model_base.specs.declared.deed.Need.{Need}
 use Rattle.model_base.specs.Outcomes.{needs}
-use Rattle.grants.specs.Book.{ShowsBook}
+use Rattle.grants_base.specs.Book.{ShowsBook}
 use Rattle.explain_base.specs.Explained.{AreSound}
 use Rattle.explain.proofs.checking.explain_all.Given as goal
 

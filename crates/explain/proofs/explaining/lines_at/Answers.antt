@@ -6,7 +6,7 @@ use Rattle.model_base.specs.declared.deed.Deed.{Deed}
 use Rattle.model_base.specs.declared.deed.Need.{Need}
 use Rattle.model_base.specs.Outcomes.{deeds_before, needs, owners}
 use Rattle.grant_paths.specs.declared.line.Line.{Line}
-use Rattle.grants.specs.Book.{Entries, ShowsBook}
+use Rattle.grants_base.specs.Book.{Entries, ShowsBook}
 use Rattle.sequencer.specs.Log.{Accepted}
 use Rattle.sequencer.specs.Taken.{IsWhole}
 use Rattle.engine.specs.Engine.{finished}

@@ -1,6 +1,6 @@
 use Rattle.std.proofs.Common.{◌≤◌, ℕ, List, drop, length}
 use Rattle.model_base.specs.declared.deed.Deed.{Deed}
-use Rattle.grants.specs.Book.{ShowsBook}
+use Rattle.grants_base.specs.Book.{ShowsBook}
 use Rattle.explain_base.specs.Explained.{AreSound}
 use Rattle.explain_base.proofs.checked.are_sound.Given as goal
 

@@ -1,6 +1,6 @@
 use Rattle.std.proofs.Common.{◌≡◌, ◌++◌, ℕ, List, drop}
 use Rattle.model_base.specs.declared.deed.Deed.{Deed}
-use Rattle.grants.specs.Book.{ShowsBook}
+use Rattle.grants_base.specs.Book.{ShowsBook}
 use Rattle.explain_base.specs.Explained.{explaining_lines}
 use Rattle.explain_base.proofs.explained.explain_needs.Given as goal
 

@@ -2,7 +2,7 @@ use Rattle.std.proofs.Common.{ltb, length, sym, ◌∙◌, arith, rules}
 use Rattle.std.proofs.lemmas.List.Sorted.{IsPartitionPoint-from_clause, IsPartitionedBy-ltb}
 use Rattle.std.proofs.lemmas.Option.{slice_get_read}
 use Rattle.model_base.specs.declared.deed.Record.{Record}
-use Rattle.grants.proofs.Lookups.{records_rise, told_above, told_below}
+use Rattle.grants_base.proofs.Lookups.{records_rise, told_above, told_below}
 use Rattle.grant_paths.proofs.Standing.{grant_at-ended, grant_at-found, grant_at-other, grant_at-past}
 use Rattle.grant_paths.proofs.chains.grant_at.Goals as goal
 use Rattle.grant_paths.proofs.chains.grant_at.Goals.{then-slot-records+else-record-made, else-record-made-via-then-record-made+else-is_in_force, else-record-made-via-else-record-made, else-slot-records}

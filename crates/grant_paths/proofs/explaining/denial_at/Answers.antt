@@ -1,6 +1,6 @@
 use Rattle.model_base.specs.Records.{deeds_below}
-use Rattle.grants.specs.Book.{view_of}
-use Rattle.grants.specs.View.{ShowsDeeds}
+use Rattle.grants_base.specs.Book.{view_of}
+use Rattle.grants_base.specs.View.{ShowsDeeds}
 use Rattle.grant_paths.proofs.explaining.denial_at.Goals as goal
 
 pub returns : goal.returns

@@ -1,7 +1,7 @@
 use Rattle.std.proofs.Common.{◌≡◌, ◌≤◌, false, None, Some, sym, ◌∙◌, ap, subst, arith, inl, inr}
 use Rattle.std.proofs.lemmas.Bool.{cases_lt}
-use Rattle.grants.specs.Index.{AreAsked}
-use Rattle.grants.specs.View.{View, slot_at, slot_gives}
+use Rattle.grants_base.specs.Index.{AreAsked}
+use Rattle.grants_base.specs.View.{View, slot_at, slot_gives}
 use Rattle.grant_paths.specs.Steps.{giving_in}
 use Rattle.grant_paths.proofs.Searching.{none_below, none_giving}
 use Rattle.grant_paths.proofs.paths.first_giving.Goals as goal

@@ -1,5 +1,5 @@
 use Rattle.std.proofs.Common.{◌-◌, ◌≡◌, ◌<◌, ℕ, false}
-use Rattle.grants.specs.View.{slot_at, slot_gives}
+use Rattle.grants_base.specs.View.{slot_at, slot_gives}
 use Rattle.grant_paths.proofs.paths.first_giving.Given as goal
 
 -- no slot so far gives what is needed

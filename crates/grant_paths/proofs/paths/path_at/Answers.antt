@@ -1,9 +1,9 @@
 use Rattle.std.proofs.Common.{◌≡◌, ◌∙◌, ap, sym, refl}
 use Rattle.std.specs.Prelude.{slice_get}
-use Rattle.grants.specs.Book.{Entries, owners_of, view_of}
+use Rattle.grants_base.specs.Book.{Entries, owners_of, view_of}
 use Rattle.model_base.specs.Paths.{path}
 use Rattle.model_base.specs.Records.{in_force}
-use Rattle.grants.specs.View.{View, entries}
+use Rattle.grants_base.specs.View.{View, entries}
 use Rattle.grant_paths.specs.Lines.{made_places}
 use Rattle.grant_paths.proofs.Showing.{owner_at, path_shown}
 use Rattle.grant_paths.proofs.paths.path_at.Goals as goal

@@ -5,17 +5,17 @@ use Rattle.std.proofs.lemmas.List.Elements.{All-push, All-weaker}
 use Rattle.model_base.specs.declared.deed.Grant.{Grant}
 use Rattle.model_base.specs.declared.deed.Record.{Record}
 use Rattle.model_base.specs.Privileges.{option_of}
-use Rattle.grants.specs.View.{has_by, holds_in}
+use Rattle.grants_base.specs.View.{has_by, holds_in}
 use Rattle.model_base.specs.Records.{ended_at}
-use Rattle.grants.specs.Book.{Entries, IsLater, IsSoundBook, end_slot, owners_of, unended, view_of, with_grant, with_table}
-use Rattle.grants.specs.declared.book.Creation.{Creation}
-use Rattle.grants.specs.declared.book.End.{End}
+use Rattle.grants_base.specs.Book.{Entries, IsLater, IsSoundBook, end_slot, owners_of, unended, view_of, with_grant, with_table}
+use Rattle.grants_base.specs.declared.entries.Creation.{Creation}
+use Rattle.grants_base.specs.declared.entries.End.{End}
 use Rattle.grants.proofs.BookLaws.{sound_table}
 use Rattle.grants.proofs.EndedLaws.{IsOpen, ends_open}
 use Rattle.grants.proofs.GrantLaws.{sound_grant}
 use Rattle.grants.proofs.LaterLaws.{later_grant}
-use Rattle.grants.proofs.Lookups.{ended_none}
-use Rattle.grants.proofs.RevokeLaws.{sound_revoke}
+use Rattle.grants_base.proofs.Lookups.{ended_none}
+use Rattle.grants_base.proofs.RevokeLaws.{sound_revoke}
 use Rattle.grant_trials.proofs.refused.extended.Goals as goal
 
 -- the owner of the last table

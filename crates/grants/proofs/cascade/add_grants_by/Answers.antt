@@ -1,9 +1,9 @@
 use Rattle.std.proofs.Common.{◌≡◌, ◌<◌, length, sym, ◌∙◌, subst, arith, inl, inr, eq-eqb}
 use Rattle.std.specs.Prelude.{◌==◌}
 use Rattle.std.proofs.lemmas.Bool.{cases_lt, eqb-true, or_cases, or_right}
-use Rattle.grants.specs.Index.{AreAsked, is_by}
-use Rattle.grants.specs.Pass.{is_one_of}
-use Rattle.grants.specs.View.{View}
+use Rattle.grants_base.specs.Index.{AreAsked, is_by}
+use Rattle.grants_base.specs.Index.{is_one_of}
+use Rattle.grants_base.specs.View.{View}
 use Rattle.grants.proofs.Worklist.{one_more}
 use Rattle.grants.proofs.Asked.{by-skipped, found_within, nothing_past, or_first}
 use Rattle.grants.proofs.cascade.add_grants_by.Goals as goal

@@ -5,9 +5,10 @@ use Rattle.std.proofs.lemmas.List.{append-nil}
 use Rattle.std.proofs.Math.ListN.{drop_of_length-le}
 use Rattle.grants.specs.Pass.{cascade, concerned_grants}
 use Rattle.grants.specs.Work.{AllPassed, AreDue, AreEnds, AreWalked, keepers, slots_of}
-use Rattle.grants.specs.View.{ShowsDeeds, View}
+use Rattle.grants_base.specs.View.{ShowsDeeds, View}
 use Rattle.grants.proofs.SlotLaws.{pass_ends}
-use Rattle.grants.proofs.Worklist.{IsFirstDue, ends_from, first_due, none_due, nothing, over_free, walked_rest}
+use Rattle.grants.proofs.Worklist.{IsFirstDue, ends_from, first_due, none_due, over_free, walked_rest}
+use Rattle.grants_base.proofs.Walks.{nothing}
 use Rattle.grants.proofs.Borne.{shows_borne}
 use Rattle.grants.proofs.cascade.cascade.Goals as goal
 

@@ -1,9 +1,9 @@
 use Rattle.std.proofs.Common.{◌≡◌, ◌≤◌, ◌&&◌, not, false, sym, ◌∙◌, ap, subst, arith, inl, inr}
 use Rattle.std.proofs.lemmas.Bool.{cases_lt}
-use Rattle.grants.specs.Index.{AreAsked}
-use Rattle.grants.specs.Pass.{is_one_of}
+use Rattle.grants_base.specs.Index.{AreAsked}
+use Rattle.grants_base.specs.Index.{is_one_of}
 use Rattle.grants.specs.Work.{bears, slots_of}
-use Rattle.grants.specs.View.{View, slot_at}
+use Rattle.grants_base.specs.View.{View, slot_at}
 use Rattle.grants.proofs.Asked.{none_until, stood}
 use Rattle.grants.proofs.cascade.first_bearer.Goals as goal
 

@@ -1,12 +1,14 @@
 use Rattle.std.proofs.Common.{◌≡◌, ◌<◌, ◌≤◌, ◌++◌, Some, length, true, false, refl, sym, ◌∙◌, ap, subst, arith, inl}
 use Rattle.std.specs.Prelude.{◌⊎◌}
 use Rattle.std.proofs.lemmas.Bool.{true≢false}
-use Rattle.grants.specs.Pass.{concerned, is_one_of, outlasts}
+use Rattle.grants.specs.Pass.{concerned, outlasts}
+use Rattle.grants_base.specs.Index.{is_one_of}
 use Rattle.grants.specs.Work.{AllPassed, AreWalked, keepers, slots_of}
-use Rattle.grants.specs.View.{View, slot_at}
+use Rattle.grants_base.specs.View.{View, slot_at}
 use Rattle.grants.proofs.Asking.{passed_ended, walked_same}
 use Rattle.grants.proofs.EndedLaws.{are_more, end_more}
-use Rattle.grants.proofs.Worklist.{due_more, nothing, over_none, over_staying, unended_at, whole_ending}
+use Rattle.grants.proofs.Worklist.{due_more, over_none, over_staying, unended_at, whole_ending}
+use Rattle.grants_base.proofs.Walks.{nothing}
 use Rattle.grants.proofs.cascade.judge.Goals as goal
 
 pub returns-in_default-clause-whole : goal.returns-in_default-clause-whole

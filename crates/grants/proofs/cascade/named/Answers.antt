@@ -3,9 +3,10 @@ use Rattle.std.specs.Prelude.{◌==◌}
 use Rattle.std.specs.Option.{option_map_or}
 use Rattle.std.proofs.lemmas.Bool.{true≢false, cases_lt, eqb-true, or_cases, or_right}
 use Rattle.model_base.specs.Privileges.{names}
-use Rattle.grants.specs.Index.{AreAsked}
-use Rattle.grants.specs.Pass.{concerned, is_one_of}
-use Rattle.grants.specs.View.{View, slot_at}
+use Rattle.grants_base.specs.Index.{AreAsked}
+use Rattle.grants.specs.Pass.{concerned}
+use Rattle.grants_base.specs.Index.{is_one_of}
+use Rattle.grants_base.specs.View.{View, slot_at}
 use Rattle.grants.proofs.Worklist.{one_more}
 use Rattle.grants.proofs.Asked.{HaveNamed, named_step, named-skipped, nothing_past, or_first}
 use Rattle.grants.proofs.cascade.named.Goals as goal

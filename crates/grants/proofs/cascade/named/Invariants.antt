@@ -1,8 +1,9 @@
 use Rattle.std.proofs.Common.{◌-◌, ◌≡◌, ◌<◌, ℕ, Some, length, true}
 use Rattle.model_base.specs.declared.deed.Grant.{Grant}
 use Rattle.model_base.specs.Privileges.{names}
-use Rattle.grants.specs.Pass.{concerned, is_one_of}
-use Rattle.grants.specs.View.{slot_at}
+use Rattle.grants.specs.Pass.{concerned}
+use Rattle.grants_base.specs.Index.{is_one_of}
+use Rattle.grants_base.specs.View.{slot_at}
 use Rattle.grants.proofs.cascade.named.Given as goal
 
 -- the slots so far that the revocation names are due

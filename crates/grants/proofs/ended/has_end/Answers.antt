@@ -1,6 +1,6 @@
 use Rattle.std.proofs.Common.{ltb, rules, ◌∙◌}
 use Rattle.std.proofs.lemmas.List.Sorted.{IsPartitionPoint-from_clause, IsPartitionedBy-ltb}
-use Rattle.grants.specs.declared.book.End.{End}
+use Rattle.grants_base.specs.declared.entries.End.{End}
 use Rattle.grants.proofs.EndedLaws.{ends_in_order, found_slot}
 use Rattle.grants.proofs.ended.has_end.Goals as goal
 

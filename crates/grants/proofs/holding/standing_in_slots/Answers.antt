@@ -2,9 +2,9 @@ use Rattle.std.proofs.Common.{◌≡◌, ◌<◌, ◌≤◌, ◌+◌, [], length
 use Rattle.std.specs.List.{flat_map, list_any}
 use Rattle.std.specs.Option.{option_to_list}
 use Rattle.std.proofs.Math.ListN.{drop_of_length-le}
-use Rattle.grants.specs.Index.{AreAsked, is_to}
+use Rattle.grants_base.specs.Index.{AreAsked, is_to}
 use Rattle.grants.specs.Loss.{last_end, later_of, slot_loss}
-use Rattle.grants.specs.View.{View, entries, slot_at, slot_gives}
+use Rattle.grants_base.specs.View.{View, entries, slot_at, slot_gives}
 use Rattle.grants.proofs.Asked.{found_within}
 use Rattle.grants.proofs.Found.{any_idle, any_none, idle, last_idle, last_none}
 use Rattle.grants.proofs.LossLaws.{last_from, later-assoc, later-none}

@@ -1,5 +1,5 @@
 use Rattle.std.proofs.Common.{◌≡◌, ◌++◌, map, take}
-use Rattle.log_text.specs.Access.{access_word}
+use Rattle.line_words.specs.Access.{access_word}
 use Rattle.std.specs.Prelude.{string_bytes}
 use Rattle.log_text.specs.Parsing.{spaced}
 use Rattle.log_text.proofs.printing.push_accesses.Given as goal

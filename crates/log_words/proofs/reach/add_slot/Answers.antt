@@ -2,7 +2,7 @@ use Rattle.std.proofs.Common.{◌≡◌, ◌&&◌, ◌||◌, Bool, true, sym, ap
 use Rattle.std.specs.Prelude.{◌==◌, is_none}
 use Rattle.log_batch.specs.Supplied.{batch_in}
 use Rattle.log_words.specs.Listing.{is_open}
-use Rattle.grants.specs.Pass.{is_one_of}
+use Rattle.grants_base.specs.Index.{is_one_of}
 use Rattle.log_words.proofs.Listed.{none-told}
 use Rattle.log_words.proofs.Reaching.{one_more}
 use Rattle.log_words.proofs.reach.add_slot.Goals as goal

@@ -5,7 +5,7 @@ use Rattle.model_base.specs.declared.deed.Deed.{Deed}
 use Rattle.model_base.specs.declared.statement.Statement.{Statement}
 use Rattle.model_base.specs.Outcomes.{deed_of, deeds_before, owners}
 use Rattle.model_base.specs.References.{tables_of}
-use Rattle.grants.specs.View.{ShowsDeeds}
+use Rattle.grants_base.specs.View.{ShowsDeeds}
 use Rattle.answering.specs.Answering.{ended_by_deed}
 use Rattle.bohm_core_base.specs.Batch.{Batch}
 use Rattle.reading.specs.Seen.{seen_at, seen_view}

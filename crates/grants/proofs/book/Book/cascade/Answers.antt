@@ -1,8 +1,8 @@
 use Rattle.std.proofs.Common.{sym, subst, ℕ, List}
 use Rattle.model_base.specs.declared.deed.Deed.{Deed}
 use Rattle.model_base.proofs.Cuts.{deeds_below-whole}
-use Rattle.grants.specs.Book.{Entries, view_of}
-use Rattle.grants.specs.View.{ShowsDeeds}
+use Rattle.grants_base.specs.Book.{Entries, view_of}
+use Rattle.grants_base.specs.View.{ShowsDeeds}
 use Rattle.grants.specs.Work.{AreEnds}
 use Rattle.grants.proofs.EndedLaws.{ends_all, ends_within}
 use Rattle.grants.proofs.book.Book.cascade.Goals as goal

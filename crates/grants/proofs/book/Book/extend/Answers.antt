@@ -1,6 +1,6 @@
 use Rattle.std.proofs.Common.{◌++◌, List, sym, ◌∙◌, ap, subst}
-use Rattle.grants.specs.Book.{Entries, ShowsBook}
-use Rattle.grants.specs.declared.book.Creation.{Creation}
+use Rattle.grants_base.specs.Book.{Entries, ShowsBook}
+use Rattle.grants_base.specs.declared.entries.Creation.{Creation}
 use Rattle.grants.proofs.ExtendLaws.{extended_now, shows_extended}
 use Rattle.grants.proofs.book.Book.extend.Goals as goal
 

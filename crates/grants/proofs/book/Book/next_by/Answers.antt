@@ -1,7 +1,7 @@
 use Rattle.std.proofs.Common.{subst}
 use Rattle.model_base.specs.Records.{recorded}
-use Rattle.grants.specs.Book.{Entries}
-use Rattle.grants.specs.Index.{IsNext, is_by}
+use Rattle.grants_base.specs.Book.{Entries}
+use Rattle.grants_base.specs.Index.{IsNext, is_by}
 use Rattle.grants.proofs.book.Book.next_by.Goals as goal
 
 pub returns : goal.returns

@@ -1,8 +1,8 @@
 use Rattle.std.proofs.Common.{List, sym, ◌∙◌, ap, subst}
-use Rattle.grants.specs.Pass.{is_one_of}
-use Rattle.grants.specs.Sides.{AreAscending}
+use Rattle.grants_base.specs.Index.{is_one_of}
+use Rattle.grants_base.specs.Sides.{AreAscending}
 use Rattle.grants.specs.Work.{Ends, slots_of}
-use Rattle.grants.specs.declared.book.End.{End}
+use Rattle.grants_base.specs.declared.entries.End.{End}
 use Rattle.grants.proofs.EndedLaws.{ascending_more}
 use Rattle.grants.proofs.ended.Ended.push.Goals as goal
 

@@ -1,8 +1,8 @@
 use Rattle.std.proofs.Common.{List, ap, ◌∙◌, subst}
 use Rattle.model_base.specs.declared.deed.Grant.{Grant}
 use Rattle.model_base.specs.Records.{recorded}
-use Rattle.grants.specs.Book.{Entries}
-use Rattle.grants.specs.Index.{IsNext, is_by}
+use Rattle.grants_base.specs.Book.{Entries}
+use Rattle.grants_base.specs.Index.{IsNext, is_by}
 use Rattle.log_batch.specs.Earlier.{earlier_grants}
 use Rattle.log_batch.specs.Supplied.{Ranged, batch_in, range_of}
 use Rattle.log_batch.proofs.Earlier.{book-earlier}

@@ -1,5 +1,5 @@
 use Rattle.std.proofs.Common.{◌-◌, ◌+◌, ℕ, Option, None, Some, ap, sym, subst, ◌∙◌}
-use Rattle.grants.specs.Index.{IsNext, is_to}
+use Rattle.grants_base.specs.Index.{IsNext, is_to}
 use Rattle.bohm_core_base.specs.Batch.{batch_slots}
 use Rattle.log_batch.specs.Earlier.{earlier_count, earlier_grants, own_grants}
 use Rattle.log_batch.specs.Supplied.{batch_in}

@@ -1,6 +1,6 @@
 use Rattle.std.proofs.Common.{List, subst}
 use Rattle.model_base.specs.declared.deed.Grant.{Grant}
-use Rattle.grants.specs.Index.{IsNext, is_to}
+use Rattle.grants_base.specs.Index.{IsNext, is_to}
 use Rattle.log_batch.specs.Earlier.{own_grants}
 use Rattle.log_batch.specs.Supplied.{Ranged, batch_in, range_of}
 use Rattle.log_batch.proofs.Earlier.{book-behind}

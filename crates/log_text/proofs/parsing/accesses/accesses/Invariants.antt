@@ -1,6 +1,6 @@
 use Rattle.std.proofs.Common.{◌≡◌, ◌≤◌, vec_len, length, map, [], ◌∷◌, ◌++◌}
 use Rattle.std.specs.List.{AllByRecursion}
-use Rattle.log_text.specs.Access.{access_word, IsAccess}
+use Rattle.line_words.specs.Access.{access_word, IsAccess}
 use Rattle.log_text.specs.Fault.{OfAccess, OfNext, fault_from}
 use Rattle.log_text.proofs.parsing.accesses.accesses.Given as goal
 

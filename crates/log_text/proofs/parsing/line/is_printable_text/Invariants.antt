@@ -1,6 +1,6 @@
 use Rattle.std.proofs.Common.{◌≡◌, take}
 use Rattle.std.specs.List.{list_all}
-use Rattle.log_text.specs.Fault.{is_printable}
+use Rattle.line_words.specs.Words.{is_printable}
 use Rattle.log_text.proofs.parsing.line.is_printable_text.Given as goal
 
 abbrev pub invariant-loop-byte : goal.invariant-loop-byte

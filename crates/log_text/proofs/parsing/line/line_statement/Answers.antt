@@ -1,5 +1,5 @@
 use Rattle.std.proofs.Common.{◌≡◌, List, ℕ, ◌∷◌, ap, ◌∙◌, sym, subst}
-use Rattle.log_text.specs.Words.{words}
+use Rattle.line_words.specs.Words.{words}
 use Rattle.log_text.specs.Statement.{Reads, form_words}
 use Rattle.log_text.proofs.Grammar.{reads}
 use Rattle.log_text.proofs.parsing.line.line_statement.Goals as goal

@@ -1,7 +1,7 @@
 use Rattle.std.proofs.Common.{ap, ◌∙◌}
-use Rattle.log_text.specs.Words.{first_word}
+use Rattle.line_words.specs.Words.{first_word}
 use Rattle.log_text.specs.Fault.{misfit, OfWhole}
-use Rattle.log_text.proofs.Whole.{whole_missing}
+use Rattle.log_text.proofs.Missing.{whole_missing}
 use Rattle.log_text.proofs.parsing.places.whole_number.Goals as goal
 
 pub returns-in-None-clause-fault : goal.returns-in-None-clause-fault

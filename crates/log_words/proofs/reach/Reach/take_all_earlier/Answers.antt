@@ -6,7 +6,7 @@ use Rattle.log_batch.specs.Supplied.{batch_in}
 use Rattle.log_words.specs.Listing.{is_reached}
 use Rattle.log_words.proofs.Reaching.{IsFirst, first-due, none-due, skip}
 use Rattle.log_words.proofs.reach.Reach.take_all_earlier.Goals as goal
-use Rattle.grants.proofs.Worklist.{nothing}
+use Rattle.grants_base.proofs.Walks.{nothing}
 use Rattle.model_base.proofs.Replay.{by_cases}
 
 pub overflow_add-low : goal.overflow_add-low

@@ -1,5 +1,5 @@
 use Rattle.std.proofs.Common.{refl, rules, ◌∙◌, ap}
-use Rattle.grants.specs.Book.{owners_of}
+use Rattle.grants_base.specs.Book.{owners_of}
 use Rattle.plain.proofs.Leading.{admitted_leads, covers_needs, created_leads, creates_none, denied_leads, may_make, shows_whole}
 use Rattle.plain.proofs.plain_state.State.execute.Goals as goal
 

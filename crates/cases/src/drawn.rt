@@ -1,0 +1,101 @@
+//! Drawn logs, whose reports by other runs are compared with that of the plain run.
+
+use crate::case::Drawn;
+use crate::fault::TrialFault;
+use crate::printing::put_part;
+use crate::run::{Run, right_runs};
+use std::alloc::Global;
+use std::rt::Files;
+use std::sync::Wait;
+use std::thread::Threads;
+use trials_base::{Generator, drawn_log};
+
+/// What is counted in the reports: the endings of lines, and lines.
+const ENDINGS: [&str; 12] = [
+    " created\n",
+    " done",
+    " granted\n",
+    " revoked\n",
+    " revoked ",
+    " denied ",
+    " never\n",
+    " taken ",
+    " aborted ",
+    " undeclared ",
+    " refused ",
+    "\n",
+];
+
+/// How often the text has this word.
+fn count_word(text: &[u8], word: &[u8]) -> u32 {
+    let mut found: u32 = 0;
+    for start in 0..text.len() {
+        if text[start..].starts_with(word) {
+            found = found.saturating_add(1);
+        }
+    }
+    found
+}
+
+/// Appends how often the reports have each ending.
+fn put_endings(alloc: Global, outcome: &mut String, reports: &[u8]) -> Result<(), TrialFault> {
+    for ending in ENDINGS {
+        let found = count_word(reports, ending.as_bytes());
+        let part = format!(in alloc; "{found} of {ending:?}")?;
+        put_part(outcome, part.as_str())?;
+    }
+    Ok(())
+}
+
+/// Draws a log that ends with these lines, appends its report by the plain run to those before it, and returns by how many of the runs
+/// it has that.
+fn compare_log<R: Threads + Wait + Sync>(
+    rt: &R,
+    alloc: Global,
+    generator: &mut Generator,
+    case: &Drawn<'_>,
+    last: &[u8],
+    reports: &mut Vec<u8>,
+) -> Result<usize, TrialFault> {
+    let mut log = drawn_log(alloc, generator, case.drawing)?;
+    log.extend_from_slice(last)?;
+    let wanted = Run::Plain.text(rt, alloc, log.as_slice())?;
+    reports.extend_from_slice(wanted.as_slice())?;
+    let runs = case.runs.as_slice();
+    right_runs(rt, alloc, log.as_slice(), runs, wanted.as_slice())
+}
+
+/// The lines with which each drawn log ends.
+fn last_lines<R: Files>(rt: &R, alloc: Global, case: &Drawn<'_>) -> Result<Vec<u8>, TrialFault> {
+    match case.last {
+        Some(log) => log.bytes(rt, alloc),
+        None => Ok(Vec::new(alloc)),
+    }
+}
+
+/// How many runs of drawn logs write the report of the plain run, and how often each ending is in these.
+pub fn drawn_reports<R: Files + Threads + Wait + Sync>(
+    rt: &R,
+    alloc: Global,
+    case: &Drawn<'_>,
+) -> Result<String, TrialFault> {
+    let last = last_lines(rt, alloc, case)?;
+    let mut generator = Generator::new(case.seed);
+    let mut reports = Vec::new(alloc);
+    let mut same: usize = 0;
+    for _ in 0..case.logs {
+        let found = compare_log(
+            rt,
+            alloc,
+            &mut generator,
+            case,
+            last.as_slice(),
+            &mut reports,
+        )?;
+        same = same.saturating_add(found);
+    }
+    let (logs, runs) = (case.logs, case.runs.len());
+    let mut outcome = format!(in alloc; "{logs} logs by {runs} runs, {same} same reports")?;
+    put_endings(alloc, &mut outcome, reports.as_slice())?;
+    Ok(outcome)
+}

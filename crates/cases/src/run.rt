@@ -1,0 +1,91 @@
+//! The runs of a log.
+
+use crate::fault::TrialFault;
+use audit_text::{Question, explain_text, grants_text};
+use batched_text::{Settings, report_text, run_text};
+use bohm_base::{plain_text, serial_text};
+use log_text_base::Counted;
+use model_base::Place;
+use std::alloc::Global;
+use std::io::{Read, Write};
+use std::sync::Wait;
+use std::thread::Threads;
+
+/// What makes a text of a log: its report by one of the runs, or the answer to a question about it.
+#[derive(Clone, Copy)]
+pub enum Run {
+    /// The report, one statement after another.
+    Plain,
+    /// The report, by the definitions.
+    Slow,
+    /// The report in batches, of which nothing is kept.
+    Batches(Settings),
+    /// The report in batches, all of which are kept.
+    Kept(Settings),
+    /// Why a place was admitted or denied.
+    Explain(Question),
+    /// The picture of the grants before a place, or at the end.
+    Picture(Option<Place>),
+}
+
+impl Run {
+    /// Runs a log from its reader to its writer.
+    pub fn execute<T: Threads + Wait + Sync, R: Read, W: Write>(
+        self,
+        rt: &T,
+        alloc: Global,
+        log: &mut Counted<R>,
+        text: &mut Counted<W>,
+    ) -> Result<(), TrialFault> {
+        match self {
+            Run::Plain => plain_text(alloc, log, text)?,
+            Run::Slow => serial_text(alloc, log, text)?,
+            Run::Batches(settings) => report_text(rt, alloc, log, text, &settings)?,
+            Run::Kept(settings) => run_kept(rt, alloc, log, text, &settings)?,
+            Run::Explain(question) => explain_text(rt, alloc, log, text, question)?,
+            Run::Picture(limit) => grants_text(rt, alloc, log, text, limit)?,
+        }
+        Ok(())
+    }
+
+    /// The text that the run writes of a log.
+    pub fn text<T: Threads + Wait + Sync>(
+        self,
+        rt: &T,
+        alloc: Global,
+        log: &[u8],
+    ) -> Result<Vec<u8>, TrialFault> {
+        let mut text = Counted::new(Vec::new(alloc));
+        self.execute(rt, alloc, &mut Counted::new(log), &mut text)?;
+        Ok(text.inner)
+    }
+}
+
+/// Runs a log in batches that are kept.
+fn run_kept<T: Threads + Wait + Sync, R: Read, W: Write>(
+    rt: &T,
+    alloc: Global,
+    log: &mut Counted<R>,
+    text: &mut Counted<W>,
+    settings: &Settings,
+) -> Result<(), TrialFault> {
+    let _engine = run_text(rt, alloc, log, text, settings)?;
+    Ok(())
+}
+
+/// By how many of the runs the log has this text.
+pub fn right_runs<T: Threads + Wait + Sync>(
+    rt: &T,
+    alloc: Global,
+    log: &[u8],
+    runs: &[Run],
+    wanted: &[u8],
+) -> Result<usize, TrialFault> {
+    let mut right: usize = 0;
+    for run in runs {
+        if run.text(rt, alloc, log)?.as_slice() == wanted {
+            right = right.saturating_add(1);
+        }
+    }
+    Ok(right)
+}

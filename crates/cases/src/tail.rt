@@ -1,0 +1,163 @@
+//! Logs that come bit by bit, as from `tail -f`: at each read it is seen whether the report of all lines before was written.
+
+ghost use Rattle.std.specs.Prelude.{None};
+
+use crate::case::Runs;
+use crate::fault::TrialFault;
+use crate::printing::put_part;
+use crate::run::Run;
+use log_text_base::Counted;
+use std::alloc::Global;
+use std::cell::Cell;
+use std::io;
+use std::io::{Read, Write};
+use std::rt::Files;
+use std::sync::Wait;
+use std::thread::Threads;
+
+/// How much a read gives.
+#[derive(Clone, Copy, Debug, PartialEq, Eq)]
+pub enum Bits {
+    /// A line, and no more.
+    Lines,
+    /// Half of what is left of a line.
+    Halves,
+    /// As much as there is room for.
+    Pieces,
+}
+
+/// Gives a log. A read is late if some line was given whole before it, and not reported before it.
+#[derive(Drop)]
+pub struct Tail<'a> {
+    /// What is left of the log.
+    pub left: &'a [u8],
+    pub bits: Bits,
+    /// How many lines of the report were written.
+    pub reported: &'a Cell<u64>,
+    /// How many lines were given whole.
+    pub lines: u64,
+    pub reads: u64,
+    pub late: u64,
+}
+
+/// How many line feeds there are.
+fn feeds(bytes: &[u8]) -> u64 {
+    let mut count: u64 = 0;
+    for byte in bytes {
+        if *byte == b'\n' {
+            count = count.saturating_add(1);
+        }
+    }
+    count
+}
+
+/// How long the first line is, with its line feed.
+fn line_len(bytes: &[u8]) -> usize {
+    match bytes.iter().position(|byte| *byte == b'\n') {
+        Some(feed) => feed.saturating_add(1),
+        None => bytes.len(),
+    }
+}
+
+impl Tail<'_> {
+    /// How many bytes the next read gives, if there is room for them.
+    fn next_len(&self) -> usize {
+        match self.bits {
+            Bits::Lines => line_len(self.left),
+            Bits::Halves => line_len(self.left).saturating_add(1) / 2,
+            Bits::Pieces => self.left.len(),
+        }
+    }
+}
+
+impl Read for Tail<'_> {
+    ghost remaining = { λ _. None };
+
+    fn read(&mut self, buf: &mut [u8]) -> io::Result<usize> {
+        self.reads = self.reads.saturating_add(1);
+        if self.reported.get() != self.lines {
+            self.late = self.late.saturating_add(1);
+        }
+        let count = self.next_len().min(buf.len()).min(self.left.len());
+        let (now, later) = self.left.split_at(count);
+        buf[..count].copy_from_slice(now);
+        self.lines = self.lines.saturating_add(feeds(now));
+        self.left = later;
+        Ok(count)
+    }
+}
+
+/// Takes a report, and counts its lines.
+#[derive(Drop)]
+pub struct Report<'a> {
+    pub text: Vec<u8>,
+    pub reported: &'a Cell<u64>,
+    pub writes: u64,
+}
+
+impl Write for Report<'_> {
+    ghost contents = { λ _. None };
+
+    fn write(&mut self, buf: &[u8]) -> io::Result<usize> {
+        self.text.extend_from_slice(buf)?;
+        self.writes = self.writes.saturating_add(1);
+        self.reported
+            .set(self.reported.get().saturating_add(feeds(buf)));
+        Ok(buf.len())
+    }
+
+    fn flush(&mut self) -> io::Result<()> {
+        Ok(())
+    }
+}
+
+/// Runs a log that comes so, and tells how many reads and writes that took, how many reads were late, and whether the report is the
+/// wanted one.
+fn tailed_run<R: Threads + Wait + Sync>(
+    rt: &R,
+    alloc: Global,
+    log: &[u8],
+    bits: Bits,
+    run: &Run,
+    wanted: &[u8],
+) -> Result<String, TrialFault> {
+    let reported = Cell::new(0);
+    let mut tail = Counted::new(Tail {
+        left: log,
+        bits,
+        reported: &reported,
+        lines: 0,
+        reads: 0,
+        late: 0,
+    });
+    let mut report = Counted::new(Report {
+        text: Vec::new(alloc),
+        reported: &reported,
+        writes: 0,
+    });
+    run.execute(rt, alloc, &mut tail, &mut report)?;
+    let (reads, late, writes) = (tail.inner.reads, tail.inner.late, report.inner.writes);
+    let same = if report.inner.text.as_slice() == wanted {
+        "same"
+    } else {
+        "other"
+    };
+    Ok(format!(in alloc; "{reads} reads, {late} late, {writes} writes, the {same} report")?)
+}
+
+/// How often each run reads and writes where a log comes so, how many reads are late, and whether the report is that of the plain run.
+pub fn tailed_runs<R: Files + Threads + Wait + Sync>(
+    rt: &R,
+    alloc: Global,
+    bits: Bits,
+    case: &Runs<'_>,
+) -> Result<String, TrialFault> {
+    let log = case.log.bytes(rt, alloc)?;
+    let wanted = Run::Plain.text(rt, alloc, log.as_slice())?;
+    let mut outcome = String::new(alloc);
+    for run in case.runs.as_slice() {
+        let part = tailed_run(rt, alloc, log.as_slice(), bits, run, wanted.as_slice())?;
+        put_part(&mut outcome, part.as_str())?;
+    }
+    Ok(outcome)
+}

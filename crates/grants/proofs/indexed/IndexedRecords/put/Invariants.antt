@@ -1,7 +1,0 @@
-use Rattle.std.proofs.Common.{◌≡◌, ◌++◌, map, take}
-use Rattle.grants.specs.Book.{unended}
-use Rattle.grants.proofs.indexed.IndexedRecords.put.Given as goal
-
--- so many grants are behind the others
-abbrev pub invariant-loop-grant : goal.invariant-loop-grant
-invariant-loop-grant l = l.self ≡ l.initial.self ++ map unended (take l.grant-index l.grants)

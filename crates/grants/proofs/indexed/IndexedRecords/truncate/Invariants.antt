@@ -1,9 +1,0 @@
-use Rattle.std.proofs.Common.{◌≡◌, take, length}
-use Rattle.grants.proofs.indexed.IndexedRecords.truncate.Given as goal
-
--- what is left gives what the whole gives
-abbrev pub invariant-loop-self : goal.invariant-loop-self
-invariant-loop-self l = take l.len l.self ≡ take l.len l.initial.self
-
-abbrev pub decreases-loop-self : goal.decreases-loop-self
-decreases-loop-self l = length l.self

@@ -1,7 +1,0 @@
-use Rattle.grants.specs.Sides.{same_side, slots_under}
-use Rattle.grants.proofs.SideLaws.{slots_back}
-use Rattle.grants.proofs.indexed.push_slot.Goals as goal
-
-pub returns-in-Err-clause-err_to : goal.returns-in-Err-clause-err_to
-returns-in-Err-clause-err_to c = λ other.
-    slots_back (same_side c.to_side-side.result other) (slots_under c.args.to.now other) (slots_under c.push.new.self other) (slots_under c.pop.new.self other) c.args.slot (c.in_ok-push.ensures.ok other) (c.pop.ensures other)

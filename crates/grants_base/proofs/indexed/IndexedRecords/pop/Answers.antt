@@ -1,0 +1,26 @@
+use Rattle.std.proofs.Common.{◌++◌, ◌∷◌, [], List, subst}
+use Rattle.model_base.specs.declared.deed.Record.{Record}
+use Rattle.grants_base.specs.Index.{is_by, is_to}
+use Rattle.grants_base.specs.Marks.{AreIndexed}
+use Rattle.grants_base.specs.Sides.{IsPopped, by_side, to_side}
+use Rattle.grants_base.specs.declared.index.Side.{Side}
+use Rattle.grants_base.proofs.Indexing.{ends_less}
+use Rattle.grants_base.proofs.SideLaws.{by_side-same, indexes_less, to_side-same}
+use Rattle.grants_base.proofs.indexed.IndexedRecords.pop.Goals as goal
+
+pub invariant_of-self : goal.invariant_of-self
+invariant_of-self c =
+    let entries = c.pop.new.self.items in
+    let last = c.in-Some.record in
+    let was : AreIndexed (entries ++ last ∷ []) c.self.inside.to c.self.inside.by c.self.inside.endings.items =
+    subst (λ (es : List Record). AreIndexed es c.self.inside.to c.self.inside.by c.self.inside.endings.items) c.in-Some.ensures.items c.self.invariant in
+    record {
+      grantees =
+          indexes_less is_to to_side to_side-same c.self.inside.to c.pop-in-Some.new.self entries last was.grantees
+          (subst (λ (side : Side). IsPopped side c.self.inside.to c.pop-in-Some.new.self) c.to_side.ensures c.pop-in-Some.ensures);
+      grantors =
+          indexes_less is_by by_side by_side-same c.self.inside.by c.pop-in-Some-2.new.self entries last was.grantors
+          (subst (λ (side : Side). IsPopped side c.self.inside.by c.pop-in-Some-2.new.self) c.by_side.ensures c.pop-in-Some-2.ensures);
+      ends = ends_less c.self.inside.endings.items entries last was.ends;
+      order = was.order;
+    }

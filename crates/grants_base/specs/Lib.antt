@@ -1,0 +1,5 @@
+pub mod View
+pub mod Index
+pub mod Book
+pub mod Sides
+pub mod Marks

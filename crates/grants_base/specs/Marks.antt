@@ -1,0 +1,32 @@
+-- The slots of the ends under each place.
+use Rattle.std.specs.Prelude.{◌≡◌, ◌==◌, ◌&&◌, ℕ, Bool, true, Some, List, slice_get}
+use Rattle.std.specs.List.{list_any}
+use Rattle.std.specs.List.Sorted.{IsNonDecreasingBy}
+use Rattle.model_base.specs.declared.deed.Record.{Record}
+use Rattle.grants_base.specs.Index.{is_by, is_to}
+use Rattle.grants_base.specs.Sides.{Indexes}
+use Rattle.grants_base.specs.declared.index.Index.{Index}
+use Rattle.grants_base.specs.declared.endings.Ending.{Ending}
+
+abbrev pub same_ending : Ending → Ending → Bool
+same_ending a b = (a.place == b.place) && (a.slot == b.slot)
+
+abbrev pub has_ending : List Ending → ℕ → ℕ → Bool
+has_ending endings place slot = list_any (λ (ending : Ending). same_ending ending (record { place = place; slot = slot })) endings
+
+-- no ending is at a place below that of one before it
+abbrev pub AreInOrder : List Ending → Type 0
+AreInOrder endings = IsNonDecreasingBy (λ (ending : Ending). ending.place) endings
+
+-- the end of each record is noted with its slot
+abbrev pub HasEnds : List Ending → List Record → Type 0
+HasEnds endings entries =
+    (slot place : ℕ) (entry : Record) → slice_get entries slot ≡ Some entry → entry.end ≡ Some place
+    → has_ending endings place slot ≡ true
+
+-- the records are found by their grantees, by their grantors and by their ends
+pub record AreIndexed (entries : List Record) (to by : Index) (endings : List Ending) : Type 0 where
+  pub grantees : Indexes is_to to entries
+  pub grantors : Indexes is_by by entries
+  pub ends : HasEnds endings entries
+  pub order : AreInOrder endings

@@ -1,0 +1,72 @@
+-- The slots of the grants under each user, kind and table.
+use Rattle.std.specs.Prelude.{◌≡◌, ◌==◌, ◌<◌, ◌+◌, ◌-◌, ◌&&◌, ℕ, Bool, List, [], ◌∷◌, ◌++◌, All, if◌then◌else◌, length, take, unwrap_or}
+use Rattle.std.specs.HashMap.{get}
+use Rattle.model_base.specs.declared.deed.Grant.{Grant}
+use Rattle.model_base.specs.declared.deed.Kind.{Kind}
+use Rattle.model_base.specs.declared.deed.Kind.TheVariants.{Read, Insert, Update, Delete}
+use Rattle.model_base.specs.declared.deed.Record.{Record}
+use Rattle.model_base.specs.Records.{recorded}
+use Rattle.grants_base.specs.declared.index.Index.{Index}
+use Rattle.grants_base.specs.declared.index.Side.{Side}
+
+-- the code of a kind
+abbrev pub kind_code : Kind → ℕ
+kind_code Read = 0
+kind_code Insert = 1
+kind_code Update = 2
+kind_code Delete = 3
+
+-- what is looked up for a user, a kind and a table
+abbrev pub side_of : ℕ → Kind → ℕ → Side
+side_of user kind table = record { user = user; table = table; kind = kind_code kind }
+
+-- the side of a grant's grantee
+abbrev pub to_side : Grant → Side
+to_side grant = side_of grant.grantee grant.kind grant.table
+
+-- and that of its grantor
+abbrev pub by_side : Grant → Side
+by_side grant = side_of grant.grantor grant.kind grant.table
+
+abbrev pub same_side : Side → Side → Bool
+same_side a b = (a.user == b.user) && ((a.table == b.table) && (a.kind == b.kind))
+
+-- the slots that an index has under a side
+abbrev pub slots_under : Index → Side → List ℕ
+slots_under index side = unwrap_or (get same_side index.sides side) []
+
+-- the index has no slots
+abbrev pub IsEmpty : Index → Type 0
+IsEmpty index = (side : Side) → slots_under index side ≡ []
+
+-- the index has under each side what another has
+abbrev pub IsSame : Index → Index → Type 0
+IsSame old new = (other : Side) → slots_under new other ≡ slots_under old other
+
+-- and under one side a slot more, which is the last
+abbrev pub IsPushed : Side → ℕ → Index → Index → Type 0
+IsPushed side slot old new =
+    (other : Side) → slots_under new other ≡ (if same_side side other then slots_under old other ++ slot ∷ [] else slots_under old other)
+
+-- or all but the last under one side
+abbrev pub IsPopped : Side → Index → Index → Type 0
+IsPopped side old new =
+    (other : Side) → slots_under new other
+    ≡ (if same_side side other then take (length (slots_under old other) - 1) (slots_under old other) else slots_under old other)
+
+-- each slot lies below the later ones
+abbrev pub AreAscending : List ℕ → Type 0
+AreAscending [] = Unit {0}
+AreAscending (slot ∷ slots) = All (λ later. slot < later) slots × AreAscending slots
+
+-- the slots of the grants that pass, counted from this one
+abbrev pub slots_from : (Grant → Bool) → ℕ → List Grant → List ℕ
+slots_from passes slot [] = []
+slots_from passes slot (grant ∷ grants) =
+    if passes grant then slot ∷ slots_from passes (slot + 1) grants else slots_from passes (slot + 1) grants
+
+-- under each user, kind and table the index has the slots of the records whose grants pass for these, in order
+abbrev pub Indexes : (ℕ → Kind → ℕ → Grant → Bool) → Index → List Record → Type 0
+Indexes passes index entries =
+    (user : ℕ) (kind : Kind) (table : ℕ)
+    → slots_under index (side_of user kind table) ≡ slots_from (passes user kind table) 0 (recorded entries)

@@ -1,0 +1,99 @@
+//! Tables and records in the order of their places.
+
+ghost use Rattle.std.specs.Prelude.{filter, nat_lt, vec_capacity, vec_len, ◌+◌, ◌≤◌, ◌≡◌, ◌<◌, ◌++◌, ℕ, All, Some, length, slice_get, take};
+ghost use Rattle.model_base.specs.declared.deed.Record.{Record};
+ghost use Rattle.model_base.specs.Laws.{IsRising};
+ghost use Rattle.model_base.specs.Records.{recorded};
+ghost use Rattle.grants_base.specs.Book.{AreRising, end_slot, end_slots, lies_below, reopen_slot, reopened};
+ghost use Rattle.grants_base.specs.declared.entries.Creation.{Creation};
+ghost use Rattle.grants_base.specs.declared.entries.End.{End};
+
+use model_base::{Place, Record, User};
+
+/// Who created a table, and at which place.
+#[derive(Clone, Copy, PartialEq, Eq, Debug)]
+pub struct Creation {
+    pub owner: User,
+    pub place: Place,
+}
+
+/// That the record of a slot ends at a place.
+#[derive(Clone, Copy, PartialEq, Eq, Debug)]
+pub struct End {
+    pub slot: usize,
+    pub place: Place,
+}
+
+/// Whether the grant and its end lie below the place.
+pub fn lies_below(entry: &Record, place: Place) -> bool
+    ensures { result ≡ lies_below place entry.now }
+{
+    entry.grant.place < place && entry.end.is_none_or(|end| end < place)
+}
+
+/// Adds the tables behind the others, for which there is room.
+pub fn append_tables(tables: &mut Vec<Creation>, more: &[Creation])
+    requires { vec_len tables.old + length more.now ≤ vec_capacity tables.old }
+    ensures { tables.new.items ≡ tables.old.items ++ more.now }
+{
+    for creation in more {
+        tables.push_reserved(*creation);
+    }
+}
+
+/// Ends the record of the slot.
+fn set_end(records: &mut [Record], slot: usize, place: Place)
+    requires { slot < length records.old }
+    ensures { records.new ≡ end_slot records.old slot place }
+{
+    records[slot].end = Some(place);
+}
+
+/// Ends the records of the slots, one after the other.
+pub fn set_ends(records: &mut [Record], ends: &[End])
+    requires { All (λ (end : End). end.slot < length records.old) ends.now }
+    ensures { records.new ≡ end_slots records.old ends.now }
+{
+    for end in ends {
+        set_end(records, end.slot, end.place);
+    }
+}
+
+/// The record, without an end that doesn't lie below the place.
+pub fn reopened(entry: Record, place: Place) -> Record
+    ensures { result ≡ reopened place entry }
+{
+    Record {
+        grant: entry.grant,
+        end: entry.end.filter(|end| *end < place),
+    }
+}
+
+/// How many of the tables, whose places rise, were created below the place. It takes a time that grows with the logarithm of
+/// their number.
+pub fn tables_below(tables: &[Creation], place: Place) -> usize
+    requires { AreRising tables.now }
+    ensures { take result tables.now ≡ filter (λ (creation : Creation). nat_lt creation.place place) tables.now }
+{
+    tables.partition_point(|creation| creation.place < place)
+}
+
+/// How many of the records, whose places rise, are of grants that were made below the place: so many come first. It takes a
+/// time that grows with the logarithm of their number.
+pub fn records_below(records: &[Record], place: Place) -> usize
+    requires { IsRising (recorded records.now) }
+    ensures first { take result records.now ≡ filter (λ (entry : Record). nat_lt entry.grant.place place) records.now }
+    ensures below { (k : ℕ) (entry : Record) → slice_get records.now k ≡ Some entry → k < result → entry.grant.place < place }
+    ensures above { (k : ℕ) (entry : Record) → slice_get records.now k ≡ Some entry → result ≤ k → place ≤ entry.grant.place }
+{
+    records.partition_point(|record| record.grant.place < place)
+}
+
+/// Forgets the end of a slot's record if it doesn't lie below the place.
+pub(crate) fn reopen_slot(records: &mut [Record], slot: usize, place: Place)
+    ensures { records.new ≡ reopen_slot place slot records.old }
+{
+    if slot < records.len() {
+        records[slot] = reopened(records[slot], place);
+    }
+}

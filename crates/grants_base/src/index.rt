@@ -1,0 +1,170 @@
+//! Slots under users, kinds and tables.
+
+ghost use Rattle.std.specs.Prelude.{◌≡◌, ◌-◌, ◌++◌, ◌∷◌, [], ℕ, false, OnErr, OnOk, length, slice_get, take, if◌then◌else◌};
+ghost use Rattle.grants_base.specs.Index.{IsFirst};
+ghost use Rattle.grants_base.specs.Index.{is_one_of};
+ghost use Rattle.grants_base.specs.Sides.{AreAscending, IsEmpty, IsPopped, IsPushed, IsSame, kind_code, side_of, slots_under};
+
+use model_base::{Kind, Table, User};
+use std::alloc::{AllocError, Global};
+use std::collections::HashMap;
+use std::marker::Model;
+
+/// A user, a table and the code of a kind.
+#[derive(Clone, Copy, PartialEq, Eq, Hash, Debug)]
+pub(crate) struct Side {
+    user: User,
+    table: Table,
+    kind: u8,
+}
+
+/// The code of a kind.
+fn kind_code(kind: Kind) -> u8
+    ensures { result ≡ kind_code kind }
+{
+    match kind {
+        Kind::Read => 0,
+        Kind::Insert => 1,
+        Kind::Update => 2,
+        Kind::Delete => 3,
+    }
+}
+
+/// What is looked up for a user, a kind and a table.
+pub(crate) fn side_of(user: User, kind: Kind, table: Table) -> Side
+    ensures { result ≡ side_of user kind table }
+{
+    Side {
+        user,
+        table,
+        kind: kind_code(kind),
+    }
+}
+
+/// The slot of an index among these, if there is one.
+fn slot_at(slots: &[usize], i: usize) -> Option<usize>
+    ensures { result ≡ slice_get slots.now i }
+{
+    slots.get(i).copied()
+}
+
+/// The least of the slots, which rise, that isn't below this one. It takes a time that grows with the logarithm of their number.
+fn next_slot(slots: &[usize], from: usize) -> Option<usize>
+    requires { AreAscending slots.now }
+    ensures { IsFirst (is_one_of slots.now) from result }
+{
+    let i = slots.partition_point(|slot| *slot < from);
+    slot_at(slots, i)
+}
+
+/// The slots under one side in the order in which they were added, of which there is one at least. A single one takes no heap
+/// block.
+#[derive(Drop)]
+struct Slots {
+    first: usize,
+    later: Vec<usize>,
+}
+
+impl Model for Slots {
+    ghost use Rattle.std.specs.Prelude.{List, ℕ, ◌∷◌};
+
+    ghost Value = { List ℕ };
+
+    ghost view = { λ slots. slots.first ∷ slots.later.items };
+}
+
+impl Slots {
+    /// One slot. It takes no memory.
+    fn one(alloc: Global, slot: usize) -> Self
+        ensures { result ≡ slot ∷ [] }
+    {
+        Slots {
+            first: slot,
+            later: Vec::new(alloc),
+        }
+    }
+
+    /// Adds a slot last. On `Err` memory was refused, and the slots are as they were.
+    fn push(&mut self, slot: usize) -> Result<(), AllocError>
+        ensures ok { OnOk result (self.new ≡ self.old ++ slot ∷ []) }
+        ensures err { OnErr result (self.new ≡ self.old) }
+    {
+        self.later.push(slot)?;
+        Ok(())
+    }
+
+    /// Takes the last slot away, unless it is the only one, and answers whether it did.
+    fn pop(&mut self) -> bool
+        ensures slots { self.new ≡ (if result then take (length self.old - 1) self.old else self.old) }
+        ensures only { result ≡ false → length self.old ≡ 1 }
+    {
+        self.later.pop().is_some()
+    }
+
+    /// The least slot at or above this one, in a time that grows with the logarithm of their number.
+    fn next(&self, from: usize) -> Option<usize>
+        requires { AreAscending self.now }
+        ensures { IsFirst (is_one_of self.now) from result }
+    {
+        if from <= self.first {
+            return Some(self.first);
+        }
+        next_slot(self.later.as_slice(), from)
+    }
+}
+
+/// The slots under each user, kind and table. A side is found in a time that doesn't grow with their number, on average.
+#[derive(Drop)]
+pub(crate) struct Index {
+    alloc: Global,
+    sides: HashMap<Side, Slots>,
+}
+
+impl Index {
+    /// No slots. It takes no memory.
+    pub fn new(alloc: Global) -> Self
+        ensures { IsEmpty result }
+    {
+        Index {
+            alloc,
+            sides: HashMap::new(alloc),
+        }
+    }
+
+    /// Adds a slot last under a side. On `Err` memory was refused, and the slots are as they were.
+    pub fn push(&mut self, side: Side, slot: usize) -> Result<(), AllocError>
+        ensures ok { OnOk result (IsPushed side slot self.old self.new) }
+        ensures err { OnErr result (IsSame self.old self.new) }
+    {
+        match self.sides.get_mut(&side) {
+            Some(slots) => slots.push(slot),
+            None => {
+                self.sides.insert(side, Slots::one(self.alloc, slot))?;
+                Ok(())
+            }
+        }
+    }
+
+    /// Takes the last slot under a side away, if there is one.
+    pub fn pop(&mut self, side: &Side)
+        ensures { IsPopped side.now self.old self.new }
+    {
+        if let Some(slots) = self.sides.get_mut(side) {
+            if slots.pop() {
+                return;
+            }
+        }
+        self.sides.remove(side);
+    }
+
+    /// The least slot at or above this one, under a side whose slots rise.
+    pub fn next(&self, side: &Side, from: usize) -> Option<usize>
+        requires { AreAscending (slots_under self.now side.now) }
+        ensures { IsFirst (is_one_of (slots_under self.now side.now)) from result }
+    {
+        match self.sides.get(side) {
+            Some(slots) => slots.next(from),
+            None => None,
+        }
+    }
+}

@@ -1,0 +1,16 @@
+//! Records of grants: what a view of them shows, and how those of a grantee or of a grantor are found.
+#![tactic(auto)]
+
+mod endings;
+mod entries;
+mod index;
+mod indexed;
+mod indexed_grants;
+mod records;
+
+pub use entries::{
+    Creation, End, append_tables, lies_below, records_below, reopened, set_ends, tables_below,
+};
+pub use indexed::IndexedRecords;
+pub use indexed_grants::IndexedGrants;
+pub use records::{Records, is_by, is_to};

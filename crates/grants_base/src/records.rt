@@ -1,0 +1,87 @@
+//! Views of the records of grants at a place.
+
+ghost use Rattle.std.specs.Prelude.{◌≡◌, ◌<◌, List, Some, IsSome, is_some, length};
+ghost use Rattle.model_base.specs.declared.deed.Grant.{Grant};
+ghost use Rattle.grants_base.specs.Index.{AreAsked, IsNext, is_about, is_by, is_to};
+ghost use Rattle.grants_base.specs.View.{View, IsLawful, end_in, grant_in, slot_at};
+
+use model_base::{Grant, Kind, Place, Table, User};
+
+/// The records of grants as they stand at a place: those of the grants below it, on the tables that the view covers, each
+/// with its end if that lies below. A slot has one record or none. A reader of words that others fill makes steps when it
+/// reads, and so a read may change the view; what it shows stays. `asked` has one grant for each slot, whether it was made
+/// or not: that which the slot shows if it shows one.
+pub trait Records {
+    ghost shown: { Self → View };
+
+    ghost asked: { Self → List Grant };
+
+    /// The place of the view.
+    fn at(&self) -> Place
+        ensures value { result ≡ (shown self.now).place }
+        ensures lawful { IsLawful (shown self.now) };
+
+    /// Whether the view tells of the grants on this table.
+    fn covers(&self, table: Table) -> bool
+        ensures { result ≡ is_some ((shown self.now).owner table) };
+
+    /// The user who created the table.
+    fn owner(&self, table: Table) -> User
+        requires covered { IsSome ((shown self.now).owner table) }
+        ensures { (shown self.now).owner table ≡ Some result };
+
+    /// How many slots there are.
+    fn slots(&self) -> usize
+        ensures { result ≡ length (shown self.now).slots };
+
+    /// The grant in a slot, if there is one.
+    fn grant(&mut self, i: usize) -> Option<Grant>
+        requires within { i < length (shown self.old).slots }
+        ensures value { result ≡ grant_in (slot_at (shown self.old) i) }
+        ensures same { shown self.new ≡ shown self.old }
+        ensures still { asked self.new ≡ asked self.old };
+
+    /// The end of the grant in a slot, if it has one.
+    fn end(&mut self, i: usize) -> Option<Place>
+        requires within { i < length (shown self.old).slots }
+        ensures value { result ≡ end_in (slot_at (shown self.old) i) }
+        ensures same { shown self.new ≡ shown self.old }
+        ensures still { asked self.new ≡ asked self.old };
+
+    /// The least slot at or above this one whose grant, made or not, is to this user, of this kind on this table, in force
+    /// or not. It takes no memory.
+    fn next_to(&mut self, user: User, kind: Kind, table: Table, from: usize) -> Option<usize>
+        ensures next { IsNext (is_to user kind table) (asked self.old) from result }
+        ensures asked { AreAsked (shown self.old) (asked self.old) }
+        ensures same { shown self.new ≡ shown self.old }
+        ensures still { asked self.new ≡ asked self.old };
+
+    /// The least slot at or above this one whose grant, made or not, is by this user, of this kind on this table, in force
+    /// or not. It takes no memory.
+    fn next_by(&mut self, user: User, kind: Kind, table: Table, from: usize) -> Option<usize>
+        ensures next { IsNext (is_by user kind table) (asked self.old) from result }
+        ensures asked { AreAsked (shown self.old) (asked self.old) }
+        ensures same { shown self.new ≡ shown self.old }
+        ensures still { asked self.new ≡ asked self.old };
+}
+
+/// Whether the grant is of this kind on this table.
+fn is_about(grant: &Grant, kind: Kind, table: Table) -> bool
+    ensures { result ≡ is_about kind table grant.now }
+{
+    kind == grant.kind && table == grant.table
+}
+
+/// Whether the grant is to this user, of this kind on this table.
+pub fn is_to(grant: &Grant, user: User, kind: Kind, table: Table) -> bool
+    ensures { result ≡ is_to user kind table grant.now }
+{
+    grant.grantee == user && is_about(grant, kind, table)
+}
+
+/// Whether the grant is by this user, of this kind on this table.
+pub fn is_by(grant: &Grant, user: User, kind: Kind, table: Table) -> bool
+    ensures { result ≡ is_by user kind table grant.now }
+{
+    grant.grantor == user && is_about(grant, kind, table)
+}

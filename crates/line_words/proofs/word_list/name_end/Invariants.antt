@@ -1,0 +1,13 @@
+use Rattle.std.proofs.Common.{◌≡◌, ℕ, ◌+◌, ◌-◌, ◌<◌, ◌≤◌, length, get_or, true}
+use Rattle.line_words.specs.Words.{is_name_byte}
+use Rattle.line_words.proofs.word_list.name_end.Given as goal
+
+abbrev pub invariant-loop-place : goal.invariant-loop-place
+invariant-loop-place l = record {
+  behind : l.start ≤ l.place;
+  within : l.place ≤ length l.bytes;
+  before : (k : ℕ) → l.start + k < l.place → is_name_byte (get_or l.bytes (l.start + k) 0) ≡ true;
+}
+
+abbrev pub decreases-loop-place : goal.decreases-loop-place
+decreases-loop-place l = length l.bytes - l.place

@@ -1,0 +1,47 @@
+//! Why a line is no statement.
+
+ghost use Rattle.std.specs.Prelude.{◌≡◌};
+ghost use Rattle.line_words.specs.declared.fault.LineFault.TheVariants.{NoMemory};
+
+use std::alloc::{AllocError, AllocFailed};
+
+/// Why a line is no statement: the first of its faults, its words read from left to right.
+#[derive(Clone, Copy, Debug, PartialEq, Eq)]
+pub enum LineFault {
+    /// More than `MOST_LINE_BYTES`.
+    TooLong = 1,
+    /// A byte outside 32 to 126.
+    NotAscii = 2,
+    /// No byte.
+    Empty = 3,
+    /// Not one of the fixed words that may stand here, no letters of an access, or a word behind the end.
+    UnknownWord = 4,
+    /// Not a number of the form that stands here.
+    BadNumber = 5,
+    /// Not a name.
+    BadName = 6,
+    /// A step behind `MOST_STEPS`, or an OUT behind `MOST_OUTPUTS`.
+    TooManySteps = 7,
+    /// An access behind `MOST_ACCESSES`.
+    TooManyAccesses = 8,
+    /// A register of the number `MOST_REGISTERS` or above.
+    BadRegister = 9,
+    /// No fault of the line: memory ran out.
+    NoMemory = 10,
+}
+
+impl From<AllocError> for LineFault {
+    ghost from_gives = { λ _ e. e ≡ NoMemory };
+
+    fn from(_e: AllocError) -> LineFault {
+        LineFault::NoMemory
+    }
+}
+
+impl<T: Drop> From<AllocFailed<T>> for LineFault {
+    ghost from_gives = { λ _ e. e ≡ NoMemory };
+
+    fn from(_e: AllocFailed<T>) -> LineFault {
+        LineFault::NoMemory
+    }
+}

@@ -1,9 +1,0 @@
-use Rattle.std.proofs.Common.{◌≡◌, take}
-use Rattle.std.specs.Str.Parse.{AllDigits, digits_value}
-use Rattle.log_text.proofs.number.digits.Given as goal
-
-abbrev pub invariant-loop-byte : goal.invariant-loop-byte
-invariant-loop-byte l = record {
-  digits : AllDigits 10 (take l.byte-index l.word);
-  value : l.value ≡ digits_value 10 (take l.byte-index l.word);
-}

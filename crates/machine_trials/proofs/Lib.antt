@@ -1,0 +1,4 @@
+pub mod Beginning
+pub mod Placed
+pub mod Sharing
+pub mod Standing

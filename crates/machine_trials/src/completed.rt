@@ -1,0 +1,134 @@
+//! A log completed on one thread: run in order, and finished behind words of which nothing is stored.
+
+ghost use Rattle.std.specs.Prelude.{◌≡◌, ◌<◌, IfOk, length};
+ghost use Rattle.machine_trials.specs.Before.{IsBefore};
+
+use crate::batches::{Before, batch_of, log_of, nothing};
+use crate::ended::key_of;
+use crate::fault::TrialFault;
+use finishing::{Finished, finish, run_in_order};
+use log_words::LogKey;
+use model_base::{Items, Place};
+use own_words::decoded;
+use sequencer::LogTail;
+use std::alloc::{AllocError, Global};
+use taking::Closed;
+use words::BatchWords;
+
+/// A log whose last but one place ends what it names and what that bore, though an earlier reader read by it; who reads after
+/// it is denied.
+const LINES: [&str; 9] = [
+    "alice CREATE t 1",
+    "alice RUN t:1:I | CONST 0 9 | INSERT t 1 0",
+    "alice GRANT READ t bob OPTION",
+    "bob GRANT READ t carol OPTION",
+    "alice GRANT READ t dave",
+    "carol RUN t:1:R | LOAD 1 t 1 0 | OUT 1 | GRANT READ t eve",
+    "eve RUN t:1:R | LOAD 1 t 1 0 | OUT 1",
+    "alice REVOKE READ t bob",
+    "eve RUN t:1:R | LOAD 1 t 1 0 | OUT 1",
+];
+
+/// Tells the outcome of a place.
+fn tell_outcome(
+    rt: &impl Print,
+    alloc: Global,
+    log: &LogTail,
+    done: &Finished<'_>,
+    index: usize,
+) -> Result<(), TrialFault>
+    requires kept { log.now.dropped ≡ 0 }
+    requires all { done.now.size ≡ length log.now.log.statements }
+    requires within { index < done.now.size }
+{
+    let ended = done.ended(alloc, index)?;
+    let statement = log.statement(index as Place);
+    let outcome = decoded(&statement.form, done.own(index), Items::new(ended));
+    println!(rt; "{index}: {outcome:?}")?;
+    Ok(())
+}
+
+/// Tells how the log was completed, and the outcome of each place.
+fn tell_outcomes(
+    rt: &impl Print,
+    alloc: Global,
+    how: &str,
+    log: &LogTail,
+    done: &Finished<'_>,
+) -> Result<(), TrialFault>
+    requires kept { log.now.dropped ≡ 0 }
+    requires all { done.now.size ≡ length log.now.log.statements }
+{
+    println!(rt; "{how}")?;
+    for index in 0..log.len() as usize {
+        tell_outcome(rt, alloc, log, done, index)?;
+    }
+    Ok(())
+}
+
+/// Tells the log run in order.
+fn tell_in_order(
+    rt: &impl Print,
+    alloc: Global,
+    log: &LogTail,
+    before: &Before,
+) -> Result<(), TrialFault>
+    requires kept { log.now.dropped ≡ 0 }
+    requires before { IsBefore before.now log.now.log.statements 0 }
+{
+    let batch = batch_of(alloc, log, before, 0..log.len(), 1)?;
+    let done = run_in_order(alloc, batch)?;
+    tell_outcomes(rt, alloc, "a log run in order on one thread", log, &done)
+}
+
+/// Finishes a batch behind words of which nothing is stored.
+fn finish_unstored<'a>(alloc: Global, key: LogKey<'a>) -> Result<Finished<'a>, AllocError>
+    ensures { IfOk result (λ done. done
+        ≡ record { log = key.entry.batch.log; first = key.entry.batch.first; size = key.entry.batch.size }) }
+{
+    let (words, pass) = BatchWords::new(alloc, &key)?;
+    let closed = words.close(pass);
+    finish(alloc, key, &closed)
+}
+
+/// Tells the log finished behind words of which nothing is stored.
+fn tell_finished(
+    rt: &impl Print,
+    alloc: Global,
+    log: &LogTail,
+    before: &Before,
+) -> Result<(), TrialFault>
+    requires kept { log.now.dropped ≡ 0 }
+    requires before { IsBefore before.now log.now.log.statements 0 }
+    requires some { 0 < length log.now.log.statements }
+{
+    let batch = batch_of(alloc, log, before, 0..log.len(), 1)?;
+    let key = key_of(alloc, batch)?;
+    let done = finish_unstored(alloc, key)?;
+    let how = "finished behind words of which nothing is stored";
+    tell_outcomes(rt, alloc, how, log, &done)
+}
+
+/// Tells the log completed in both ways.
+fn tell_both(
+    rt: &impl Print,
+    alloc: Global,
+    log: &LogTail,
+    before: &Before,
+) -> Result<(), TrialFault>
+    requires kept { log.now.dropped ≡ 0 }
+    requires before { IsBefore before.now log.now.log.statements 0 }
+{
+    if log.len() == 0 {
+        return Err(TrialFault::OtherLog);
+    }
+    tell_in_order(rt, alloc, log, before)?;
+    tell_finished(rt, alloc, log, before)
+}
+
+/// Tells a log completed on one thread.
+pub fn tell_completed(rt: &impl Print, alloc: Global) -> Result<(), TrialFault> {
+    let log = log_of(alloc, &LINES)?;
+    let before = nothing(alloc);
+    tell_both(rt, alloc, &log, &before)
+}
