@@ -3,9 +3,13 @@
 ghost use Rattle.std.specs.Prelude.{◌≡◌};
 ghost use Rattle.words.specs.Passes.{IsPassOf};
 
+use crate::asking::{ask, ask_round};
+use crate::batches::{nothing, words_of};
+use crate::fault::TrialFault;
+use crate::logs::WholeLog;
+use crate::telling::told;
 use filling::RangeKey;
 use filling_base::Batch;
-use range_trials_base::{TrialFault, WholeLog, ask, ask_round, nothing, told, words_of};
 use std::alloc::Global;
 use std::thread::Threads;
 use words::Pass;

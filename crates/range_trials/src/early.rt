@@ -2,11 +2,12 @@
 
 ghost use Rattle.words.specs.Passes.{IsPassOf};
 
+use crate::batches::{nothing, words_of};
+use crate::fault::TrialFault;
+use crate::logs::{WholeLog, log_of};
+use crate::telling::{tell_asked, tell_outcome, wanted};
 use filling::RangeKey;
 use filling_base::Batch;
-use range_trials_base::{
-    TrialFault, WholeLog, log_of, nothing, tell_asked, tell_outcome, wanted, words_of,
-};
 use std::alloc::Global;
 use std::thread::Threads;
 use words::Pass;

@@ -1,31 +1,61 @@
 //! Places of a parsed log run on shared words: a place that another pass holds, one that is given back, a revocation that is run
-//! before an earlier reader, and a long chain asked for from its end. What is printed is compared with `stdout`.
+//! before an earlier reader, a long chain asked for from its end, drawn logs run by eight threads and after passes that were dropped,
+//! and a log whose growths may be refused. The word `refused` makes the last trial alone, so that a tool can refuse each growth. What
+//! is printed without it is compared with `stdout`.
 #![tactic(auto)]
 
+mod asking;
+mod batches;
 mod chain;
+mod drawn_logs;
+mod dropped_pass;
 mod early;
+mod eight_threads;
+mod fault;
 mod given_back;
 mod held;
+mod logs;
+mod refused;
+mod telling;
 
 use chain::tell_chain;
+use dropped_pass::tell_dropped;
 use early::tell_early;
+use eight_threads::tell_drawn;
+use fault::TrialFault;
 use given_back::tell_given_back;
 use held::tell_held;
-use range_trials_base::TrialFault;
+use refused::tell_refused;
 use std::alloc::Global;
+use std::env;
 use std::process::ExitCode;
+use std::rt::Env;
 use std::thread::Threads;
 
-/// Tells the trials one after another.
+/// Makes the trials one after another.
 fn tell_all<R: Threads + Print + Eprint + Sync>(rt: &R, alloc: Global) -> Result<(), TrialFault> {
     tell_held(rt, alloc)?;
     tell_given_back(rt, alloc)?;
     tell_early(rt, alloc)?;
-    tell_chain(rt, alloc)
+    tell_chain(rt, alloc)?;
+    tell_drawn(rt, alloc)?;
+    tell_dropped(rt, alloc)?;
+    tell_refused(rt, alloc)
+}
+
+/// Makes the trials that the words of the command line name: all, or that of refused growths.
+fn tell<R: Env + Threads + Print + Eprint + AllocGlobal + Sync>(rt: &R) -> Result<(), TrialFault> {
+    let alloc = rt.alloc();
+    let words = env::args(rt)?.collect::<Vec<String>>(alloc)?;
+    match words.as_slice() {
+        [_] => tell_all(rt, alloc),
+        [_, word] if word.as_str() == "refused" => tell_refused(rt, alloc),
+        _ => Err(TrialFault::Words),
+    }
 }
 
 fn main(rt: HostRuntime) -> ExitCode {
-    let Err(fault) = tell_all(&rt, rt.alloc()) else {
+    let Err(fault) = tell(&rt) else {
         return ExitCode::SUCCESS;
     };
     let _ = eprintln!(rt; "range_trials: {fault}");

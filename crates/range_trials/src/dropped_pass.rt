@@ -1,0 +1,207 @@
+//! A pass that is dropped while it holds places.
+
+ghost use Rattle.std.specs.Prelude.{◌≡◌, IfOk, length};
+ghost use Rattle.words.specs.Passes.{IsPassOf};
+ghost use Rattle.range_trials.specs.Whole.{IsNothing};
+
+use crate::asking::ask_round;
+use crate::batches::{Before, batch_of, finished, nothing, words_of};
+use crate::drawn_logs::drawn_places;
+use crate::fault::TrialFault;
+use crate::logs::WholeLog;
+use filling_base::{Batch, Fills};
+use finishing::{Finished, run_in_order};
+use std::alloc::{AllocError, Global};
+use std::thread::Threads;
+use taking::{Closed, take};
+use trials_base::Generator;
+use words::{Claimed, Holding, Pass};
+
+/// How many logs are drawn.
+const LOGS: u32 = 300;
+
+/// Of so many places one is held.
+const APART: usize = 7;
+
+/// What came of some logs.
+#[derive(Clone, Copy, Default)]
+struct Counts {
+    places: usize,
+    /// Places that the pass held when it was dropped.
+    held: usize,
+    /// Places that the other pass found done.
+    done: usize,
+    /// Places with the same own words and ends as in the run in order.
+    same: usize,
+    /// Logs whose outcomes and versions of rows are those of the run in order.
+    logs: usize,
+}
+
+/// Claims some places, and counts those that it won. Then the pass is dropped.
+fn hold_some<K: Fills>(batch: &Batch<K>, pass: Pass, first: usize) -> usize
+    requires { IsPassOf batch.now pass }
+{
+    let mut held = 0usize;
+    let mut holding = Holding::begin(pass);
+    for index in 0..batch.key().places() {
+        if index % APART == first % APART
+            && batch.words().claim(&mut holding, index) == Claimed::Won
+        {
+            held = held.saturating_add(1);
+        }
+    }
+    held
+}
+
+/// How many places have the same own words and end the same grants.
+fn count_same(
+    alloc: Global,
+    log: &WholeLog,
+    one: &Finished<'_>,
+    other: &Finished<'_>,
+) -> Result<usize, TrialFault>
+    requires one { one.now.size ≡ length log.now.statements }
+    requires other { other.now.size ≡ length log.now.statements }
+{
+    let mut same = 0usize;
+    for index in 0..log.len() as usize {
+        if one.own(index) == other.own(index)
+            && one.ended(alloc, index)? == other.ended(alloc, index)?
+        {
+            same = same.saturating_add(1);
+        }
+    }
+    Ok(same)
+}
+
+/// What is taken from a finished log, as text: the outcomes, and the versions of rows.
+fn taken_text(alloc: Global, log: &WholeLog, done: &Finished<'_>) -> Result<String, TrialFault>
+    requires { done.now ≡ record { log = log.now; first = 0; size = length log.now.statements } }
+{
+    let taken = take(alloc, log.tail(), done, 0..log.len())?;
+    let (outcomes, versions) = (taken.outcomes.as_slice(), taken.versions.as_slice());
+    Ok(format!(in alloc; "{outcomes:?} {versions:?}")?)
+}
+
+/// Runs a log by a pass that goes round once beside one that was dropped, and completes it.
+fn run_beside<'a, R: Threads + Sync>(
+    rt: &R,
+    alloc: Global,
+    log: &'a WholeLog,
+    before: &'a Before,
+    first: usize,
+    counts: &mut Counts,
+) -> Result<Finished<'a>, TrialFault>
+    requires { IsNothing before.now log.now.statements }
+    ensures { IfOk result (λ done. done ≡ record { log = log.now; first = 0; size = length log.now.statements }) }
+{
+    let (batch, pass) = words_of(rt, alloc, log, before, 1)?;
+    let (pass, other) = batch.split(pass);
+    let held = hold_some(&batch, other, first);
+    let (pass, found) = ask_round(&batch, pass, 0);
+    counts.held = counts.held.saturating_add(held);
+    counts.done = counts.done.saturating_add(found.done);
+    Ok(finished(alloc, batch, pass)?)
+}
+
+/// A log run in order.
+fn in_order<'a, R: Threads + Sync>(
+    rt: &R,
+    alloc: Global,
+    log: &'a WholeLog,
+    before: &'a Before,
+) -> Result<Finished<'a>, AllocError>
+    requires { IsNothing before.now log.now.statements }
+    ensures { IfOk result (λ done. done ≡ record { log = log.now; first = 0; size = length log.now.statements }) }
+{
+    let batch = batch_of(rt, alloc, log, before, 1)?;
+    run_in_order(alloc, batch)
+}
+
+/// Whether the same is taken from both.
+fn is_same_taken(
+    alloc: Global,
+    log: &WholeLog,
+    one: &Finished<'_>,
+    other: &Finished<'_>,
+) -> Result<bool, TrialFault>
+    requires one { one.now ≡ record { log = log.now; first = 0; size = length log.now.statements } }
+    requires other { other.now ≡ record { log = log.now; first = 0; size = length log.now.statements } }
+{
+    let one = taken_text(alloc, log, one)?;
+    let other = taken_text(alloc, log, other)?;
+    Ok(one == other)
+}
+
+/// Compares two finished logs.
+fn compare_both(
+    alloc: Global,
+    log: &WholeLog,
+    one: &Finished<'_>,
+    other: &Finished<'_>,
+    counts: &mut Counts,
+) -> Result<(), TrialFault>
+    requires one { one.now ≡ record { log = log.now; first = 0; size = length log.now.statements } }
+    requires other { other.now ≡ record { log = log.now; first = 0; size = length log.now.statements } }
+{
+    let same = count_same(alloc, log, one, other)?;
+    let is_same = is_same_taken(alloc, log, one, other)?;
+    counts.places = counts.places.saturating_add(log.len() as usize);
+    counts.same = counts.same.saturating_add(same);
+    counts.logs = counts.logs.saturating_add(usize::from(is_same));
+    Ok(())
+}
+
+/// Compares a log completed behind a dropped pass with one that was run in order.
+fn compare_with<R: Threads + Sync>(
+    rt: &R,
+    alloc: Global,
+    log: &WholeLog,
+    before: &Before,
+    plain: &Finished<'_>,
+    first: usize,
+    counts: &mut Counts,
+) -> Result<(), TrialFault>
+    requires before { IsNothing before.now log.now.statements }
+    requires plain { plain.now ≡ record { log = log.now; first = 0; size = length log.now.statements } }
+{
+    let done = run_beside(rt, alloc, log, before, first, counts)?;
+    compare_both(alloc, log, plain, &done, counts)
+}
+
+/// Compares a log completed behind a dropped pass with the same run in order.
+fn compare<R: Threads + Sync>(
+    rt: &R,
+    alloc: Global,
+    log: &WholeLog,
+    first: usize,
+    counts: &mut Counts,
+) -> Result<(), TrialFault> {
+    let before = nothing(alloc, log);
+    let plain = in_order(rt, alloc, log, &before)?;
+    compare_with(rt, alloc, log, &before, &plain, first, counts)
+}
+
+/// Tells what comes of drawn logs of which a pass held some places when it was dropped.
+pub fn tell_dropped<R: Threads + Print + Sync>(rt: &R, alloc: Global) -> Result<(), TrialFault> {
+    let mut generator = Generator::new(2015);
+    let mut counts = Counts::default();
+    for number in 0..LOGS {
+        let log = drawn_places(alloc, &mut generator)?;
+        compare(rt, alloc, &log, number as usize, &mut counts)?;
+    }
+    let Counts {
+        places,
+        held,
+        done,
+        same,
+        logs,
+    } = counts;
+    println!(rt;
+        "{LOGS} drawn logs, of whose {places} places a pass held {held} when it was dropped; another found {done} done"
+    )?;
+    println!(rt;
+        "  completed, {same} places have the own words and the ends of the run in order, and {logs} logs its outcomes and rows"
+    )?;
+    Ok(())
+}
