@@ -8,7 +8,6 @@ ghost use Rattle.machine_trials.specs.Before.{IsBefore};
 use crate::batches::{Before, log_of, machine_of, make, nothing};
 use crate::drawn_events::drawn_event;
 use crate::fault::TrialFault;
-use crate::generator::Generator;
 use crate::outcome::outcome_at;
 use bohm_core::{Machine, State};
 use bohm_core_base::Event;
@@ -18,6 +17,7 @@ use model::serial;
 use model_base::{DeedDone, Outcome, Place};
 use sequencer::{Log, LogTail};
 use std::alloc::{AllocError, Global};
+use trials_base::Generator;
 
 const LINES: [&str; 6] = [
     "alice CREATE t 1",
