@@ -3,11 +3,11 @@
 //! end how much was compared.
 
 ghost use Rattle.std.specs.Prelude.{◌≡◌, ◌<◌, length};
+ghost use Rattle.machine_trials.specs.Before.{IsBefore};
 
-use crate::batches::{log_of, machine_of, make, nothing};
+use crate::batches::{Before, log_of, machine_of, make, nothing};
 use crate::drawn_events::drawn_event;
 use crate::fault::TrialFault;
-use crate::generator::Generator;
 use crate::outcome::outcome_at;
 use bohm_core::{Machine, State};
 use bohm_core_base::Event;
@@ -17,6 +17,7 @@ use model::serial;
 use model_base::{DeedDone, Outcome, Place};
 use sequencer::{Log, LogTail};
 use std::alloc::{AllocError, Global};
+use trials_base::Generator;
 
 const LINES: [&str; 6] = [
     "alice CREATE t 1",
@@ -48,6 +49,15 @@ struct Counts {
     ended: u32,
     /// The lists in which an end was set before the reader had a word.
     late: u32,
+}
+
+impl Counts {
+    /// Adds what another list came to.
+    fn add(&mut self, one: Counts) {
+        self.done = self.done.saturating_add(one.done);
+        self.ended = self.ended.saturating_add(one.ended);
+        self.late = self.late.saturating_add(one.late);
+    }
 }
 
 /// Both partitions place all places.
@@ -150,23 +160,55 @@ fn compare_ends(
     Ok(ended)
 }
 
+/// What a drawn list comes to on a machine that no event has reached.
+fn compare_events(
+    rt: &impl Print,
+    alloc: Global,
+    machine: &mut Machine<OfLog<'_>>,
+    generator: &mut Generator,
+    outcomes: &[Outcome],
+) -> Result<Counts, TrialFault> {
+    let late = run_list(machine, generator)?;
+    let done = compare_places(rt, alloc, machine, outcomes)?;
+    let ended = compare_ends(rt, machine, outcomes)?;
+    let late = u32::from(late);
+    Ok(Counts { done, ended, late })
+}
+
 /// What a drawn list comes to.
 fn compare_list(
     rt: &impl Print,
     alloc: Global,
     log: &LogTail,
+    before: &Before,
     generator: &mut Generator,
     outcomes: &[Outcome],
 ) -> Result<Counts, TrialFault>
-    requires { log.now.dropped ≡ 0 }
+    requires kept { log.now.dropped ≡ 0 }
+    requires before { IsBefore before.now log.now.log.statements 0 }
 {
-    let before = nothing(alloc);
-    let mut machine = machine_of(alloc, log, &before, 0..log.len(), 2)?;
-    let late = run_list(&mut machine, generator)?;
-    let done = compare_places(rt, alloc, &machine, outcomes)?;
-    let ended = compare_ends(rt, &machine, outcomes)?;
-    let late = u32::from(late);
-    Ok(Counts { done, ended, late })
+    let mut machine = machine_of(alloc, log, before, 0..log.len(), 2)?;
+    compare_events(rt, alloc, &mut machine, generator, outcomes)
+}
+
+/// What all lists come to.
+fn compare_lists(
+    rt: &impl Print,
+    alloc: Global,
+    log: &LogTail,
+    before: &Before,
+    outcomes: &[Outcome],
+) -> Result<Counts, TrialFault>
+    requires kept { log.now.dropped ≡ 0 }
+    requires before { IsBefore before.now log.now.log.statements 0 }
+{
+    let mut generator = Generator::new(1976);
+    let mut all = Counts::default();
+    for _ in 0..LISTS {
+        let one = compare_list(rt, alloc, log, before, &mut generator, outcomes)?;
+        all.add(one);
+    }
+    Ok(all)
 }
 
 /// The log with all of its statements.
@@ -179,25 +221,30 @@ fn whole_log(alloc: Global) -> Result<Log, TrialFault> {
     Ok(log)
 }
 
-/// What all lists come to.
-fn compare_lists(rt: &impl Print, alloc: Global) -> Result<Counts, TrialFault> {
-    let log = log_of(alloc, &LINES)?;
+/// The outcomes of the slow serial run.
+fn serial_outcomes(alloc: Global) -> Result<Vec<Outcome>, TrialFault> {
     let whole = whole_log(alloc)?;
-    let outcomes = serial(alloc, whole.statements())?;
-    let mut generator = Generator::new(1976);
-    let mut all = Counts::default();
-    for _ in 0..LISTS {
-        let one = compare_list(rt, alloc, &log, &mut generator, &outcomes)?;
-        all.done = all.done.saturating_add(one.done);
-        all.ended = all.ended.saturating_add(one.ended);
-        all.late = all.late.saturating_add(one.late);
-    }
-    Ok(all)
+    Ok(serial(alloc, whole.statements())?)
+}
+
+/// What all lists of the log come to.
+fn compare_with_serial(rt: &impl Print, alloc: Global, log: &LogTail) -> Result<Counts, TrialFault>
+    requires { log.now.dropped ≡ 0 }
+{
+    let outcomes = serial_outcomes(alloc)?;
+    let before = nothing(alloc);
+    compare_lists(rt, alloc, log, &before, &outcomes)
+}
+
+/// What all lists come to.
+fn compare_all(rt: &impl Print, alloc: Global) -> Result<Counts, TrialFault> {
+    let log = log_of(alloc, &LINES)?;
+    compare_with_serial(rt, alloc, &log)
 }
 
 /// Tells what differs, and how much was compared: of the 1,200 places and the 400 ends most, and of the lists a third or more.
 pub fn tell_drawn(rt: &impl Print, alloc: Global) -> Result<(), TrialFault> {
-    let Counts { done, ended, late } = compare_lists(rt, alloc)?;
+    let Counts { done, ended, late } = compare_all(rt, alloc)?;
     println!(rt; "{LISTS} lists, {done} places done, {ended} ends set")?;
     println!(rt; "{late} lists with an end before the reader had a word")?;
     Ok(())

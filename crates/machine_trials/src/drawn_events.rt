@@ -2,9 +2,9 @@
 
 ghost use Rattle.std.specs.Prelude.{◌<◌, length};
 
-use crate::generator::Generator;
 use bohm_core::State;
 use bohm_core_base::{Event, Hold};
+use trials_base::Generator;
 
 /// Whether something may be done for the place: it is placed and isn't done, and all that it refers to is.
 fn is_open(state: &State, index: usize) -> bool {

@@ -11,7 +11,6 @@ mod drawn;
 mod drawn_events;
 mod ended;
 mod fault;
-mod generator;
 mod middle;
 mod outcome;
 mod shared;
