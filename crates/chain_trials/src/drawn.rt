@@ -122,10 +122,10 @@ impl Both {
     }
 
     /// Appends a version of the next place, which is the last then.
-    fn append(&mut self, alloc: Global, version: Version) -> Result<(), TrialFault> {
+    fn append(&mut self, alloc: Global, version: &Version) -> Result<(), TrialFault> {
         let end = version.place.saturating_add(1);
         put(alloc, &mut self.chains, version, end)?;
-        self.versions.push(version)?;
+        self.versions.push(*version)?;
         Ok(())
     }
 
@@ -182,7 +182,8 @@ fn try_place(
     counts: &mut Counts,
     place: u32,
 ) -> Result<(), TrialFault> {
-    both.append(alloc, drawn_version(draws, Place::from(place)))?;
+    let version = drawn_version(draws, Place::from(place));
+    both.append(alloc, &version)?;
     if draws.below(8) == 0 {
         both.trim(alloc, Place::from(draws.below(PLACES)), counts)?;
     }

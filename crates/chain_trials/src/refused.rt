@@ -49,13 +49,13 @@ fn put_one(
 ) -> Result<(), TrialFault> {
     let version = version(Place::from(place), key(1), Some(i64::from(place)));
     let end = Place::from(place) + 1;
-    if put(alloc, chains, version, end).is_ok() {
+    if put(alloc, chains, &version, end).is_ok() {
         return Ok(());
     }
     if !is_chain(chains, place) {
         tell(rt, "  the store changed where a growth was refused");
     }
-    put(alloc, chains, version, end)
+    put(alloc, chains, &version, end)
 }
 
 /// Tells the rows of a store to which versions are appended one by one.

@@ -37,14 +37,14 @@ pub fn version(place: Place, key: Key, value: Option<i64>) -> Version
 pub fn put(
     alloc: Global,
     chains: &mut Chains,
-    version: Version,
+    version: &Version,
     new_end: Place,
 ) -> Result<(), TrialFault> {
     let place = version.place;
     if place < chains.end() || new_end <= place {
         return Err(TrialFault::Store);
     }
-    chains.append(vec![in alloc; version]?, new_end)?;
+    chains.append(vec![in alloc; *version]?, new_end)?;
     Ok(())
 }
 

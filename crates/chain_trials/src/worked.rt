@@ -63,7 +63,7 @@ fn three(alloc: Global) -> Result<Vec<Version>, AllocError>
 /// Tells the worked rows where each version is appended by itself.
 fn tell_one_by_one(rt: &impl Print, alloc: Global, chains: &mut Chains) -> Result<(), TrialFault> {
     for (place, value, new_end) in [(1, 5, 2), (2, 6, 3), (3, 7, 4)] {
-        put(alloc, chains, version(place, KEY, Some(value)), new_end)?;
+        put(alloc, chains, &version(place, KEY, Some(value)), new_end)?;
     }
     tell(rt, "three versions, one by one");
     tell_worked_rows(rt, chains);
@@ -76,7 +76,7 @@ fn put_two_batches(alloc: Global, chains: &mut Chains) -> Result<(), TrialFault>
         return Err(TrialFault::Store);
     }
     chains.append(two(alloc)?, 3)?;
-    put(alloc, chains, version(3, KEY, Some(7)), 4)
+    put(alloc, chains, &version(3, KEY, Some(7)), 4)
 }
 
 /// Tells the worked rows where the versions are appended in two batches.
@@ -101,7 +101,7 @@ fn tell_one_batch(rt: &impl Print, alloc: Global, chains: &mut Chains) -> Result
 /// Tells the rows where a version without a row hides the older one.
 fn tell_deleted(rt: &impl Print, alloc: Global, chains: &mut Chains) -> Result<(), TrialFault> {
     for (place, value, new_end) in [(1, Some(5), 2), (2, None, 3), (4, Some(7), 6)] {
-        put(alloc, chains, version(place, KEY, value), new_end)?;
+        put(alloc, chains, &version(place, KEY, value), new_end)?;
     }
     tell(rt, "a row that is deleted");
     tell_bounds(rt, chains);
