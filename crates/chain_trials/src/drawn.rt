@@ -3,11 +3,11 @@
 ghost use Rattle.std.specs.Prelude.{◌≡◌};
 
 use crate::fault::TrialFault;
-use crate::generator::Generator;
 use crate::telling::{put, row_of};
 use chains::{Chains, Trimmed, Version};
 use model_base::{Key, Place, Row, Table};
 use std::alloc::{AllocError, Global};
+use trials_base::Generator;
 
 const TRIALS: u32 = 200;
 

@@ -10,7 +10,6 @@
 
 mod drawn;
 mod fault;
-mod generator;
 mod long;
 mod marks;
 mod refused;

@@ -6,9 +6,9 @@
 
 use crate::both::{Both, Told};
 use crate::fault::TrialFault;
-use crate::generator::Generator;
 use model_base::{Deed, Grant, Kind, Need, Place, Revocation, Table, User};
 use std::alloc::Global;
+use trials_base::Generator;
 
 const LISTS: u32 = 1000;
 

@@ -13,7 +13,6 @@ mod deeds;
 mod drawn;
 mod examples;
 mod fault;
-mod generator;
 mod losses;
 mod parts;
 mod paths;
