@@ -111,6 +111,13 @@ fn expect(same: bool) -> Result<(), TrialFault> {
     }
 }
 
+/// Appends the version to the list of all.
+fn note(versions: &mut Vec<Version>, version: &Version) -> Result<(), TrialFault> {
+    let Version { place, key, row } = *version;
+    versions.push(Version { place, key, row })?;
+    Ok(())
+}
+
 impl Both {
     /// A store and a list without versions.
     fn new(alloc: Global) -> Self {
@@ -125,8 +132,7 @@ impl Both {
     fn append(&mut self, alloc: Global, version: &Version) -> Result<(), TrialFault> {
         let end = version.place.saturating_add(1);
         put(alloc, &mut self.chains, version, end)?;
-        self.versions.push(*version)?;
-        Ok(())
+        note(&mut self.versions, version)
     }
 
     /// Trims to the mark, which is a good one.
