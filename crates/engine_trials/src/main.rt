@@ -1,18 +1,23 @@
 //! Logs run in batches by several workers, and engines that are driven by hand: worked logs in many settings, drawn logs, a
-//! long one, rows and grants between batches, gates, limits, readers and writers that fail. What is printed is compared with
-//! `stdout`.
+//! long one, rows and grants between batches, gates, limits, readers and writers that fail, and places that are explained. What is
+//! printed is compared with `stdout`.
 #![tactic(auto)]
 
+mod changed_chains;
 mod doubles;
 mod drawn;
+mod drawn_explained;
+mod explained;
 mod failing;
 mod fault;
+mod findings;
 mod gates;
 mod generator;
 mod limits;
 mod logs;
 mod long;
 mod middle;
+mod ranges;
 mod refused;
 mod reporting;
 mod rows;
@@ -21,12 +26,15 @@ mod worked;
 
 use bohm_base::arguments;
 use drawn::tell_drawn;
+use drawn_explained::tell_drawn_explained;
+use explained::tell_explained_log;
 use failing::tell_failures;
 use fault::TrialFault;
 use gates::tell_gates;
-use limits::{tell_limits, tell_ranges};
+use limits::tell_limits;
 use long::tell_long;
 use middle::tell_parts;
+use ranges::tell_ranges;
 use refused::tell_refused;
 use rows::{tell_books, tell_trimmed};
 use std::alloc::Global;
@@ -47,7 +55,9 @@ fn tell_others<R: Threads + Wait + Print + Sync>(rt: &R, alloc: Global) -> Resul
     tell_ranges(rt, alloc)?;
     tell_failures(rt, alloc)?;
     tell_drawn(rt, alloc)?;
-    tell_long(rt, alloc)
+    tell_long(rt, alloc)?;
+    tell_explained_log(rt, alloc)?;
+    tell_drawn_explained(rt, alloc)
 }
 
 /// Makes the trial that a word names: that of refused growths, all others, or a worked log.
