@@ -1,7 +1,9 @@
 //! Why the trials end early.
 
+use audit_text::AuditFault;
 use bohm_base::ArgumentFault;
 use engine::EngineFault;
+use log_text_base::ReadFault;
 use std::alloc::{AllocError, AllocFailed};
 use std::io;
 use thiserror::Error;
@@ -50,14 +52,20 @@ impl From<ArgumentFault> for TrialFault {
     }
 }
 
-impl From<bohm_base::EngineFault> for TrialFault {
-    fn from(_fault: bohm_base::EngineFault) -> TrialFault {
+impl From<EngineFault> for TrialFault {
+    fn from(_fault: EngineFault) -> TrialFault {
         TrialFault::Run
     }
 }
 
-impl From<EngineFault> for TrialFault {
-    fn from(_fault: EngineFault) -> TrialFault {
+impl From<ReadFault> for TrialFault {
+    fn from(_fault: ReadFault) -> TrialFault {
+        TrialFault::Run
+    }
+}
+
+impl From<AuditFault> for TrialFault {
+    fn from(_fault: AuditFault) -> TrialFault {
         TrialFault::Run
     }
 }

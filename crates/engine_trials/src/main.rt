@@ -1,57 +1,48 @@
-//! Logs run in batches by several workers, and engines that are driven by hand: worked logs in many settings, drawn logs, a
-//! long one, rows and grants between batches, gates, limits, readers and writers that fail. What is printed is compared with
-//! `stdout`.
+//! Engines that are driven by hand: rows, grants and outcomes between batches, a log in parts, gates, limits of ranges, a log whose
+//! growths may be refused; and places that are explained. What is printed is compared with `stdout`.
 #![tactic(auto)]
 
-mod doubles;
-mod drawn;
-mod failing;
+mod changed_chains;
+mod drawn_explained;
+mod explained;
 mod fault;
+mod findings;
 mod gates;
-mod generator;
-mod limits;
-mod logs;
-mod long;
 mod middle;
+mod ranges;
 mod refused;
 mod reporting;
 mod rows;
 mod stepping;
-mod worked;
 
 use bohm_base::arguments;
-use drawn::tell_drawn;
-use failing::tell_failures;
+use drawn_explained::tell_drawn_explained;
+use explained::tell_explained_log;
 use fault::TrialFault;
 use gates::tell_gates;
-use limits::{tell_limits, tell_ranges};
-use long::tell_long;
 use middle::tell_parts;
+use ranges::tell_ranges;
 use refused::tell_refused;
 use rows::{tell_books, tell_trimmed};
 use std::alloc::Global;
 use std::process::ExitCode;
-use std::rt::{Env, Files};
+use std::rt::Env;
 use std::sync::Wait;
 use std::thread::Threads;
-use worked::{tell_kept, tell_worked};
 
 /// Makes all other trials in turn.
 fn tell_others<R: Threads + Wait + Print + Sync>(rt: &R, alloc: Global) -> Result<(), TrialFault> {
-    tell_kept(rt, alloc)?;
     tell_trimmed(rt, alloc)?;
     tell_books(rt, alloc)?;
     tell_parts(rt, alloc)?;
     tell_gates(rt, alloc)?;
-    tell_limits(rt, alloc)?;
     tell_ranges(rt, alloc)?;
-    tell_failures(rt, alloc)?;
-    tell_drawn(rt, alloc)?;
-    tell_long(rt, alloc)
+    tell_explained_log(rt, alloc)?;
+    tell_drawn_explained(rt, alloc)
 }
 
-/// Makes the trial that a word names: that of refused growths, all others, or a worked log.
-fn tell_word<R: Files + Threads + Wait + Print + Sync>(
+/// Makes the trial that a word names: that of refused growths, or all others.
+fn tell_word<R: Threads + Wait + Print + Sync>(
     rt: &R,
     alloc: Global,
     word: &str,
@@ -59,14 +50,12 @@ fn tell_word<R: Files + Threads + Wait + Print + Sync>(
     match word {
         "refused-growths" => tell_refused(rt, alloc),
         "others" => tell_others(rt, alloc),
-        name => tell_worked(rt, alloc, name),
+        _ => Err(TrialFault::Arguments),
     }
 }
 
 /// Makes the trials that the command line names.
-fn tell<R: Env + Files + Threads + Wait + Print + AllocGlobal + Sync>(
-    rt: &R,
-) -> Result<(), TrialFault> {
+fn tell<R: Env + Threads + Wait + Print + AllocGlobal + Sync>(rt: &R) -> Result<(), TrialFault> {
     let words = arguments(rt)?;
     for word in words.iter().skip(1) {
         tell_word(rt, rt.alloc(), word.as_str())?;

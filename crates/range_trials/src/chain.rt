@@ -19,16 +19,15 @@ const PLACES: usize = 65536;
 
 const LAST: usize = 65536;
 
-/// A row, and places that each add 1 to it.
-fn chain(alloc: Global) -> Result<WholeLog, TrialFault> {
-    let mut log = WholeLog::new(alloc);
+/// Appends a row, and places that each add 1 to it.
+fn push_chain(alloc: Global, log: &mut WholeLog) -> Result<(), TrialFault> {
     log.push_line(alloc, b"ann CREATE t 1")?;
     log.push_line(alloc, b"ann RUN t:1:I | CONST 0 1 | INSERT t 1 0")?;
     let line = b"ann RUN t:1:RU | LOAD 0 t 1 0 | CONST 1 1 | ADD 0 0 1 | STORE t 1 0 0 | OUT 0";
     for _ in 1..PLACES {
         log.push_line(alloc, line)?;
     }
-    Ok(log)
+    Ok(())
 }
 
 /// How many places are told with an outcome.
@@ -48,6 +47,18 @@ fn count_told(batch: &Batch<RangeKey<'_>>, pass: Pass) -> (Pass, usize)
     (last, count)
 }
 
+/// Tells what comes of all places, asked for once more.
+fn tell_again(rt: &impl Print, batch: &Batch<RangeKey<'_>>, pass: Pass) -> Result<(), TrialFault>
+    requires { IsPassOf batch.now pass }
+{
+    let (pass, counts) = ask_round(batch, pass, 0);
+    let (again, all) = (counts.done, pass.bodies());
+    println!(rt;
+        "asked for each in turn, and for the table's, {again} are done, and {all} bodies were run"
+    )?;
+    Ok(())
+}
+
 /// Tells what comes of the last place, asked for before any other.
 fn tell_last(rt: &impl Print, batch: &Batch<RangeKey<'_>>, pass: Pass) -> Result<(), TrialFault>
     requires { IsPassOf batch.now pass }
@@ -57,15 +68,10 @@ fn tell_last(rt: &impl Print, batch: &Batch<RangeKey<'_>>, pass: Pass) -> Result
     let bodies = pass.bodies();
     let (pass, after) = count_told(batch, pass);
     let (pass, found) = told(batch, pass, LAST);
-    let (pass, counts) = ask_round(batch, pass, 0);
-    let (again, all) = (counts.done, pass.bodies());
     println!(rt;
         "of {PLACES} places in a chain {before} are done; asked for the last: {tried:?}, {found:?}, and {bodies} bodies were run; then {after} are done"
     )?;
-    println!(rt;
-        "asked for each in turn, and for the table's, {again} are done, and {all} bodies were run"
-    )?;
-    Ok(())
+    tell_again(rt, batch, pass)
 }
 
 /// Tells of a log that is asked for from its end.
@@ -81,6 +87,7 @@ fn tell_log<R: Threads + Print + Sync>(
 
 /// Tells of a long chain that is asked for from its end.
 pub fn tell_chain<R: Threads + Print + Sync>(rt: &R, alloc: Global) -> Result<(), TrialFault> {
-    let log = chain(alloc)?;
+    let mut log = WholeLog::new(alloc);
+    push_chain(alloc, &mut log)?;
     tell_log(rt, alloc, &log)
 }

@@ -34,10 +34,12 @@ fn push_lines(alloc: Global, log: &mut WholeLog, lines: &[u8]) -> Result<(), Tri
     Ok(())
 }
 
-/// The next drawn log.
-pub fn drawn_places(alloc: Global, generator: &mut Generator) -> Result<WholeLog, TrialFault> {
+/// Appends the places of the next drawn log.
+pub fn push_drawn(
+    alloc: Global,
+    log: &mut WholeLog,
+    generator: &mut Generator,
+) -> Result<(), TrialFault> {
     let lines = drawn_log(alloc, generator, DRAWING)?;
-    let mut log = WholeLog::new(alloc);
-    push_lines(alloc, &mut log, lines.as_slice())?;
-    Ok(log)
+    push_lines(alloc, log, lines.as_slice())
 }

@@ -6,7 +6,7 @@ ghost use Rattle.range_trials.specs.Whole.{IsNothing};
 
 use crate::asking::ask_round;
 use crate::batches::{Before, batch_of, finished, nothing, words_of};
-use crate::drawn_logs::drawn_places;
+use crate::drawn_logs::push_drawn;
 use crate::fault::TrialFault;
 use crate::logs::WholeLog;
 use filling_base::{Batch, Fills};
@@ -182,13 +182,25 @@ fn compare<R: Threads + Sync>(
     compare_with(rt, alloc, log, &before, &plain, first, counts)
 }
 
+/// Compares one more drawn log.
+fn compare_drawn<R: Threads + Sync>(
+    rt: &R,
+    alloc: Global,
+    generator: &mut Generator,
+    first: usize,
+    counts: &mut Counts,
+) -> Result<(), TrialFault> {
+    let mut log = WholeLog::new(alloc);
+    push_drawn(alloc, &mut log, generator)?;
+    compare(rt, alloc, &log, first, counts)
+}
+
 /// Tells what comes of drawn logs of which a pass held some places when it was dropped.
 pub fn tell_dropped<R: Threads + Print + Sync>(rt: &R, alloc: Global) -> Result<(), TrialFault> {
     let mut generator = Generator::new(2015);
     let mut counts = Counts::default();
     for number in 0..LOGS {
-        let log = drawn_places(alloc, &mut generator)?;
-        compare(rt, alloc, &log, number as usize, &mut counts)?;
+        compare_drawn(rt, alloc, &mut generator, number as usize, &mut counts)?;
     }
     let Counts {
         places,

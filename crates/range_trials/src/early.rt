@@ -78,10 +78,19 @@ fn tell_wanted<R: Threads + Print + Sync>(
     tell_order(rt, alloc, &batch, pass, wanted)
 }
 
+/// Tells of a log beside the serial run.
+fn tell_log<R: Threads + Print + Sync>(
+    rt: &R,
+    alloc: Global,
+    log: &WholeLog,
+) -> Result<(), TrialFault> {
+    let wanted = wanted(alloc, log)?;
+    tell_wanted(rt, alloc, log, wanted.as_slice())
+}
+
 /// Tells of a revocation that is run before earlier readers.
 pub fn tell_early<R: Threads + Print + Sync>(rt: &R, alloc: Global) -> Result<(), TrialFault> {
     println!(rt; "a revocation first, and then who reads behind it and before it")?;
     let log = log_of(alloc, &LINES)?;
-    let wanted = wanted(alloc, &log)?;
-    tell_wanted(rt, alloc, &log, wanted.as_slice())
+    tell_log(rt, alloc, &log)
 }

@@ -1,15 +1,20 @@
 //! Drawn logs run by eight threads with a pass each.
 
+ghost use Rattle.words.specs.Passes.{IsPassOf};
+
 use crate::asking::{ask_by, ask_round};
 use crate::batches::{nothing, words_of};
-use crate::drawn_logs::drawn_places;
+use crate::drawn_logs::push_drawn;
 use crate::fault::TrialFault;
 use crate::logs::WholeLog;
 use crate::telling::{count_wanted, wanted};
+use filling::RangeKey;
+use filling_base::Batch;
 use model_base::{Cause, DeedDone, Outcome};
 use std::alloc::Global;
 use std::thread::Threads;
 use trials_base::Generator;
+use words::Pass;
 
 /// How many logs are drawn.
 const LOGS: u32 = 300;
@@ -79,6 +84,26 @@ struct Found {
     busy: usize,
 }
 
+/// Asks for all places by eight threads, and counts how many are told with the outcomes that are wanted.
+fn ask_wanted<R: Threads + Sync>(
+    rt: &R,
+    alloc: Global,
+    batch: &Batch<RangeKey<'_>>,
+    pass: Pass,
+    wanted: &[String],
+) -> Result<Found, TrialFault>
+    requires { IsPassOf batch.now pass }
+{
+    let (pass, busy) = ask_by(rt, batch, pass, LAST_THREAD);
+    let (pass, _) = ask_round(batch, pass, 0);
+    let same = count_wanted(alloc, batch, pass, wanted)?;
+    Ok(Found {
+        places: wanted.len(),
+        same,
+        busy,
+    })
+}
+
 /// Runs a log by eight threads, and counts how many places are told with the outcomes that are wanted.
 fn run_wanted<R: Threads + Sync>(
     rt: &R,
@@ -88,18 +113,17 @@ fn run_wanted<R: Threads + Sync>(
 ) -> Result<Found, TrialFault> {
     let before = nothing(alloc, log);
     let (batch, pass) = words_of(rt, alloc, log, &before, 3)?;
-    let (pass, busy) = ask_by(rt, &batch, pass, LAST_THREAD);
-    let (pass, _) = ask_round(&batch, pass, 0);
-    let same = count_wanted(alloc, &batch, pass, wanted)?;
-    Ok(Found {
-        places: wanted.len(),
-        same,
-        busy,
-    })
+    ask_wanted(rt, alloc, &batch, pass, wanted)
 }
 
-/// Runs a log by eight threads, and counts how many places are told with the outcomes of the serial run.
-fn run_log<R: Threads + Sync>(rt: &R, alloc: Global, log: &WholeLog) -> Result<Found, TrialFault> {
+/// Runs a log by eight threads, and counts what places come to, and how many are told with the outcomes of the serial run.
+fn run_log<R: Threads + Sync>(
+    rt: &R,
+    alloc: Global,
+    log: &WholeLog,
+    kinds: &mut Kinds,
+) -> Result<Found, TrialFault> {
+    count_kinds(alloc, log, kinds)?;
     let wanted = wanted(alloc, log)?;
     run_wanted(rt, alloc, log, wanted.as_slice())
 }
@@ -133,9 +157,9 @@ fn run_drawn<R: Threads + Sync>(
     generator: &mut Generator,
     kinds: &mut Kinds,
 ) -> Result<Found, TrialFault> {
-    let log = drawn_places(alloc, generator)?;
-    count_kinds(alloc, &log, kinds)?;
-    run_log(rt, alloc, &log)
+    let mut log = WholeLog::new(alloc);
+    push_drawn(alloc, &mut log, generator)?;
+    run_log(rt, alloc, &log, kinds)
 }
 
 /// Tells how the drawn logs come out; how often a place was found held, on standard error, since that differs from run to run.

@@ -15,13 +15,16 @@ pub enum TrialFault {
     /// A line of a trial's log isn't taken.
     #[error("a line is not taken")]
     Line,
+    /// A place that is to be held isn't free.
+    #[error("a place is not free")]
+    Taken,
     /// A log has too few places.
     #[error("a log has too few places")]
     Short,
     /// A growth was refused.
     #[error("out of memory")]
     NoMemory,
-    /// The system can't write, or tell the time or the words of the command line.
+    /// The system can't write, or tell the words of the command line.
     #[error("the system failed")]
     System,
 }

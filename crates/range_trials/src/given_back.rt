@@ -68,7 +68,7 @@ fn tell_calls(
     let mut holding = Holding::begin(holder);
     match batch.words().claim(&mut holding, HELD) {
         Claimed::Won => tell_holding(rt, batch, holding, asker),
-        Claimed::Held | Claimed::Done => Ok(asker),
+        Claimed::Held | Claimed::Done => Err(TrialFault::Taken),
     }
 }
 
@@ -108,10 +108,19 @@ fn tell_wanted<R: Threads + Print + Sync>(
     tell_parts(rt, alloc, &batch, pass, wanted)
 }
 
+/// Tells of a log beside the serial run.
+fn tell_log<R: Threads + Print + Sync>(
+    rt: &R,
+    alloc: Global,
+    log: &WholeLog,
+) -> Result<(), TrialFault> {
+    let wanted = wanted(alloc, log)?;
+    tell_wanted(rt, alloc, log, wanted.as_slice())
+}
+
 /// Tells of a place that is given back, and then run by the pass that found it held.
 pub fn tell_given_back<R: Threads + Print + Sync>(rt: &R, alloc: Global) -> Result<(), TrialFault> {
     println!(rt; "a place is found held, given back, and run by who found it held")?;
     let log = log_of(alloc, &LINES)?;
-    let wanted = wanted(alloc, &log)?;
-    tell_wanted(rt, alloc, &log, wanted.as_slice())
+    tell_log(rt, alloc, &log)
 }

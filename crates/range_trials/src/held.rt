@@ -1,6 +1,6 @@
 //! A place that another pass holds.
 
-ghost use Rattle.std.specs.Prelude.{◌<◌};
+ghost use Rattle.std.specs.Prelude.{◌≡◌, ◌<◌, IfOk};
 ghost use Rattle.words.specs.Passes.{IsPassOf};
 
 use crate::batches::{nothing, words_of};
@@ -61,6 +61,39 @@ fn tell_claims(rt: &impl Print, batch: &Batch<RangeKey<'_>>, pass: Pass) -> Resu
     Ok(())
 }
 
+/// Tells what comes of the last place while another is held, and what a further pass finds.
+fn tell_waiting(
+    rt: &impl Print,
+    batch: &Batch<RangeKey<'_>>,
+    asker: Pass,
+    other: Pass,
+) -> Result<Pass, TrialFault>
+    requires asker { IsPassOf batch.now asker }
+    requires other { IsPassOf batch.now other }
+    ensures { IfOk result (λ asker. IsPassOf batch.now asker) }
+{
+    println!(rt; "a pass holds {HELD}")?;
+    let asker = tell_asked(rt, batch, asker, LAST)?;
+    tell_claims(rt, batch, other)?;
+    Ok(asker)
+}
+
+/// Tells what comes of a place that was given back, and of the last.
+fn tell_given_back(
+    rt: &impl Print,
+    batch: &Batch<RangeKey<'_>>,
+    asker: Pass,
+    finisher: Pass,
+) -> Result<(), TrialFault>
+    requires asker { IsPassOf batch.now asker }
+    requires finisher { IsPassOf batch.now finisher }
+{
+    println!(rt; "it gives {HELD} back, and another runs it")?;
+    let _finisher = tell_asked(rt, batch, finisher, HELD)?;
+    let _asker = tell_asked(rt, batch, asker, LAST)?;
+    Ok(())
+}
+
 /// A pass takes a place. Tells what comes of the last place meanwhile, and once the other was given back and run.
 fn tell_calls(
     rt: &impl Print,
@@ -79,18 +112,12 @@ fn tell_calls(
     let mut holding = Holding::begin(holder);
     match batch.words().claim(&mut holding, HELD) {
         Claimed::Won => {
-            println!(rt; "a pass holds {HELD}")?;
-            let asker = tell_asked(rt, batch, asker, LAST)?;
-            tell_claims(rt, batch, other)?;
+            let asker = tell_waiting(rt, batch, asker, other)?;
             batch.words().give_back(&mut holding, HELD);
-            println!(rt; "it gives {HELD} back, and another runs it")?;
-            let _finisher = tell_asked(rt, batch, finisher, HELD)?;
-            let _asker = tell_asked(rt, batch, asker, LAST)?;
+            tell_given_back(rt, batch, asker, finisher)
         }
-        Claimed::Held => println!(rt; "another holds {HELD}")?,
-        Claimed::Done => println!(rt; "{HELD} is done")?,
+        Claimed::Held | Claimed::Done => Err(TrialFault::Taken),
     }
-    Ok(())
 }
 
 /// Cuts a pass in four, for the trial.

@@ -38,7 +38,7 @@ impl WholeLog {
         }
     }
 
-    /// Puts the statement of a line behind the others.
+    /// Appends the statement of a line. After an error the log is as it was, unless memory was refused.
     pub fn push_line(&mut self, alloc: Global, line: &[u8]) -> Result<(), TrialFault> {
         let again = parse_line(alloc, line)?;
         self.listed.push(again)?;
@@ -69,11 +69,17 @@ impl WholeLog {
     }
 }
 
-/// The log of these lines.
-pub fn log_of(alloc: Global, lines: &[&str]) -> Result<WholeLog, TrialFault> {
-    let mut log = WholeLog::new(alloc);
+/// Appends the statements of these lines.
+fn push_lines(alloc: Global, log: &mut WholeLog, lines: &[&str]) -> Result<(), TrialFault> {
     for line in lines {
         log.push_line(alloc, line.as_bytes())?;
     }
+    Ok(())
+}
+
+/// The log of these lines.
+pub fn log_of(alloc: Global, lines: &[&str]) -> Result<WholeLog, TrialFault> {
+    let mut log = WholeLog::new(alloc);
+    push_lines(alloc, &mut log, lines)?;
     Ok(log)
 }

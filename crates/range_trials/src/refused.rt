@@ -134,9 +134,18 @@ fn tell_wanted<R: Threads + Print + Sync>(
     tell_told(rt, alloc, &batch, pass, wanted)
 }
 
+/// Runs a log beside the serial run.
+fn tell_log<R: Threads + Print + Sync>(
+    rt: &R,
+    alloc: Global,
+    log: &WholeLog,
+) -> Result<(), TrialFault> {
+    let wanted = wanted(alloc, log)?;
+    tell_wanted(rt, alloc, log, wanted.as_slice())
+}
+
 /// Runs the log.
 pub fn tell_refused<R: Threads + Print + Sync>(rt: &R, alloc: Global) -> Result<(), TrialFault> {
     let log = log_of(alloc, &LINES)?;
-    let wanted = wanted(alloc, &log)?;
-    tell_wanted(rt, alloc, &log, wanted.as_slice())
+    tell_log(rt, alloc, &log)
 }

@@ -3,7 +3,7 @@
 
 use crate::fault::TrialFault;
 use crate::findings::{line_of, tell_chain, tell_explained, tell_lines, tell_place};
-use crate::stepping::{push_lines, run_up_to};
+use crate::stepping::{crew_of, push_lines, run_up_to};
 use engine::Engine;
 use grant_paths::{Line, Shown};
 use model_base::{Kind, Need, Place, Table};
@@ -67,7 +67,7 @@ fn run<R: Threads + Wait + Print + Sync>(
 ) -> Result<(), TrialFault> {
     let ends: [Place; 3] = [4, 8, 11];
     for end in ends {
-        run_up_to(rt, alloc, engine, end)?;
+        run_up_to(rt, alloc, engine, end, crew_of(2, 2))?;
         tell_place(rt, alloc, engine, 8)?;
     }
     Ok(())
@@ -102,8 +102,8 @@ fn tell_engine<R: Threads + Wait + Print + Sync>(
     tell_chain(rt, alloc, engine, 5, OPTION, &[1])
 }
 
-/// Tells of the worked log.
-pub fn tell_worked<R: Threads + Wait + Print + Sync>(
+/// Tells of the worked log's places.
+pub fn tell_explained_log<R: Threads + Wait + Print + Sync>(
     rt: &R,
     alloc: Global,
 ) -> Result<(), TrialFault> {

@@ -1,11 +1,8 @@
 //! Each place of drawn logs explained, and asked about.
 
-use crate::changed::{Changes, change_place};
+use crate::changed_chains::{Changes, change_place};
 use crate::fault::TrialFault;
-use crate::generator::Generator;
-use crate::logs::{LINES, drawn_log};
-use crate::questions::answer;
-use audit_text::{AuditFault, Question};
+use audit_text::{AuditFault, Question, explain_text};
 use batched_text::run_quietly;
 use engine::Engine;
 use explain::{check, explain};
@@ -14,9 +11,20 @@ use model_base::Place;
 use std::alloc::Global;
 use std::sync::Wait;
 use std::thread::Threads;
+use trials_base::{Drawing, Generator, drawn_log};
 
 /// How many logs are drawn.
 const LOGS: u32 = 300;
+
+/// How many lines a log has. The first two create its tables.
+const LINES: u32 = 30;
+
+/// How logs are drawn.
+const DRAWING: Drawing = Drawing {
+    lines: LINES - 2,
+    users: 5,
+    deeds: 14,
+};
 
 /// What was found of places.
 #[derive(Drop)]
@@ -26,11 +34,11 @@ struct Counts {
     accepted: u32,
     /// Of how many the answer tells `checked`.
     checked: u32,
-    /// Of how many logs no place is told behind the last.
+    /// Of how many logs no place is told after the last.
     ended: u32,
     /// What was found of explanations with one place changed.
     changes: Changes,
-    /// The answers, one behind the other.
+    /// The answers, one after the other.
     answers: Vec<u8>,
 }
 
@@ -57,7 +65,19 @@ impl Counts {
     }
 }
 
-/// Asks about each place of a log, and about the one behind the last.
+/// The answer to a question about a log, or why there is none.
+fn answer<R: Threads + Wait + Sync>(
+    rt: &R,
+    alloc: Global,
+    log: &[u8],
+    question: Question,
+) -> Result<Vec<u8>, AuditFault> {
+    let mut text = Counted::new(Vec::new(alloc));
+    explain_text(rt, alloc, &mut Counted::new(log), &mut text, question)?;
+    Ok(text.inner)
+}
+
+/// Asks about each place of a log, and about the one after the last.
 fn ask<R: Threads + Wait + Sync>(
     rt: &R,
     alloc: Global,
@@ -85,7 +105,7 @@ fn ask_drawn<R: Threads + Wait + Sync>(
     generator: &mut Generator,
     counts: &mut Counts,
 ) -> Result<(), TrialFault> {
-    let log = drawn_log(alloc, generator)?;
+    let log = drawn_log(alloc, generator, DRAWING)?;
     let engine = run_quietly(rt, alloc, &mut Counted::new(log.as_slice()))?;
     ask(rt, alloc, log.as_slice(), &engine, counts)
 }
@@ -113,7 +133,7 @@ fn tell_kinds<R: Print>(rt: &R, answers: &[u8]) -> Result<(), TrialFault> {
 }
 
 /// Tells of how many places of drawn logs the explanation is accepted, and what is answered of them.
-pub fn tell_drawn<R: Threads + Wait + Print + Sync>(
+pub fn tell_drawn_explained<R: Threads + Wait + Print + Sync>(
     rt: &R,
     alloc: Global,
 ) -> Result<(), TrialFault> {

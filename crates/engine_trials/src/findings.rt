@@ -1,4 +1,4 @@
-//! What is found, a line for each.
+//! What is found of explanations, a line for each.
 
 use crate::fault::TrialFault;
 use engine::Engine;
