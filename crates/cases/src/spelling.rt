@@ -44,7 +44,7 @@ fn put_grant(alloc: Global, outcome: &mut String, form: &RawForm<'_>) -> Result<
         },
     ) = form
     {
-        let (kind, table, grantee) = (kind_word(*kind), table.as_str(), grantee.as_str());
+        let (kind, table, grantee) = (kind_word(*kind), table.as_str(), grantee.word());
         let part = format!(in alloc; "grants {kind} on {table} to {grantee}, option: {option}")?;
         put_part(outcome, part.as_str())?;
     }

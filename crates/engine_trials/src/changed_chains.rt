@@ -5,7 +5,7 @@ use crate::findings::line_of;
 use engine::Engine;
 use explain::{Explanation, check, explain};
 use grant_paths::{Line, Shown};
-use model_base::{Need, Place, Record, User};
+use model_base::{Grant, Grantee, Need, Place, Record, User};
 use std::alloc::{AllocError, Global};
 
 /// What was found of changed explanations.
@@ -54,6 +54,30 @@ fn serves(record: &Record, place: Place, need: &Need) -> bool {
     stands && grant.place < place && grant.kind == need.kind && grant.table == need.table
 }
 
+/// Whether the grant gives the user what is needed, of its kind on its table: PUBLIC is every user, where no option is needed.
+fn reaches(grant: &Grant, user: User, need: &Need) -> bool {
+    match grant.grantee {
+        Grantee::User(other) => other == user && (grant.option || !need.option),
+        Grantee::Public => !need.option,
+    }
+}
+
+/// The user to whom the grant is, or another where it is to PUBLIC.
+fn user_or(grant: &Grant, other: User) -> User {
+    match grant.grantee {
+        Grantee::User(user) => user,
+        Grantee::Public => other,
+    }
+}
+
+/// Whether the grant gives its grantee the option.
+fn gives_option(grant: &Grant) -> bool {
+    match grant.grantee {
+        Grantee::User(_) => grant.option,
+        Grantee::Public => false,
+    }
+}
+
 /// Whether the grants of these places lead from the owner to the need of the user, each by who got the option from the one before.
 fn leads(
     records: &[Record],
@@ -63,7 +87,7 @@ fn leads(
     need: &Need,
     places: &[Place],
 ) -> bool {
-    let (mut from, mut option, mut next) = (owner, true, 0);
+    let (mut from, mut option, mut next, mut is_given) = (owner, true, 0, false);
     for made in places {
         let Some(record) = made_at(records, *made) else {
             return false;
@@ -72,13 +96,14 @@ fn leads(
         if !goes_on || !serves(&record, place, need) {
             return false;
         }
+        is_given = reaches(&record.grant, user, need);
         (from, option, next) = (
-            record.grant.grantee,
-            record.grant.option,
+            user_or(&record.grant, from),
+            gives_option(&record.grant),
             made.saturating_add(1),
         );
     }
-    !places.is_empty() && from == user && (option || !need.option)
+    is_given
 }
 
 /// The places with one of them changed.
@@ -142,13 +167,22 @@ fn judge(
     Ok(())
 }
 
-/// The grantor of the first of some grants, and the grantee of the last.
-fn ends_of(records: &[Record], places: &[Place]) -> Option<Ends> {
-    let first = made_at(records, *places.first()?)?;
-    let last = made_at(records, *places.last()?)?;
+/// The user of a place's statement, if it is kept.
+fn user_at(engine: &Engine, place: Place) -> Option<User> {
+    let log = engine.log();
+    if place < log.dropped() || place >= log.len() {
+        return None;
+    }
+    Some(log.statement(place).user)
+}
+
+/// The grantor of the first of some grants, and the user of a place's statement.
+fn ends_of(engine: &Engine, place: Place, places: &[Place]) -> Option<Ends> {
+    let first = made_at(engine.book().records(), *places.first()?)?;
+    let user = user_at(engine, place)?;
     Some(Ends {
         owner: first.grant.grantor,
-        user: last.grant.grantee,
+        user,
     })
 }
 
@@ -207,7 +241,7 @@ pub fn change_place(
                 need,
                 shown: Shown::Grants(places),
             },
-        ] => match ends_of(engine.book().records(), places.as_slice()) {
+        ] => match ends_of(engine, place, places.as_slice()) {
             Some(ends) => change_chain(
                 alloc,
                 engine,

@@ -17,13 +17,13 @@ use trials_base::{Drawing, Generator, drawn_log};
 const LOGS: u32 = 300;
 
 /// How many lines a log has. The first two create its tables.
-const LINES: u32 = 30;
+const LINES: u32 = 60;
 
 /// How logs are drawn.
 const DRAWING: Drawing = Drawing {
     lines: LINES - 2,
-    users: 5,
-    deeds: 14,
+    users: 3,
+    deeds: 15,
 };
 
 /// What was found of places.

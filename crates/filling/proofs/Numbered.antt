@@ -9,6 +9,7 @@ use Rattle.std.proofs.lemmas.List.Quantifiers.{position-Some}
 use Rattle.std.proofs.lemmas.List.Sums.{fails_before_first, position_or_len_is}
 use Rattle.std.proofs.lemmas.Option.{slice_get-get_or, slice_get_within}
 use Rattle.model_base.specs.declared.deed.Grant.{Grant}
+use Rattle.model_base.specs.declared.deed.Grantee.TheVariants.{User}
 use Rattle.model_base.specs.declared.deed.Kind.TheVariants.{Read}
 use Rattle.model_base.proofs.Replay.{by_cases}
 use Rattle.bohm_core_base.specs.Batch.{Batch, place_at, batch_slots}
@@ -21,7 +22,7 @@ use Rattle.filling.proofs.Lists.{Rises, above-at, any-in, at-in, in-any, in-at}
 
 -- a grant that stands for none
 abbrev no_grant : Grant
-no_grant = record { place = 0; grantor = 0; grantee = 0; kind = Read; table = 0; option = false }
+no_grant = record { place = 0; grantor = 0; grantee = User 0; kind = Read; table = 0; option = false }
 
 -- the grant of a slot, with its place
 pub grant-there : (b : Batch) (slot : ℕ) → slot < length (batch_slots b) → (grant : Grant) × (slice_get (batch_slots b) slot ≡ Some grant) × (place_at b slot ≡ grant.place)

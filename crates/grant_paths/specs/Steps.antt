@@ -27,6 +27,11 @@ IsFirstGiving view user need end (Some found) =
     (found.slot < end) × (giving_in (slot_at view found.slot) user need ≡ Some found.grant)
     × ((k : ℕ) → k < found.slot → slot_gives (slot_at view k) user need ≡ false)
 
+-- the slot that was found, or another
+abbrev pub slot_or : ℕ → Option Giving → ℕ
+slot_or other None = other
+slot_or other (Some found) = found.slot
+
 -- the last grant of the path by so many slots, with its slot, or that the path is empty
 abbrev pub IsLastOfPath : View → List ℕ → ℕ → Need → ℕ → Option Giving → Type 0
 IsLastOfPath view owners user need end None = path owners (stood view end) user need ≡ []

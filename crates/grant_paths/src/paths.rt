@@ -8,11 +8,12 @@ ghost use Rattle.model_base.specs.declared.deed.Deed.{Deed};
 ghost use Rattle.grants_base.specs.Book.{ShowsBook};
 ghost use Rattle.grants_base.specs.View.{entries, slot_at};
 ghost use Rattle.grant_paths.specs.Lines.{path_before, made_places};
-ghost use Rattle.grant_paths.specs.Steps.{IsFirstGiving, IsLastOfPath, giving_in};
+ghost use Rattle.grants.specs.Loss.{narrowed};
+ghost use Rattle.grant_paths.specs.Steps.{IsFirstGiving, IsLastOfPath, giving_in, slot_or};
 ghost use Rattle.grant_paths.specs.declared.paths.Giving.{Giving};
 
 use grants::{Book, Records};
-use model_base::{Grant, Items, Need, Place, User};
+use model_base::{Grant, Grantee, Items, Need, Place, User};
 use std::alloc::{AllocError, Global};
 
 /// A grant that gives what is needed, and its slot.
@@ -47,16 +48,22 @@ fn giving_in<V: Records>(view: &mut V, slot: usize, user: User, need: &Need) -> 
     }
 }
 
-/// The first slot, of so many, whose grant is in force and gives the user what is needed. It looks once at each slot that asks
-/// for a grant of this kind on this table to the user, up to that.
-fn first_giving<V: Records>(view: &mut V, user: User, need: &Need, end: usize) -> Option<Giving>
+/// The first slot, of so many, whose grant is to a grantee, is in force and gives the user what is needed. It looks once at each
+/// slot that asks for a grant of this kind on this table to the grantee, up to that.
+fn first_giving_to<V: Records>(
+    view: &mut V,
+    grantee: &Grantee,
+    user: User,
+    need: &Need,
+    end: usize,
+) -> Option<Giving>
     requires within { end ≤ length (V.shown view.old).slots }
-    ensures first { IsFirstGiving (V.shown view.old) user need.now end result }
+    ensures first { IsFirstGiving (narrowed grantee.now (V.shown view.old)) user need.now end result }
     ensures same { V.shown view.new ≡ V.shown view.old }
 {
     let mut from = 0;
     while from < end {
-        match view.next_to(user, need.kind, need.table, from) {
+        match view.next_to(*grantee, need.kind, need.table, from) {
             Some(slot) if slot < end => {
                 if let Some(grant) = giving_in(view, slot, user, need) {
                     return Some(Giving { slot, grant });
@@ -67,6 +74,35 @@ fn first_giving<V: Records>(view: &mut V, user: User, need: &Need, end: usize) -
         }
     }
     None
+}
+
+/// The slot that was found, or another.
+fn slot_or(found: &Option<Giving>, other: usize) -> usize
+    ensures { result ≡ slot_or other found.now }
+{
+    match found {
+        Some(giving) => giving.slot,
+        None => other,
+    }
+}
+
+/// The first slot, of so many, whose grant is in force and gives the user what is needed. It looks once at each slot that asks
+/// for a grant of this kind on this table to the user, up to that, and then, where no option is needed, at each below it that asks
+/// for one to PUBLIC.
+fn first_giving<V: Records>(view: &mut V, user: User, need: &Need, end: usize) -> Option<Giving>
+    requires within { end ≤ length (V.shown view.old).slots }
+    ensures first { IsFirstGiving (V.shown view.old) user need.now end result }
+    ensures same { V.shown view.new ≡ V.shown view.old }
+{
+    let own = first_giving_to(view, &Grantee::User(user), user, need, end);
+    if need.option {
+        return own;
+    }
+    let below = slot_or(&own, end);
+    match first_giving_to(view, &Grantee::Public, user, need, below) {
+        Some(giving) => Some(giving),
+        None => own,
+    }
 }
 
 /// The last grant of the path of what a user needs, by the grants of so many slots: the first that gives it. There is none for
@@ -120,8 +156,8 @@ fn path_in<V: Records>(
 
 /// The places on the path by which a user holds what is needed before a place: the earliest grant in force that gives it, before
 /// that the earliest that gave its grantor the option, and so on, down to a grant by the table's owner. It is empty for the
-/// owner, and where the need isn't held. It looks once at each grant of this kind on this table to the users on the path, up to
-/// the one on the path, and at no other grant. An error is want of memory.
+/// owner, and where the need isn't held. It looks once at each grant of this kind on this table to the users on the path, and at
+/// its end to PUBLIC, up to the one on the path, and at no other grant. An error is want of memory.
 pub fn path_at(
     alloc: Global,
     book: &Book,

@@ -4,7 +4,7 @@ use crate::both::Both;
 use crate::fault::TrialFault;
 use crate::telling::tell;
 use grants::{Book, Records};
-use model_base::{Grant, Kind, Place, Revocation, Table, User};
+use model_base::{Grant, Grantee, Kind, Place, Revocation, Table, User};
 use std::alloc::Global;
 
 const OLGA: User = User(0);
@@ -19,7 +19,7 @@ fn put_deeds(alloc: Global, both: &mut Both) -> Result<(), TrialFault> {
     both.give(&Grant {
         place: 1,
         grantor: OLGA,
-        grantee: BOB,
+        grantee: Grantee::User(BOB),
         kind: Kind::Read,
         table: TABLE,
         option: true,
@@ -27,7 +27,7 @@ fn put_deeds(alloc: Global, both: &mut Both) -> Result<(), TrialFault> {
     let revocation = Revocation {
         place: 2,
         grantor: OLGA,
-        grantee: BOB,
+        grantee: Grantee::User(BOB),
         kind: Kind::Read,
         table: TABLE,
     };
@@ -63,13 +63,21 @@ fn tell_first<V: Records>(rt: &impl Print, view: &mut V) {
 /// Tells which slot a view finds by a user.
 fn tell_next<V: Records>(rt: &impl Print, view: &mut V) {
     let (read, insert) = (Kind::Read, Kind::Insert);
-    tell(rt, "  next to Bob", &view.next_to(BOB, read, TABLE, 0));
+    tell(
+        rt,
+        "  next to Bob",
+        &view.next_to(Grantee::User(BOB), read, TABLE, 0),
+    );
     tell(
         rt,
         "  next to Bob from 1",
-        &view.next_to(BOB, read, TABLE, 1),
+        &view.next_to(Grantee::User(BOB), read, TABLE, 1),
     );
-    tell(rt, "  next to Olga", &view.next_to(OLGA, read, TABLE, 0));
+    tell(
+        rt,
+        "  next to Olga",
+        &view.next_to(Grantee::User(OLGA), read, TABLE, 0),
+    );
     tell(rt, "  next by Olga", &view.next_by(OLGA, read, TABLE, 0));
     tell(
         rt,

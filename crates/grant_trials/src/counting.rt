@@ -4,7 +4,7 @@ use crate::both::Both;
 use crate::fault::TrialFault;
 use crate::telling::tell;
 use grants::{BookView, Records, denial, holds, to_end};
-use model_base::{Grant, Kind, Need, Place, Revocation, Table, User};
+use model_base::{Grant, Grantee, Kind, Need, Place, Revocation, Table, User};
 use std::alloc::Global;
 
 const OWNER: User = User(0);
@@ -56,8 +56,14 @@ impl<V: Records> Records for Counting<V> {
         self.view.end(i)
     }
 
-    fn next_to(&mut self, user: User, kind: Kind, table: Table, from: usize) -> Option<usize> {
-        self.view.next_to(user, kind, table, from)
+    fn next_to(
+        &mut self,
+        grantee: Grantee,
+        kind: Kind,
+        table: Table,
+        from: usize,
+    ) -> Option<usize> {
+        self.view.next_to(grantee, kind, table, from)
     }
 
     fn next_by(&mut self, user: User, kind: Kind, table: Table, from: usize) -> Option<usize> {
@@ -70,7 +76,7 @@ fn reading(user: u32) -> Grant {
     Grant {
         place: Place::from(user),
         grantor: OWNER,
-        grantee: User(user),
+        grantee: Grantee::User(User(user)),
         kind: Kind::Read,
         table: TABLE,
         option: false,
@@ -127,7 +133,7 @@ fn taking(place: Place, user: u32) -> Revocation {
     Revocation {
         place,
         grantor: OWNER,
-        grantee: User(user),
+        grantee: Grantee::User(User(user)),
         kind: Kind::Read,
         table: TABLE,
     }

@@ -1,12 +1,12 @@
 //! Drawn deeds in a book and in the plain one, each answer compared.
 //!
-//! User 0 creates table 0 at place 0. Then come forty deeds of five users, who grant and revoke two kinds on that table. Then
-//! both books are asked for each need of each user at each place, and are cut at a drawn place. It is told how much was
-//! compared.
+//! User 0 creates table 0 at place 0. Then come forty deeds of five users, who grant two kinds on that table to one another and to
+//! PUBLIC, and revoke them. Then both books are asked for each need of each user at each place, and are cut at a drawn place. It
+//! is told how much was compared.
 
 use crate::both::{Both, Told};
 use crate::fault::TrialFault;
-use model_base::{Deed, Grant, Kind, Need, Place, Revocation, Table, User};
+use model_base::{Deed, Grant, Grantee, Kind, Need, Place, Revocation, Table, User};
 use std::alloc::Global;
 use trials_base::Generator;
 
@@ -68,12 +68,21 @@ fn drawn_kind(generator: &mut Generator) -> Kind {
     }
 }
 
-/// A grant. The owner makes two of six, and three of four are with the option.
+/// A grantee, PUBLIC one of five times.
+fn drawn_grantee(generator: &mut Generator) -> Grantee {
+    if generator.below(5) == 0 {
+        Grantee::Public
+    } else {
+        Grantee::User(User(generator.below(USERS)))
+    }
+}
+
+/// A grant. The owner makes two of six, and three of four are with the option, to PUBLIC too, where it gives none.
 fn drawn_grant(generator: &mut Generator, place: Place) -> Grant {
     Grant {
         place,
         grantor: User(generator.below(6) % USERS),
-        grantee: User(generator.below(USERS)),
+        grantee: drawn_grantee(generator),
         kind: drawn_kind(generator),
         table: TABLE,
         option: generator.below(4) > 0,

@@ -2,7 +2,7 @@
 
 use crate::both::Both;
 use crate::fault::TrialFault;
-use model_base::{Grant, Kind, Need, Place, Revocation, Table, User};
+use model_base::{Grant, Grantee, Kind, Need, Place, Revocation, Table, User};
 use std::alloc::Global;
 
 /// What is done in an example. Grants and revocations are of reading table 0, and users go by their numbers.
@@ -43,7 +43,7 @@ fn give(both: &mut Both, place: Place, users: (u32, u32), option: bool) -> Resul
     let held = both.give(&Grant {
         place,
         grantor: User(grantor),
-        grantee: User(grantee),
+        grantee: Grantee::User(User(grantee)),
         kind: Kind::Read,
         table: Table(0),
         option,
@@ -63,7 +63,7 @@ fn tell_taken(
     let revocation = Revocation {
         place,
         grantor: User(grantor),
-        grantee: User(grantee),
+        grantee: Grantee::User(User(grantee)),
         kind: Kind::Read,
         table: Table(0),
     };

@@ -5,7 +5,7 @@ ghost use Rattle.std.specs.Prelude.{◌≡◌, ◌<◌, []};
 use crate::fault::TrialFault;
 use crate::telling::tell;
 use grants::{Book, Creation, End, Records, holds};
-use model_base::{Grant, Kind, Place, Table, User};
+use model_base::{Grant, Grantee, Kind, Place, Table, User};
 use std::alloc::Global;
 
 const OLGA: u32 = 0;
@@ -52,7 +52,7 @@ pub fn tell_parts(rt: &impl Print, alloc: Global) -> Result<(), TrialFault> {
     let grant = Grant {
         place: 1,
         grantor: User(OLGA),
-        grantee: User(BOB),
+        grantee: Grantee::User(User(BOB)),
         kind: Kind::Read,
         table: Table(0),
         option: false,

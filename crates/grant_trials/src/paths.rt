@@ -6,7 +6,7 @@ use crate::fault::TrialFault;
 use crate::showing::{chain_of, tell_accepted, tell_lines, tell_need};
 use grant_paths::Shown;
 use grants::Book;
-use model_base::{Grant, Kind, Need, Place, Revocation, Table, User};
+use model_base::{Grant, Grantee, Kind, Need, Place, Revocation, Table, User};
 use std::alloc::Global;
 
 const ALICE: User = User(0);
@@ -36,7 +36,7 @@ fn grant(place: Place, grantor: User, grantee: User, option: bool) -> Grant {
     Grant {
         place,
         grantor,
-        grantee,
+        grantee: Grantee::User(grantee),
         kind: Kind::Read,
         table: Table(0),
         option,
@@ -54,7 +54,7 @@ fn put_deeds(book: &mut Book, alloc: Global) -> Result<(), TrialFault> {
     let revocation = Revocation {
         place: 6,
         grantor: ALICE,
-        grantee: BOB,
+        grantee: Grantee::User(BOB),
         kind: Kind::Read,
         table: Table(0),
     };

@@ -7,7 +7,7 @@ ghost use Rattle.grants_base.specs.Book.{IsLater};
 use crate::deeds::{ends_in, enter, give_held, take};
 use crate::fault::{TrialFault, expect};
 use grants::{Book, Creation, End};
-use model_base::{Grant, Kind, Place, Record, Revocation, Table, User};
+use model_base::{Grant, Grantee, Kind, Place, Record, Revocation, Table, User};
 use std::alloc::{AllocError, Global};
 
 const TABLES: u32 = 8;
@@ -143,7 +143,7 @@ fn link(place: Place, user: u32) -> Grant {
     Grant {
         place,
         grantor: User(user),
-        grantee: User(user.saturating_add(1)),
+        grantee: Grantee::User(User(user.saturating_add(1))),
         kind: Kind::Read,
         table: TABLE,
         option: true,
@@ -190,7 +190,7 @@ fn unlink() -> Revocation {
     Revocation {
         place: REVOKED,
         grantor: User(HALF),
-        grantee: User(HALF.saturating_add(1)),
+        grantee: Grantee::User(User(HALF.saturating_add(1))),
         kind: Kind::Read,
         table: TABLE,
     }

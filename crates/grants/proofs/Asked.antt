@@ -2,11 +2,14 @@
 use Rattle.std.proofs.Common.{◌≡◌, ℕ, zero, suc, ◌<◌, ◌≤◌, ◌∷◌, [], length, arith, ◌||◌, ◌&&◌, not, Bool, true, false, List, Option, Some, None, is_none, refl, sym, ◌∙◌, ap, eq-eqb, inl, inr}
 use Rattle.std.specs.Prelude.{◌==◌, ◌⊎◌, ◌+◌, slice_get}
 use Rattle.std.specs.Option.{option_map_or}
-use Rattle.std.proofs.lemmas.Bool.{true≢false, and_parts, eqb-true, cases_lt}
+use Rattle.std.proofs.lemmas.Bool.{true≢false, and_parts, cases_lt}
 use Rattle.model_base.specs.declared.deed.Grant.{Grant}
+use Rattle.model_base.specs.declared.deed.Grantee.{Grantee}
+use Rattle.model_base.specs.declared.deed.Grantee.TheVariants.{User}
 use Rattle.model_base.specs.declared.deed.Record.{Record}
 use Rattle.model_base.specs.declared.deed.Revocation.{Revocation}
-use Rattle.model_base.specs.Privileges.{concerns, names}
+use Rattle.model_base.specs.Privileges.{concerns, names, same_grantee}
+use Rattle.model_base.proofs.Reaching.{grantee-same, grantee-true, holder_is}
 use Rattle.model_base.proofs.Replay.{by_cases}
 use Rattle.grants_base.specs.View.{View, flatten, grant_in, slot_at}
 use Rattle.grants.specs.Pass.{concerned}
@@ -15,6 +18,9 @@ use Rattle.grants.specs.Work.{bears}
 use Rattle.grants_base.specs.Index.{AreAsked, is_by, is_to, passes_at}
 use Rattle.grants.proofs.SlotLaws.{about_concerned}
 use Rattle.grants.proofs.Worklist.{borne_by}
+
+same-grantee : (a b : Grantee) → a ≡ b → same_grantee a b ≡ true
+same-grantee a b is = ap (same_grantee a) (sym is) ∙ grantee-same a
 
 in_slot : (slot : Option Record) (revocation : Revocation) (grant : Grant) → concerned slot revocation ≡ Some grant → grant_in slot ≡ Some grant
 in_slot None revocation grant is = absurd (cc)
@@ -29,14 +35,15 @@ module _ (view : View) (asked : List Grant) (are : AreAsked view asked) (revocat
   asks passes k grant is = ap (λ found. option_map_or passes found false) (are.each k grant (in_slot (slot_at view k) revocation grant is))
 
   -- a slot that isn't found gives the user nothing
-  pub bears-skipped : (user k : ℕ) → passes_at (is_to user revocation.kind revocation.table) asked k ≡ false → bears revocation user (slot_at view k) ≡ false
+  pub bears-skipped : (user k : ℕ) → passes_at (is_to (User user) revocation.kind revocation.table) asked k ≡ false → bears revocation user (slot_at view k) ≡ false
   bears-skipped user k skipped =
       by_cases (bears revocation user (slot_at view k))
       (λ bear.
       let by = borne_by revocation (slot_at view k) user bear in
       let about : concerns revocation by.0 ≡ true = about_concerned (slot_at view k) revocation by.0 by.1 in
-      let found : is_to user revocation.kind revocation.table by.0 ≡ true = rw (eq-eqb by.0.grantee user by.3) about in
-      absurd (true≢false (sym found ∙ sym (asks (is_to user revocation.kind revocation.table) k by.0 by.1) ∙ skipped)))
+      let to : same_grantee by.0.grantee (User user) ≡ true = ap (λ g. same_grantee g (User user)) (holder_is by.0 user by.2) ∙ eq-eqb user user refl in
+      let found : is_to (User user) revocation.kind revocation.table by.0 ≡ true = rw to about in
+      absurd (true≢false (sym found ∙ sym (asks (is_to (User user) revocation.kind revocation.table) k by.0 by.1) ∙ skipped)))
       (λ none. none)
 
   -- nor is it named
@@ -44,10 +51,10 @@ module _ (view : View) (asked : List Grant) (are : AreAsked view asked) (revocat
       → concerned (slot_at view k) revocation ≡ Some grant → names revocation grant ≡ true → ⊥
   unfolding names
   named-skipped k grant skipped is named =
-      let to = (and_parts (revocation.grantor == grant.grantor) ((revocation.grantee == grant.grantee) && concerns revocation grant) named).1 in
-      let parts = and_parts (revocation.grantee == grant.grantee) (concerns revocation grant) to in
+      let to = (and_parts (revocation.grantor == grant.grantor) (same_grantee revocation.grantee grant.grantee && concerns revocation grant) named).1 in
+      let parts = and_parts (same_grantee revocation.grantee grant.grantee) (concerns revocation grant) to in
       let found : is_to revocation.grantee revocation.kind revocation.table grant ≡ true =
-      rw (eq-eqb grant.grantee revocation.grantee (sym (eqb-true revocation.grantee grant.grantee parts.0))) parts.1 in
+      rw (same-grantee grant.grantee revocation.grantee (sym (grantee-true revocation.grantee grant.grantee parts.0))) parts.1 in
       true≢false (sym found ∙ sym (asks (is_to revocation.grantee revocation.kind revocation.table) k grant is) ∙ skipped)
 
   -- nor is it by the user
@@ -61,7 +68,7 @@ module _ (view : View) (asked : List Grant) (are : AreAsked view asked) (revocat
   -- up to the slot found, nothing that hasn't ended gives the user the option
   pub none_until : (ended : List ℕ) (user from i : ℕ)
       → ((k : ℕ) → k < from → is_one_of ended k ≡ false → bears revocation user (slot_at view k) ≡ false)
-      → ((k : ℕ) → from ≤ k → k < i → passes_at (is_to user revocation.kind revocation.table) asked k ≡ false)
+      → ((k : ℕ) → from ≤ k → k < i → passes_at (is_to (User user) revocation.kind revocation.table) asked k ≡ false)
       → (k : ℕ) → k < i → is_one_of ended k ≡ false → bears revocation user (slot_at view k) ≡ false
   none_until ended user from i before skipped k less stays =
       elim (cases_lt k from) [

@@ -1,5 +1,5 @@
 -- In a view that shows some deeds each grant in force is borne by an earlier one.
-use Rattle.std.proofs.Common.{◌≡◌, ℕ, zero, suc, ◌<◌, ◌||◌, ◌&&◌, not, Bool, true, false, List, [], ◌∷◌, ◌++◌, Option, Some, None, is_none, take, refl, sym, ◌∙◌, ap, subst, arith, inl, inr, append_assoc, eq-eqb}
+use Rattle.std.proofs.Common.{◌≡◌, ℕ, zero, suc, ◌<◌, ◌||◌, ◌&&◌, Bool, true, false, List, [], ◌∷◌, ◌++◌, Option, Some, None, is_none, take, refl, sym, ◌∙◌, ap, subst, arith, inl, inr, append_assoc, eq-eqb}
 use Rattle.std.specs.Prelude.{◌==◌, ◌⊎◌, slice_get}
 use Rattle.std.specs.List.{flat_map, list_any}
 use Rattle.std.specs.Option.{option_to_list}
@@ -11,9 +11,10 @@ use Rattle.model_base.specs.declared.deed.Record.{Record}
 use Rattle.model_base.specs.declared.deed.Revocation.{Revocation}
 use Rattle.model_base.specs.declared.deed.Need.{Need}
 use Rattle.model_base.specs.declared.deed.Deed.{Deed}
-use Rattle.model_base.specs.Privileges.{concerns, erased, gives, has, kept, option_of}
+use Rattle.model_base.specs.Privileges.{concerns, erased, gives, has, kept, lends_to, option_of}
 use Rattle.model_base.specs.Records.{covered, in_force, records}
 use Rattle.model_base.proofs.Replay.{by_cases}
+use Rattle.model_base.proofs.Reaching.{gives_option}
 use Rattle.model_base.proofs.Records.{in_force-records}
 use Rattle.grants_base.specs.View.{View, ShowsDeeds, covers, entries, flatten}
 use Rattle.grants.specs.Pass.{concerned}
@@ -52,7 +53,7 @@ any_last p xs x is = list_any-append p xs (x ∷ []) ∙ or_right (list_any p xs
 module _ (owner : ℕ) (revocation : Revocation) where
   -- a grant of this kind and table that gives the user the option
   abbrev lends : ℕ → Grant → Bool
-  lends user grant = concerns revocation grant && (grant.option && (grant.grantee == user))
+  lends user grant = concerns revocation grant && lends_to grant user
 
   -- each grant of this kind and table is by the owner, or by one who has the option by an earlier one
   abbrev AreLent : List Grant → List Grant → Type 0
@@ -93,12 +94,8 @@ module _ (owner : ℕ) (revocation : Revocation) where
                 let parts = given g grant.grantor (option_of grant) is in
                 let kind : g.kind ≡ revocation.kind = parts.kind ∙ ap (λ (n : Need). n.kind) need in
                 let table : g.table ≡ revocation.table = parts.table ∙ ap (λ (n : Need). n.table) need in
-                let option : g.option ≡ true = alone g.option parts.option in
-                rw (kind, same_kind-same revocation.kind, table, eq-eqb revocation.table revocation.table refl, option, eq-eqb g.grantee grant.grantor parts.to) refl
-              where
-                alone : (b : Bool) → (b || not true) ≡ true → b ≡ true
-                alone true e = refl
-                alone false e = absurd (true≢false (sym e))
+                let lent : lends_to g grant.grantor ≡ true = sym (gives_option g grant.grantor (option_of grant) parts.kind parts.table refl) ∙ is in
+                rw (kind, same_kind-same revocation.kind, table, eq-eqb revocation.table revocation.table refl) lent
 
   -- of the records of some tables
   lent_covered : (tells : ℕ → Bool) → tells revocation.table ≡ true → (before more : List Grant) (all : List Record)
@@ -123,7 +120,7 @@ module _ (owner : ℕ) (revocation : Revocation) where
       (λ user is. elim (any_more (lends user) before entry.grant is) [
         | inl old ↦ implies user old
         | inr new ↦
-            let about = (and_parts (concerns revocation entry.grant) (entry.grant.option && (entry.grant.grantee == user)) new).0 in
+            let about = (and_parts (concerns revocation entry.grant) (lends_to entry.grant user) new).0 in
             let apart : concerns revocation entry.grant ≡ false =
             off_table owner revocation entry.grant (ne_eqb entry.grant.table revocation.table (λ same. true≢false (sym here ∙ sym (ap tells same) ∙ outside))) in
             absurd (true≢false (sym about ∙ apart))
@@ -150,7 +147,7 @@ module _ (owner : ℕ) (revocation : Revocation) where
             (λ user is. elim (any_more (lends user) before entry.grant is) [
               | inl old ↦ any_before (bears revocation user) more (Some entry) (implies user old)
               | inr new ↦
-                  let both = and_parts (concerns revocation entry.grant) (entry.grant.option && (entry.grant.grantee == user)) new in
+                  let both = and_parts (concerns revocation entry.grant) (lends_to entry.grant user) new in
                   any_last (bears revocation user) more (Some entry) (rw (stands, both.0) both.1)
             ]) parts.1,
       ))

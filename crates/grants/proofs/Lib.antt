@@ -16,5 +16,6 @@ pub mod Worklist
 pub mod Asking
 pub mod Asked
 pub mod Borne
+pub mod Narrow
 pub mod Found
 pub mod EndedLaws

@@ -1,60 +1,56 @@
 -- The slots that are due are all that the recursive revocation has to judge.
-use Rattle.std.proofs.Common.{◌≡◌, ℕ, zero, suc, ◌<◌, ◌≤◌, ◌+◌, ◌||◌, ◌&&◌, true, false, List, [], ◌∷◌, ◌++◌, Option, Some, None, length, drop, add-one, refl, sym, ◌∙◌, ap, arith, inl, inr, eq-eqb, append_assoc, Less}
+use Rattle.std.proofs.Common.{◌≡◌, ℕ, zero, suc, ◌<◌, ◌≤◌, ◌+◌, ◌||◌, true, false, List, [], ◌∷◌, ◌++◌, Option, Some, None, length, drop, add-one, refl, sym, ◌∙◌, ap, arith, inl, inr, eq-eqb, append_assoc, Less}
 use Rattle.std.specs.Prelude.{◌==◌, ◌⊎◌, All, is_some}
 use Rattle.std.specs.BTreeMap.{BTreeMap, get}
 use Rattle.std.specs.Option.{option_map_or}
 use Rattle.std.specs.Ordering.{nat_cmp}
 use Rattle.std.specs.BTreeSet.{BTreeSet, Updates}
-use Rattle.std.proofs.lemmas.Bool.{true≢false, and_parts, or_cases, or_right, cases_lt, eqb-true, ne_eqb}
+use Rattle.std.proofs.lemmas.Bool.{true≢false, or_cases, or_right, cases_lt, eqb-true, ne_eqb}
 use Rattle.std.proofs.lemmas.Bool.Decides.{nat_tests}
 use Rattle.std.proofs.lemmas.List.Elements.{All-head, All-tail}
 use Rattle.model_base.specs.declared.deed.Grant.{Grant}
 use Rattle.model_base.specs.declared.deed.Record.{Record}
 use Rattle.model_base.specs.declared.deed.Revocation.{Revocation}
-use Rattle.model_base.specs.Privileges.{names}
+use Rattle.model_base.specs.Privileges.{lends_to, names, option_holder}
+use Rattle.model_base.proofs.Reaching.{lends_is}
 use Rattle.model_base.proofs.Replay.{by_cases}
 use Rattle.grants_base.specs.View.{View, slot_at}
 use Rattle.grants.specs.Pass.{cascade, concerned, concerned_grants, holders_after, outlasts}
 use Rattle.grants_base.specs.Index.{is_one_of}
 use Rattle.grants.specs.Work.{AreBorne, AreDue, AreWalked, bears, keepers, keepers_after}
 use Rattle.grants.proofs.Holders.{inserted}
+use Rattle.grants.proofs.Passing.{one_of-after}
 use Rattle.grants.proofs.SlotLaws.{about_concerned, step_on, step_over}
 
 -- a user who has the option keeps it
 holders-keep : (h : List ℕ) (grant : Grant) (user : ℕ) → is_one_of h user ≡ true → is_one_of (holders_after h grant) user ≡ true
-holders-keep h grant user has =
-    by_cases grant.option (λ with. rw with (or_right (grant.grantee == user) (is_one_of h user) has)) (λ without. rw without has)
+holders-keep h grant user has = one_of-after h grant user ∙ or_right (lends_to grant user) (is_one_of h user) has
 
 after-keep : (h : List ℕ) (found : Option Grant) (user : ℕ) → is_one_of h user ≡ true → is_one_of (keepers_after h found) user ≡ true
 after-keep h None user has = has
 after-keep h (Some grant) user has = holders-keep h grant user has
 
 -- one to whom a slot gives it has it
-after-bear : (h : List ℕ) (found : Option Grant) (user : ℕ) → option_map_or (λ (grant : Grant). grant.option && (grant.grantee == user)) found false ≡ true
+after-bear : (h : List ℕ) (found : Option Grant) (user : ℕ) → option_map_or (λ (grant : Grant). lends_to grant user) found false ≡ true
     → is_one_of (keepers_after h found) user ≡ true
 after-bear h None user bear = absurd (true≢false (sym bear))
-after-bear h (Some grant) user bear =
-    let parts = and_parts grant.option (grant.grantee == user) bear in
-    rw (parts.0, parts.1) refl
+after-bear h (Some grant) user bear = one_of-after h grant user ∙ rw bear refl
 
 -- nobody else gets it
 after-none : (h : List ℕ) (found : Option Grant) (user : ℕ) → is_one_of h user ≡ false
-    → option_map_or (λ (grant : Grant). grant.option && (grant.grantee == user)) found false ≡ false → is_one_of (keepers_after h found) user ≡ false
+    → option_map_or (λ (grant : Grant). lends_to grant user) found false ≡ false → is_one_of (keepers_after h found) user ≡ false
 after-none h None user none bear = none
-after-none h (Some grant) user none bear =
-    by_cases grant.option (λ with. let apart : (grant.grantee == user) ≡ false = rw with at bear in rw (with, apart) none) (λ without. rw without none)
+after-none h (Some grant) user none bear = one_of-after h grant user ∙ rw (bear, none) refl
 
 -- a grant in force gives the option
 pub borne_by : (revocation : Revocation) (slot : Option Record) (user : ℕ) → bears revocation user slot ≡ true
-    → (grant : Grant) × (concerned slot revocation ≡ Some grant) × (grant.option ≡ true) × (grant.grantee ≡ user)
+    → (grant : Grant) × (concerned slot revocation ≡ Some grant) × (option_holder grant ≡ Some user)
 borne_by revocation slot user bear = by_found (concerned slot revocation) refl bear
   where
-    by_found : (found : Option Grant) → concerned slot revocation ≡ found → option_map_or (λ (grant : Grant). grant.option && (grant.grantee == user)) found false ≡ true
-        → (grant : Grant) × (concerned slot revocation ≡ Some grant) × (grant.option ≡ true) × (grant.grantee ≡ user)
+    by_found : (found : Option Grant) → concerned slot revocation ≡ found → option_map_or (λ (grant : Grant). lends_to grant user) found false ≡ true
+        → (grant : Grant) × (concerned slot revocation ≡ Some grant) × (option_holder grant ≡ Some user)
     by_found None is some = absurd (true≢false (sym some))
-    by_found (Some grant) is some =
-        let parts = and_parts grant.option (grant.grantee == user) some in
-        (grant, is, parts.0, eqb-true grant.grantee user parts.1)
+    by_found (Some grant) is some = (grant, is, lends_is grant user some)
 
 module _ (revocation : Revocation) (view : View) where
   keepers-bear : (ended : List ℕ) (p k user : ℕ) → k < p → is_one_of ended k ≡ false → bears revocation user (slot_at view k) ≡ true
@@ -179,7 +175,7 @@ module _ (revocation : Revocation) (view : View) where
               by_cases (is_one_of ended k)
               (λ gone.
               let by = borne_by revocation (slot_at view k) grant.grantor bear in
-              absurd (true≢false (sym (state.lost k p by.0 grant gone by.1 by.2 from found (sym by.3)) ∙ free)))
+              absurd (true≢false (sym (state.lost k p by.0 grant gone by.1 by.2 from found) ∙ free)))
               (λ here. here)
 
       over_one : (p : ℕ) → next ≤ p → p < length view.slots → is_one_of due p ≡ false → ends_from ended (p + 1) ≡ ends_from ended p
@@ -210,19 +206,19 @@ module _ (revocation : Revocation) (view : View) (slot : ℕ) where
       → concerned (slot_at view slot) revocation ≡ Some grant → ((k : ℕ) → is_one_of after k ≡ ((slot == k) || is_one_of ended k))
       → ((j : ℕ) → is_one_of due j ≡ true → is_one_of more j ≡ true)
       → ((j : ℕ) → is_one_of more j ≡ true → (is_one_of due j ≡ true) ⊎ ((next ≤ j) × (j < length view.slots)))
-      → (grant.option ≡ true → (j : ℕ) (other : Grant) → next ≤ j → concerned (slot_at view j) revocation ≡ Some other
-      → other.grantor ≡ grant.grantee → is_one_of more j ≡ true)
+      → ((j : ℕ) (other : Grant) → option_holder grant ≡ Some other.grantor → next ≤ j → concerned (slot_at view j) revocation ≡ Some other
+      → is_one_of more j ≡ true)
       → AreDue revocation view more after next
   due_more due more ended after grant next ahead_of state found ends kept within later = record {
     named = λ j other from here named. kept j (state.named j other from here named);
-    lost = λ e j gone other ended_e of with from here by.
+    lost = λ e j gone other ended_e of heir from here.
         elim (or_cases (slot == e) (is_one_of ended e) (sym (ends e) ∙ ended_e)) [
           | inl now ↦
               let at_slot : slot ≡ e = eqb-true slot e now in
               let same : Some grant ≡ Some gone = sym found ∙ ap (λ i. concerned (slot_at view i) revocation) at_slot ∙ of in
               let one : grant ≡ gone = cc in
-              later (ap (λ (g : Grant). g.option) one ∙ with) j other from here (by ∙ sym (ap (λ (g : Grant). g.grantee) one))
-          | inr before ↦ kept j (state.lost e j gone other before of with from here by)
+              later j other (ap option_holder one ∙ heir) from here
+          | inr before ↦ kept j (state.lost e j gone other before of heir from here)
         ];
     ahead = λ j is. elim (within j is) [ inl before ↦ state.ahead j before | inr new ↦ new ];
     behind = λ e is.
@@ -258,7 +254,7 @@ module _ (revocation : Revocation) (view : View) where
       → ((j : ℕ) → is_one_of due j ≡ true → j < length view.slots) → AreDue revocation view due ended 0
   due_first due ended none found within = record {
     named = λ j grant _ is named. found j grant is named;
-    lost = λ e j gone grant ended_e of with from is by. absurd (true≢false (sym ended_e ∙ ap (λ es. is_one_of es e) none));
+    lost = λ e j gone grant ended_e of heir from is. absurd (true≢false (sym ended_e ∙ ap (λ es. is_one_of es e) none));
     ahead = λ j is. (omega arith, within j is);
     behind = λ e is. absurd (true≢false (sym is ∙ ap (λ es. is_one_of es e) none));
   }
@@ -286,7 +282,7 @@ module _ (revocation : Revocation) (view : View) where
         (λ none. none);
     after = λ later later_is. record {
       named = λ j grant from is named. left j (omega arith) (state.named j grant (omega (arith, lies.0)) is named);
-      lost = λ e j gone grant ended_e of with from is by. left j (omega arith) (state.lost e j gone grant ended_e of with (omega (arith, lies.0)) is by);
+      lost = λ e j gone grant ended_e of heir from is. left j (omega arith) (state.lost e j gone grant ended_e of heir (omega (arith, lies.0)) is);
       ahead = λ j is. let more = above_all slot rest above j is in (omega arith, (state.ahead j (ap (λ ks. is_one_of ks j) parts ∙ or_right (slot == j) (is_one_of rest j) is)).1);
       behind = λ e is. let less = state.behind e is in omega (arith, lies.0);
     };

@@ -14,7 +14,7 @@ use crate::ended::Ended;
 use grants_base::{
     Creation, End, IndexedRecords, Records, append_tables, lies_below, records_below, tables_below,
 };
-use model_base::{Grant, Kind, MOST_NAMES, Place, Record, Revocation, Table, User};
+use model_base::{Grant, Grantee, Kind, MOST_NAMES, Place, Record, Revocation, Table, User};
 use std::alloc::{AllocError, Global};
 use std::marker::Model;
 
@@ -118,11 +118,11 @@ impl Book {
         BookView { book: self, place }
     }
 
-    /// The least slot at or above this one whose grant is to the user, of the kind on the table.
-    fn next_to(&self, user: User, kind: Kind, table: Table, from: usize) -> Option<usize>
-        ensures { IsNext (is_to user kind table) (recorded self.now.records) from result }
+    /// The least slot at or above this one whose grant is to the grantee, of the kind on the table.
+    fn next_to(&self, grantee: Grantee, kind: Kind, table: Table, from: usize) -> Option<usize>
+        ensures { IsNext (is_to grantee kind table) (recorded self.now.records) from result }
     {
-        self.records.next_to(user, kind, table, from)
+        self.records.next_to(grantee, kind, table, from)
     }
 
     /// The least slot at or above this one whose grant is by the user, of the kind on the table.
@@ -274,8 +274,14 @@ impl Records for BookView<'_> {
             .filter(|end| record.grant.place < self.place && *end < self.place)
     }
 
-    fn next_to(&mut self, user: User, kind: Kind, table: Table, from: usize) -> Option<usize> {
-        self.book.next_to(user, kind, table, from)
+    fn next_to(
+        &mut self,
+        grantee: Grantee,
+        kind: Kind,
+        table: Table,
+        from: usize,
+    ) -> Option<usize> {
+        self.book.next_to(grantee, kind, table, from)
     }
 
     fn next_by(&mut self, user: User, kind: Kind, table: Table, from: usize) -> Option<usize> {

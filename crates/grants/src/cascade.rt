@@ -14,7 +14,7 @@ ghost use Rattle.grants_base.specs.View.{ShowsDeeds, slot_at};
 
 use crate::ended::Ended;
 use grants_base::Records;
-use model_base::{Grant, Place, Revocation, User};
+use model_base::{Grant, Grantee, Place, Revocation, User};
 use std::alloc::{AllocError, Global};
 use std::collections::{BTreeMap, BTreeSet};
 
@@ -24,10 +24,11 @@ fn concerned<V: Records>(view: &mut V, i: usize, revocation: &Revocation) -> Opt
     ensures value { result ≡ concerned (slot_at (V.shown view.old) i) revocation.now }
     ensures same { V.shown view.new ≡ V.shown view.old }
 {
-    let grant = view.grant(i);
-    let end = view.end(i);
-    match grant {
-        Some(grant) if end.is_none() && revocation.concerns(&grant) => Some(grant),
+    if view.end(i).is_some() {
+        return None;
+    }
+    match view.grant(i) {
+        Some(grant) if revocation.concerns(&grant) => Some(grant),
         _ => None,
     }
 }
@@ -39,7 +40,7 @@ fn bears<V: Records>(view: &mut V, i: usize, revocation: &Revocation, user: User
     ensures same { V.shown view.new ≡ V.shown view.old }
 {
     match concerned(view, i, revocation) {
-        Some(grant) => grant.option && grant.grantee == user,
+        Some(grant) => grant.lends_to(user),
         None => false,
     }
 }
@@ -78,7 +79,7 @@ fn first_bearer<V: Records>(
 {
     let mut from = start;
     while from < below {
-        match view.next_to(user, revocation.kind, revocation.table, from) {
+        match view.next_to(Grantee::User(user), revocation.kind, revocation.table, from) {
             Some(i) if i < below => {
                 if stands(view, i, revocation, ended, user) {
                     return i;
@@ -265,8 +266,8 @@ struct Work {
     ended: Ended,
 }
 
-/// One slot that is due: either its grant ends, or its grantee keeps what it gives. With a grant that ends and had the
-/// option, the later grants of its grantee are due.
+/// One slot that is due: either its grant ends, or its grantee keeps what it gives. With a grant that ends, the later
+/// grants of the user to whom it gave the option are due.
 fn judge<V: Records>(
     view: &mut V,
     owner: User,
@@ -311,15 +312,8 @@ fn judge<V: Records>(
         return Ok(());
     }
     work.ended.push(slot, revocation.place, grant.place)?;
-    if grant.option {
-        lose(
-            view,
-            grant.grantee,
-            revocation,
-            next,
-            &mut work.due,
-            &mut work.asked,
-        )?;
+    if let Some(user) = grant.option_holder() {
+        lose(view, user, revocation, next, &mut work.due, &mut work.asked)?;
     }
     Ok(())
 }

@@ -1,18 +1,19 @@
 -- The slots of the grants that pass, in order.
 use Rattle.std.proofs.Common.{◌≡◌, ℕ, zero, suc, ◌<◌, ◌+◌, ◌-◌, ◌&&◌, Bool, true, false, List, [], ◌∷◌, ◌++◌, Option, Some, None, length, take, refl, sym, ◌∙◌, ap, arith, subst, length-append, eq-eqb}
 use Rattle.std.specs.Prelude.{◌==◌, All, Err, Ok, OnErr, Result, if◌then◌else◌, unwrap_or}
-use Rattle.std.proofs.lemmas.Bool.{and_parts, eqb-true, ne_eqb}
+use Rattle.std.proofs.lemmas.Bool.{and_parts, eqb-true, ne_eqb, true≢false}
 use Rattle.std.proofs.lemmas.List.{map-append}
 use Rattle.std.proofs.lemmas.List.Elements.{All-cons, All-nil}
 use Rattle.model_base.specs.declared.deed.Grant.{Grant}
+use Rattle.model_base.specs.declared.deed.Grantee.{Grantee}
+use Rattle.model_base.specs.declared.deed.Grantee.TheVariants.{Public, User}
 use Rattle.model_base.specs.declared.deed.Kind.{Kind}
 use Rattle.model_base.specs.declared.deed.Record.{Record}
-use Rattle.model_base.specs.Privileges.{same_kind}
+use Rattle.model_base.specs.Privileges.{same_grantee, same_kind}
 use Rattle.model_base.specs.Records.{recorded}
 use Rattle.model_base.proofs.Replay.{by_cases}
-use Rattle.grants_base.specs.Index.{IsFirst, IsNext, is_about, is_by, is_to, passes_at}
-use Rattle.grants_base.specs.Index.{is_one_of}
-use Rattle.grants_base.specs.Sides.{AreAscending, Indexes, IsPopped, IsPushed, by_side, kind_code, same_side, side_of, slots_from, slots_under, to_side}
+use Rattle.grants_base.specs.Index.{is_about, is_one_of, IsFirst, IsNext, is_to, passes_at}
+use Rattle.grants_base.specs.Sides.{AreAscending, Indexes, IsPopped, IsPushed, by_side, holder_code, is_made_by, kind_code, same_side, side_of, slots_from, slots_under, to_side}
 use Rattle.grants_base.specs.declared.index.Index.{Index}
 use Rattle.grants_base.specs.declared.index.Side.{Side}
 use Rattle.grants_base.proofs.Indexing.{code-same, first_as, other_order}
@@ -31,12 +32,29 @@ about_side user kind table grant =
     swapped false true = refl
     swapped false false = refl
 
--- a grant stands under the side of another exactly if it passes for that
-pub to_side-same : (user : ℕ) (kind : Kind) (table : ℕ) (grant : Grant) → same_side (to_side grant) (side_of user kind table) ≡ is_to user kind table grant
-to_side-same user kind table grant = about_side (grant.grantee == user) kind table grant
+-- the codes of two grantees are the same exactly if they are
+pub holder_code-same : (a b : Grantee) → (holder_code a == holder_code b) ≡ same_grantee a b
+holder_code-same (User a) (User b) =
+    by_cases (a == b)
+    (λ same. let one : a ≡ b = eqb-true a b same in eq-eqb (a + 1) (b + 1) (omega (arith, one)) ∙ sym same)
+    (λ apart. ne_eqb (a + 1) (b + 1) (λ one. let same : a ≡ b = omega arith in true≢false (sym (eq-eqb a b same) ∙ apart)) ∙ sym apart)
+holder_code-same (User a) Public = ne_eqb (a + 1) 0 (λ one. omega arith)
+holder_code-same Public (User b) = ne_eqb 0 (b + 1) (λ one. omega arith)
+holder_code-same Public Public = refl
 
-pub by_side-same : (user : ℕ) (kind : Kind) (table : ℕ) (grant : Grant) → same_side (by_side grant) (side_of user kind table) ≡ is_by user kind table grant
-by_side-same user kind table grant = about_side (grant.grantor == user) kind table grant
+about_holder : (a holder : Grantee) (kind : Kind) (table : ℕ) (grant : Grant)
+    → ((holder_code a == holder_code holder) && ((grant.table == table) && (kind_code grant.kind == kind_code kind)))
+    ≡ (same_grantee a holder && is_about kind table grant)
+about_holder a holder kind table grant =
+    ap (λ b. b && ((grant.table == table) && (kind_code grant.kind == kind_code kind))) (holder_code-same a holder)
+    ∙ about_side (same_grantee a holder) kind table grant
+
+-- a grant stands under the side of another exactly if it passes for that
+pub to_side-same : (holder : Grantee) (kind : Kind) (table : ℕ) (grant : Grant) → same_side (to_side grant) (side_of holder kind table) ≡ is_to holder kind table grant
+to_side-same holder kind table grant = about_holder grant.grantee holder kind table grant
+
+pub by_side-same : (holder : Grantee) (kind : Kind) (table : ℕ) (grant : Grant) → same_side (by_side grant) (side_of holder kind table) ≡ is_made_by holder kind table grant
+by_side-same holder kind table grant = about_holder (User grant.grantor) holder kind table grant
 
 module _ (passes : Grant → Bool) where
   -- no slot lies below the first
@@ -106,8 +124,8 @@ front {X} xs x =
     whole (y ∷ ys) = ap (λ r. y ∷ r) (whole ys)
 
 -- an index that was told of one slot more, and of one less
-module _ (passes : ℕ → Kind → ℕ → Grant → Bool) (side : Grant → Side)
-    (same : (user : ℕ) (kind : Kind) (table : ℕ) (grant : Grant) → same_side (side grant) (side_of user kind table) ≡ passes user kind table grant) where
+module _ (passes : Grantee → Kind → ℕ → Grant → Bool) (side : Grant → Side)
+    (same : (holder : Grantee) (kind : Kind) (table : ℕ) (grant : Grant) → same_side (side grant) (side_of holder kind table) ≡ passes holder kind table grant) where
   pub indexes_more : (old new : Index) (entries : List Record) (entry : Record) (slot : ℕ) → slot ≡ length entries → Indexes passes old entries
       → IsPushed (side entry.grant) slot old new → Indexes passes new (entries ++ entry ∷ [])
   indexes_more old new entries entry slot last indexes told = λ user kind table.
@@ -129,11 +147,11 @@ module _ (passes : ℕ → Kind → ℕ → Grant → Bool) (side : Grant → Si
       ∙ by_cases (passes user kind table entry.grant) (λ yes. rw yes (front was (length entries))) (λ no. rw no refl)
 
 -- with the same grants
-pub indexes_as : (passes : ℕ → Kind → ℕ → Grant → Bool) (index : Index) (entries now : List Record) → recorded now ≡ recorded entries → Indexes passes index entries → Indexes passes index now
+pub indexes_as : (passes : Grantee → Kind → ℕ → Grant → Bool) (index : Index) (entries now : List Record) → recorded now ≡ recorded entries → Indexes passes index entries → Indexes passes index now
 indexes_as passes index entries now grants indexes = λ user kind table. indexes user kind table ∙ ap (slots_from (passes user kind table) 0) (sym grants)
 
 -- the slots of an index rise, and what it finds is found among the grants
-module _ (passes : ℕ → Kind → ℕ → Grant → Bool) (index : Index) (entries : List Record) (user : ℕ) (kind : Kind) (table : ℕ) (indexes : Indexes passes index entries) where
+module _ (passes : Grantee → Kind → ℕ → Grant → Bool) (index : Index) (entries : List Record) (user : Grantee) (kind : Kind) (table : ℕ) (indexes : Indexes passes index entries) where
   pub slots_rise : AreAscending (slots_under index (side_of user kind table))
   slots_rise = subst AreAscending (sym (indexes user kind table)) (rising (passes user kind table) 0 (recorded entries))
 
@@ -148,13 +166,13 @@ slots_back true was told now slot more less = less ∙ ap (λ (slots : List ℕ)
 slots_back false was told now slot more less = less ∙ more
 
 abbrev make : ℕ → ℕ → ℕ → Side
-make u t k = record { user = u; table = t; kind = k }
+make u t k = record { holder = u; table = t; kind = k }
 
 pub side_true : (a b : Side) → same_side a b ≡ true → a ≡ b
 side_true a b is =
-    let one = and_parts (a.user == b.user) ((a.table == b.table) && (a.kind == b.kind)) is in
+    let one = and_parts (a.holder == b.holder) ((a.table == b.table) && (a.kind == b.kind)) is in
     let two = and_parts (a.table == b.table) (a.kind == b.kind) one.1 in
-    ap (λ u. make u a.table a.kind) (eqb-true a.user b.user one.0) ∙ ap (λ t. make b.user t a.kind) (eqb-true a.table b.table two.0) ∙ ap (λ k. make b.user b.table k) (eqb-true a.kind b.kind two.1)
+    ap (λ u. make u a.table a.kind) (eqb-true a.holder b.holder one.0) ∙ ap (λ t. make b.holder t a.kind) (eqb-true a.table b.table two.0) ∙ ap (λ k. make b.holder b.table k) (eqb-true a.kind b.kind two.1)
 
 -- the first slot under a side that had none
 pub put_first : (side other : Side) (slot : ℕ) (value : List ℕ) (was now : Option (List ℕ)) → value ≡ slot ∷ [] → (same_side side other ≡ true → was ≡ None)

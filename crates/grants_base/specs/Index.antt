@@ -1,10 +1,11 @@
--- The grants that the slots of a view ask for, made or not, and how those of one user are found among them.
+-- The grants that the slots of a view ask for, made or not, and how those to one grantee or by one user are found among them.
 use Rattle.std.specs.Prelude.{◌≡◌, ◌==◌, ◌<◌, ◌≤◌, ◌&&◌, ℕ, Bool, true, false, Option, Some, None, List, length, slice_get}
 use Rattle.std.specs.List.{list_any}
 use Rattle.std.specs.Option.{option_map_or}
 use Rattle.model_base.specs.declared.deed.Kind.{Kind}
 use Rattle.model_base.specs.declared.deed.Grant.{Grant}
-use Rattle.model_base.specs.Privileges.{same_kind}
+use Rattle.model_base.specs.declared.deed.Grantee.{Grantee}
+use Rattle.model_base.specs.Privileges.{same_grantee, same_kind}
 use Rattle.grants_base.specs.View.{View, grant_in, slot_at}
 
 -- whether the number, of a user or of a slot, is one of these
@@ -15,9 +16,9 @@ is_one_of numbers number = list_any (λ other. other == number) numbers
 abbrev pub is_about : Kind → ℕ → Grant → Bool
 is_about kind table grant = same_kind kind grant.kind && (table == grant.table)
 
--- whether the grant is to this user, of this kind on this table
-abbrev pub is_to : ℕ → Kind → ℕ → Grant → Bool
-is_to user kind table grant = (grant.grantee == user) && is_about kind table grant
+-- whether the grant is to this grantee, of this kind on this table
+abbrev pub is_to : Grantee → Kind → ℕ → Grant → Bool
+is_to grantee kind table grant = same_grantee grant.grantee grantee && is_about kind table grant
 
 -- whether the grant is by this user, of this kind on this table
 abbrev pub is_by : ℕ → Kind → ℕ → Grant → Bool

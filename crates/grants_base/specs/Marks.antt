@@ -3,8 +3,8 @@ use Rattle.std.specs.Prelude.{◌≡◌, ◌==◌, ◌&&◌, ℕ, Bool, true, So
 use Rattle.std.specs.List.{list_any}
 use Rattle.std.specs.List.Sorted.{IsNonDecreasingBy}
 use Rattle.model_base.specs.declared.deed.Record.{Record}
-use Rattle.grants_base.specs.Index.{is_by, is_to}
-use Rattle.grants_base.specs.Sides.{Indexes}
+use Rattle.grants_base.specs.Index.{is_to}
+use Rattle.grants_base.specs.Sides.{Indexes, is_made_by}
 use Rattle.grants_base.specs.declared.index.Index.{Index}
 use Rattle.grants_base.specs.declared.endings.Ending.{Ending}
 
@@ -27,6 +27,6 @@ HasEnds endings entries =
 -- the records are found by their grantees, by their grantors and by their ends
 pub record AreIndexed (entries : List Record) (to by : Index) (endings : List Ending) : Type 0 where
   pub grantees : Indexes is_to to entries
-  pub grantors : Indexes is_by by entries
+  pub grantors : Indexes is_made_by by entries
   pub ends : HasEnds endings entries
   pub order : AreInOrder endings

@@ -1,13 +1,17 @@
--- The slots of the grants under each user, kind and table.
+-- The slots of the grants under each grantee or grantor, kind and table.
 use Rattle.std.specs.Prelude.{◌≡◌, ◌==◌, ◌<◌, ◌+◌, ◌-◌, ◌&&◌, ℕ, Bool, List, [], ◌∷◌, ◌++◌, All, if◌then◌else◌, length, take, unwrap_or}
 use Rattle.std.specs.HashMap.{get}
 use Rattle.model_base.specs.declared.deed.Grant.{Grant}
+use Rattle.model_base.specs.declared.deed.Grantee.{Grantee}
+use Rattle.model_base.specs.declared.deed.Grantee.TheVariants.{Public, User}
 use Rattle.model_base.specs.declared.deed.Kind.{Kind}
 use Rattle.model_base.specs.declared.deed.Kind.TheVariants.{Read, Insert, Update, Delete}
 use Rattle.model_base.specs.declared.deed.Record.{Record}
+use Rattle.model_base.specs.Privileges.{same_grantee}
 use Rattle.model_base.specs.Records.{recorded}
 use Rattle.grants_base.specs.declared.index.Index.{Index}
 use Rattle.grants_base.specs.declared.index.Side.{Side}
+use Rattle.grants_base.specs.Index.{is_about}
 
 -- the code of a kind
 abbrev pub kind_code : Kind → ℕ
@@ -16,9 +20,14 @@ kind_code Insert = 1
 kind_code Update = 2
 kind_code Delete = 3
 
--- what is looked up for a user, a kind and a table
-abbrev pub side_of : ℕ → Kind → ℕ → Side
-side_of user kind table = record { user = user; table = table; kind = kind_code kind }
+-- the code of a grantee, and so of a user: 0 for PUBLIC, else one more than the user's number
+abbrev pub holder_code : Grantee → ℕ
+holder_code (User user) = user + 1
+holder_code Public = 0
+
+-- what is looked up for a grantee, a kind and a table; a grantor is looked up as the user that it is
+abbrev pub side_of : Grantee → Kind → ℕ → Side
+side_of holder kind table = record { holder = holder_code holder; table = table; kind = kind_code kind }
 
 -- the side of a grant's grantee
 abbrev pub to_side : Grant → Side
@@ -26,10 +35,14 @@ to_side grant = side_of grant.grantee grant.kind grant.table
 
 -- and that of its grantor
 abbrev pub by_side : Grant → Side
-by_side grant = side_of grant.grantor grant.kind grant.table
+by_side grant = side_of (User grant.grantor) grant.kind grant.table
+
+-- whether the grant is by this one, of this kind on this table; PUBLIC makes no grant
+abbrev pub is_made_by : Grantee → Kind → ℕ → Grant → Bool
+is_made_by grantor kind table grant = same_grantee (User grant.grantor) grantor && is_about kind table grant
 
 abbrev pub same_side : Side → Side → Bool
-same_side a b = (a.user == b.user) && ((a.table == b.table) && (a.kind == b.kind))
+same_side a b = (a.holder == b.holder) && ((a.table == b.table) && (a.kind == b.kind))
 
 -- the slots that an index has under a side
 abbrev pub slots_under : Index → Side → List ℕ
@@ -65,8 +78,8 @@ slots_from passes slot [] = []
 slots_from passes slot (grant ∷ grants) =
     if passes grant then slot ∷ slots_from passes (slot + 1) grants else slots_from passes (slot + 1) grants
 
--- under each user, kind and table the index has the slots of the records whose grants pass for these, in order
-abbrev pub Indexes : (ℕ → Kind → ℕ → Grant → Bool) → Index → List Record → Type 0
+-- under each holder, kind and table the index has the slots of the records whose grants pass for these, in order
+abbrev pub Indexes : (Grantee → Kind → ℕ → Grant → Bool) → Index → List Record → Type 0
 Indexes passes index entries =
-    (user : ℕ) (kind : Kind) (table : ℕ)
-    → slots_under index (side_of user kind table) ≡ slots_from (passes user kind table) 0 (recorded entries)
+    (holder : Grantee) (kind : Kind) (table : ℕ)
+    → slots_under index (side_of holder kind table) ≡ slots_from (passes holder kind table) 0 (recorded entries)

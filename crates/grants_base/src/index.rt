@@ -1,25 +1,24 @@
-//! Slots under users, kinds and tables.
+//! Slots under grantees or grantors, kinds and tables.
 
 ghost use Rattle.std.specs.Prelude.{◌≡◌, ◌-◌, ◌++◌, ◌∷◌, [], ℕ, false, OnErr, OnOk, length, slice_get, take, if◌then◌else◌};
-ghost use Rattle.grants_base.specs.Index.{IsFirst};
-ghost use Rattle.grants_base.specs.Index.{is_one_of};
-ghost use Rattle.grants_base.specs.Sides.{AreAscending, IsEmpty, IsPopped, IsPushed, IsSame, kind_code, side_of, slots_under};
+ghost use Rattle.grants_base.specs.Index.{is_one_of, IsFirst};
+ghost use Rattle.grants_base.specs.Sides.{AreAscending, IsEmpty, IsPopped, IsPushed, IsSame, holder_code, kind_code, side_of, slots_under};
 
-use model_base::{Kind, Table, User};
+use model_base::{Grantee, Kind, Table};
 use std::alloc::{AllocError, Global};
 use std::collections::HashMap;
 use std::marker::Model;
 
-/// A user, a table and the code of a kind.
+/// The code of a grantee, and so of a user, with a table and the code of a kind.
 #[derive(Clone, Copy, PartialEq, Eq, Hash, Debug)]
 pub(crate) struct Side {
-    user: User,
+    holder: u64,
     table: Table,
     kind: u8,
 }
 
-/// The code of a kind.
-fn kind_code(kind: Kind) -> u8
+/// The code of a kind: 0 for READ, 1 for INSERT, 2 for UPDATE, 3 for DELETE.
+pub fn kind_code(kind: Kind) -> u8
     ensures { result ≡ kind_code kind }
 {
     match kind {
@@ -30,12 +29,22 @@ fn kind_code(kind: Kind) -> u8
     }
 }
 
-/// What is looked up for a user, a kind and a table.
-pub(crate) fn side_of(user: User, kind: Kind, table: Table) -> Side
-    ensures { result ≡ side_of user kind table }
+/// The code of a grantee: 0 for PUBLIC, else one more than the user's number.
+pub fn holder_code(holder: Grantee) -> u64
+    ensures { result ≡ holder_code holder }
+{
+    match holder {
+        Grantee::User(user) => user.0 as u64 + 1,
+        Grantee::Public => 0,
+    }
+}
+
+/// What is looked up for a grantee, a kind and a table. A grantor is looked up as the user that it is.
+pub(crate) fn side_of(holder: Grantee, kind: Kind, table: Table) -> Side
+    ensures { result ≡ side_of holder kind table }
 {
     Side {
-        user,
+        holder: holder_code(holder),
         table,
         kind: kind_code(kind),
     }
@@ -113,7 +122,7 @@ impl Slots {
     }
 }
 
-/// The slots under each user, kind and table. A side is found in a time that doesn't grow with their number, on average.
+/// The slots under each grantee or grantor, kind and table. A side is found in a time that doesn't grow with their number, on average.
 #[derive(Drop)]
 pub(crate) struct Index {
     alloc: Global,

@@ -11,7 +11,7 @@ ghost use Rattle.grants_base.specs.declared.entries.End.{End};
 use crate::endings::{Ending, note, note_by_place, pop_from};
 use crate::entries::{End, reopen_slot, set_ends};
 use crate::index::{Index, Side, side_of};
-use model_base::{Grant, Kind, Place, Record, Table, User};
+use model_base::{Grant, Grantee, Kind, Place, Record, Table, User};
 use std::alloc::{AllocError, Global};
 use std::marker::Model;
 
@@ -48,7 +48,7 @@ fn to_side(grant: &Grant) -> Side
 fn by_side(grant: &Grant) -> Side
     ensures { result ≡ by_side grant.now }
 {
-    side_of(grant.grantor, grant.kind, grant.table)
+    side_of(Grantee::User(grant.grantor), grant.kind, grant.table)
 }
 
 /// Adds the slot of a grant last under its grantee and its grantor, or under neither: then memory was refused.
@@ -191,17 +191,18 @@ impl IndexedRecords {
         }
     }
 
-    /// The least slot at or above this one whose grant is to the user, of the kind on the table.
-    pub fn next_to(&self, user: User, kind: Kind, table: Table, from: usize) -> Option<usize>
-        ensures { IsNext (is_to user kind table) (recorded self.now) from result }
+    /// The least slot at or above this one whose grant is to the grantee, of the kind on the table.
+    pub fn next_to(&self, grantee: Grantee, kind: Kind, table: Table, from: usize) -> Option<usize>
+        ensures { IsNext (is_to grantee kind table) (recorded self.now) from result }
     {
-        self.to.next(&side_of(user, kind, table), from)
+        self.to.next(&side_of(grantee, kind, table), from)
     }
 
     /// The least slot at or above this one whose grant is by the user, of the kind on the table.
     pub fn next_by(&self, user: User, kind: Kind, table: Table, from: usize) -> Option<usize>
         ensures { IsNext (is_by user kind table) (recorded self.now) from result }
     {
-        self.by.next(&side_of(user, kind, table), from)
+        self.by
+            .next(&side_of(Grantee::User(user), kind, table), from)
     }
 }

@@ -4,7 +4,7 @@ ghost use Rattle.std.specs.Prelude.{◌≡◌, ◌<◌, ◌^◌, ◌++◌, ◌�
 ghost use Rattle.grants_base.specs.Index.{IsNext, is_by, is_to};
 
 use crate::indexed::IndexedRecords;
-use model_base::{Grant, Kind, Table, User};
+use model_base::{Grant, Grantee, Kind, Table, User};
 use std::alloc::{AllocError, Global};
 use std::marker::Model;
 
@@ -59,12 +59,12 @@ impl IndexedGrants {
         self.records.as_slice()[slot].grant
     }
 
-    /// The least slot at or above this one whose grant is to the user, of the kind on the table. It takes no memory, and a time
+    /// The least slot at or above this one whose grant is to the grantee, of the kind on the table. It takes no memory, and a time
     /// that grows with the logarithm of the number of such grants.
-    pub fn next_to(&self, user: User, kind: Kind, table: Table, from: usize) -> Option<usize>
-        ensures { IsNext (is_to user kind table) self.now from result }
+    pub fn next_to(&self, grantee: Grantee, kind: Kind, table: Table, from: usize) -> Option<usize>
+        ensures { IsNext (is_to grantee kind table) self.now from result }
     {
-        self.records.next_to(user, kind, table, from)
+        self.records.next_to(grantee, kind, table, from)
     }
 
     /// The least slot at or above this one whose grant is by the user, of the kind on the table. It takes no memory, and a time

@@ -11,6 +11,7 @@ mod records;
 pub use entries::{
     Creation, End, append_tables, lies_below, records_below, reopened, set_ends, tables_below,
 };
+pub use index::{holder_code, kind_code};
 pub use indexed::IndexedRecords;
 pub use indexed_grants::IndexedGrants;
 pub use records::{Records, is_by, is_to};

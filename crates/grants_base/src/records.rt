@@ -5,7 +5,7 @@ ghost use Rattle.model_base.specs.declared.deed.Grant.{Grant};
 ghost use Rattle.grants_base.specs.Index.{AreAsked, IsNext, is_about, is_by, is_to};
 ghost use Rattle.grants_base.specs.View.{View, IsLawful, end_in, grant_in, slot_at};
 
-use model_base::{Grant, Kind, Place, Table, User};
+use model_base::{Grant, Grantee, Kind, Place, Table, User};
 
 /// The records of grants as they stand at a place: those of the grants below it, on the tables that the view covers, each
 /// with its end if that lies below. A slot has one record or none. A reader of words that others fill makes steps when it
@@ -48,10 +48,10 @@ pub trait Records {
         ensures same { shown self.new ≡ shown self.old }
         ensures still { asked self.new ≡ asked self.old };
 
-    /// The least slot at or above this one whose grant, made or not, is to this user, of this kind on this table, in force
-    /// or not. It takes no memory.
-    fn next_to(&mut self, user: User, kind: Kind, table: Table, from: usize) -> Option<usize>
-        ensures next { IsNext (is_to user kind table) (asked self.old) from result }
+    /// The least slot at or above this one whose grant, made or not, is to this user or to PUBLIC, as the grantee says, of
+    /// this kind on this table, in force or not. It takes no memory.
+    fn next_to(&mut self, grantee: Grantee, kind: Kind, table: Table, from: usize) -> Option<usize>
+        ensures next { IsNext (is_to grantee kind table) (asked self.old) from result }
         ensures asked { AreAsked (shown self.old) (asked self.old) }
         ensures same { shown self.new ≡ shown self.old }
         ensures still { asked self.new ≡ asked self.old };
@@ -72,11 +72,11 @@ fn is_about(grant: &Grant, kind: Kind, table: Table) -> bool
     kind == grant.kind && table == grant.table
 }
 
-/// Whether the grant is to this user, of this kind on this table.
-pub fn is_to(grant: &Grant, user: User, kind: Kind, table: Table) -> bool
-    ensures { result ≡ is_to user kind table grant.now }
+/// Whether the grant is to this grantee, of this kind on this table.
+pub fn is_to(grant: &Grant, grantee: Grantee, kind: Kind, table: Table) -> bool
+    ensures { result ≡ is_to grantee kind table grant.now }
 {
-    grant.grantee == user && is_about(grant, kind, table)
+    grant.grantee.is_same(grantee) && is_about(grant, kind, table)
 }
 
 /// Whether the grant is by this user, of this kind on this table.

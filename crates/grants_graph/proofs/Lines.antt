@@ -9,6 +9,16 @@ use Rattle.grants_base.specs.declared.entries.Creation.{Creation}
 use Rattle.grants_graph.specs.Drawn.{is_created_below, tables_drawn}
 use Rattle.model_base.proofs.Replay.{by_cases}
 
+-- four pieces, each behind the one before
+pub in_four : (start head tables grants foot : List ℕ) {first second third last : List ℕ} → first ≡ start ++ head → second ≡ first ++ tables
+    → third ≡ second ++ grants → last ≡ third ++ foot → last ≡ start ++ (((head ++ tables) ++ grants) ++ foot)
+in_four start head tables grants foot {first} {second} {third} {last} one two three four =
+    let behind_two : second ≡ start ++ (head ++ tables) =
+    two ∙ ap (λ (items : List ℕ). items ++ tables) one ∙ append_assoc start head tables in
+    let behind_three : third ≡ start ++ ((head ++ tables) ++ grants) =
+    three ∙ ap (λ (items : List ℕ). items ++ grants) behind_two ∙ append_assoc start (head ++ tables) grants in
+    four ∙ ap (λ (items : List ℕ). items ++ foot) behind_three ∙ append_assoc start ((head ++ tables) ++ grants) foot
+
 -- an item is spelled if it passes
 spelled-one : {X : Type 0} (spell : X → List ℕ) (test : X → Bool) (item : X)
     → flat_map spell (filter test (item ∷ [])) ≡ (if test item then spell item else [])

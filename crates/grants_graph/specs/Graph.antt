@@ -1,12 +1,16 @@
 -- How the grants in force at a place are spelled, as a digraph of Graphviz. Names stand between quotes as they are: one that the
 -- grammar reads has small letters, digits and `_` alone (docs/FORMAT.md), so it holds no quote and no backslash.
-use Rattle.std.specs.Prelude.{◌++◌, ℕ, List, [], codes, if◌then◌else◌, slice_get, unwrap_or}
+use Rattle.std.specs.Prelude.{◌++◌, ◌&&◌, ℕ, Bool, List, [], codes, if◌then◌else◌, slice_get, unwrap_or}
 use Rattle.std.specs.Fmt.{decimal}
-use Rattle.std.specs.List.{flat_map}
+use Rattle.std.specs.List.{flat_map, list_any}
 use Rattle.model_base.specs.declared.deed.Cause.TheVariants.{Taken}
 use Rattle.model_base.specs.declared.deed.Grant.{Grant}
+use Rattle.model_base.specs.declared.deed.Grantee.{Grantee}
+use Rattle.model_base.specs.declared.deed.Grantee.TheVariants.{Public, User}
 use Rattle.model_base.specs.declared.deed.Need.{Need}
 use Rattle.model_base.specs.declared.deed.Record.{Record}
+use Rattle.model_base.specs.Privileges.{same_grantee}
+use Rattle.model_base.specs.Records.{is_in_force_at}
 use Rattle.grants_base.specs.Book.{Entries}
 use Rattle.grants_base.specs.declared.entries.Creation.{Creation}
 use Rattle.report.specs.Text.{cause_text, need_text, table_name}
@@ -20,6 +24,11 @@ user_name users user = unwrap_or (slice_get users user) []
 abbrev pub user_text : List (List ℕ) → ℕ → List ℕ
 user_text users user = codes "\"" ++ user_name users user ++ codes "\""
 
+-- a grantee as a node; no user's name has capital letters
+abbrev pub grantee_text : List (List ℕ) → Grantee → List ℕ
+grantee_text users (User user) = user_text users user
+grantee_text users Public = codes "\"PUBLIC\""
+
 -- a user as a box
 abbrev pub box_text : List (List ℕ) → ℕ → List ℕ
 box_text users user = codes "  " ++ user_text users user ++ codes " [shape=box];"
@@ -28,6 +37,15 @@ box_text users user = codes "  " ++ user_text users user ++ codes " [shape=box];
 abbrev pub owner_text : List (List ℕ) → List (List ℕ) → ℕ × Creation → List ℕ
 owner_text users tables numbered =
     box_text users numbered.1.owner ++ codes " // owns " ++ table_name tables numbered.0 ++ codes "\n"
+
+-- whether the grant is to PUBLIC, and drawn
+abbrev pub is_drawn_to_public : ℕ → Record → Bool
+is_drawn_to_public place entry = same_grantee entry.grant.grantee Public && is_in_force_at place entry
+
+-- the line of PUBLIC, a double circle, where an edge leads to it
+abbrev pub public_text : ℕ → List Record → List ℕ
+public_text place entries =
+    if list_any (is_drawn_to_public place) entries then codes "  \"PUBLIC\" [shape=doublecircle];\n" else []
 
 -- what the grant gives: its kind on its table, and whether with the option
 abbrev pub given_need : Grant → Need
@@ -48,12 +66,17 @@ edge_ending_text place entry = if fell_at place entry then fallen_text place els
 -- the line of a grant: an edge from its grantor to its grantee
 abbrev pub edge_text : List (List ℕ) → List (List ℕ) → ℕ → Record → List ℕ
 edge_text users tables place entry =
-    codes "  " ++ user_text users entry.grant.grantor ++ codes " -> " ++ user_text users entry.grant.grantee
+    codes "  " ++ user_text users entry.grant.grantor ++ codes " -> " ++ grantee_text users entry.grant.grantee
     ++ codes " [label=\"" ++ label_text tables entry.grant ++ edge_ending_text place entry
 
--- the digraph: a line for each table that was created below the place, and then one for each grant in force there;
--- `users` and `tables` have the names by number
+-- what is drawn of the grants: PUBLIC, where an edge leads to it, and a line for each that is in force at the place
+abbrev pub edges_text : List (List ℕ) → List (List ℕ) → ℕ → List Record → List ℕ
+edges_text users tables place entries =
+    public_text place entries ++ flat_map (edge_text users tables place) (drawn place entries)
+
+-- the digraph: a line for each table that was created below the place, and then what is drawn of the grants; `users` and
+-- `tables` have the names by number
 abbrev pub graph_text : List (List ℕ) → List (List ℕ) → ℕ → Entries → List ℕ
 graph_text users tables place book =
     codes "digraph grants {\n" ++ flat_map (owner_text users tables) (tables_drawn place book.tables)
-    ++ flat_map (edge_text users tables place) (drawn place book.records) ++ codes "}\n"
+    ++ edges_text users tables place book.records ++ codes "}\n"

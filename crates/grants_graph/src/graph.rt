@@ -2,16 +2,16 @@
 
 ghost use Rattle.std.specs.Prelude.{◌≡◌, ◌++◌, [], OnOk, codes, if◌then◌else◌, nat_lt};
 ghost use Rattle.std.specs.Fmt.{decimal};
-ghost use Rattle.std.specs.List.{flat_map};
+ghost use Rattle.std.specs.List.{flat_map, list_any};
 ghost use Rattle.report.specs.Text.{table_name};
 ghost use Rattle.grants_graph.specs.Drawn.{drawn, fell_at, tables_drawn};
-ghost use Rattle.grants_graph.specs.Graph.{box_text, edge_text, edge_ending_text, fallen_text, graph_text, label_text, owner_text, user_text};
+ghost use Rattle.grants_graph.specs.Graph.{box_text, edge_text, edge_ending_text, fallen_text, grantee_text, edges_text, graph_text, is_drawn_to_public, label_text, owner_text, public_text, user_text};
 ghost use Rattle.model_base.specs.Records.{is_in_force_at};
 
 use grants::{Book, Creation};
 use itoa::Buffer;
 use log_text::kind_word;
-use model_base::{Cause, Grant, Place, Record, User};
+use model_base::{Cause, Grant, Grantee, Place, Record, User};
 use report::put_cause;
 use sequencer::{Catalog, NameTable};
 use std::alloc::AllocError;
@@ -153,6 +153,16 @@ fn put_ending(text: &mut Vec<u8>, place: Place, entry: &Record) -> Result<(), Al
     }
 }
 
+/// Puts a grantee as a node.
+fn put_grantee(text: &mut Vec<u8>, users: &NameTable, grantee: &Grantee) -> Result<(), AllocError>
+    ensures { OnOk result (text.new.items ≡ text.old.items ++ grantee_text users.now grantee.now) }
+{
+    match grantee {
+        Grantee::User(user) => put_user(text, users, *user),
+        Grantee::Public => text.extend_from_slice(b"\"PUBLIC\""),
+    }
+}
+
 /// Puts a grant as an edge from its grantor to its grantee.
 fn put_edge(
     text: &mut Vec<u8>,
@@ -165,7 +175,7 @@ fn put_edge(
     text.extend_from_slice(b"  ")?;
     put_user(text, names.users(), entry.grant.grantor)?;
     text.extend_from_slice(b" -> ")?;
-    put_user(text, names.users(), entry.grant.grantee)?;
+    put_grantee(text, names.users(), &entry.grant.grantee)?;
     text.extend_from_slice(b" [label=\"")?;
     put_label(text, names.tables(), &entry.grant)?;
     put_ending(text, place, entry)
@@ -215,12 +225,54 @@ fn put_grants(
     Ok(())
 }
 
+/// Whether the grant is to PUBLIC, and was in force at the place.
+fn is_drawn_to_public(place: Place, entry: &Record) -> bool
+    ensures { result ≡ is_drawn_to_public place entry.now }
+{
+    match entry.grant.grantee {
+        Grantee::User(_) => false,
+        Grantee::Public => is_in_force_at(place, entry),
+    }
+}
+
+/// Whether a grant to PUBLIC was in force at the place.
+fn draws_public(place: Place, records: &[Record]) -> bool
+    ensures { result ≡ list_any (is_drawn_to_public place) records.now }
+{
+    records.iter().any(|entry| is_drawn_to_public(place, entry))
+}
+
+/// Puts PUBLIC as a double circle if a grant to it was in force at the place.
+fn put_public(text: &mut Vec<u8>, place: Place, records: &[Record]) -> Result<(), AllocError>
+    ensures { OnOk result (text.new.items ≡ text.old.items ++ public_text place records.now) }
+{
+    if draws_public(place, records) {
+        text.extend_from_slice(b"  \"PUBLIC\" [shape=doublecircle];\n")
+    } else {
+        Ok(())
+    }
+}
+
+/// Puts PUBLIC, where an edge leads to it, and the lines of the grants.
+fn put_granted(
+    text: &mut Vec<u8>,
+    names: &Catalog,
+    place: Place,
+    records: &[Record],
+) -> Result<(), AllocError>
+    ensures { OnOk result (text.new.items ≡ text.old.items ++ edges_text names.now.users names.now.tables place records.now) }
+{
+    put_public(text, place, records)?;
+    put_grants(text, names, place, records)
+}
+
 /// Puts the grants in force at a place behind the text, as a digraph of Graphviz: a line for each table that was created below
-/// the place, in their order, with its owner as a box, and then an edge for each grant that was made below the place and was in
-/// force there, in the order of their places. An edge leads from the grantor to the grantee, and its label is the place of the
-/// grant, its kind and its table, and `option` where it has that. What the statement of the place itself took is still there,
-/// dashed, with `taken` and the place. The names are those of the log that made the book; where one is missing nothing stands
-/// for it. After an error, which is want of memory, some of the digraph may stand behind the text.
+/// the place, in their order, with its owner as a box, one for PUBLIC as a double circle if an edge leads to it, and then an edge
+/// for each grant that was made below the place and was in force there, in the order of their places. An edge leads from the
+/// grantor to the grantee, and its label is the place of the grant, its kind and its table, and `option` where it has that. What
+/// the statement of the place itself took is still there, dashed, with `taken` and the place. The names are those of the log that
+/// made the book; where one is missing nothing stands for it. After an error, which is want of memory, some of the digraph may
+/// stand behind the text.
 pub fn put_graph(
     text: &mut Vec<u8>,
     names: &Catalog,
@@ -231,6 +283,7 @@ pub fn put_graph(
 {
     text.extend_from_slice(b"digraph grants {\n")?;
     put_tables(text, names, place, book.tables())?;
-    put_grants(text, names, place, book.records())?;
-    text.extend_from_slice(b"}\n")
+    put_granted(text, names, place, book.records())?;
+    text.extend_from_slice(b"}\n")?;
+    Ok(())
 }

@@ -2,6 +2,7 @@
 -- has the places 3 and 4 of the log; each takes one from the number in row 7 of the table, which is 9 before the batch, and
 -- revokes the grant. The example is this project's own.
 use Rattle.std.specs.Prelude.{◌-◌, ◌+◌, ◌&&◌, nat_lt, ℕ, Bool, true, false, suc, zero, Some, List, [], ◌∷◌, is_none, length}
+use Rattle.model_base.specs.declared.deed.Grantee.TheVariants.{User}
 use Rattle.model_base.specs.declared.deed.Kind.TheVariants.{Read}
 use Rattle.model_base.specs.declared.deed.Deed.{Deed}
 use Rattle.model_base.specs.declared.deed.Deed.TheVariants.{Granting, Revoking}
@@ -12,11 +13,11 @@ use Rattle.bohm_core_base.specs.Machine.{State, end_of, own_of}
 
 -- the grant before the batch
 abbrev pub old_grant : Grant
-old_grant = record { place = 2; grantor = 0; grantee = 1; kind = Read; table = 0; option = false }
+old_grant = record { place = 2; grantor = 0; grantee = User 1; kind = Read; table = 0; option = false }
 
 -- the revocation of a place
 abbrev pub revocation_of : ℕ → Deed
-revocation_of index = Revoking (record { place = 3 + index; grantor = 0; grantee = 1; kind = Read; table = 0 })
+revocation_of index = Revoking (record { place = 3 + index; grantor = 0; grantee = User 1; kind = Read; table = 0 })
 
 -- the number in the first of the rows
 abbrev pub number_in : List Row → ℕ

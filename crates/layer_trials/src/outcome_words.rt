@@ -7,8 +7,8 @@ ghost use Rattle.own_words.specs.Words.{cause_word, outputs_of, second_detail};
 use crate::fault::TrialFault;
 use crate::telling::tell;
 use model_base::{
-    Access, Cause, DeedDone, DeedForm, Form, Items, Key, Kind, Kinds, Need, Outcome, Outputs,
-    Reason, Register, Row, Step, Table, User,
+    Access, Cause, DeedDone, DeedForm, Form, Grantee, Items, Key, Kind, Kinds, Need, Outcome,
+    Outputs, Reason, Register, Row, Step, Table, User,
 };
 use own_words::{OwnWords, bits_of, decoded, row_of, value_of};
 use std::alloc::{AllocError, Global};
@@ -21,7 +21,7 @@ fn revoking() -> Form
     Form::Deed(DeedForm::Revoke {
         kind: Kind::Read,
         table: Table(0),
-        grantee: User(1),
+        grantee: Grantee::User(User(1)),
     })
 }
 

@@ -27,8 +27,8 @@ use answering::{ended, own_words};
 use body::{RowSource, Window, fill};
 use grants::{Book, Records, holds_option};
 use model_base::{
-    Access, DeedForm, Form, Grant, Items, Key, Kind, Kinds, Place, Register, Revocation, Row,
-    RowName, Statement, Step, Table, User,
+    Access, DeedForm, Form, Grant, Grantee, Items, Key, Kind, Kinds, Place, Register, Revocation,
+    Row, RowName, Statement, Step, Table, User,
 };
 use own_words::OwnWords;
 use std::alloc::{AllocError, Global};
@@ -152,7 +152,7 @@ fn granting(user: User) -> Statement
         form: Form::Deed(DeedForm::Grant {
             kind: Kind::Read,
             table: TABLE,
-            grantee: CAROL,
+            grantee: Grantee::User(CAROL),
             option: false,
         }),
     }
@@ -167,7 +167,7 @@ fn revoking(user: User, grantee: User) -> Statement
         form: Form::Deed(DeedForm::Revoke {
             kind: Kind::Read,
             table: TABLE,
-            grantee,
+            grantee: Grantee::User(grantee),
         }),
     }
 }
@@ -189,7 +189,7 @@ fn give(
     book.grant(Grant {
         place,
         grantor,
-        grantee,
+        grantee: Grantee::User(grantee),
         kind,
         table: TABLE,
         option,
@@ -387,7 +387,7 @@ fn revoke(alloc: Global, book: &mut Book) -> Result<(), TrialFault> {
     let revocation = Revocation {
         place,
         grantor,
-        grantee,
+        grantee: Grantee::User(grantee),
         kind,
         table: TABLE,
     };

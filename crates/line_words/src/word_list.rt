@@ -68,9 +68,10 @@ impl<'a> Words<'a> {
         self.start = end + 1;
         Some(&self.line[start..end])
     }
-    /// The next word, if it is a name. It goes over the bytes once.
+    /// The next word, if it is a name; otherwise the words stay as they are. It goes over the bytes once.
     pub fn next_name(&mut self) -> Option<&'a [u8]>
-        ensures { MatchOption result (is_name (first_word self.old) ≡ false) (λ w. (self.old ≡ w.now ∷ self.new) × (is_name w.now ≡ true)) }
+        ensures { MatchOption result ((is_name (first_word self.old) ≡ false) × (self.new ≡ self.old))
+            (λ w. (self.old ≡ w.now ∷ self.new) × (is_name w.now ≡ true)) }
     {
         let start = self.start;
         if start > self.line.len() {

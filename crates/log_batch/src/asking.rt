@@ -9,7 +9,7 @@ ghost use Rattle.log_batch.specs.Supplied.{batch_in};
 
 use crate::batch::LogBatch;
 use bohm_core_base::slots_stand_in_order;
-use model_base::{Kind, Place, Table, User};
+use model_base::{Grantee, Kind, Place, Table, User};
 
 impl LogBatch<'_> {
     /// The first slot whose grant doesn't lie below the place. It takes no memory, and a time that grows with the logarithm of
@@ -55,16 +55,16 @@ impl LogBatch<'_> {
         }
     }
 
-    /// The least slot at or above this one whose grant, made or not, is to this user, of this kind on this table, in force or
+    /// The least slot at or above this one whose grant, made or not, is to this grantee, of this kind on this table, in force or
     /// not. It takes no memory, and a time that grows with the logarithm of the number of such grants.
-    pub fn next_to(&self, user: User, kind: Kind, table: Table, from: usize) -> Option<usize>
-        ensures { IsNext (is_to user kind table) (batch_slots (batch_in self.now)) from result }
+    pub fn next_to(&self, grantee: &Grantee, kind: Kind, table: Table, from: usize) -> Option<usize>
+        ensures { IsNext (is_to grantee.now kind table) (batch_slots (batch_in self.now)) from result }
     {
-        if let Some(slot) = self.earlier_to(user, kind, table, from) {
+        if let Some(slot) = self.earlier_to(grantee, kind, table, from) {
             return Some(slot);
         }
         let earlier = self.earlier_count();
-        match self.own_to(user, kind, table, from.saturating_sub(earlier)) {
+        match self.own_to(grantee, kind, table, from.saturating_sub(earlier)) {
             Some(slot) => Some(earlier + slot),
             None => None,
         }

@@ -18,7 +18,7 @@ ghost use Rattle.log_batch.specs.Named.{grants_named};
 use chains::Chains;
 use grants::{Book, IndexedGrants, Records};
 use model_base::{
-    Deed, Grant, Key, Kind, MOST_PLACES, Place, Reference, Row, Statement, Table, User,
+    Deed, Grant, Grantee, Key, Kind, MOST_PLACES, Place, Reference, Row, Statement, Table, User,
 };
 use placing::Refs;
 use sequencer::LogTail;
@@ -245,13 +245,19 @@ impl<'a> LogBatch<'a> {
         self.book.records().len()
     }
 
-    /// The least slot at or above this one whose grant was made before the batch and is to the user, of the kind on the table,
-    /// in force or not. It takes no memory, and what the book's index takes: the logarithm of the number of such grants.
-    pub fn earlier_to(&self, user: User, kind: Kind, table: Table, from: usize) -> Option<usize>
-        ensures { IsNext (is_to user kind table) (earlier_grants (batch_in self.now)) from result }
+    /// The least slot at or above this one whose grant was made before the batch and is to the grantee, of the kind on the
+    /// table, in force or not. It takes no memory, and what the book's index takes: the logarithm of the number of such grants.
+    pub fn earlier_to(
+        &self,
+        grantee: &Grantee,
+        kind: Kind,
+        table: Table,
+        from: usize,
+    ) -> Option<usize>
+        ensures { IsNext (is_to grantee.now kind table) (earlier_grants (batch_in self.now)) from result }
     {
         let mut view = self.book.at(self.first);
-        view.next_to(user, kind, table, from)
+        view.next_to(*grantee, kind, table, from)
     }
 
     /// The least slot at or above this one whose grant was made before the batch and is by the user, of the kind on the table,
@@ -263,14 +269,20 @@ impl<'a> LogBatch<'a> {
         view.next_by(user, kind, table, from)
     }
 
-    /// The least of the grants that the batch may make, counted from 0, at or above this one that is to the user, of the kind on
-    /// the table. It takes no memory, and the logarithm of the number of such grants.
-    pub(crate) fn own_to(&self, user: User, kind: Kind, table: Table, from: usize) -> Option<usize>
-        ensures next { IsNext (is_to user kind table) (own_grants (batch_in self.now)) from result }
+    /// The least of the grants that the batch may make, counted from 0, at or above this one that is to the grantee, of the kind
+    /// on the table. It takes no memory, and the logarithm of the number of such grants.
+    pub(crate) fn own_to(
+        &self,
+        grantee: &Grantee,
+        kind: Kind,
+        table: Table,
+        from: usize,
+    ) -> Option<usize>
+        ensures next { IsNext (is_to grantee.now kind table) (own_grants (batch_in self.now)) from result }
         ensures within { IfSome result (λ slot. earlier_count (batch_in self.now) + slot < 2 ^ 64) }
     {
         let _count = self.slot_count();
-        self.named.next_to(user, kind, table, from)
+        self.named.next_to(*grantee, kind, table, from)
     }
 
     /// The least of the grants that the batch may make, counted from 0, at or above this one that is by the user, of the kind on

@@ -1,6 +1,6 @@
 -- The words of a form fit their places.
-use Rattle.std.proofs.Common.{◌≡◌, ℕ, ◌+◌, ◌<◌, ◌≤◌, true, false, ltb, List, [], ◌∷◌, ◌++◌, length, map, Option, Some, None, refl, ap, sym, ◌∙◌, arith, add-zero}
-use Rattle.std.specs.Prelude.{decimal}
+use Rattle.std.proofs.Common.{◌&&◌, ◌≡◌, Bool, ℕ, ◌+◌, ◌<◌, ◌≤◌, not, true, false, ltb, List, [], ◌∷◌, ◌++◌, length, map, Option, Some, None, refl, ap, sym, ◌∙◌, arith, add-zero}
+use Rattle.std.specs.Prelude.{decimal, IsTrue}
 use Rattle.std.specs.List.{AllByRecursion, sum_by}
 use Rattle.std.proofs.lemmas.List.Sums.{sum_by-cons}
 use Rattle.std.proofs.lemmas.Bool.{lt-ltb}
@@ -10,17 +10,20 @@ use Rattle.log_text.specs.declared.statement.RawStep.TheVariants.{Const, Compute
 use Rattle.log_text.specs.declared.statement.RawForm.{RawForm}
 use Rattle.log_text.specs.declared.statement.RawForm.TheVariants.{Create, Run, Deed}
 use Rattle.log_text.specs.declared.statement.RawDeed.{RawDeed}
+use Rattle.log_text.specs.declared.statement.RawGrantee.{RawGrantee}
+use Rattle.log_text.specs.declared.statement.RawGrantee.TheVariants.{Named, Public}
 use Rattle.log_text.specs.declared.statement.RawDeed.TheVariants.{Grant, Revoke}
 use Rattle.line_words.specs.Access.{access_fault, access_word, IsAccess}
 use Rattle.line_words.specs.declared.access.RawAccess.{RawAccess}
-use Rattle.log_text.specs.Statement.{body_words, deed_words, step_words, form_words, IsDeed, IsFormInGrammar, IsLastDeed, IsStep, IsRegister, outs_of}
-use Rattle.log_text.specs.Fault.{fault_from, OfForm, OfNext, OfStep, OfBar, OfMore, register_fault, is_bar}
+use Rattle.log_text.specs.Statement.{body_words, deed_words, grantee_word, is_everyone, option_words, step_words, form_words, IsDeed, IsFormInGrammar, IsGrantee, IsLastDeed, IsStep, IsRegister, outs_of}
+use Rattle.log_text.specs.Fault.{fault_from, OfForm, OfGrantee, OfNext, OfStep, OfBar, OfMore, register_fault, is_bar}
 use Rattle.line_words.proofs.Plain.{plain_of_decimal}
 use Rattle.log_text.proofs.Rows.{register_fits, row_fits}
 use Rattle.log_text.proofs.Bars.{no_bar, decimal_ne_bar, access_ne_bar}
 use Rattle.log_text.proofs.AccessFit.{access_fits}
 use Rattle.line_words.proofs.Whole.{whole_of_decimal}
 use Rattle.log_text.proofs.KindWords.{kind_of_word}
+use Rattle.log_text.proofs.Grantees.{name_is_not_public}
 use Rattle.log_text.proofs.OperationWords.{begins_no_deed, named_operation}
 use Rattle.log_text.proofs.Tails.{IsTail, body_is_tail, body_more}
 
@@ -75,11 +78,22 @@ step_fits (Check of) tail n o is low few h = rw (lt-ltb n 64 low, register_fits 
 step_fits (Skip of steps) tail n o is low few h = rw (lt-ltb n 64 low, register_fits of h.0, plain_of_decimal steps h.1, add-zero) refl
 step_fits (Out of) tail n o is low few h = rw (lt-ltb n 64 low, lt-ltb o 8 (omega arith), register_fits of h) refl
 
+-- the grantee of a grant, and what stands behind it
+grantee_on : (g : RawGrantee) (option : Bool) → IsGrantee g → IsTrue (not (option && is_everyone g)) → fault_from (OfGrantee true ∷ []) (grantee_word g ∷ option_words option) ≡ None
+grantee_on (Named name) true is may = rw (is, name_is_not_public name is) refl
+grantee_on (Named name) false is may = rw (is, name_is_not_public name is) refl
+grantee_on Public true is may = absurd cc
+grantee_on Public false is may = refl
+
+-- that of a revocation, which is the last word
+grantee_last : (g : RawGrantee) → IsGrantee g → fault_from (OfGrantee false ∷ []) (grantee_word g ∷ []) ≡ None
+grantee_last (Named name) is = rw is refl
+grantee_last Public is = refl
+
 -- the words of a deed, where a step may stand
 deed_fits : (d : RawDeed) (n o : ℕ) → IsDeed d → fault_from (OfStep n o ∷ []) (deed_words d) ≡ None
-deed_fits (Grant k t g true) n o h = rw (kind_of_word k, h.0, h.1) refl
-deed_fits (Grant k t g false) n o h = rw (kind_of_word k, h.0, h.1) refl
-deed_fits (Revoke k t g) n o h = rw (kind_of_word k, h.0, h.1) refl
+deed_fits (Grant k t g option) n o h = rw (kind_of_word k, h.0) (grantee_on g option h.1 h.2)
+deed_fits (Revoke k t g) n o h = rw (kind_of_word k, h.0) (grantee_last g h.1)
 
 body_fits : (ss : List RawStep) (d : Option RawDeed) (n o : ℕ) → n + length ss ≤ 64 → o + sum_by outs_of ss ≤ 8 → AllByRecursion IsStep ss → IsLastDeed d → fault_from (OfBar n o ∷ []) (body_words ss d) ≡ None
 body_fits [] None n o low few h k = refl
@@ -96,6 +110,5 @@ form_fits (Run [] ss d) h = absurd (omega arith)
 form_fits (Run (x ∷ xs) ss d) h =
     let p : fault_from (OfForm ∷ []) (form_words (Run (x ∷ xs) ss d)) ≡ fault_from (OfNext 1 ∷ []) (map access_word xs ++ body_words ss d) = rw (access_fits x h.2.0) refl in
     p ∙ accesses_fit xs 1 (body_words ss d) (body_is_tail ss d) (omega (arith, h.1)) h.2.1 ∙ body_fits ss d 0 0 (omega (arith, h.3)) (omega (arith, h.4)) h.5 h.6
-form_fits (Deed (Grant k t g true)) h = rw (kind_of_word k, h.0, h.1) refl
-form_fits (Deed (Grant k t g false)) h = rw (kind_of_word k, h.0, h.1) refl
-form_fits (Deed (Revoke k t g)) h = rw (kind_of_word k, h.0, h.1) refl
+form_fits (Deed (Grant k t g option)) h = rw (kind_of_word k, h.0) (grantee_on g option h.1 h.2)
+form_fits (Deed (Revoke k t g)) h = rw (kind_of_word k, h.0) (grantee_last g h.1)

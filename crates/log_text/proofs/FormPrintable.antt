@@ -11,11 +11,13 @@ use Rattle.log_text.specs.declared.statement.RawStep.TheVariants.{Const, Compute
 use Rattle.log_text.specs.declared.statement.RawForm.{RawForm}
 use Rattle.log_text.specs.declared.statement.RawForm.TheVariants.{Create, Run, Deed}
 use Rattle.log_text.specs.declared.statement.RawDeed.{RawDeed}
+use Rattle.log_text.specs.declared.statement.RawGrantee.{RawGrantee}
+use Rattle.log_text.specs.declared.statement.RawGrantee.TheVariants.{Named, Public}
 use Rattle.log_text.specs.declared.statement.RawDeed.TheVariants.{Grant, Revoke}
 use Rattle.model_base.specs.declared.deed.Kind.{Kind}
 use Rattle.model_base.specs.declared.deed.Kind.TheVariants as kind
 use Rattle.line_words.specs.Access.{access_word, letters, letter_if, IsAccess}
-use Rattle.log_text.specs.Statement.{body_words, deed_words, kind_word, last_deed, further_step, operation_word, step_words, row_word, form_words, IsDeed, IsFormInGrammar, IsLastDeed, IsStep, IsRowNumber, IsRegister}
+use Rattle.log_text.specs.Statement.{body_words, deed_words, grantee_word, kind_word, last_deed, further_step, operation_word, step_words, row_word, form_words, IsDeed, IsFormInGrammar, IsGrantee, IsLastDeed, IsStep, IsRowNumber, IsRegister}
 use Rattle.line_words.specs.Words.{is_printable}
 use Rattle.model_base.specs.declared.deed.Kinds.{Kinds}
 use Rattle.line_words.specs.declared.access.RawAccess.{RawAccess}
@@ -89,10 +91,14 @@ kind_printable kind.Insert = refl
 kind_printable kind.Update = refl
 kind_printable kind.Delete = refl
 
+grantee_printable : (g : RawGrantee) → IsGrantee g → IsPrintable (grantee_word g)
+grantee_printable (Named name) h = printable_name name h
+grantee_printable Public h = refl
+
 deed : (d : RawDeed) → IsDeed d → AllByRecursion IsPrintable (deed_words d)
-deed (Grant k t g true) h = (refl, (kind_printable k, (printable_name t h.0, (printable_name g h.1, (refl, tt)))))
-deed (Grant k t g false) h = (refl, (kind_printable k, (printable_name t h.0, (printable_name g h.1, tt))))
-deed (Revoke k t g) h = (refl, (kind_printable k, (printable_name t h.0, (printable_name g h.1, tt))))
+deed (Grant k t g true) h = (refl, (kind_printable k, (printable_name t h.0, (grantee_printable g h.1, (refl, tt)))))
+deed (Grant k t g false) h = (refl, (kind_printable k, (printable_name t h.0, (grantee_printable g h.1, tt))))
+deed (Revoke k t g) h = (refl, (kind_printable k, (printable_name t h.0, (grantee_printable g h.1, tt))))
 
 ending : (d : Option RawDeed) → IsLastDeed d → AllByRecursion IsPrintable (last_deed d)
 ending None h = tt

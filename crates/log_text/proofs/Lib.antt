@@ -15,5 +15,6 @@ pub mod Joined
 pub mod AccessFit
 pub mod Grammar
 pub mod TotalWords
+pub mod Grantees
 pub mod TotalSteps
 pub mod Total

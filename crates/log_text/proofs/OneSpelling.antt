@@ -13,7 +13,7 @@ use Rattle.log_text.specs.declared.statement.RawForm.{RawForm}
 use Rattle.log_text.specs.declared.statement.RawForm.TheVariants.{Create, Run, Deed}
 use Rattle.log_text.specs.declared.statement.RawDeed.{RawDeed}
 use Rattle.log_text.specs.declared.statement.RawDeed.TheVariants.{Grant, Revoke}
-use Rattle.log_text.specs.Statement.{body_words, deed_words, kind_word, last_deed, operation_word, option_words, step_words, form_words, IsFormInGrammar, IsStep, IsRegister}
+use Rattle.log_text.specs.Statement.{body_words, deed_words, grantee_word, kind_word, last_deed, operation_word, option_words, step_words, form_words, IsDeed, IsFormInGrammar, IsLastDeed, IsStep, IsRegister}
 use Rattle.log_text.specs.Fault.{step_name}
 use Rattle.log_text.specs.declared.step_name.StepName.{StepName}
 use Rattle.log_text.specs.declared.step_name.StepName.TheVariants as name
@@ -21,6 +21,7 @@ use Rattle.model_base.specs.declared.statement.Operation.{Operation}
 use Rattle.log_text.proofs.Bars.{decimal_ne_bar, access_ne_bar, one_row}
 use Rattle.line_words.proofs.Whole.{one_whole}
 use Rattle.log_text.proofs.AccessFit.{one_access}
+use Rattle.log_text.proofs.Grantees.{one_grantee}
 use Rattle.log_text.proofs.KindWords.{one_kind}
 use Rattle.log_text.proofs.OperationWords.{named_operation}
 use Rattle.log_text.proofs.Tails.{IsTail, body_is_tail, body_more, no_step, no_tail}
@@ -166,21 +167,23 @@ one_option true false e = cc
 one_option false true e = cc
 one_option false false e = refl
 
-one_deed : (d e : RawDeed) → deed_words d ≡ deed_words e → d ≡ e
-one_deed (Grant k t g o) (Grant l u h p) e =
+one_deed : (d e : RawDeed) → IsDeed d → IsDeed e → deed_words d ≡ deed_words e → d ≡ e
+one_deed (Grant k t g o) (Grant l u h p) f j e =
     let e1 : kind_word k ≡ kind_word l = cc in
     let e2 : t ≡ u = cc in
-    let e3 : g ≡ h = cc in
+    let e3 : grantee_word g ≡ grantee_word h = cc in
+    let f3 = one_grantee g h f.1 j.1 e3 in
     let e4 : option_words o ≡ option_words p = cc in
     let f1 = one_kind k l e1 in
     let f4 = one_option o p e4 in
     cc
-one_deed (Grant k t g o) (Revoke l u h) e = absurd (apart (codes "GRANT") (codes "REVOKE") refl cc)
-one_deed (Revoke k t g) (Grant l u h p) e = absurd (apart (codes "REVOKE") (codes "GRANT") refl cc)
-one_deed (Revoke k t g) (Revoke l u h) e =
+one_deed (Grant k t g o) (Revoke l u h) f j e = absurd (apart (codes "GRANT") (codes "REVOKE") refl cc)
+one_deed (Revoke k t g) (Grant l u h p) f j e = absurd (apart (codes "REVOKE") (codes "GRANT") refl cc)
+one_deed (Revoke k t g) (Revoke l u h) f j e =
     let e1 : kind_word k ≡ kind_word l = cc in
     let e2 : t ≡ u = cc in
-    let e3 : g ≡ h = cc in
+    let e3 : grantee_word g ≡ grantee_word h = cc in
+    let f3 = one_grantee g h f.1 j.1 e3 in
     let f1 = one_kind k l e1 in
     cc
 
@@ -189,23 +192,23 @@ deed_or_step : (d : Option RawDeed) (t : RawStep) (ws : List (List ℕ)) → las
 deed_or_step None t ws e = cc
 deed_or_step (Some d) t ws e = no_step d t ws cc
 
-one_last : (d e : Option RawDeed) → last_deed d ≡ last_deed e → d ≡ e
-one_last None None e = refl
-one_last None (Some b) e = cc
-one_last (Some a) None e = cc
-one_last (Some a) (Some b) e =
+one_last : (d e : Option RawDeed) → IsLastDeed d → IsLastDeed e → last_deed d ≡ last_deed e → d ≡ e
+one_last None None f j e = refl
+one_last None (Some b) f j e = cc
+one_last (Some a) None f j e = cc
+one_last (Some a) (Some b) f j e =
     let words : deed_words a ≡ deed_words b = cc in
-    ap Some (one_deed a b words)
+    ap Some (one_deed a b f j words)
 
-one_body : (ss ts : List RawStep) (d e : Option RawDeed) → AllByRecursion IsStep ss → AllByRecursion IsStep ts → body_words ss d ≡ body_words ts e → (ss ≡ ts) × (d ≡ e)
-one_body [] [] d e h k same = (refl, one_last d e same)
-one_body [] (t ∷ ts) d e h k same = absurd (deed_or_step d t (body_words ts e) (same ∙ body_more t ts e))
-one_body (s ∷ ss) [] d e h k same = absurd (deed_or_step e s (body_words ss d) (sym same ∙ body_more s ss d))
-one_body (s ∷ ss) (t ∷ ts) d e h k same =
+one_body : (ss ts : List RawStep) (d e : Option RawDeed) → AllByRecursion IsStep ss → AllByRecursion IsStep ts → IsLastDeed d → IsLastDeed e → body_words ss d ≡ body_words ts e → (ss ≡ ts) × (d ≡ e)
+one_body [] [] d e h k f j same = (refl, one_last d e f j same)
+one_body [] (t ∷ ts) d e h k f j same = absurd (deed_or_step d t (body_words ts e) (same ∙ body_more t ts e))
+one_body (s ∷ ss) [] d e h k f j same = absurd (deed_or_step e s (body_words ss d) (sym same ∙ body_more s ss d))
+one_body (s ∷ ss) (t ∷ ts) d e h k f j same =
     let whole : codes "|" ∷ (step_words s ++ body_words ss d) ≡ codes "|" ∷ (step_words t ++ body_words ts e) = sym (body_more s ss d) ∙ same ∙ body_more t ts e in
     let rest : step_words s ++ body_words ss d ≡ step_words t ++ body_words ts e = cc in
     let p = one_step s t (body_words ss d) (body_words ts e) (body_is_tail ss d) (body_is_tail ts e) h.0 k.0 rest in
-    let q = one_body ss ts d e h.1 k.1 p.1 in
+    let q = one_body ss ts d e h.1 k.1 f j p.1 in
     let r = p.0 in
     let first = q.0 in
     (cc, q.1)
@@ -234,11 +237,11 @@ one_form (Deed (Grant k u h o)) (Create t m) f g e = absurd (letters_apart (Deed
 one_form (Deed (Revoke k u h)) (Create t m) f g e = absurd (letters_apart (Deed (Revoke k u h)) (Create t m) refl e)
 one_form (Deed (Grant k u h o)) (Run xs ss d) f g e = absurd (letters_apart (Deed (Grant k u h o)) (Run xs ss d) refl e)
 one_form (Deed (Revoke k u h)) (Run xs ss d) f g e = absurd (letters_apart (Deed (Revoke k u h)) (Run xs ss d) refl e)
-one_form (Deed a) (Deed b) f g e = ap Deed (one_deed a b e)
+one_form (Deed a) (Deed b) f g e = ap Deed (one_deed a b f g e)
 one_form (Run xs ss c) (Run ys ts d) f g e =
     let rest : map access_word xs ++ body_words ss c ≡ map access_word ys ++ body_words ts d = cc in
     let p = one_accesses xs ys (body_words ss c) (body_words ts d) (body_is_tail ss c) (body_is_tail ts d) f.2 g.2 rest in
-    let q = one_body ss ts c d f.5 g.5 p.1 in
+    let q = one_body ss ts c d f.5 g.5 f.6 g.6 p.1 in
     let r = p.0 in
     let steps = q.0 in
     let deeds = q.1 in

@@ -1,5 +1,5 @@
 -- Words without a fault are those of steps and of deeds.
-use Rattle.std.proofs.Common.{◌≡◌, ℕ, suc, zero, ◌+◌, ◌<◌, ◌≤◌, ◌^◌, Bool, true, false, ltb, cond, ◌&&◌, ℤ, List, [], ◌∷◌, ◌++◌, length, map, Option, Some, None, refl, ap, sym, ◌∙◌, inl, inr, arith}
+use Rattle.std.proofs.Common.{◌||◌, ◌≡◌, ℕ, not, suc, zero, ◌+◌, ◌<◌, ◌≤◌, ◌^◌, Bool, true, false, ltb, cond, ◌&&◌, ℤ, List, [], ◌∷◌, ◌++◌, length, map, Option, Some, None, refl, ap, sym, ◌∙◌, inl, inr, arith}
 use Rattle.std.specs.Prelude.{bytes_eq, codes, decimal, IsTrue}
 use Rattle.std.specs.Fmt.{signed_decimal}
 use Rattle.std.specs.List.{AllByRecursion, sum_by}
@@ -9,13 +9,15 @@ use Rattle.std.proofs.lemmas.Slice.Eq.{bytes_eq-Decides}
 use Rattle.line_words.specs.Words.{plain, is_name}
 use Rattle.line_words.specs.Access.{access_word, IsAccess}
 use Rattle.line_words.specs.Faults.{unless, or_else}
-use Rattle.log_text.specs.Fault.{Expected, OfName, OfPlain, OfWhole, OfRegister, OfRow, OfKind, OfOption, OfAccess, OfStep, OfBar, OfMore, fault_from, misfit, expected_behind, may_end, is_bar, is_deed, step_name, step_fault, expected_in, expected_in_deed, expected_in_grant, expected_in_revoke, register_fault}
-use Rattle.log_text.specs.Statement.{body_words, deed_words, kind_word, option_words, row_word, IsDeed, IsLastDeed, IsRegister, IsRowNumber, IsStep, step_words, outs_of}
+use Rattle.log_text.specs.Fault.{Expected, OfGrantee, OfName, OfPlain, OfWhole, OfRegister, OfRow, OfKind, OfOption, OfAccess, OfStep, OfBar, OfMore, fault_from, is_public, misfit, expected_behind, may_end, is_bar, is_deed, step_name, step_fault, expected_in, expected_in_deed, expected_in_grant, expected_in_revoke, register_fault}
+use Rattle.log_text.specs.Statement.{body_words, deed_words, grantee_word, is_everyone, kind_word, option_words, row_word, IsDeed, IsGrantee, IsLastDeed, IsRegister, IsRowNumber, IsStep, step_words, outs_of}
 use Rattle.line_words.specs.declared.fault.LineFault.TheVariants.{UnknownWord, BadNumber, BadName, TooManySteps}
 use Rattle.line_words.specs.declared.access.RawAccess.{RawAccess}
 use Rattle.model_base.specs.declared.deed.Kind.{Kind}
 use Rattle.log_text.specs.declared.statement.RawDeed.{RawDeed}
 use Rattle.log_text.specs.declared.statement.RawDeed.TheVariants as deed
+use Rattle.log_text.specs.declared.statement.RawGrantee.{RawGrantee}
+use Rattle.log_text.specs.declared.statement.RawGrantee.TheVariants as deed_to
 use Rattle.log_text.specs.declared.statement.RawStep.{RawStep}
 use Rattle.log_text.specs.declared.step_name.StepName.{StepName}
 use Rattle.log_text.specs.declared.step_name.StepName.TheVariants as name
@@ -24,6 +26,7 @@ use Rattle.model_base.specs.declared.statement.RowName.{RowName}
 use Rattle.model_base.specs.Body.{fits_64_bits}
 use Rattle.line_words.proofs.Plain.{plain_empty}
 use Rattle.log_text.proofs.Missing.{whole_missing}
+use Rattle.log_text.proofs.Grantees.{grantee_spells, name_is_not_public}
 use Rattle.log_text.proofs.StepNames.{at_step, named_word}
 use Rattle.log_text.proofs.Tails.{body_more}
 use Rattle.log_text.proofs.TotalWords.{Spells, both_none, unless_none, kind_spells, plain_spells, whole_spells, register_spells, row_spells, access_spells}
@@ -99,23 +102,49 @@ option_from (w ∷ ws) e =
     let none = ended ws b.1 in
     (true, cc)
 
+-- the words tell the grantee of a grant, and whether it is with the option
+record Granted (ws : List (List ℕ)) : Type 0 where
+  grantee : RawGrantee
+  option : Bool
+  same : ws ≡ grantee_word grantee ∷ option_words option
+  is : IsGrantee grantee
+  may : IsTrue (not (option && is_everyone grantee))
+
+grantee_from : (ws : List (List ℕ)) → fault_from (OfGrantee true ∷ []) ws ≡ None → Granted ws
+grantee_from [] e = absurd cc
+grantee_from (w ∷ ws) e =
+    let b = both_none (unless (is_name w || is_public w) BadName) (fault_from (expected_behind (OfGrantee true) w ++ []) ws) e in
+    let s = grantee_spells w b.0 in
+    let rest : fault_from (expected_behind (OfGrantee true) (grantee_word s.value) ++ []) ws ≡ None = ap (λ v. fault_from (expected_behind (OfGrantee true) v ++ []) ws) (sym s.same) ∙ b.1 in
+    with_option s.value s.same s.good rest
+  where
+    with_option : (g : RawGrantee) → w ≡ grantee_word g → IsGrantee g → fault_from (expected_behind (OfGrantee true) (grantee_word g) ++ []) ws ≡ None → Granted (w ∷ ws)
+    with_option (deed_to.Named name) same is goes =
+        let named : fault_from (OfOption ∷ []) ws ≡ None = rw (name_is_not_public name is) at goes in
+        let o = option_from ws named in
+        record { grantee = deed_to.Named name; option = o.0; same = ap (λ v. v ∷ ws) same ∙ ap (λ vs. name ∷ vs) o.1; is = is; may = may o.0 }
+      where
+        may : (option : Bool) → not (option && false) ≡ true
+        may true = refl
+        may false = refl
+    with_option deed_to.Public same is goes =
+        record { grantee = deed_to.Public; option = false; same = ap (λ v. v ∷ ws) same ∙ ap (λ vs. codes "PUBLIC" ∷ vs) (ended ws goes); is = tt; may = refl }
+
 grant_from : (w : List ℕ) (ws : List (List ℕ)) → w ≡ codes "GRANT" → fault_from expected_in_grant ws ≡ None → DeedIn (w ∷ ws)
 grant_from w ws is e =
-    let k = kind_next (OfName ∷ OfName ∷ OfOption ∷ []) ws e in
-    let t = name_next (OfName ∷ OfOption ∷ []) k.rest k.goes in
-    let g = name_next (OfOption ∷ []) t.rest t.goes in
-    let o = option_from g.rest g.goes in
+    let k = kind_next (OfName ∷ OfGrantee true ∷ []) ws e in
+    let t = name_next (OfGrantee true ∷ []) k.rest k.goes in
+    let g = grantee_from t.rest t.goes in
     let first = k.same in
     let second = t.same in
     let third = g.same in
-    let fourth = o.1 in
-    record { deed = deed.Grant k.value t.value g.value o.0; same = cc; is = (t.good, g.good) }
+    record { deed = deed.Grant k.value t.value g.grantee g.option; same = cc; is = (t.good, g.is, g.may) }
 
 revoke_from : (w : List ℕ) (ws : List (List ℕ)) → w ≡ codes "REVOKE" → fault_from expected_in_revoke ws ≡ None → DeedIn (w ∷ ws)
 revoke_from w ws is e =
-    let k = kind_next (OfName ∷ OfName ∷ []) ws e in
-    let t = name_next (OfName ∷ []) k.rest k.goes in
-    let g = name_next [] t.rest t.goes in
+    let k = kind_next (OfName ∷ OfGrantee false ∷ []) ws e in
+    let t = name_next (OfGrantee false ∷ []) k.rest k.goes in
+    let g = next grantee_word IsGrantee (OfGrantee false) [] t.rest refl (λ v. refl) (λ f. cc) grantee_spells t.goes in
     let first = k.same in
     let second = t.same in
     let third = g.same in

@@ -1,5 +1,5 @@
 -- Which fault a line has: of its words, the first that doesn't fit what is expected there decides.
-use Rattle.std.specs.Prelude.{ℕ, ◌+◌, Bool, true, false, ◌&&◌, ◌||◌, List, [], ◌∷◌, ◌++◌, length, nat_lt, ◌==◌, bytes_eq, is_some, if◌then◌else◌, Option, Some, None, codes}
+use Rattle.std.specs.Prelude.{ℕ, ◌+◌, Bool, not, true, false, ◌&&◌, ◌||◌, List, [], ◌∷◌, ◌++◌, length, nat_lt, ◌==◌, bytes_eq, is_some, if◌then◌else◌, Option, Some, None, codes}
 use Rattle.std.specs.List.{list_all}
 use Rattle.line_words.specs.Words.{words, plain, signed_of, is_name, is_printable}
 use Rattle.line_words.specs.Faults.{unless, or_else}
@@ -22,6 +22,8 @@ pub data Expected : Type 0 where
   OfRegister : Expected
   OfRow : Expected
   OfKind : Expected
+  -- a name or PUBLIC; in a grant OPTION may stand behind a name
+  OfGrantee : (grants : Bool) → Expected
   -- OPTION or the end
   OfOption : Expected
   -- CREATE, RUN, GRANT or REVOKE
@@ -43,6 +45,9 @@ is_bar w = bytes_eq w (codes "|")
 -- whether the word begins a deed
 abbrev pub is_deed : List ℕ → Bool
 is_deed w = bytes_eq w (codes "GRANT") || bytes_eq w (codes "REVOKE")
+
+abbrev pub is_public : List ℕ → Bool
+is_public w = bytes_eq w (codes "PUBLIC")
 
 -- the kind that a word names
 abbrev pub kind_named : List ℕ → Option Kind
@@ -94,10 +99,10 @@ expected_in (Some Out) steps outs = OfRegister ∷ OfBar (steps + 1) (outs + 1) 
 
 -- what follows GRANT, and what REVOKE: nothing stands behind a deed
 abbrev pub expected_in_grant : List Expected
-expected_in_grant = OfKind ∷ OfName ∷ OfName ∷ OfOption ∷ []
+expected_in_grant = OfKind ∷ OfName ∷ OfGrantee true ∷ []
 
 abbrev pub expected_in_revoke : List Expected
-expected_in_revoke = OfKind ∷ OfName ∷ OfName ∷ []
+expected_in_revoke = OfKind ∷ OfName ∷ OfGrantee false ∷ []
 
 -- what follows the word that begins a deed
 abbrev pub expected_in_deed : List ℕ → List Expected
@@ -119,6 +124,7 @@ misfit OfWhole w = unless (is_some (signed_of w)) BadNumber
 misfit OfRegister w = register_fault (plain w)
 misfit OfRow w = row_fault w
 misfit OfKind w = unless (is_some (kind_named w)) UnknownWord
+misfit (OfGrantee grants) w = unless (is_name w || is_public w) BadName
 misfit OfOption w = unless (bytes_eq w (codes "OPTION")) UnknownWord
 misfit OfForm w = unless (bytes_eq w (codes "CREATE") || bytes_eq w (codes "RUN") || is_deed w) UnknownWord
 misfit OfAccess w = access_fault w
@@ -136,6 +142,7 @@ expected_behind OfWhole w = []
 expected_behind OfRegister w = []
 expected_behind OfRow w = []
 expected_behind OfKind w = []
+expected_behind (OfGrantee grants) w = if grants && not (is_public w) then OfOption ∷ [] else []
 expected_behind OfOption w = []
 expected_behind OfForm w =
     if bytes_eq w (codes "CREATE") then OfName ∷ OfPlain ∷ []

@@ -1,5 +1,5 @@
 -- Statements as a line spells them, and which line reads as which.
-use Rattle.std.specs.Prelude.{◌≡◌, ℕ, ◌<◌, ◌≤◌, ◌^◌, Bool, Option, Some, None, List, [], ◌∷◌, ◌++◌, length, map, codes, if◌then◌else◌, IsTrue}
+use Rattle.std.specs.Prelude.{◌≡◌, ℕ, ◌<◌, ◌≤◌, ◌^◌, ◌&&◌, not, Bool, true, false, Option, Some, None, List, [], ◌∷◌, ◌++◌, length, map, codes, if◌then◌else◌, IsTrue}
 use Rattle.std.specs.Fmt.{decimal, signed_decimal}
 use Rattle.std.specs.List.{join_with_byte, flat_map, AllByRecursion, sum_by}
 use Rattle.model_base.specs.declared.limits.TheConstants.{MOST_ACCESSES, MOST_COLUMNS, MOST_OUTPUTS, MOST_REGISTERS, MOST_STEPS}
@@ -14,6 +14,8 @@ use Rattle.line_words.specs.Words.{words, is_name}
 use Rattle.line_words.specs.Access.{access_word, IsAccess}
 use Rattle.log_text.specs.declared.statement.RawDeed.{RawDeed}
 use Rattle.log_text.specs.declared.statement.RawDeed.TheVariants.{Grant, Revoke}
+use Rattle.log_text.specs.declared.statement.RawGrantee.{RawGrantee}
+use Rattle.log_text.specs.declared.statement.RawGrantee.TheVariants.{Named, Public}
 use Rattle.log_text.specs.declared.statement.RawForm.{RawForm}
 use Rattle.log_text.specs.declared.statement.RawForm.TheVariants.{Create, Run, Deed}
 use Rattle.log_text.specs.declared.statement.RawStep.{RawStep}
@@ -66,10 +68,20 @@ kind_word kind.Delete = codes "DELETE"
 abbrev pub option_words : Bool → List (List ℕ)
 option_words option = if option then codes "OPTION" ∷ [] else []
 
--- "GRANT " kind " " name " " name [" OPTION"] | "REVOKE " kind " " name " " name
+-- grantee = name | "PUBLIC"
+abbrev pub grantee_word : RawGrantee → List ℕ
+grantee_word (Named name) = name
+grantee_word Public = codes "PUBLIC"
+
+-- whether it is PUBLIC
+abbrev pub is_everyone : RawGrantee → Bool
+is_everyone (Named name) = false
+is_everyone Public = true
+
+-- "GRANT " kind " " name " " name [" OPTION"] | "GRANT " kind " " name " PUBLIC" | "REVOKE " kind " " name " " grantee
 abbrev pub deed_words : RawDeed → List (List ℕ)
-deed_words (Grant kind table grantee option) = codes "GRANT" ∷ kind_word kind ∷ table ∷ grantee ∷ option_words option
-deed_words (Revoke kind table grantee) = codes "REVOKE" ∷ kind_word kind ∷ table ∷ grantee ∷ []
+deed_words (Grant kind table grantee option) = codes "GRANT" ∷ kind_word kind ∷ table ∷ grantee_word grantee ∷ option_words option
+deed_words (Revoke kind table grantee) = codes "REVOKE" ∷ kind_word kind ∷ table ∷ grantee_word grantee ∷ []
 
 -- [" | " deed]
 abbrev pub last_deed : Option RawDeed → List (List ℕ)
@@ -122,10 +134,16 @@ abbrev pub outs_of : RawStep → ℕ
 outs_of (Out of) = 1
 outs_of _ = 0
 
--- the names of a deed are names
+-- the name of a grantee is a name
+abbrev pub IsGrantee : RawGrantee → Type 0
+IsGrantee (Named name) = IsTrue (is_name name)
+IsGrantee Public = Unit {0}
+
+-- the names of a deed are names, and PUBLIC has no option
 abbrev pub IsDeed : RawDeed → Type 0
-IsDeed (Grant kind table grantee option) = IsTrue (is_name table) × IsTrue (is_name grantee)
-IsDeed (Revoke kind table grantee) = IsTrue (is_name table) × IsTrue (is_name grantee)
+IsDeed (Grant kind table grantee option) =
+    IsTrue (is_name table) × IsGrantee grantee × IsTrue (not (option && is_everyone grantee))
+IsDeed (Revoke kind table grantee) = IsTrue (is_name table) × IsGrantee grantee
 
 -- those of the deed behind the steps, if there is one
 abbrev pub IsLastDeed : Option RawDeed → Type 0

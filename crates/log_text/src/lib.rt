@@ -15,4 +15,4 @@ pub use line_words::{LineFault, Name, RawAccess};
 pub use parsing::{one_spelling, parse_line, read_line};
 pub use printing::print_statement;
 pub use raw_room::RawRoom;
-pub use statement::{RawDeed, RawForm, RawStatement, RawStep};
+pub use statement::{RawDeed, RawForm, RawGrantee, RawStatement, RawStep};

@@ -251,7 +251,12 @@ fn push_deed(text: &mut String, deed: &RawDeed<'_>) -> Result<(), AllocError>
             grantee,
             option,
         } => {
-            write!(text, " GRANT {} {table} {grantee}", kind_word(*kind))?;
+            write!(
+                text,
+                " GRANT {} {table} {}",
+                kind_word(*kind),
+                grantee.word()
+            )?;
             if *option {
                 text.push_str(" OPTION")?;
             }
@@ -261,7 +266,12 @@ fn push_deed(text: &mut String, deed: &RawDeed<'_>) -> Result<(), AllocError>
             table,
             grantee,
         } => {
-            write!(text, " REVOKE {} {table} {grantee}", kind_word(*kind))?;
+            write!(
+                text,
+                " REVOKE {} {table} {}",
+                kind_word(*kind),
+                grantee.word()
+            )?;
         }
     }
     Ok(())

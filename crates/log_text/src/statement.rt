@@ -56,20 +56,42 @@ pub enum RawStep<'a> {
     },
 }
 
+/// To whom a deed is: to the user of a name, or to PUBLIC.
+#[derive(Drop)]
+pub enum RawGrantee<'a> {
+    Named(Name<'a>),
+    Public,
+}
+
+impl<'a> RawGrantee<'a> {
+    ghost use Rattle.std.specs.Prelude.{◌≡◌};
+    ghost use Rattle.log_text.specs.Statement.{grantee_word};
+
+    /// Its word.
+    pub fn word(&self) -> &'a str
+        ensures { result.now ≡ grantee_word self.now }
+    {
+        match self {
+            RawGrantee::Named(name) => name.as_str(),
+            RawGrantee::Public => "PUBLIC",
+        }
+    }
+}
+
 /// A grant or a revocation. Its grantor is the statement's user.
 #[derive(Drop)]
 pub enum RawDeed<'a> {
-    /// With the option the grantee may grant further.
+    /// With the option the grantee may grant further; PUBLIC never has it.
     Grant {
         kind: Kind,
         table: Name<'a>,
-        grantee: Name<'a>,
+        grantee: RawGrantee<'a>,
         option: bool,
     },
     Revoke {
         kind: Kind,
         table: Name<'a>,
-        grantee: Name<'a>,
+        grantee: RawGrantee<'a>,
     },
 }
 

@@ -9,13 +9,16 @@ use Rattle.std.specs.declared.cmp.Ordering.TheVariants.{Less, Equal, Greater}
 use Rattle.std.proofs.lemmas.Bool.{and_parts, eqb-true}
 use Rattle.std.proofs.lemmas.Bool.Decides.{nat_tests}
 use Rattle.model_base.specs.declared.deed.Grant.{Grant}
+use Rattle.model_base.specs.declared.deed.Grantee.{Grantee}
+use Rattle.model_base.specs.declared.deed.Grantee.TheVariants.{User}
 use Rattle.model_base.specs.declared.deed.Kind.{Kind}
 use Rattle.model_base.specs.declared.deed.Kind.TheVariants.{Read, Insert, Update, Delete}
-use Rattle.model_base.specs.Privileges.{same_kind}
+use Rattle.model_base.specs.Privileges.{same_grantee, same_kind}
 use Rattle.grants_base.specs.Index.{is_by, is_to}
 use Rattle.log_words.specs.declared.holders.Holder.{Holder}
 use Rattle.log_words.specs.Holders.{grantee_holder, grantor_of, holder_cmp, holder_of, same_holder}
-use Rattle.grants_base.specs.Sides.{kind_code}
+use Rattle.grants_base.specs.Sides.{holder_code, kind_code}
+use Rattle.grants_base.proofs.SideLaws.{holder_code-same}
 use Rattle.model_base.proofs.Replay.{by_cases}
 
 is_eq-nat_cmp : (x y : ℕ) → is_eq (nat_cmp x y) ≡ eqb x y
@@ -35,7 +38,7 @@ is_eq-pair x y o rest is =
     is_eq-ordering_then (nat_cmp x y) o ∙ ap (λ b. is_eq (nat_cmp x y) && b) is ∙ ap (λ b. b && rest) (is_eq-nat_cmp x y)
 
 at_holder : (a b : Holder) → is_at (holder_cmp a) b ≡ same_holder a b
-at_holder a b = is_eq-pair a.user b.user _ _ (is_eq-pair a.table b.table _ _ (is_eq-nat_cmp a.kind b.kind))
+at_holder a b = is_eq-pair a.holder b.holder _ _ (is_eq-pair a.table b.table _ _ (is_eq-nat_cmp a.kind b.kind))
 
 cond-or : (b rest : Bool) → cond b true rest ≡ (b || rest)
 cond-or true rest = refl
@@ -49,16 +52,16 @@ holder_added old new holder other updates =
     updates ∙ ap (λ b. cond b true (contains holder_cmp old other)) (at_holder holder other) ∙ cond-or (same_holder holder other) (contains holder_cmp old other)
 
 abbrev make : ℕ → ℕ → ℕ → Holder
-make user table kind = record { user = user; table = table; kind = kind }
+make holder table kind = record { holder = holder; table = table; kind = kind }
 
 -- only one itself is the same
 pub same_holder-true : (a b : Holder) → same_holder a b ≡ true → a ≡ b
 same_holder-true a b same =
-    let one = and_parts (a.user == b.user) ((a.table == b.table) && (a.kind == b.kind)) same in
+    let one = and_parts (a.holder == b.holder) ((a.table == b.table) && (a.kind == b.kind)) same in
     let two = and_parts (a.table == b.table) (a.kind == b.kind) one.1 in
-    ap (λ u. make u a.table a.kind) (eqb-true a.user b.user one.0)
-    ∙ ap (λ t. make b.user t a.kind) (eqb-true a.table b.table two.0)
-    ∙ ap (λ k. make b.user b.table k) (eqb-true a.kind b.kind two.1)
+    ap (λ u. make u a.table a.kind) (eqb-true a.holder b.holder one.0)
+    ∙ ap (λ t. make b.holder t a.kind) (eqb-true a.table b.table two.0)
+    ∙ ap (λ k. make b.holder b.table k) (eqb-true a.kind b.kind two.1)
 
 same_kind-code : (kind other : Kind) → same_kind kind other ≡ (kind_code kind == kind_code other)
 same_kind-code Read Read = refl
@@ -90,16 +93,19 @@ and-turned true false = refl
 and-turned false true = refl
 and-turned false false = refl
 
-same_user : (user other : ℕ) (kind kind' : Kind) (table table' : ℕ)
-    → ((other == user) && (same_kind kind kind' && (table == table'))) ≡ same_holder (holder_of user kind table) (holder_of other kind' table')
-same_user user other kind kind' table table' =
-    ap (λ b. b && (same_kind kind kind' && (table == table'))) (eqb-turned other user)
-    ∙ ap (λ b. (user == other) && b) (and-turned (same_kind kind kind') (table == table') ∙ ap (λ b. (table == table') && b) (same_kind-code kind kind'))
+same_party : (holder other : Grantee) (kind kind' : Kind) (table table' : ℕ)
+    → (same_grantee other holder && (same_kind kind kind' && (table == table'))) ≡ same_holder (holder_of holder kind table) (holder_of other kind' table')
+same_party holder other kind kind' table table' =
+    ap (λ b. b && (same_kind kind kind' && (table == table'))) (sym (holder_code-same other holder) ∙ eqb-turned (holder_code other) (holder_code holder))
+    ∙ ap (λ b. (holder_code holder == holder_code other) && b) (and-turned (same_kind kind kind') (table == table') ∙ ap (λ b. (table == table') && b) (same_kind-code kind kind'))
 
--- a grant is to a user, of a kind on a table, if its grantee is that
-pub to-holder : (user : ℕ) (kind : Kind) (table : ℕ) (grant : Grant) → is_to user kind table grant ≡ same_holder (holder_of user kind table) (grantee_holder grant)
-to-holder user kind table grant = same_user user grant.grantee kind grant.kind table grant.table
+-- a grant is to a grantee, of a kind on a table, if its own is that
+pub to-holder : (holder : Grantee) (kind : Kind) (table : ℕ) (grant : Grant) → is_to holder kind table grant ≡ same_holder (holder_of holder kind table) (grantee_holder grant)
+to-holder holder kind table grant = same_party holder grant.grantee kind grant.kind table grant.table
 
 -- and by a user, if its grantor is
-pub by-holder : (user : ℕ) (kind : Kind) (table : ℕ) (grant : Grant) → is_by user kind table grant ≡ same_holder (holder_of user kind table) (grantor_of grant)
-by-holder user kind table grant = same_user user grant.grantor kind grant.kind table grant.table
+pub by-holder : (user : ℕ) (kind : Kind) (table : ℕ) (grant : Grant) → is_by user kind table grant ≡ same_holder (holder_of (User user) kind table) (grantor_of grant)
+by-holder user kind table grant = same_party (User user) (User grant.grantor) kind grant.kind table grant.table
+
+pub by_holder : (user : ℕ) (kind : Kind) (table : ℕ) (grant : Grant) → is_by user kind table grant ≡ same_holder (holder_of (User user) kind table) (grantor_of grant)
+by_holder = by-holder

@@ -9,8 +9,9 @@ use Rattle.model_base.specs.declared.deed.Revocation.{Revocation}
 use Rattle.model_base.specs.declared.statement.Statement.{Statement}
 use Rattle.model_base.specs.declared.deed.Grant.{Grant}
 use Rattle.model_base.specs.Outcomes.{deed_of}
-use Rattle.model_base.specs.Privileges.{concerns, gives, names, option_of, same_kind}
-use Rattle.grants_base.specs.Index.{is_to}
+use Rattle.model_base.specs.Privileges.{concerns, gives, lends_to, names, option_of, reaches, same_grantee, same_kind}
+use Rattle.grants_base.specs.Index.{is_by, is_to}
+use Rattle.model_base.specs.declared.deed.Grantee.{Grantee}
 use Rattle.bohm_core_base.specs.declared.event.Event.{Event}
 use Rattle.bohm_core_base.specs.Batch.{Batch, IsSoundBatch, batch_slots, words_by}
 use Rattle.bohm_core_base.specs.Cascades.{EndsByCascade}
@@ -20,6 +21,8 @@ use Rattle.log_batch.specs.Supplied.{Ranged, batch_in}
 use Rattle.words.specs.Layout.{IsListed, listed_slot_at}
 use Rattle.words.specs.Views.{In}
 use Rattle.log_words.specs.Listing.{is_against, is_lent, is_open, is_reached, is_revoked, lends, listed_below, listed_slots}
+use Rattle.model_base.proofs.Covered.{same_kind-true}
+use Rattle.model_base.proofs.Reaching.{gives_option, grantee-same, grantee-true, lends_is}
 use Rattle.model_base.proofs.Replay.{by_cases}
 
 in_front : (x : ℕ) (l m : List ℕ) → In x l → In x (l ++ m)
@@ -58,20 +61,19 @@ against-named : (revocation : Revocation) (grant : Grant) → names revocation g
 unfolding names
 against-named revocation grant named =
     let to = (and_parts (revocation.grantor == grant.grantor) _ named).1 in
-    let parts = and_parts (revocation.grantee == grant.grantee) (concerns revocation grant) to in
-    rw (eq-eqb grant.grantee revocation.grantee (sym (eqb-true revocation.grantee grant.grantee parts.0))) parts.1
+    let parts = and_parts (same_grantee revocation.grantee grant.grantee) (concerns revocation grant) to in
+    rw (ap (λ (g : Grantee). same_grantee g revocation.grantee) (sym (grantee-true revocation.grantee grant.grantee parts.0)) ∙ grantee-same revocation.grantee) parts.1
 
 lends-given : (giver grant : Grant) → gives giver grant.grantor (option_of grant) ≡ true → lends giver grant ≡ true
 unfolding gives
 lends-given giver grant given =
-    let one = and_parts (giver.grantee == grant.grantor) _ given in
+    let one = and_parts (reaches giver.grantee grant.grantor true) _ given in
     let two = and_parts (same_kind giver.kind grant.kind) _ one.1 in
     let three = and_parts (giver.table == grant.table) _ two.1 in
-    rw (alone giver.option three.1, eq-eqb grant.grantor giver.grantee (sym (eqb-true giver.grantee grant.grantor one.0)), two.0, three.0) refl
-  where
-    alone : (option : Bool) → (option || not true) ≡ true → option ≡ true
-    alone true is = refl
-    alone false is = absurd (true≢false (sym is))
+    let lent : lends_to giver grant.grantor ≡ true =
+    sym (gives_option giver grant.grantor (option_of grant) (same_kind-true giver.kind grant.kind two.0) (eqb-true giver.table grant.table three.0) refl) ∙ given in
+    ap (λ holder. option_map_or (λ user. is_by user giver.kind giver.table grant) holder false) (lends_is giver grant.grantor lent)
+    ∙ rw (eq-eqb grant.grantor grant.grantor refl, two.0, three.0) refl
 
 module _ (b : Batch) where
   -- the listed are below, have no end, and each number lists another

@@ -11,13 +11,16 @@ use Rattle.std.proofs.lemmas.Bool.Decides.{nat_tests}
 use Rattle.std.proofs.lemmas.List.Elements.{All-head, All-tail}
 use Rattle.std.proofs.lemmas.List.Folds.{list_any-append}
 use Rattle.model_base.specs.declared.deed.Grant.{Grant}
+use Rattle.model_base.specs.declared.deed.Grantee.{Grantee}
+use Rattle.model_base.specs.declared.deed.Grantee.TheVariants.{User}
 use Rattle.model_base.specs.declared.deed.Kind.{Kind}
 use Rattle.grants_base.specs.Index.{IsNext, is_by, is_to, passes_at}
+use Rattle.model_base.specs.Privileges.{option_holder}
 use Rattle.bohm_core_base.specs.Batch.{Batch, batch_slots}
 use Rattle.log_batch.specs.Earlier.{earlier_count, earlier_grants}
 use Rattle.log_words.specs.declared.holders.Holders.{Holders}
 use Rattle.log_words.specs.declared.reach.Reach.{Reach}
-use Rattle.log_words.specs.Holders.{grantee_holder, grantor_of, has_holder, holder_of, same_holder}
+use Rattle.log_words.specs.Holders.{grantee_holder, grantor_of, has_holder, holder_of, new_holder, same_holder}
 use Rattle.log_words.specs.Listing.{is_against, is_lent, is_open, is_reached, is_revoked, lends, listed_below}
 use Rattle.log_words.specs.Reach.{Adds, AreSeeds, IsDue, IsReach}
 use Rattle.grants_base.specs.Index.{is_one_of}
@@ -91,6 +94,14 @@ none-due (slot ∷ due) empty j = absurd (empty (omega arith))
 pub not_new : (is_new has : Bool) → is_new ≡ not has → is_new ≡ false → has ≡ true
 not_new is_new true is none = refl
 not_new is_new false is none = absurd (true≢false (sym is ∙ none))
+
+-- a user who is found is the one to whom the grant gives the option
+pub holder-found : (lent : Holders) (grant : Grant) (holder : Option ℕ) (user : ℕ) → new_holder lent grant holder ≡ Some user → holder ≡ Some user
+holder-found lent grant None user is = is
+holder-found lent grant (Some other) user is =
+    by_cases (has_holder lent (holder_of (User other) grant.kind grant.table))
+    (λ has. let none : None ≡ Some user = rw has at is in absurd (cc))
+    (λ new. rw new at is)
 
 module _ (b : Batch) where
   passes-earlier : (passes : Grant → Bool) (j : ℕ) → j < earlier_count b → passes_at passes (earlier_grants b) j ≡ passes_at passes (batch_slots b) j
@@ -191,7 +202,7 @@ module _ (b : Batch) where
         at None = refl
         at (Some grant) = same grant
 
-    module _ (user : ℕ) (kind : Kind) (table : ℕ) (against : (grant : Grant) → is_against (b.deed index) grant ≡ is_to user kind table grant) where
+    module _ (user : Grantee) (kind : Kind) (table : ℕ) (against : (grant : Grant) → is_against (b.deed index) grant ≡ is_to user kind table grant) where
       -- a revocation against one against whom there was one before
       pub seeds-again : (old new : Holders) (due : List ℕ) → has_holder old (holder_of user kind table) ≡ true
           → ((grant : Grant) → has_holder new (grantee_holder grant) ≡ (same_holder (holder_of user kind table) (grantee_holder grant) || has_holder old (grantee_holder grant)))
@@ -383,9 +394,9 @@ module _ (b : Batch) where
     }
 
     -- the later slots by whom it gives the option are due with those that were
-    pub due-more : (next : ℕ) (listed rest more : List ℕ) → Adds b (is_by grant.grantee grant.kind grant.table) next (earlier_count b) rest more
-        → grant.option ≡ true → IsDue b next listed rest → IsDue b next (listed ++ slot ∷ []) more
-    due-more next listed rest more adds option state = record {
+    pub due-more : (user next : ℕ) (listed rest more : List ℕ) → Adds b (is_by user grant.kind grant.table) next (earlier_count b) rest more
+        → option_holder grant ≡ Some user → IsDue b next listed rest → IsDue b next (listed ++ slot ∷ []) more
+    due-more user next listed rest more adds holder state = record {
       all = λ j from less is.
           (let parts = and_parts (is_open b j) _ is in
           elim (by_found (slice_get (batch_slots b) j) parts.1) [
@@ -398,27 +409,30 @@ module _ (b : Batch) where
       ];
     }
       where
+        lent_is : (other : Grant) → lends grant other ≡ is_by user grant.kind grant.table other
+        lent_is other = ap (λ found. option_map_or (λ u. is_by u grant.kind grant.table other) found false) holder
+
         by_found : (found : Option Grant) → option_map_or (why (listed ++ slot ∷ [])) found false ≡ true
-            → (option_map_or (why listed) found false ≡ true) ⊎ (option_map_or (is_by grant.grantee grant.kind grant.table) found false ≡ true)
+            → (option_map_or (why listed) found false ≡ true) ⊎ (option_map_or (is_by user grant.kind grant.table) found false ≡ true)
         by_found None is = inl is
         by_found (Some other) is =
             elim (or_cases (is_revoked b b.size other) (is_lent b (listed ++ slot ∷ []) other) is) [
               | inl revoked ↦ inl (or_first (is_revoked b b.size other) _ revoked)
               | inr lent ↦ elim (or_cases (lends grant other) (is_lent b listed other) (sym (lent-more listed other) ∙ lent)) [
-                | inl now ↦ inr (and_parts grant.option _ now).1
+                | inl now ↦ inr (sym (lent_is other) ∙ now)
                 | inr before ↦ inl (or_right (is_revoked b b.size other) _ before)
               ]
             ]
 
-        lent-by : (found : Option Grant) → option_map_or (is_by grant.grantee grant.kind grant.table) found false ≡ true
+        lent-by : (found : Option Grant) → option_map_or (is_by user grant.kind grant.table) found false ≡ true
             → option_map_or (why (listed ++ slot ∷ [])) found false ≡ true
         lent-by None is = absurd (true≢false (sym is))
         lent-by (Some other) is =
-            or_right (is_revoked b b.size other) _ (lent-more listed other ∙ or_first (lends grant other) _ (and_from grant.option _ option is))
+            or_right (is_revoked b b.size other) _ (lent-more listed other ∙ or_first (lends grant other) _ (lent_is other ∙ is))
 
     -- none are due by it, if it gives nobody the option who didn't have it
     pub due-same : (reach : Reach) (next : ℕ) (rest : List ℕ) → ((other : Grant) → has_holder reach.lent (grantor_of other) ≡ is_lent b reach.slots.items other)
-        → (grant.option && not (has_holder reach.lent (grantee_holder grant))) ≡ false
+        → new_holder reach.lent grant (option_holder grant) ≡ None
         → IsDue b next reach.slots.items rest → IsDue b next (reach.slots.items ++ slot ∷ []) rest
     due-same reach next rest lent old state = record {
       all = λ j from less is.
@@ -426,10 +440,16 @@ module _ (b : Batch) where
       only = λ j is. (let before = state.only j is in (before.0, before.1, reached-more reach.slots.items j before.2));
     }
       where
-        had : (option has : Bool) → (option && not has) ≡ false → option ≡ true → has ≡ true
-        had true true none is = refl
-        had true false none is = absurd (true≢false none)
-        had false has none is = absurd (true≢false (sym is))
+        had : (holder : Option ℕ) → new_holder reach.lent grant holder ≡ None → (other : Grant)
+            → option_map_or (λ user. is_by user grant.kind grant.table other) holder false ≡ true → has_holder reach.lent (grantor_of other) ≡ true
+        had None none other is = absurd (true≢false (sym is))
+        had (Some user) none other is =
+            let same = same_holder-true (holder_of (User user) grant.kind grant.table) (grantor_of other) (sym (by-holder user grant.kind grant.table other) ∙ is) in
+            ap (has_holder reach.lent) (sym same)
+            ∙ by_cases (has_holder reach.lent (holder_of (User user) grant.kind grant.table)) (λ has. has) (λ new. absurd (some (rw new at none)))
+          where
+            some : Some user ≡ None → ⊥
+            some e = cc
 
         by_found : (found : Option Grant) → option_map_or (why (reach.slots.items ++ slot ∷ [])) found false ≡ true → option_map_or (why reach.slots.items) found false ≡ true
         by_found None is = is
@@ -438,10 +458,7 @@ module _ (b : Batch) where
               | inl revoked ↦ or_first (is_revoked b b.size other) _ revoked
               | inr lent' ↦ or_right (is_revoked b b.size other) _
                   (elim (or_cases (lends grant other) (is_lent b reach.slots.items other) (sym (lent-more reach.slots.items other) ∙ lent')) [
-                    | inl now ↦
-                        let both = and_parts grant.option _ now in
-                        let same = same_holder-true (grantee_holder grant) (grantor_of other) (sym (by-holder grant.grantee grant.kind grant.table other) ∙ both.1) in
-                        sym (lent other) ∙ ap (has_holder reach.lent) (sym same) ∙ had grant.option _ old both.0
+                    | inl now ↦ sym (lent other) ∙ had (option_holder grant) old other now
                     | inr before ↦ before
                   ])
             ]

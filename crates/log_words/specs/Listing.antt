@@ -10,6 +10,7 @@ use Rattle.model_base.specs.declared.deed.Deed.{Deed}
 use Rattle.model_base.specs.declared.deed.Deed.TheVariants.{Granting, Revoking}
 use Rattle.model_base.specs.declared.deed.Grant.{Grant}
 use Rattle.grants_base.specs.Index.{is_by, is_to}
+use Rattle.model_base.specs.Privileges.{option_holder}
 use Rattle.bohm_core_base.specs.Batch.{Batch, batch_slots}
 use Rattle.bohm_core_base.specs.Machine.{end_of, start}
 
@@ -26,7 +27,7 @@ is_revoked batch (suc index) grant = is_against (batch.deed index) grant || is_r
 
 -- whether the first grant gives the grantor of the second the option, of its kind on its table
 abbrev pub lends : Grant → Grant → Bool
-lends giver grant = giver.option && is_by giver.grantee giver.kind giver.table grant
+lends giver grant = option_map_or (λ user. is_by user giver.kind giver.table grant) (option_holder giver) false
 
 -- whether the grant of one of these slots does
 abbrev pub is_lent : Batch → List ℕ → Grant → Bool

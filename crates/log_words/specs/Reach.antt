@@ -7,16 +7,16 @@ use Rattle.bohm_core_base.specs.Batch.{Batch, batch_slots}
 use Rattle.log_batch.specs.Earlier.{earlier_count}
 use Rattle.log_words.specs.declared.holders.Holders.{Holders}
 use Rattle.log_words.specs.declared.reach.Party.{Party}
-use Rattle.log_words.specs.declared.reach.Party.TheVariants.{Grantee, Grantor}
+use Rattle.log_words.specs.declared.reach.Party.TheVariants.{By, To}
 use Rattle.log_words.specs.declared.reach.Reach.{Reach}
 use Rattle.log_words.specs.Holders.{grantee_holder, grantor_of, has_holder}
 use Rattle.log_words.specs.Listing.{is_lent, is_open, is_reached, is_revoked, listed_below}
 use Rattle.grants_base.specs.Index.{is_one_of}
 
--- whether the grant has the user as this party, and is of the kind on the table
-abbrev pub has_party : Party → ℕ → Kind → ℕ → Grant → Bool
-has_party Grantee = is_to
-has_party Grantor = is_by
+-- whether the grant is to the grantee, or by the user, and is of the kind on the table
+abbrev pub has_party : Party → Kind → ℕ → Grant → Bool
+has_party (To grantee) = is_to grantee
+has_party (By user) = is_by user
 
 -- to the slots that are due, some from one on were added, those below another all, that are open and whose grants pass the test
 pub record Adds (batch : Batch) (passes : Grant → Bool) (start end : ℕ) (old new : List ℕ) : Type 0 where

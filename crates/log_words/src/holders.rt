@@ -1,46 +1,34 @@
-//! Users, each with a kind on a table.
+//! Users, and PUBLIC, each with a kind on a table.
 
 ghost use Rattle.std.specs.Prelude.{◌≡◌, ◌||◌, not, false, IfOk, OnOk};
 ghost use Rattle.log_words.specs.Holders.{has_holder, holder_of, same_holder};
 ghost use Rattle.log_words.specs.declared.holders.Holder.{Holder};
-ghost use Rattle.grants_base.specs.Sides.{kind_code};
 
-use model_base::{Kind, Table, User};
+use grants_base::{holder_code, kind_code};
+use model_base::{Grantee, Kind, Table};
 use std::alloc::{AllocError, Global};
 use std::collections::BTreeSet;
 
-/// A user with a table and the code of a kind.
+/// The code of a grantee, and so of a user, with a table and the code of a kind.
 #[derive(Clone, Copy, PartialEq, Eq, PartialOrd, Ord)]
 pub(crate) struct Holder {
-    user: User,
+    holder: u64,
     table: Table,
     kind: u8,
 }
 
-/// The code of a kind.
-fn kind_code(kind: Kind) -> u8
-    ensures { result ≡ kind_code kind }
-{
-    match kind {
-        Kind::Read => 0,
-        Kind::Insert => 1,
-        Kind::Update => 2,
-        Kind::Delete => 3,
-    }
-}
-
-/// A user with a kind on a table.
-pub(crate) fn holder_of(user: User, kind: Kind, table: Table) -> Holder
-    ensures { result ≡ holder_of user kind table }
+/// A grantee with a kind on a table. A grantor is the user that it is.
+pub(crate) fn holder_of(holder: Grantee, kind: Kind, table: Table) -> Holder
+    ensures { result ≡ holder_of holder kind table }
 {
     Holder {
-        user,
+        holder: holder_code(holder),
         table,
         kind: kind_code(kind),
     }
 }
 
-/// A set of users, each with a kind on a table.
+/// A set of users, and PUBLIC, each with a kind on a table.
 #[derive(Drop)]
 pub(crate) struct Holders {
     holders: BTreeSet<Holder>,

@@ -2,26 +2,27 @@
 
 ghost use Rattle.std.specs.Prelude.{◌≡◌, ◌<◌, ◌≤◌, ◌+◌, ◌++◌, ◌∷◌, ◌||◌, ◌&&◌, ◌==◌, [], ℕ, suc, not, true, IfOk, OnOk, length, slice_get, Some};
 ghost use Rattle.model_base.specs.declared.deed.Grant.{Grant};
-ghost use Rattle.grants_base.specs.Index.{IsNext};
+ghost use Rattle.grants_base.specs.Index.{IsNext, is_by};
+ghost use Rattle.model_base.specs.Privileges.{option_holder};
 ghost use Rattle.bohm_core_base.specs.Batch.{batch_slots};
 ghost use Rattle.log_batch.specs.Earlier.{earlier_count, earlier_grants};
 ghost use Rattle.log_batch.specs.Supplied.{batch_in};
-ghost use Rattle.log_words.specs.Holders.{grantee_holder, grantor_of, has_holder};
+ghost use Rattle.log_words.specs.Holders.{grantee_holder, grantor_of, has_holder, new_holder};
 ghost use Rattle.log_words.specs.Listing.{is_open, is_reached, lends};
 ghost use Rattle.log_words.specs.Reach.{Adds, AreSeeds, IsDue, IsReach, has_party};
 ghost use Rattle.grants_base.specs.Index.{is_one_of};
 
 use crate::holders::{Holders, holder_of};
 use log_batch::LogBatch;
-use model_base::{Deed, Grant, Kind, Table, User};
+use model_base::{Deed, Grant, Grantee, Kind, Table, User};
 use std::alloc::{AllocError, Global};
 use std::collections::BTreeSet;
 
-/// As which party of a grant a user is looked for.
+/// Whose grants are looked for: those to a grantee, or those by a user.
 #[derive(Clone, Copy)]
 enum Party {
-    Grantee,
-    Grantor,
+    To(Grantee),
+    By(User),
 }
 
 /// The slots that are found, to whom they give an option, and against whom the batch has revocations.
@@ -32,21 +33,20 @@ pub(crate) struct Reach {
     revoked: Holders,
 }
 
-/// The least slot at or above this one whose grant was made before the batch and has the user as this party, of the kind on
-/// the table.
+/// The least slot at or above this one whose grant was made before the batch and is one of this party, of the kind on the
+/// table.
 fn next_of(
     batch: &LogBatch<'_>,
-    party: Party,
-    user: User,
+    party: &Party,
     kind: Kind,
     table: Table,
     from: usize,
 ) -> Option<usize>
-    ensures { IsNext (has_party party user kind table) (earlier_grants (batch_in batch.now)) from result }
+    ensures { IsNext (has_party party.now kind table) (earlier_grants (batch_in batch.now)) from result }
 {
     match party {
-        Party::Grantee => batch.earlier_to(user, kind, table, from),
-        Party::Grantor => batch.earlier_by(user, kind, table, from),
+        Party::To(grantee) => batch.earlier_to(grantee, kind, table, from),
+        Party::By(user) => batch.earlier_by(*user, kind, table, from),
     }
 }
 
@@ -63,24 +63,23 @@ fn add_slot(batch: &LogBatch<'_>, slot: usize, due: &mut BTreeSet<usize>) -> Res
     Ok(())
 }
 
-/// The slots from this one on are due, as `add_slot` says, whose grants were made before the batch and have the user as this
-/// party, of the kind on the table.
+/// The slots from this one on are due, as `add_slot` says, whose grants were made before the batch and are this party's, of the
+/// kind on the table.
 fn add_grants(
     batch: &LogBatch<'_>,
-    party: Party,
-    user: User,
+    party: &Party,
     kind: Kind,
     table: Table,
     start: usize,
     due: &mut BTreeSet<usize>,
 ) -> Result<(), AllocError>
-    ensures { OnOk result (Adds (batch_in batch.now) (has_party party user kind table) start
+    ensures { OnOk result (Adds (batch_in batch.now) (has_party party.now kind table) start
         (earlier_count (batch_in batch.now)) due.old.keys due.new.keys) }
 {
     let end = batch.earlier_count();
     let mut from = start;
     while from < end {
-        let Some(slot) = next_of(batch, party, user, kind, table, from) else {
+        let Some(slot) = next_of(batch, party, kind, table, from) else {
             return Ok(());
         };
         add_slot(batch, slot, due)?;
@@ -105,9 +104,10 @@ fn put_deed(
     let Some(Deed::Revoking(revocation)) = deed else {
         return Ok(());
     };
-    let (user, kind, table) = (revocation.grantee, revocation.kind, revocation.table);
-    if revoked.put(holder_of(user, kind, table))? {
-        add_grants(batch, Party::Grantee, user, kind, table, 0, due)?;
+    let (kind, table) = (revocation.kind, revocation.table);
+    if revoked.put(holder_of(revocation.grantee, kind, table))? {
+        let party = Party::To(revocation.grantee);
+        add_grants(batch, &party, kind, table, 0, due)?;
     }
     Ok(())
 }
@@ -130,8 +130,25 @@ fn put_deeds(
 }
 
 impl Reach {
-    /// One more slot. Answers whether its grant gives the option to one to whom none of the slots before it did.
-    fn take(&mut self, slot: usize, grant: &Grant) -> Result<bool, AllocError>
+    /// The user has the option by a grant. Returns the user, if none of the grants before gave it.
+    #[tactic(auto, using(crate::proofs::HolderSets::by_holder))]
+    fn lend(&mut self, user: User, grant: &Grant) -> Result<Option<User>, AllocError>
+        ensures slots { self.new.slots.items ≡ self.old.slots.items }
+        ensures lent { OnOk result ((other : Grant)
+            → has_holder self.new.lent (grantor_of other)
+            ≡ (is_by user grant.now.kind grant.now.table other || has_holder self.old.lent (grantor_of other))) }
+        ensures revoked { (holder : Grant)
+            → has_holder self.new.revoked (grantee_holder holder)
+            ≡ has_holder self.old.revoked (grantee_holder holder) }
+        ensures was { IfOk result (λ found. found ≡ new_holder self.old.lent grant.now (Some user)) }
+    {
+        let holder = holder_of(Grantee::User(user), grant.kind, grant.table);
+        let is_new = self.lent.put(holder)?;
+        if is_new { Ok(Some(user)) } else { Ok(None) }
+    }
+
+    /// One more slot. Returns to whom its grant gives the option, if none of the slots before it did.
+    fn take(&mut self, slot: usize, grant: &Grant) -> Result<Option<User>, AllocError>
         ensures slots { OnOk result (self.new.slots.items ≡ self.old.slots.items ++ slot ∷ []) }
         ensures lent { OnOk result ((other : Grant)
             → has_holder self.new.lent (grantor_of other)
@@ -139,16 +156,12 @@ impl Reach {
         ensures revoked { OnOk result ((holder : Grant)
             → has_holder self.new.revoked (grantee_holder holder)
             ≡ has_holder self.old.revoked (grantee_holder holder)) }
-        ensures was { IfOk result (λ is_new. is_new ≡ (grant.now.option && not (has_holder self.old.lent (grantee_holder grant.now)))) }
+        ensures was { IfOk result (λ found. found ≡ new_holder self.old.lent grant.now (option_holder grant.now)) }
     {
         self.slots.push(slot)?;
-        if grant.option {
-            let is_new = self
-                .lent
-                .put(holder_of(grant.grantee, grant.kind, grant.table))?;
-            Ok(is_new)
-        } else {
-            Ok(false)
+        match grant.option_holder() {
+            Some(user) => self.lend(user, grant),
+            None => Ok(None),
         }
     }
 
@@ -171,9 +184,9 @@ impl Reach {
     {
         let _slots = batch.earlier_count();
         let grant = batch.grant(slot);
-        if self.take(slot, &grant)? {
-            let (user, kind, table) = (grant.grantee, grant.kind, grant.table);
-            add_grants(batch, Party::Grantor, user, kind, table, next, due)?;
+        if let Some(user) = self.take(slot, &grant)? {
+            let party = Party::By(user);
+            add_grants(batch, &party, grant.kind, grant.table, next, due)?;
         }
         Ok(())
     }
@@ -208,11 +221,13 @@ impl Reach {
         let is_revoked = self
             .revoked
             .has(holder_of(grant.grantee, grant.kind, grant.table));
-        let is_lent = self
-            .lent
-            .has(holder_of(grant.grantor, grant.kind, grant.table));
+        let is_lent = self.lent.has(holder_of(
+            Grantee::User(grant.grantor),
+            grant.kind,
+            grant.table,
+        ));
         if is_open && (is_revoked || is_lent) {
-            let _is_new = self.take(slot, &grant)?;
+            let _found = self.take(slot, &grant)?;
         }
         Ok(())
     }

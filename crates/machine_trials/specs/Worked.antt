@@ -1,5 +1,6 @@
 -- The first three statements of the worked log, and what they leave.
 use Rattle.std.specs.Prelude.{◌≡◌, true, false, Some, None, List, [], ◌∷◌, pos}
+use Rattle.model_base.specs.declared.deed.Grantee.TheVariants.{User}
 use Rattle.model_base.specs.declared.deed.Grant.{Grant}
 use Rattle.model_base.specs.declared.deed.Kind.TheVariants.{Read}
 use Rattle.model_base.specs.declared.statement.Access.{Access}
@@ -35,7 +36,7 @@ inserting = record { user = 0; form = Form.Run (inserted ∷ []) (nine ∷ inser
 
 -- user 0 grants READ on the table to user 1
 abbrev pub granting : Statement
-granting = record { user = 0; form = Form.Deed (DeedForm.Grant Read 0 1 false) }
+granting = record { user = 0; form = Form.Deed (DeedForm.Grant Read 0 (User 1) false) }
 
 -- the log begins with the three
 abbrev pub BeginsWorked : List Statement → Type 0
@@ -43,7 +44,7 @@ BeginsWorked log = (others : List Statement) × (log ≡ creating ∷ inserting 
 
 -- the grant that the third makes
 abbrev pub granted : Grant
-granted = record { place = 2; grantor = 0; grantee = 1; kind = Read; table = 0; option = false }
+granted = record { place = 2; grantor = 0; grantee = User 1; kind = Read; table = 0; option = false }
 
 -- the version of the row that the second leaves
 abbrev pub version_left : Version

@@ -13,8 +13,8 @@ use crate::batches::Before;
 use chains::{Chains, Version};
 use grants::Book;
 use model_base::{
-    Access, DeedForm, Form, Grant, Key, Kind, Kinds, Register, Row, RowName, Statement, Step,
-    Table, User,
+    Access, DeedForm, Form, Grant, Grantee, Key, Kind, Kinds, Register, Row, RowName, Statement,
+    Step, Table, User,
 };
 use sequencer::LogTail;
 use std::alloc::{AllocError, Global};
@@ -137,7 +137,7 @@ fn is_granting(statement: &Statement) -> bool
     let reading = DeedForm::Grant {
         kind: Kind::Read,
         table: TABLE,
-        grantee: BOB,
+        grantee: Grantee::User(BOB),
         option: false,
     };
     match &statement.form {
@@ -190,7 +190,7 @@ fn worked_book(alloc: Global) -> Result<Book, AllocError>
     book.grant(Grant {
         place: 2,
         grantor: ALICE,
-        grantee: BOB,
+        grantee: Grantee::User(BOB),
         kind: Kind::Read,
         table: TABLE,
         option: false,

@@ -10,7 +10,7 @@ use Rattle.model_base.specs.declared.deed.Kind.TheVariants.{Read, Insert, Update
 use Rattle.model_base.specs.declared.deed.Grant.{Grant}
 use Rattle.model_base.specs.declared.deed.Need.{Need}
 use Rattle.model_base.specs.declared.deed.Revocation.{Revocation}
-use Rattle.model_base.specs.Privileges.{owns, gives, has, option_of, same_kind, names, replayed, is_among}
+use Rattle.model_base.specs.Privileges.{owns, reaches, gives, has, option_of, same_kind, names, replayed, is_among}
 use Rattle.model_base.proofs.Replay.{by_cases}
 
 -- a test can't pass and fail
@@ -53,8 +53,8 @@ module _ (owners : List ℕ) (covers : Kind → ℕ → Bool) where
       let kinds : grant.kind ≡ need.kind = same_kind-true grant.kind need.kind kind in
       let tables : grant.table ≡ need.table = eqb-true grant.table need.table table in
       contrary (covers need.kind need.table) cover (rw (kinds, tables) at other))
-      (λ elsewhere. rw (kind, elsewhere) (and_false (grant.grantee == user))))
-      (λ differs. rw differs (and_false (grant.grantee == user)))
+      (λ elsewhere. rw (kind, elsewhere) (and_false (reaches grant.grantee user need.option))))
+      (λ differs. rw differs (and_false (reaches grant.grantee user need.option)))
     where
       and_false : (a : Bool) → (a && false) ≡ false
       and_false true = refl

@@ -18,3 +18,4 @@ pub mod Owners
 pub mod MoreOwners
 pub mod Unended
 pub mod Growing
+pub mod Reaching

@@ -11,7 +11,7 @@ use Rattle.model_base.specs.declared.deed.Grant.{Grant}
 use Rattle.model_base.specs.declared.deed.Need.{Need}
 use Rattle.model_base.specs.declared.deed.Deed.{Deed}
 use Rattle.model_base.specs.declared.deed.Deed.TheVariants.{Granting, Revoking}
-use Rattle.model_base.specs.Privileges.{owns, gives, has, option_of, kept, IsProper, IsProperAfter}
+use Rattle.model_base.specs.Privileges.{owns, reaches, gives, has, option_of, kept, IsProper, IsProperAfter}
 use Rattle.model_base.specs.Records.{grants_of}
 use Rattle.model_base.proofs.Parts.{part-all}
 use Rattle.model_base.proofs.Records.{grants-append}
@@ -69,7 +69,7 @@ module _ (owners : List ℕ) where
   gives-table : (grant : Grant) (user : ℕ) (need : Need) → gives grant user need ≡ true → grant.table ≡ need.table
   unfolding gives
   gives-table grant user need given =
-      let kind = (and_parts (grant.grantee == user) _ given).1 in
+      let kind = (and_parts (reaches grant.grantee user need.option) _ given).1 in
       let table = (and_parts _ _ kind).1 in
       eqb-true grant.table need.table (and_parts (grant.table == need.table) _ table).0
 

@@ -2,13 +2,15 @@
 -- From P. P. Griffiths and B. W. Wade, "An Authorization Mechanism for a Relational Database System",
 -- ACM Transactions on Database Systems 1 (1976). That each repeated grant is kept by itself, with its own
 -- time, is R. Fagin's correction, "On an Authorization Mechanism", in the same journal, 3 (1978).
-use Rattle.std.specs.Prelude.{◌==◌, ◌<◌, ◌&&◌, ◌||◌, not, ℕ, Bool, true, false, List, [], ◌∷◌, ◌++◌, slice_get, if◌then◌else◌, IsTrue}
+use Rattle.std.specs.Prelude.{◌==◌, ◌<◌, ◌&&◌, ◌||◌, not, ℕ, Bool, true, false, Option, Some, None, List, [], ◌∷◌, ◌++◌, slice_get, if◌then◌else◌, IsTrue}
 use Rattle.std.specs.Prelude.{All}
 use Rattle.std.specs.List.{list_any}
 use Rattle.std.specs.Option.{option_map_or}
 use Rattle.model_base.specs.declared.deed.Kind.{Kind}
 use Rattle.model_base.specs.declared.deed.Kind.TheVariants.{Read, Insert, Update, Delete}
 use Rattle.model_base.specs.declared.deed.Kinds.{Kinds}
+use Rattle.model_base.specs.declared.deed.Grantee.{Grantee}
+use Rattle.model_base.specs.declared.deed.Grantee.TheVariants.{User, Public}
 use Rattle.model_base.specs.declared.deed.Grant.{Grant}
 use Rattle.model_base.specs.declared.deed.Revocation.{Revocation}
 use Rattle.model_base.specs.declared.deed.Need.{Need}
@@ -34,10 +36,35 @@ same_kind _ _ = false
 unfoldable pub owns : List ℕ → ℕ → ℕ → Bool
 owns owners user table = option_map_or (λ owner. owner == user) (slice_get owners table) false
 
+-- whether the two grantees are the same
+abbrev pub same_grantee : Grantee → Grantee → Bool
+same_grantee (User user) (User other) = user == other
+same_grantee Public Public = true
+same_grantee _ _ = false
+
+-- whether what is granted to the grantee is granted to the user: PUBLIC is every user, where no option is needed
+abbrev pub reaches : Grantee → ℕ → Bool → Bool
+reaches (User grantee) user option = grantee == user
+reaches Public user option = not option
+
 -- whether the grant gives the user what is needed
 unfoldable pub gives : Grant → ℕ → Need → Bool
 gives grant user need =
-    (grant.grantee == user) && (same_kind grant.kind need.kind && ((grant.table == need.table) && (grant.option || not need.option)))
+    reaches grant.grantee user need.option
+    && (same_kind grant.kind need.kind && ((grant.table == need.table) && (grant.option || not need.option)))
+
+-- the user that a grantee is; PUBLIC is none
+abbrev pub user_of : Grantee → Option ℕ
+user_of (User user) = Some user
+user_of Public = None
+
+-- to whom the grant gives the option: to its grantee, if it is with the option; PUBLIC never has it
+abbrev pub option_holder : Grant → Option ℕ
+option_holder grant = if grant.option then user_of grant.grantee else None
+
+-- whether the grant gives the user the option
+abbrev pub lends_to : Grant → ℕ → Bool
+lends_to grant user = option_map_or (λ holder. holder == user) (option_holder grant) false
 
 -- whether the user has what is needed as the table's owner, or by one of the grants
 unfoldable pub has : List ℕ → List Grant → ℕ → Need → Bool
@@ -54,7 +81,7 @@ concerns revocation grant = same_kind revocation.kind grant.kind && (revocation.
 -- whether the revocation names the grant
 unfoldable pub names : Revocation → Grant → Bool
 names revocation grant =
-    (revocation.grantor == grant.grantor) && ((revocation.grantee == grant.grantee) && concerns revocation grant)
+    (revocation.grantor == grant.grantor) && (same_grantee revocation.grantee grant.grantee && concerns revocation grant)
 
 -- whether the deed is a revocation that names the grant
 abbrev pub revokes : Deed → Grant → Bool

@@ -69,12 +69,42 @@ pub enum Cause {
     Taken(Place),
 }
 
-/// One grant of one kind on one table to one user, with the place of its transaction.
+/// To whom a privilege is granted: to one user, or to all of them. PUBLIC stands for every user, now and later, and gives
+/// nobody the right to grant further.
+#[derive(Clone, Copy, PartialEq, Eq, Debug)]
+pub enum Grantee {
+    User(User),
+    Public,
+}
+
+impl Grantee {
+    ghost use Rattle.std.specs.Prelude.{◌≡◌};
+    ghost use Rattle.model_base.specs.Privileges.{reaches, same_grantee};
+
+    /// Whether the two grantees are the same.
+    pub fn is_same(self, other: Grantee) -> bool
+        ensures { result ≡ same_grantee self other }
+    {
+        self == other
+    }
+
+    /// Whether what is granted to it is granted to the user: PUBLIC is every user where no option is needed.
+    fn reaches(self, user: User, option: bool) -> bool
+        ensures { result ≡ reaches self user option }
+    {
+        match self {
+            Grantee::User(grantee) => grantee == user,
+            Grantee::Public => !option,
+        }
+    }
+}
+
+/// One grant of one kind on one table to one user, or to all, with the place of its transaction.
 #[derive(Clone, Copy, PartialEq, Eq, Debug)]
 pub struct Grant {
     pub place: Place,
     pub grantor: User,
-    pub grantee: User,
+    pub grantee: Grantee,
     pub kind: Kind,
     pub table: Table,
     pub option: bool,
@@ -89,26 +119,46 @@ pub struct Record {
 
 impl Grant {
     ghost use Rattle.std.specs.Prelude.{◌≡◌};
-    ghost use Rattle.model_base.specs.Privileges.{gives};
+    ghost use Rattle.model_base.specs.Privileges.{gives, lends_to, option_holder};
+
+    /// To whom it gives the right to grant further: to its grantee, if it is with the option. PUBLIC never has it.
+    pub fn option_holder(&self) -> Option<User>
+        ensures { result ≡ option_holder self.now }
+    {
+        match self.grantee {
+            Grantee::User(user) if self.option => Some(user),
+            _ => None,
+        }
+    }
+
+    /// Whether it gives the user the right to grant further.
+    pub fn lends_to(&self, user: User) -> bool
+        ensures { result ≡ lends_to self.now user }
+    {
+        match self.option_holder() {
+            Some(holder) => holder == user,
+            None => false,
+        }
+    }
 
     /// Whether it gives the user what is needed.
     #[tactic(auto, unfolding(crate::specs::Privileges::gives))]
     pub fn gives(&self, user: User, need: &Need) -> bool
         ensures { result ≡ gives self.now user need.now }
     {
-        self.grantee == user
+        self.grantee.reaches(user, need.option)
             && self.kind.is_same(need.kind)
             && self.table == need.table
             && (self.option || !need.option)
     }
 }
 
-/// The revocation of its grantor's earlier grants of one kind on one table to one user.
+/// The revocation of its grantor's earlier grants of one kind on one table to one user, or to all.
 #[derive(Clone, Copy, PartialEq, Eq, Debug)]
 pub struct Revocation {
     pub place: Place,
     pub grantor: User,
-    pub grantee: User,
+    pub grantee: Grantee,
     pub kind: Kind,
     pub table: Table,
 }
@@ -129,7 +179,7 @@ impl Revocation {
     pub fn names(&self, grant: &Grant) -> bool
         ensures { result ≡ names self.now grant.now }
     {
-        self.grantor == grant.grantor && self.grantee == grant.grantee && self.concerns(grant)
+        self.grantor == grant.grantor && self.grantee.is_same(grant.grantee) && self.concerns(grant)
     }
 }
 

@@ -1,17 +1,29 @@
 //! What holds of every list of deeds, of the grants in force after it, and of every log.
 
-ghost use Rattle.std.specs.Prelude.{◌≡◌, ◌↔◌, ℕ, ◌+◌, ◌<◌, true, false, List, [], ◌∷◌, ◌++◌, All, Contains, take, if◌then◌else◌};
+ghost use Rattle.std.specs.Prelude.{◌==◌, ◌≡◌, ◌↔◌, ℕ, ◌+◌, ◌<◌, true, false, List, [], ◌∷◌, ◌++◌, All, Contains, take, if◌then◌else◌};
 ghost use Rattle.model_base.specs.Laws.{GrowsAt, IsLastLoss, IsPart, IsRising};
 ghost use Rattle.model_base.specs.Outcomes.{cause, deeds_before, owners};
 ghost use Rattle.model_base.specs.Paths.{LeadsTo, path};
-ghost use Rattle.model_base.specs.Privileges.{IsProper, gives, has, holds, is_among, kept, option_of, owns, place_of, replayed};
+ghost use Rattle.model_base.specs.Privileges.{IsProper, gives, has, holds, is_among, kept, lends_to, option_of, owns, place_of, replayed};
 ghost use Rattle.model_base.specs.declared.deed.Cause.TheVariants.{Never, Taken};
 ghost use Rattle.model_base.specs.declared.deed.Deed.TheVariants.{Granting, Revoking};
 ghost use Rattle.model_base.specs.declared.deed.Deed.{Deed};
 ghost use Rattle.model_base.specs.declared.deed.Grant.{Grant};
+ghost use Rattle.model_base.specs.declared.deed.Grantee.TheVariants.{Public, User};
 ghost use Rattle.model_base.specs.declared.deed.Need.{Need};
 ghost use Rattle.model_base.specs.declared.deed.Revocation.{Revocation};
 ghost use Rattle.model_base.specs.declared.statement.Statement.{Statement};
+
+/// A grant to PUBLIC gives every user its kind on its table, and nobody the option. Any other gives its grantee alone: the
+/// kind, and the option if it is with it.
+pub fn public_is_every_user()
+    ensures public { (grant : Grant) (user : ℕ) → grant.grantee ≡ Public
+        → gives grant user (record { table = grant.table; kind = grant.kind; option = false }) ≡ true }
+    ensures one { (grant : Grant) (grantee user : ℕ) → grant.grantee ≡ User grantee
+        → gives grant user (record { table = grant.table; kind = grant.kind; option = false }) ≡ (grantee == user) }
+    ensures option { (grant : Grant) (user : ℕ) → gives grant user (option_of grant) ≡ lends_to grant user }
+    ensures no_option { (grant : Grant) (user : ℕ) → grant.grantee ≡ Public → lends_to grant user ≡ false }
+{}
 
 /// No grant comes into force by a revocation: those in force after it are those before it, with some left out.
 pub fn revocations_add_none()

@@ -1,6 +1,6 @@
 //! The statements of a log.
 
-use crate::deed::{Deed, Grant, Kind, Kinds, Revocation};
+use crate::deed::{Deed, Grant, Grantee, Kind, Kinds, Revocation};
 use crate::limits::MOST_REGISTERS;
 use crate::list::Items;
 use crate::name::{Place, RowNumber, Table, User};
@@ -139,13 +139,13 @@ pub enum DeedForm {
     Grant {
         kind: Kind,
         table: Table,
-        grantee: User,
+        grantee: Grantee,
         option: bool,
     },
     Revoke {
         kind: Kind,
         table: Table,
-        grantee: User,
+        grantee: Grantee,
     },
 }
 

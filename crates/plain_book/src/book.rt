@@ -16,7 +16,7 @@ use grants::to_end;
 use grants_base::{
     Creation, End, Records, append_tables, is_by, is_to, lies_below, reopened, set_ends,
 };
-use model_base::{Grant, Kind, MOST_NAMES, Place, Record, Revocation, Table, User};
+use model_base::{Grant, Grantee, Kind, MOST_NAMES, Place, Record, Revocation, Table, User};
 use std::alloc::{AllocError, Global};
 use std::collections::BTreeSet;
 use std::marker::Model;
@@ -283,12 +283,18 @@ pub struct PlainView<'a> {
     place: Place,
 }
 
-/// The least index at or above this one whose record is of a grant to this user, of this kind on this table.
-fn first_to(records: &[Record], user: User, kind: Kind, table: Table, from: usize) -> Option<usize>
-    ensures { IsNext (is_to user kind table) (recorded records.now) from result }
+/// The least index at or above this one whose record is of a grant to this grantee, of this kind on this table.
+fn first_to(
+    records: &[Record],
+    grantee: &Grantee,
+    kind: Kind,
+    table: Table,
+    from: usize,
+) -> Option<usize>
+    ensures { IsNext (is_to grantee.now kind table) (recorded records.now) from result }
 {
     for i in from..records.len() {
-        if is_to(&records[i].grant, user, kind, table) {
+        if is_to(&records[i].grant, *grantee, kind, table) {
             return Some(i);
         }
     }
@@ -346,8 +352,14 @@ impl Records for PlainView<'_> {
             .filter(|end| record.grant.place < self.place && *end < self.place)
     }
 
-    fn next_to(&mut self, user: User, kind: Kind, table: Table, from: usize) -> Option<usize> {
-        first_to(self.book.records(), user, kind, table, from)
+    fn next_to(
+        &mut self,
+        grantee: Grantee,
+        kind: Kind,
+        table: Table,
+        from: usize,
+    ) -> Option<usize> {
+        first_to(self.book.records(), &grantee, kind, table, from)
     }
 
     fn next_by(&mut self, user: User, kind: Kind, table: Table, from: usize) -> Option<usize> {

@@ -12,7 +12,7 @@ use crate::tables::is_on;
 use crate::told::Told;
 use grants::Records;
 use log_batch::LogBatch;
-use model_base::{Grant, Kind, Place, Table, User};
+use model_base::{Grant, Grantee, Kind, Place, Table, User};
 use std::marker::{Brand, PhantomData};
 
 /// Which reader something is, and what it did itself, whoever has it as `&mut` meanwhile: a call picks both.
@@ -126,9 +126,15 @@ impl<T: Told, P: Pinned> Records for ShownRecords<'_, T, P> {
         end_shown(self.batch, &mut self.told, i)
     }
 
-    fn next_to(&mut self, user: User, kind: Kind, table: Table, from: usize) -> Option<usize> {
+    fn next_to(
+        &mut self,
+        grantee: Grantee,
+        kind: Kind,
+        table: Table,
+        from: usize,
+    ) -> Option<usize> {
         let _log = self.batch.log();
-        self.batch.next_to(user, kind, table, from)
+        self.batch.next_to(&grantee, kind, table, from)
     }
 
     fn next_by(&mut self, user: User, kind: Kind, table: Table, from: usize) -> Option<usize> {

@@ -1,6 +1,7 @@
 -- What a log knows of names after its first statements, and how a statement's names become numbers.
 use Rattle.std.specs.Prelude.{ℕ, ◌+◌, Option, Some, None, List, [], ◌∷◌, ◌++◌, map}
 use Rattle.std.specs.Option.{option_map}
+use Rattle.model_base.specs.declared.deed.Grantee.{Grantee}
 use Rattle.model_base.specs.declared.statement.Access.{Access}
 use Rattle.model_base.specs.declared.statement.Step.{Step}
 use Rattle.model_base.specs.declared.statement.DeedForm.{DeedForm}
@@ -10,6 +11,7 @@ use Rattle.log_text.specs.Statement.{Sentence}
 use Rattle.line_words.specs.declared.access.RawAccess.{RawAccess}
 use Rattle.log_text.specs.declared.statement.RawDeed.{RawDeed}
 use Rattle.log_text.specs.declared.statement.RawForm.{RawForm}
+use Rattle.log_text.specs.declared.statement.RawGrantee.{RawGrantee}
 use Rattle.log_text.specs.declared.statement.RawStep.{RawStep}
 use Rattle.sequencer.specs.Names.{number_of, with_name}
 
@@ -44,12 +46,17 @@ numbered_step names (RawStep.Check of) = Step.Check of
 numbered_step names (RawStep.Skip of steps) = Step.Skip of steps
 numbered_step names (RawStep.Out of) = Step.Out of
 
+-- a grantee by its number among the users; PUBLIC isn't one of them
+abbrev pub numbered_grantee : List (List ℕ) → RawGrantee → Grantee
+numbered_grantee users (RawGrantee.Named name) = Grantee.User (number_of users name)
+numbered_grantee users RawGrantee.Public = Grantee.Public
+
 -- a deed with its table and its grantee by number
 abbrev pub numbered_deed : Names → RawDeed → DeedForm
 numbered_deed names (RawDeed.Grant kind table grantee option) =
-    DeedForm.Grant kind (number_of names.tables table) (number_of names.users grantee) option
+    DeedForm.Grant kind (number_of names.tables table) (numbered_grantee names.users grantee) option
 numbered_deed names (RawDeed.Revoke kind table grantee) =
-    DeedForm.Revoke kind (number_of names.tables table) (number_of names.users grantee)
+    DeedForm.Revoke kind (number_of names.tables table) (numbered_grantee names.users grantee)
 
 -- what a statement asks for, with its names by number
 abbrev pub numbered_form : Names → RawForm → Form
@@ -72,7 +79,7 @@ abbrev pub named_table_of : RawDeed → List ℕ
 named_table_of (RawDeed.Grant kind table grantee option) = table
 named_table_of (RawDeed.Revoke kind table grantee) = table
 
-abbrev pub grantee_of : RawDeed → List ℕ
+abbrev pub grantee_of : RawDeed → RawGrantee
 grantee_of (RawDeed.Grant kind table grantee option) = grantee
 grantee_of (RawDeed.Revoke kind table grantee) = grantee
 
@@ -82,10 +89,15 @@ deed_in (RawForm.Create table columns) = None
 deed_in (RawForm.Run accesses steps deed) = deed
 deed_in (RawForm.Deed deed) = Some deed
 
+-- the users once a grantee is named; PUBLIC names none
+abbrev pub with_named : List (List ℕ) → RawGrantee → List (List ℕ)
+with_named users (RawGrantee.Named name) = with_name users name
+with_named users RawGrantee.Public = users
+
 -- the users once the grantee of a deed is named
 abbrev pub with_grantee : List (List ℕ) → Option RawDeed → List (List ℕ)
 with_grantee users None = users
-with_grantee users (Some deed) = with_name users (grantee_of deed)
+with_grantee users (Some deed) = with_named users (grantee_of deed)
 
 -- the names after an accepted statement of this user's form
 abbrev pub with_form : Names → ℕ → RawForm → Names

@@ -6,6 +6,7 @@ use Rattle.log_text.specs.Statement.{Sentence}
 use Rattle.line_words.specs.declared.access.RawAccess.{RawAccess}
 use Rattle.log_text.specs.declared.statement.RawDeed.{RawDeed}
 use Rattle.log_text.specs.declared.statement.RawForm.{RawForm}
+use Rattle.log_text.specs.declared.statement.RawGrantee.{RawGrantee}
 use Rattle.log_text.specs.declared.statement.RawStep.{RawStep}
 use Rattle.sequencer.specs.Names.{is_known, number_of, with_name}
 use Rattle.sequencer.specs.Catalog.{Names, deed_in, grantee_of, named_table_of}
@@ -100,10 +101,19 @@ name_refusal names name = refuse_unless (nat_lt (length names) MOST_NAMES || is_
 abbrev pub two_refusal : List (List ℕ) → List ℕ → List ℕ → Option Refused
 two_refusal names first second = or_refused (name_refusal names first) (name_refusal (with_name names first) second)
 
+-- the name of a grantee; PUBLIC needs none
+abbrev pub named_refusal : List (List ℕ) → RawGrantee → Option Refused
+named_refusal users (RawGrantee.Named name) = name_refusal users name
+named_refusal users RawGrantee.Public = None
+
+-- a user, and then a grantee
+abbrev pub parties_refusal : List (List ℕ) → List ℕ → RawGrantee → Option Refused
+parties_refusal users user grantee = or_refused (name_refusal users user) (named_refusal (with_name users user) grantee)
+
 -- a new grantee, where there are `MOST_NAMES` users already
 abbrev pub grantee_refusal : List (List ℕ) → Option RawDeed → Option Refused
 grantee_refusal users None = None
-grantee_refusal users (Some deed) = name_refusal users (grantee_of deed)
+grantee_refusal users (Some deed) = named_refusal users (grantee_of deed)
 
 -- a new user comes before a new grantee
 abbrev pub users_refusal : List (List ℕ) → List ℕ → Option RawDeed → Option Refused

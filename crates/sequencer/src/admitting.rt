@@ -36,8 +36,8 @@ impl Catalog {
         let (table, grantee) = names_in(deed);
         let mut recent = self.recent;
         let table = self.known_table(&mut recent, table)?;
-        let (user, grantee) = self.users.enter_both(user.as_str(), grantee.as_str())?;
-        Ok((User(user), deed_form(deed, table, User(grantee))))
+        let (user, grantee) = self.users.enter_parties(user.as_str(), grantee)?;
+        Ok((User(user), deed_form(deed, table, grantee)))
     }
 
     /// Enters the user of a statement, and then the grantee of its deed where it has one, as `enter_deed`.

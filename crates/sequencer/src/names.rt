@@ -3,7 +3,8 @@
 use crate::refused::Refused;
 use crate::testing::test_two;
 use indexmap::IndexSet;
-use model_base::MOST_NAMES;
+use log_text::RawGrantee;
+use model_base::{Grantee, MOST_NAMES, User};
 use std::alloc::{AllocError, Global};
 use std::marker::Model;
 
@@ -30,7 +31,8 @@ impl Model for NameTable {
 impl NameTable {
     ghost use Rattle.std.specs.Prelude.{◌≡◌, ◌<◌, ◌≤◌, ◌-◌, [], length, take, slice_get, Some, None, IfOk, IfErr, OnOk, OnErr, not, is_some, false};
     ghost use Rattle.sequencer.specs.Names.{is_known, known_number, number_of, with_name};
-    ghost use Rattle.sequencer.specs.Refusal.{IsRefusal, name_refusal, two_refusal};
+    ghost use Rattle.sequencer.specs.Catalog.{numbered_grantee, with_named};
+    ghost use Rattle.sequencer.specs.Refusal.{IsRefusal, name_refusal, parties_refusal, two_refusal};
 
     /// The table without names. It takes no memory.
     pub fn new(alloc: Global) -> Self
@@ -148,6 +150,32 @@ impl NameTable {
                     self.forget_last();
                 }
                 Err(refused)
+            }
+        }
+    }
+
+    /// The numbers of a user and of a grantee, of which each is there already or is entered last, the user before the
+    /// grantee. PUBLIC isn't entered. It refuses as `enter`, and then nothing has changed.
+    pub(crate) fn enter_parties(
+        &mut self,
+        user: &str,
+        grantee: &RawGrantee<'_>,
+    ) -> Result<(u32, Grantee), Refused>
+        ensures user { IfOk result (λ r. r.0 ≡ number_of self.old user.now) }
+        ensures grantee { IfOk result (λ r. r.1 ≡ numbered_grantee (with_name self.old user.now) grantee.now) }
+        ensures entered { OnOk result (self.new ≡ with_named (with_name self.old user.now) grantee.now) }
+        ensures passes { OnOk result (parties_refusal self.old user.now grantee.now ≡ None) }
+        ensures refused { IfErr result (λ r. IsRefusal r (parties_refusal self.old user.now grantee.now)) }
+        ensures err { OnErr result (self.new ≡ self.old) }
+    {
+        match grantee {
+            RawGrantee::Named(name) => {
+                let (number, grantee) = self.enter_both(user, name.as_str())?;
+                Ok((number, Grantee::User(User(grantee))))
+            }
+            RawGrantee::Public => {
+                let (number, _) = self.enter(user)?;
+                Ok((number, Grantee::Public))
             }
         }
     }

@@ -1,7 +1,7 @@
 //! Names become numbers, where they pass the tests.
 
 ghost use Rattle.std.specs.Prelude.{◌≡◌, ◌≤◌, [], length, map, vec_capacity};
-ghost use Rattle.sequencer.specs.Catalog.{Names, grantee_of, numbered_access, numbered_deed, numbered_step, named_table_of};
+ghost use Rattle.sequencer.specs.Catalog.{Names, grantee_of, numbered_access, numbered_deed, numbered_grantee, numbered_step, named_table_of};
 ghost use Rattle.sequencer.specs.Admitting.{registers_in};
 ghost use Rattle.sequencer.specs.Names.{number_of};
 ghost use Rattle.sequencer.specs.Refusal.{IsAnswerOf, access_refusal, accesses_refusal, column_refusal, step_refusal, steps_refusal};
@@ -11,14 +11,14 @@ use crate::catalog::Catalog;
 use crate::refused::Refused;
 use crate::testing::{is_repeated, test_skip};
 use log_text::{Name, RawAccess, RawDeed, RawStep};
-use model_base::{Access, DeedForm, Items, Key, Register, RowName, Step, Table, User};
+use model_base::{Access, DeedForm, Grantee, Items, Key, Register, RowName, Step, Table};
 use std::alloc::Global;
 use std::mem;
 
 /// The deed with its table and its grantee by number.
-pub(crate) fn deed_form(deed: &RawDeed<'_>, table: Table, grantee: User) -> DeedForm
+pub(crate) fn deed_form(deed: &RawDeed<'_>, table: Table, grantee: Grantee) -> DeedForm
     ensures { (names : Names)
-        → table ≡ number_of names.tables (named_table_of deed.now) → grantee ≡ number_of names.users (grantee_of deed.now)
+        → table ≡ number_of names.tables (named_table_of deed.now) → grantee ≡ numbered_grantee names.users (grantee_of deed.now)
         → result ≡ numbered_deed names deed.now }
 {
     match deed {

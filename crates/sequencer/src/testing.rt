@@ -4,12 +4,12 @@ ghost use Rattle.std.specs.Prelude.{◌≡◌, ◌<◌, [], length, nat_le, Some
 ghost use Rattle.std.specs.List.{list_any};
 ghost use Rattle.sequencer.specs.Names.{is_known, number_of};
 ghost use Rattle.sequencer.specs.Catalog.{deed_in, grantee_of, named_table_of};
-ghost use Rattle.sequencer.specs.Refusal.{IsAnswer, IsAnswerOf, IsRefusal, accesses_refusal, column_refusal, create_refusal, deed_refusal, form_refusal, name_refusal, or_refused, refusal, same_row, step_refusal, steps_refusal, table_refusal, two_refusal, refuse_unless, users_refusal, width_refusal};
+ghost use Rattle.sequencer.specs.Refusal.{IsAnswer, IsAnswerOf, IsRefusal, accesses_refusal, column_refusal, create_refusal, deed_refusal, form_refusal, name_refusal, or_refused, parties_refusal, refusal, same_row, step_refusal, steps_refusal, table_refusal, two_refusal, refuse_unless, users_refusal, width_refusal};
 
 use crate::catalog::Catalog;
 use crate::names::NameTable;
 use crate::refused::Refused;
-use log_text::{Name, RawAccess, RawDeed, RawForm, RawStatement, RawStep};
+use log_text::{Name, RawAccess, RawDeed, RawForm, RawGrantee, RawStatement, RawStep};
 use model_base::{MOST_COLUMNS, MOST_NAMES, MOST_PLACES, Table};
 
 /// Whether the two accesses are to one row.
@@ -57,8 +57,22 @@ pub(crate) fn test_two(names: &NameTable, first: &str, second: &str) -> Result<(
     }
 }
 
+/// A new user and a new grantee have to find room, the user before the grantee. PUBLIC is no user.
+pub(crate) fn test_parties(
+    users: &NameTable,
+    user: &str,
+    grantee: &RawGrantee<'_>,
+) -> Result<(), Refused>
+    ensures { IsAnswer result (parties_refusal users.now user.now grantee.now) }
+{
+    match grantee {
+        RawGrantee::Named(name) => test_two(users, user, name.as_str()),
+        RawGrantee::Public => test_name(users, user),
+    }
+}
+
 /// The table and the grantee that a deed names.
-pub(crate) fn names_in<'a, 'l>(deed: &'l RawDeed<'a>) -> (&'l Name<'a>, &'l Name<'a>)
+pub(crate) fn names_in<'a, 'l>(deed: &'l RawDeed<'a>) -> (&'l Name<'a>, &'l RawGrantee<'a>)
     ensures table { result.0.now ≡ named_table_of deed.now }
     ensures grantee { result.1.now ≡ grantee_of deed.now }
 {
@@ -231,8 +245,8 @@ impl Catalog {
             RawForm::Run {
                 deed: Some(deed),
                 ..
-            } => test_two(self.users(), user, names_in(deed).1.as_str()),
-            RawForm::Deed(deed) => test_two(self.users(), user, names_in(deed).1.as_str()),
+            } => test_parties(self.users(), user, names_in(deed).1),
+            RawForm::Deed(deed) => test_parties(self.users(), user, names_in(deed).1),
         }
     }
 

@@ -1,6 +1,6 @@
-//! Drawn logs. Ann creates the table s and bob the table t. Then come lines of some users, who grant and revoke, create a table
-//! that is there or read one that isn't, and run bodies on the tables' rows 0 to 2, some of which abort or touch what they don't
-//! declare, and some of which have a deed after them.
+//! Drawn logs. Ann creates the table s and bob the table t. Then come lines of some users, who grant to one another and to PUBLIC and
+//! revoke, create a table that is there or read one that isn't, and run bodies on the tables' rows 0 to 2, some of which abort or
+//! touch what they don't declare, and some of which have a deed after them.
 
 use crate::generator::Generator;
 use std::alloc::{AllocError, Global};
@@ -87,7 +87,7 @@ fn put_words(log: &mut Vec<u8>, words: &[&str]) -> Result<(), AllocError> {
     Ok(())
 }
 
-/// Appends a grant or a revocation on the table. Most grants are with the option.
+/// Appends a grant or a revocation on the table. Of five deeds one is to PUBLIC. Most grants to a user are with the option.
 fn put_deed(
     log: &mut Vec<u8>,
     generator: &mut Generator,
@@ -95,11 +95,16 @@ fn put_deed(
     users: u32,
 ) -> Result<(), AllocError> {
     let kind = KINDS[generator.below(6) as usize];
-    let grantee = drawn_user(generator, users);
+    let is_public = generator.below(5) == 0;
+    let grantee = if is_public {
+        "PUBLIC"
+    } else {
+        drawn_user(generator, users)
+    };
     match generator.below(6) {
         0 | 1 => put_words(log, &["REVOKE", kind, table, grantee]),
-        2 => put_words(log, &["GRANT", kind, table, grantee]),
-        _ => put_words(log, &["GRANT", kind, table, grantee, "OPTION"]),
+        3.. if !is_public => put_words(log, &["GRANT", kind, table, grantee, "OPTION"]),
+        _ => put_words(log, &["GRANT", kind, table, grantee]),
     }
 }
 

@@ -1,6 +1,7 @@
 -- What the reader and the revocation compute to.
 use Rattle.std.proofs.Common.{◌≡◌, ◌<◌, ◌+◌, subst, ℕ, suc, zero, true, Some, None, List, [], ◌∷◌, length, get_or, refl, arith, inl, ⊎_elim}
 use Rattle.std.specs.Prelude.{All}
+use Rattle.model_base.specs.declared.deed.Grantee.TheVariants.{User}
 use Rattle.model_base.specs.declared.deed.Kind.TheVariants.{Read}
 use Rattle.std.proofs.lemmas.List.Elements.{All-nil, All-push}
 use Rattle.model_base.specs.declared.deed.Deed.{Deed}
@@ -17,7 +18,7 @@ late-deed : (index : ℕ) (deed : Deed) → late_deed index ≡ Some deed → pl
 late-deed zero deed is = absurd (cc)
 late-deed (suc zero) deed is = subst (λ d. place_of d ≡ 4) (its deed is) refl
   where
-    its : (deed : Deed) → late_deed 1 ≡ Some deed → Revoking (record { place = 4; grantor = 0; grantee = 1; kind = Read; table = 0 }) ≡ deed
+    its : (deed : Deed) → late_deed 1 ≡ Some deed → Revoking (record { place = 4; grantor = 0; grantee = User 1; kind = Read; table = 0 }) ≡ deed
     its deed is = cc
 late-deed (suc (suc index)) deed is = absurd (cc)
 
@@ -25,7 +26,7 @@ late-may : (index : ℕ) (deeds : List Deed) (deed : Deed) → All (λ earlier. 
 late-may zero deeds deed below is = absurd (cc)
 late-may (suc zero) deeds deed below is = subst (MayFollow (0 ∷ []) deeds) (its deed is) below
   where
-    its : (deed : Deed) → late_deed 1 ≡ Some deed → Revoking (record { place = 4; grantor = 0; grantee = 1; kind = Read; table = 0 }) ≡ deed
+    its : (deed : Deed) → late_deed 1 ≡ Some deed → Revoking (record { place = 4; grantor = 0; grantee = User 1; kind = Read; table = 0 }) ≡ deed
     its deed is = cc
 late-may (suc (suc index)) deeds deed below is = absurd (cc)
 

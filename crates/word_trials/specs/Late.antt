@@ -1,6 +1,7 @@
 -- The reader and the revocation of a log's places 3 and 4 as a batch, on which the row of calls runs. The example is this
 -- project's own.
 use Rattle.std.specs.Prelude.{ℕ, zero, suc, false, Option, Some, None, List, [], ◌∷◌}
+use Rattle.model_base.specs.declared.deed.Grantee.TheVariants.{User}
 use Rattle.model_base.specs.declared.deed.Kind.TheVariants.{Read}
 use Rattle.model_base.specs.declared.deed.Deed.{Deed}
 use Rattle.model_base.specs.declared.deed.Deed.TheVariants.{Granting, Revoking}
@@ -9,11 +10,11 @@ use Rattle.bohm_core_base.specs.Batch.{Access, Batch}
 
 -- user 0 owns table 0, and at place 2 of the log granted user 1 to read it
 abbrev pub late_grant : Grant
-late_grant = record { place = 2; grantor = 0; grantee = 1; kind = Read; table = 0; option = false }
+late_grant = record { place = 2; grantor = 0; grantee = User 1; kind = Read; table = 0; option = false }
 
 -- at place 4 user 0 revokes it
 abbrev pub late_deed : ℕ → Option Deed
-late_deed (suc zero) = Some (Revoking (record { place = 4; grantor = 0; grantee = 1; kind = Read; table = 0 }))
+late_deed (suc zero) = Some (Revoking (record { place = 4; grantor = 0; grantee = User 1; kind = Read; table = 0 }))
 late_deed _ = None
 
 abbrev pub late_accesses : ℕ → List Access

@@ -1,10 +1,10 @@
 //! Grants and revocations.
-ghost use Rattle.std.specs.Prelude.{◌≡◌, ◌∷◌, [], Some, true, IfOk, IfErr, codes};
-ghost use Rattle.log_text.specs.Statement.{deed_words, option_words, IsDeed};
-ghost use Rattle.log_text.specs.Fault.{OfOption, expected_in_deed, expected_in_grant, expected_in_revoke, fault_from, is_deed};
+ghost use Rattle.std.specs.Prelude.{◌&&◌, ◌++◌, ◌≡◌, ◌∷◌, [], IsTrue, Some, not, true, IfOk, IfErr, codes};
+ghost use Rattle.log_text.specs.Statement.{deed_words, grantee_word, is_everyone, option_words, IsDeed, IsGrantee};
+ghost use Rattle.log_text.specs.Fault.{OfGrantee, OfOption, expected_behind, expected_in_deed, expected_in_grant, expected_in_revoke, fault_from, is_deed};
 
-use super::places::{end, kind, name};
-use crate::statement::RawDeed;
+use super::places::{end, grantee, kind, name};
+use crate::statement::{RawDeed, RawGrantee};
 use line_words::{LineFault, Words};
 
 /// Takes the word OPTION, or finds the end.
@@ -22,6 +22,22 @@ fn option_or_end(words: &mut Words<'_>) -> Result<bool, LineFault>
     Err(LineFault::UnknownWord)
 }
 
+/// What stands behind the grantee of a GRANT, to the end of the line: OPTION may, behind a name.
+#[tactic(auto, using(crate::proofs::Grantees::name_is_not_public))]
+fn option_behind(grantee: &RawGrantee<'_>, words: &mut Words<'_>) -> Result<bool, LineFault>
+    requires { IsGrantee grantee.now }
+    ensures ok { IfOk result (λ option. (words.old ≡ option_words option) × IsTrue (not (option && is_everyone grantee.now))) }
+    ensures fault { IfErr result (λ f. fault_from (expected_behind (OfGrantee true) (grantee_word grantee.now) ++ []) words.old ≡ Some f) }
+{
+    match grantee {
+        RawGrantee::Named(_) => option_or_end(words),
+        RawGrantee::Public => {
+            end(words)?;
+            Ok(false)
+        }
+    }
+}
+
 /// What stands behind GRANT, to the end of the line.
 fn grant<'a>(words: &mut Words<'a>) -> Result<RawDeed<'a>, LineFault>
     ensures ok { IfOk result (λ deed. (codes "GRANT" ∷ words.old ≡ deed_words deed) × IsDeed deed) }
@@ -29,8 +45,8 @@ fn grant<'a>(words: &mut Words<'a>) -> Result<RawDeed<'a>, LineFault>
 {
     let kind = kind(words)?;
     let table = name(words)?;
-    let grantee = name(words)?;
-    let option = option_or_end(words)?;
+    let grantee = grantee(words)?;
+    let option = option_behind(&grantee, words)?;
     Ok(RawDeed::Grant {
         kind,
         table,
@@ -46,7 +62,7 @@ fn revoke<'a>(words: &mut Words<'a>) -> Result<RawDeed<'a>, LineFault>
 {
     let kind = kind(words)?;
     let table = name(words)?;
-    let grantee = name(words)?;
+    let grantee = grantee(words)?;
     end(words)?;
     Ok(RawDeed::Revoke {
         kind,

@@ -1,12 +1,13 @@
 //! What stands in one place of a line: a name, a number, a register, a row, a kind, a bar.
-ghost use Rattle.std.specs.Prelude.{MatchBool, ◌≡◌, ◌∷◌, ◌<◌, ◌^◌, [], Some, None, List, ℕ, IfOk, IfErr, IsTrue, OnOk, codes};
+ghost use Rattle.std.specs.Prelude.{MatchBool, ◌≡◌, ◌∷◌, ◌<◌, ◌^◌, [], Some, None, List, ℕ, IfOk, IfErr, IsTrue, OnOk, codes, true};
 ghost use Rattle.std.specs.Fmt.{decimal, signed_decimal};
 ghost use Rattle.line_words.specs.Words.{is_name, plain, signed_of, first_word};
-ghost use Rattle.log_text.specs.Statement.{kind_word, row_word, IsRowNumber};
-ghost use Rattle.log_text.specs.Fault.{OfName, OfPlain, OfWhole, OfRegister, OfRow, OfKind, OfBar, misfit, fault_from};
+ghost use Rattle.log_text.specs.Statement.{grantee_word, kind_word, row_word, IsGrantee, IsRowNumber};
+ghost use Rattle.log_text.specs.Fault.{OfGrantee, OfName, OfPlain, OfWhole, OfRegister, OfRow, OfKind, OfBar, misfit, fault_from};
 ghost use Rattle.model_base.specs.Body.{fits_64_bits};
 
 use crate::kind::kind_of;
+use crate::statement::RawGrantee;
 use line_words::{LineFault, Name, Words, plain_value, whole_value};
 use model_base::{Kind, MOST_REGISTERS, Register, RowName};
 
@@ -18,6 +19,23 @@ pub(crate) fn name<'a>(words: &mut Words<'a>) -> Result<Name<'a>, LineFault>
     match words.next_name() {
         Some(word) => Ok(Name::of(word)),
         None => Err(LineFault::BadName),
+    }
+}
+
+/// Takes a grantee: a name or PUBLIC.
+#[tactic(auto, using(crate::proofs::Grantees::grantee_fits))]
+#[inline(always)]
+pub(crate) fn grantee<'a>(words: &mut Words<'a>) -> Result<RawGrantee<'a>, LineFault>
+    ensures ok { IfOk result (λ g. (words.old ≡ grantee_word g ∷ words.new) × IsGrantee g
+        × (misfit (OfGrantee true) (grantee_word g) ≡ None)) }
+    ensures fault { IfErr result (λ f. misfit (OfGrantee true) (first_word words.old) ≡ Some f) }
+{
+    if let Some(name) = words.next_name() {
+        return Ok(RawGrantee::Named(Name::of(name)));
+    }
+    match words.next() {
+        Some(word) if word == b"PUBLIC".as_slice() => Ok(RawGrantee::Public),
+        _ => Err(LineFault::BadName),
     }
 }
 

@@ -1,59 +1,34 @@
-use Rattle.std.proofs.Common.{◌≡◌, ◌≤◌, false, None, Some, sym, ◌∙◌, ap, subst, arith, inl, inr}
-use Rattle.std.proofs.lemmas.Bool.{cases_lt}
-use Rattle.grants_base.specs.Index.{AreAsked}
-use Rattle.grants_base.specs.View.{View, slot_at, slot_gives}
-use Rattle.grant_paths.specs.Steps.{giving_in}
-use Rattle.grant_paths.proofs.Searching.{none_below, none_giving}
+use Rattle.std.proofs.Common.{None, Some, subst, ℕ}
+use Rattle.grants_base.specs.View.{View}
+use Rattle.model_base.specs.declared.deed.Grantee.TheVariants.{Public}
+use Rattle.grants.specs.Loss.{narrowed}
+use Rattle.grant_paths.specs.Steps.{IsFirstGiving, slot_or}
+use Rattle.grant_paths.proofs.Searching.{first_option, first_own, first_public}
 use Rattle.grant_paths.proofs.paths.first_giving.Goals as goal
-use Rattle.grant_paths.proofs.paths.first_giving.Goals.{in_default-via-in-Some+else-slot-end, in_default-via-in_default}
 
-pub returns-in_default-clause-first : goal.returns-in_default-clause-first
-returns-in_default-clause-first g c =
-    let view = g.V.Records.shown c.args.view.now in
-    let asked = g.V.Records.asked c.loop-from.view in
-    elim c.in_default.branch [
-      | in_default-via-in-Some+else-slot-end w ↦
-          let are : AreAsked view asked = subst (λ (v : View). AreAsked v asked) c.loop-from.invariant.same w.in-Some.ensures.asked in
-          let over : c.args.end ≤ w.in-Some.slot = omega (arith, w.if-slot-end.false) in
-          none_below view asked c.args.user c.args.need.now c.loop-from.from c.args.end (Some w.in-Some.slot) are w.in-Some.ensures.next
-          (λ slot same. let one : w.in-Some.slot ≡ slot = cc in omega (arith, over, one)) c.loop-from.invariant.none
-      | in_default-via-in_default w ↦
-          let are : AreAsked view asked = subst (λ (v : View). AreAsked v asked) c.loop-from.invariant.same w.in_default.ensures.asked in
-          none_below view asked c.args.user c.args.need.now c.loop-from.from c.args.end None are w.in_default.ensures.next
-          (λ slot same. absurd (cc)) c.loop-from.invariant.none
-    ]
+pub returns-then-need-clause-first : goal.returns-then-need-clause-first
+returns-then-need-clause-first g c =
+    first_option (g.V.Records.shown c.args.view.now) c.args.user c.args.need.now c.args.end c.first_giving_to-own.result c.if-need.true
+    c.first_giving_to-own.ensures.first
 
-pub returns-in-Some-giving_in-clause-first : goal.returns-in-Some-giving_in-clause-first
-returns-in-Some-giving_in-clause-first g c =
+pub returns-in-Some-clause-first : goal.returns-in-Some-clause-first
+returns-in-Some-clause-first g c =
     let view = g.V.Records.shown c.args.view.now in
-    let asked = g.V.Records.asked c.loop-from.view in
-    let slot = c.in-Some.slot in
-    let same = c.in-Some.ensures.same ∙ c.loop-from.invariant.same in
-    let are : AreAsked view asked = subst (λ (v : View). AreAsked v asked) c.loop-from.invariant.same c.in-Some.ensures.asked in (
-      c.if-slot-end.true,
-      sym (c.in-Some-giving_in.ensures.value ∙ ap (λ (v : View). giving_in (slot_at v slot) c.args.user c.args.need.now) same),
-      none_below view asked c.args.user c.args.need.now c.loop-from.from slot (Some slot) are c.in-Some.ensures.next
-          (λ other is. let one : slot ≡ other = cc in omega (arith, one)) c.loop-from.invariant.none,
-    )
-
-pub loop-from-preserved : goal.loop-from-preserved
-loop-from-preserved g c =
-    let view = g.V.Records.shown c.args.view.now in
-    let asked = g.V.Records.asked c.loop-from.view in
-    let slot = c.in-Some.slot in
+    let seen = g.V.Records.shown c.first_giving_to-own.new.view in
     let user = c.args.user in
     let need = c.args.need.now in
-    let same = c.in-Some.ensures.same ∙ c.loop-from.invariant.same in
-    let are : AreAsked view asked = subst (λ (v : View). AreAsked v asked) c.loop-from.invariant.same c.in-Some.ensures.asked in
-    let here : slot_gives (slot_at view slot) user need ≡ false =
-    none_giving (slot_at view slot) user need (c.in_default-giving_in.ensures.value ∙ ap (λ (v : View). giving_in (slot_at v slot) user need) same) in
-    record {
-      same = c.giving_in.ensures.same ∙ same;
-      none = λ k less.
-          elim (cases_lt k slot) [
-            | inl earlier ↦
-                none_below view asked user need c.loop-from.from slot (Some slot) are c.in-Some.ensures.next
-                (λ other is. let one : slot ≡ other = cc in omega (arith, one)) c.loop-from.invariant.none k earlier
-            | inr later ↦ let last : k ≡ slot = omega arith in ap (λ j. slot_gives (slot_at view j) user need) last ∙ here
-          ];
-    }
+    let own = c.first_giving_to-own.result in
+    let here = subst (λ (n : ℕ). IsFirstGiving (narrowed Public seen) user need n (Some c.in-Some.giving)) c.slot_or-below.ensures c.in-Some.ensures.first in
+    first_public view user need c.args.end own c.in-Some.giving c.first_giving_to-own.ensures.first
+    (subst (λ (v : View). IsFirstGiving (narrowed Public v) user need (slot_or c.args.end own) (Some c.in-Some.giving)) c.first_giving_to-own.ensures.same here)
+
+pub returns-in-None-clause-first : goal.returns-in-None-clause-first
+returns-in-None-clause-first g c =
+    let view = g.V.Records.shown c.args.view.now in
+    let seen = g.V.Records.shown c.first_giving_to-own.new.view in
+    let user = c.args.user in
+    let need = c.args.need.now in
+    let own = c.first_giving_to-own.result in
+    let here = subst (λ (n : ℕ). IsFirstGiving (narrowed Public seen) user need n None) c.slot_or-below.ensures c.in-None.ensures.first in
+    first_own view user need c.args.end own c.first_giving_to-own.ensures.first
+    (subst (λ (v : View). IsFirstGiving (narrowed Public v) user need (slot_or c.args.end own) None) c.first_giving_to-own.ensures.same here)

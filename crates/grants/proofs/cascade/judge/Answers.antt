@@ -1,6 +1,5 @@
-use Rattle.std.proofs.Common.{◌≡◌, ◌<◌, ◌≤◌, ◌++◌, Some, length, true, false, refl, sym, ◌∙◌, ap, subst, arith, inl}
+use Rattle.std.proofs.Common.{◌≡◌, ◌<◌, ◌≤◌, ◌++◌, Some, length, true, false, refl, sym, ◌∙◌, ap, subst, arith, inl, ℕ}
 use Rattle.std.specs.Prelude.{◌⊎◌}
-use Rattle.std.proofs.lemmas.Bool.{true≢false}
 use Rattle.grants.specs.Pass.{concerned, outlasts}
 use Rattle.grants_base.specs.Index.{is_one_of}
 use Rattle.grants.specs.Work.{AllPassed, AreWalked, keepers, slots_of}
@@ -41,7 +40,10 @@ returns-in_ok-lose-clause-due g c =
     (end_more c.args.work.now.ended.ends c.push.new.self.ends (record { slot = c.args.slot; place = c.args.revocation.now.place }) c.in_ok-push.ensures.ends)
     c.in_ok-lose.ensures.kept
     (λ j is. subst (λ (v : View). (is_one_of c.args.work.now.due.keys j ≡ true) ⊎ ((c.args.next ≤ j) × (j < length v.slots))) same (c.in_ok-lose.ensures.within j is))
-    (λ _ j other from here by. c.in_ok-lose.ensures.found j other from (ap (λ (v : View). concerned (slot_at v j) c.args.revocation.now) same ∙ here) by)
+    (λ j other heir from here. c.in_ok-lose.ensures.found j other from (ap (λ (v : View). concerned (slot_at v j) c.args.revocation.now) same ∙ here) (by other.grantor (sym c.in-Some-option_holder.is ∙ c.option_holder.ensures ∙ heir)))
+  where
+    by : (grantor : ℕ) → Some c.in-Some-option_holder.user ≡ Some grantor → grantor ≡ c.in-Some-option_holder.user
+    by grantor same = cc
 
 pub returns-in_ok-lose-clause-whole : goal.returns-in_ok-lose-clause-whole
 returns-in_ok-lose-clause-whole g c =
@@ -53,17 +55,17 @@ returns-in_ok-lose-clause-whole g c =
     whole_ending c.args.revocation.now view c.args.owner c.args.work.now.ended.places c.push.new.self.places ended (slots_of c.push.new.self.ends) c.args.slot c.args.next c.in-Some.grant
     c.requires.next c.requires.within c.in_ok-push.ensures.places found (end_more c.args.work.now.ended.ends c.push.new.self.ends (record { slot = c.args.slot; place = c.args.revocation.now.place }) c.in_ok-push.ensures.ends) told
 
-pub returns-else-grant-clause-due : goal.returns-else-grant-clause-due
-returns-else-grant-clause-due g c =
+pub returns-in_default-option_holder-clause-due : goal.returns-in_default-option_holder-clause-due
+returns-in_default-option_holder-clause-due g c =
     let view = g.V.Records.shown c.args.view.now in
     let found : concerned (slot_at view c.args.slot) c.args.revocation.now ≡ Some c.in-Some.grant = sym c.in-Some.ensures.value in
     due_more c.args.revocation.now view c.args.slot c.args.work.now.due.keys c.args.work.now.due.keys (slots_of c.args.work.now.ended.ends) (slots_of c.push.new.self.ends) c.in-Some.grant c.args.next
     (omega (arith, c.requires.next)) c.requires.due found
     (end_more c.args.work.now.ended.ends c.push.new.self.ends (record { slot = c.args.slot; place = c.args.revocation.now.place }) c.in_ok-push.ensures.ends)
-    (λ j is. is) (λ j is. inl is) (λ with j other from here by. absurd (true≢false (sym with ∙ c.if-grant.false)))
+    (λ j is. is) (λ j is. inl is) (λ j other heir from here. absurd (c.in_default-option_holder.not-Some other.grantor (c.option_holder.ensures ∙ heir)))
 
-pub returns-else-grant-clause-whole : goal.returns-else-grant-clause-whole
-returns-else-grant-clause-whole g c =
+pub returns-in_default-option_holder-clause-whole : goal.returns-in_default-option_holder-clause-whole
+returns-in_default-option_holder-clause-whole g c =
     let view = g.V.Records.shown c.args.view.now in
     let ended = slots_of c.args.work.now.ended.ends in
     let found : concerned (slot_at view c.args.slot) c.args.revocation.now ≡ Some c.in-Some.grant = sym c.in-Some.ensures.value in
@@ -102,12 +104,12 @@ returns-in_ok-lose-clause-passed g c =
     (passed_ended c.args.revocation.now seen (slots_of c.args.work.now.ended.ends) (slots_of c.push.new.self.ends) c.args.slot c.stays.new.asked
     (end_more c.args.work.now.ended.ends c.push.new.self.ends (record { slot = c.args.slot; place = c.args.revocation.now.place }) c.in_ok-push.ensures.ends) before))
 
-pub returns-else-grant-clause-walked : goal.returns-else-grant-clause-walked
-returns-else-grant-clause-walked g c =
+pub returns-in_default-option_holder-clause-walked : goal.returns-in_default-option_holder-clause-walked
+returns-in_default-option_holder-clause-walked g c =
     walked_same c.args.revocation.now (g.V.Records.shown c.args.view.now) c.args.work.now.due.keys c.args.work.now.asked c.stays.new.asked c.args.next c.stays.ensures.users c.requires.walked
 
-pub returns-else-grant-clause-passed : goal.returns-else-grant-clause-passed
-returns-else-grant-clause-passed g c =
+pub returns-in_default-option_holder-clause-passed : goal.returns-in_default-option_holder-clause-passed
+returns-in_default-option_holder-clause-passed g c =
     let view = g.V.Records.shown c.args.view.now in
     let before = subst (λ (v : View). AllPassed c.args.revocation.now v (slots_of c.args.work.now.ended.ends) c.stays.new.asked) c.in-Some.ensures.same c.stays.ensures.passed in
     passed_ended c.args.revocation.now view (slots_of c.args.work.now.ended.ends) (slots_of c.push.new.self.ends) c.args.slot c.stays.new.asked
@@ -119,8 +121,8 @@ returns-in_ok-lose-clause-ends g c =
     (record { slot = c.args.slot; place = c.args.revocation.now.place }) c.in-Some.grant.place c.in_ok-push.ensures.ends c.in_ok-push.ensures.places c.requires.ends
     (record { grant = c.in-Some.grant; found = sym c.in-Some.ensures.value; made_at = refl; place = refl })
 
-pub returns-else-grant-clause-ends : goal.returns-else-grant-clause-ends
-returns-else-grant-clause-ends g c =
+pub returns-in_default-option_holder-clause-ends : goal.returns-in_default-option_holder-clause-ends
+returns-in_default-option_holder-clause-ends g c =
     are_more c.args.revocation.now (g.V.Records.shown c.args.view.now) c.args.work.now.ended.ends c.push.new.self.ends c.args.work.now.ended.places c.push.new.self.places
     (record { slot = c.args.slot; place = c.args.revocation.now.place }) c.in-Some.grant.place c.in_ok-push.ensures.ends c.in_ok-push.ensures.places c.requires.ends
     (record { grant = c.in-Some.grant; found = sym c.in-Some.ensures.value; made_at = refl; place = refl })

@@ -1,15 +1,9 @@
-use Rattle.std.proofs.Common.{◌≡◌, ◌<◌, ◌≤◌, ◌+◌, [], length, drop, true, false, refl, sym, ◌∙◌, ap, subst, arith}
-use Rattle.std.specs.List.{flat_map, list_any}
-use Rattle.std.specs.Option.{option_to_list}
-use Rattle.std.proofs.Math.ListN.{drop_of_length-le}
-use Rattle.grants_base.specs.Index.{AreAsked, is_to}
-use Rattle.grants.specs.Loss.{last_end, later_of, slot_loss}
-use Rattle.grants_base.specs.View.{View, entries, slot_at, slot_gives}
-use Rattle.grants.proofs.Asked.{found_within}
-use Rattle.grants.proofs.Found.{any_idle, any_none, idle, last_idle, last_none}
-use Rattle.grants.proofs.LossLaws.{last_from, later-assoc, later-none}
-use Rattle.grants.proofs.Standings.{when_held, when_lost}
-use Rattle.grants.proofs.ViewLaws.{any_from, any_next}
+use Rattle.std.proofs.Common.{sym, ◌∙◌, ap}
+use Rattle.grants_base.specs.View.{View}
+use Rattle.model_base.specs.declared.deed.Grantee.TheVariants.{Public, User}
+use Rattle.grants.specs.Loss.{both, narrowed, standing_in_slots}
+use Rattle.grants.specs.declared.holding.Standing.{Standing}
+use Rattle.grants.proofs.Narrow.{both-lost, standing_in_slots-parts, standing_in_slots-public}
 use Rattle.grants.proofs.holding.standing_in_slots.Goals as goal
 
 pub returns-in-Held-clause-value : goal.returns-in-Held-clause-value
@@ -17,69 +11,27 @@ returns-in-Held-clause-value g c =
     let view = g.V.Records.shown c.args.view.now in
     let user = c.args.user in
     let need = c.args.need.now in
-    let asked = g.V.Records.asked c.loop-from.view in
-    let are : AreAsked view asked = subst (λ (v : View). AreAsked v asked) c.loop-from.invariant.same c.in-Some.ensures.asked in
-    let i = c.in-Some.i in
-    let within : i < length view.slots = found_within view asked are (is_to user need.kind need.table) i c.in-Some.ensures.next.1 in
-    let passed = idle view user need asked are c.loop-from.from i c.in-Some.ensures.next.2 in
-    let here : slot_gives (slot_at view i) user need ≡ true =
-    ap (λ (v : View). slot_gives (slot_at v i) user need) (sym (c.in-Some.ensures.same ∙ c.loop-from.invariant.same)) ∙ when_held _ _ c.in-Held.ensures.value in
-    let any : list_any (λ slot. slot_gives slot user need) view.slots ≡ true =
-    sym c.loop-from.invariant.any ∙ sym (any_idle view user need c.loop-from.from i c.in-Some.ensures.next.0 (omega arith) passed) ∙ any_from view user need i within ∙ rw here refl in
-    rw any refl
+    ap (λ (own : Standing). both own (standing_in_slots (narrowed Public view) user need)) c.in-Held.ensures.value
+    ∙ standing_in_slots-parts user need view
 
-pub loop-from-preserved : goal.loop-from-preserved
-loop-from-preserved g c =
+pub returns-then-need-clause-value : goal.returns-then-need-clause-value
+returns-then-need-clause-value g c =
     let view = g.V.Records.shown c.args.view.now in
     let user = c.args.user in
     let need = c.args.need.now in
-    let asked = g.V.Records.asked c.loop-from.view in
-    let are : AreAsked view asked = subst (λ (v : View). AreAsked v asked) c.loop-from.invariant.same c.in-Some.ensures.asked in
-    let i = c.in-Some.i in
-    let same = c.in-Some.ensures.same ∙ c.loop-from.invariant.same in
-    let within : i < length view.slots = found_within view asked are (is_to user need.kind need.table) i c.in-Some.ensures.next.1 in
-    let passed = idle view user need asked are c.loop-from.from i c.in-Some.ensures.next.2 in
-    let told = when_lost _ _ _ c.in-Lost.ensures.value in
-    let here : slot_gives (slot_at view i) user need ≡ false = ap (λ (v : View). slot_gives (slot_at v i) user need) (sym same) ∙ told.0 in
-    let rest = last_end (flat_map option_to_list (drop (i + 1) view.slots)) user need in
-    let loss = told.1 ∙ ap (λ (v : View). slot_loss (slot_at v i) user need) same in
-    record {
-      same = c.in-Lost.ensures.same ∙ same;
-      slots = c.slots-end.ensures;
-      within = omega (arith, within, c.slots-end.ensures);
-      any =
-          any_next view user need i within here
-          ∙ any_idle view user need c.loop-from.from i c.in-Some.ensures.next.0 (omega arith) passed
-          ∙ c.loop-from.invariant.any;
-      last =
-          ap (λ found. later_of found rest) (c.later-last.ensures ∙ ap (later_of c.loop-from.last) loss)
-          ∙ later-assoc c.loop-from.last (slot_loss (slot_at view i) user need) rest
-          ∙ ap (later_of c.loop-from.last) (sym (last_from view user need i within) ∙ last_idle view user need c.loop-from.from i c.in-Some.ensures.next.0 (omega arith) passed)
-          ∙ c.loop-from.invariant.last;
-    }
+    let own = standing_in_slots (narrowed (User user) view) user need in
+    c.in-Lost.ensures.value
+    ∙ sym (both-lost own)
+    ∙ ap (both own) (sym (standing_in_slots-public user need view c.if-need.true))
+    ∙ standing_in_slots-parts user need view
 
-pub returns-in-None-clause-value : goal.returns-in-None-clause-value
-returns-in-None-clause-value g c =
+pub returns-else-need-clause-value : goal.returns-else-need-clause-value
+returns-else-need-clause-value g c =
     let view = g.V.Records.shown c.args.view.now in
     let user = c.args.user in
     let need = c.args.need.now in
-    let asked = g.V.Records.asked c.loop-from.view in
-    let are : AreAsked view asked = subst (λ (v : View). AreAsked v asked) c.loop-from.invariant.same c.in-None.ensures.asked in
-    let passed = idle view user need asked are c.loop-from.from (length view.slots) (λ k low high. c.in-None.ensures.next k low) in
-    let end : c.loop-from.from ≤ length view.slots = omega (arith, c.loop-from.invariant.within, c.slots-end.ensures) in
-    let any : list_any (λ slot. slot_gives slot user need) view.slots ≡ false = sym c.loop-from.invariant.any ∙ any_none view user need c.loop-from.from end passed in
-    let last : c.loop-from.last ≡ last_end (entries view) user need =
-    sym (ap (later_of c.loop-from.last) (last_none view user need c.loop-from.from end passed) ∙ later-none c.loop-from.last) ∙ c.loop-from.invariant.last in
-    rw (any, last) refl
-
-pub returns-clause-value : goal.returns-clause-value
-returns-clause-value g c =
-    let view = g.V.Records.shown c.args.view.now in
-    let user = c.args.user in
-    let need = c.args.need.now in
-    let over : length view.slots ≤ c.loop-from.from = omega (arith, c.loop-from-test.false, c.slots-end.ensures) in
-    let none : drop c.loop-from.from view.slots ≡ [] = drop_of_length-le view.slots over in
-    let any : list_any (λ slot. slot_gives slot user need) view.slots ≡ false = sym c.loop-from.invariant.any ∙ ap (list_any (λ slot. slot_gives slot user need)) none in
-    let last : c.loop-from.last ≡ last_end (entries view) user need =
-    sym (ap (λ slots. later_of c.loop-from.last (last_end (flat_map option_to_list slots) user need)) none ∙ later-none c.loop-from.last) ∙ c.loop-from.invariant.last in
-    rw (any, last) refl
+    let own = standing_in_slots (narrowed (User user) view) user need in
+    c.since.ensures
+    ∙ ap (λ (standing : Standing). both standing c.standing_by_public.result) c.in-Lost.ensures.value
+    ∙ ap (both own) (c.standing_by_public.ensures.value ∙ ap (λ (v : View). standing_in_slots (narrowed Public v) user need) c.standing_by-own.ensures.same)
+    ∙ standing_in_slots-parts user need view

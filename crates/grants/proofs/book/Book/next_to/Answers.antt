@@ -6,4 +6,4 @@ use Rattle.grants.proofs.book.Book.next_to.Goals as goal
 
 pub returns : goal.returns
 returns c =
-    subst (λ (book : Entries). IsNext (is_to c.args.user c.args.kind c.args.table) (recorded book.records) c.args.from c.next_to.result) c.self.view_is c.next_to.ensures
+    subst (λ (book : Entries). IsNext (is_to c.args.grantee c.args.kind c.args.table) (recorded book.records) c.args.from c.next_to.result) c.self.view_is c.next_to.ensures

@@ -2,11 +2,12 @@ use Rattle.std.proofs.Common.{◌≡◌, List, length, sym, ◌∙◌, ap, subst
 use Rattle.std.proofs.lemmas.List.{with_items_is}
 use Rattle.model_base.specs.declared.deed.Record.{Record}
 use Rattle.grants_base.specs.Book.{end_slots}
-use Rattle.grants_base.specs.Index.{is_by, is_to}
+use Rattle.grants_base.specs.Index.{is_to}
 use Rattle.grants_base.specs.Marks.{AreIndexed}
 use Rattle.grants_base.proofs.Indexing.{ends_slots, recorded-end_slots}
 use Rattle.grants_base.proofs.SideLaws.{indexes_as}
 use Rattle.grants_base.proofs.indexed.IndexedRecords.end_mixed.Goals as goal
+use Rattle.grants_base.specs.Sides.{is_made_by}
 
 pub invariant_of-self-2 : goal.invariant_of-self-2
 invariant_of-self-2 c =
@@ -18,7 +19,7 @@ invariant_of-self-2 c =
     subst (λ (es : List Record). AreIndexed es c.self.inside.to c.self.inside.by c.note_by_place.new.endings.items) (sym now)
     (record {
       grantees = indexes_as is_to c.self.inside.to entries (end_slots entries ends) grants c.self.invariant.grantees;
-      grantors = indexes_as is_by c.self.inside.by entries (end_slots entries ends) grants c.self.invariant.grantors;
+      grantors = indexes_as is_made_by c.self.inside.by entries (end_slots entries ends) grants c.self.invariant.grantors;
       ends = ends_slots c.note_by_place.new.endings.items entries ends c.in_ok-note_by_place.ensures.noted (λ slot place entry is of. c.in_ok-note_by_place.ensures.kept place slot (c.self.invariant.ends slot place entry is of));
       order = c.in_ok-note_by_place.ensures.order;
     })

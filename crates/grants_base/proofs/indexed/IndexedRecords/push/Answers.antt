@@ -1,9 +1,9 @@
 use Rattle.std.proofs.Common.{◌≡◌, ◌++◌, ◌∷◌, [], List, length, sym, ◌∙◌, ap, subst, arith}
 use Rattle.model_base.specs.declared.deed.Record.{Record}
 use Rattle.grants_base.specs.Book.{unended}
-use Rattle.grants_base.specs.Index.{is_by, is_to}
+use Rattle.grants_base.specs.Index.{is_to}
 use Rattle.grants_base.specs.Marks.{AreIndexed}
-use Rattle.grants_base.specs.Sides.{by_side, to_side}
+use Rattle.grants_base.specs.Sides.{by_side, is_made_by, to_side}
 use Rattle.grants_base.proofs.Indexing.{ends_more}
 use Rattle.grants_base.proofs.SideLaws.{by_side-same, indexes_more, to_side-same}
 use Rattle.grants_base.proofs.indexed.IndexedRecords.push.Goals as goal
@@ -18,7 +18,7 @@ invariant_of-self-2 c =
     subst (λ (es : List Record). AreIndexed es c.push_slot.new.to c.push_slot.new.by c.self.inside.endings.items) (ap (λ (es : List Record). es ++ entry ∷ []) (sym same) ∙ sym c.push_reserved.ensures.items)
     (record {
       grantees = indexes_more is_to to_side to_side-same c.self.inside.to c.push_slot.new.to entries entry c.len-slot.result count c.self.invariant.grantees c.in_ok-push_slot.ensures.to;
-      grantors = indexes_more is_by by_side by_side-same c.self.inside.by c.push_slot.new.by entries entry c.len-slot.result count c.self.invariant.grantors c.in_ok-push_slot.ensures.by;
+      grantors = indexes_more is_made_by by_side by_side-same c.self.inside.by c.push_slot.new.by entries entry c.len-slot.result count c.self.invariant.grantors c.in_ok-push_slot.ensures.by;
       ends = ends_more c.self.inside.endings.items entries c.args.grant c.self.invariant.ends;
       order = c.self.invariant.order;
     })

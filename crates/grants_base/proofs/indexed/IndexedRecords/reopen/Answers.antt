@@ -2,11 +2,12 @@ use Rattle.std.proofs.Common.{◌≡◌, List, length, map, sym, ◌∙◌, ap, 
 use Rattle.std.proofs.lemmas.List.{with_items_is, length-map}
 use Rattle.model_base.specs.declared.deed.Record.{Record}
 use Rattle.grants_base.specs.Book.{reopened}
-use Rattle.grants_base.specs.Index.{is_by, is_to}
+use Rattle.grants_base.specs.Index.{is_to}
 use Rattle.grants_base.specs.Marks.{AreIndexed, HasEnds}
 use Rattle.grants_base.proofs.SideLaws.{indexes_as}
 use Rattle.grants_base.proofs.Lookups.{recorded-reopened}
 use Rattle.grants_base.proofs.indexed.IndexedRecords.reopen.Goals as goal
+use Rattle.grants_base.specs.Sides.{is_made_by}
 
 pub reopen-requires : goal.reopen-requires
 reopen-requires c = record { order = c.self.invariant.order; noted = subst (λ (es : List Record). HasEnds c.self.inside.endings.items es) (sym c.deref_mut.ensures.value) c.self.invariant.ends }
@@ -23,7 +24,7 @@ invariant_of-self c =
     subst (λ (es : List Record). AreIndexed es c.self.inside.to c.self.inside.by c.reopen.new.endings.items) (sym (now ∙ is))
     (record {
       grantees = indexes_as is_to c.self.inside.to entries (map (reopened place) entries) grants c.self.invariant.grantees;
-      grantors = indexes_as is_by c.self.inside.by entries (map (reopened place) entries) grants c.self.invariant.grantors;
+      grantors = indexes_as is_made_by c.self.inside.by entries (map (reopened place) entries) grants c.self.invariant.grantors;
       ends = became;
       order = c.reopen.ensures.order;
     })

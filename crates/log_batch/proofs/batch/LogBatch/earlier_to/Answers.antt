@@ -13,5 +13,5 @@ returns c =
     let s = c.self.inside in
     let range = range_of record { log = s.log.now.log; first = s.first; size = s.size; partitions = s.partitions } in
     let same = ap (λ (entries : Entries). recorded entries.records) c.at-view.ensures.book ∙ book-earlier range s.book.now c.self.invariant.book.same in
-    subst (λ (ranged : Ranged). IsNext (is_to c.args.user c.args.kind c.args.table) (earlier_grants (batch_in ranged)) c.args.from c.next_to.result) c.self.view_is
-    (subst (λ (grants : List Grant). IsNext (is_to c.args.user c.args.kind c.args.table) grants c.args.from c.next_to.result) same c.next_to.ensures.next)
+    subst (λ (ranged : Ranged). IsNext (is_to c.args.grantee.now c.args.kind c.args.table) (earlier_grants (batch_in ranged)) c.args.from c.next_to.result) c.self.view_is
+    (subst (λ (grants : List Grant). IsNext (is_to c.args.grantee.now c.args.kind c.args.table) grants c.args.from c.next_to.result) same c.next_to.ensures.next)

@@ -11,5 +11,5 @@ returns-clause-next c =
     let s = c.self.inside in
     let range = range_of record { log = s.log.now.log; first = s.first; size = s.size; partitions = s.partitions } in
     let same = book-behind range s.book.now c.self.invariant.book.same s.named c.self.invariant.slots in
-    subst (λ (ranged : Ranged). IsNext (is_to c.args.user c.args.kind c.args.table) (own_grants (batch_in ranged)) c.args.from c.next_to.result) c.self.view_is
-    (subst (λ (grants : List Grant). IsNext (is_to c.args.user c.args.kind c.args.table) grants c.args.from c.next_to.result) same c.next_to.ensures)
+    subst (λ (ranged : Ranged). IsNext (is_to c.args.grantee.now c.args.kind c.args.table) (own_grants (batch_in ranged)) c.args.from c.next_to.result) c.self.view_is
+    (subst (λ (grants : List Grant). IsNext (is_to c.args.grantee.now c.args.kind c.args.table) grants c.args.from c.next_to.result) same c.next_to.ensures)
