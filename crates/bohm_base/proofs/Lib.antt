@@ -7,3 +7,4 @@ pub mod WholeLogs
 pub mod Reporting
 pub mod Reached
 pub mod Taking
+pub mod ForetoldLines

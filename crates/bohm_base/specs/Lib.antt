@@ -2,3 +2,4 @@ pub mod Collecting
 pub mod Faults
 pub mod Pending
 pub mod Progress
+pub mod Foretold

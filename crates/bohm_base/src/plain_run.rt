@@ -1,6 +1,6 @@
 //! The plain path: each line is read, taken into the log, executed and reported, one after another.
 
-ghost use Rattle.std.specs.Prelude.{◌≡◌, ◌≢◌, ◌<◌, ◌≤◌, ◌+◌, ◌-◌, ◌^◌, ℕ, [], List, IfOk, IfErr, IfSome, MatchBool, OnErr, OnOk, Err, length};
+ghost use Rattle.std.specs.Prelude.{◌≡◌, ◌≢◌, ◌<◌, ◌≤◌, ◌+◌, ◌-◌, ◌^◌, ℕ, [], List, IfOk, IfErr, IfSome, MatchBool, OnErr, OnOk, Err, Ok, length, true};
 ghost use Rattle.std.specs.Io.KnownBytes.{Appends, IsAtEnd, prepend_known};
 ghost use Rattle.std.specs.Result.{ForOk};
 ghost use Rattle.log_text_base.specs.Ahead.{ahead, found_line};
@@ -11,6 +11,7 @@ ghost use Rattle.log_text.specs.Statement.{IsInGrammar};
 ghost use Rattle.model_base.specs.Outcomes.{empty_world};
 ghost use Rattle.plain.specs.State.{NamesTables, StateStands, world_with};
 ghost use Rattle.sequencer.specs.Catalog.{no_names};
+ghost use Rattle.sequencer.specs.Foretelling.{Begins};
 ghost use Rattle.report.specs.Report.{IsReport, Reading, names_with, read};
 ghost use Rattle.bohm_base.specs.Collecting.{MayLackRoom, ReadsAs, became, reading_of};
 ghost use Rattle.bohm_base.specs.Faults.{read_errors, write_errors};
@@ -18,6 +19,7 @@ ghost use Rattle.bohm_base.specs.Pending.{HasBegunReport, HasReport, Waits};
 ghost use Rattle.bohm_base.specs.Progress.{Advances, BeginsLines, DealsWith, IsAt, IsAfter, IsReady, EndsReporting, Reports, TakesLines, Turn};
 
 use crate::fault::EngineFault;
+use crate::lookahead::{Lookahead, ReadingAhead, report_stretch};
 use crate::pending::{put_out, put_waiting};
 use log_text::{LineFault, RawRoom, RawStatement, read_line};
 use log_text_base::{
@@ -30,9 +32,10 @@ use report::{put_fault, put_outcome, put_refused};
 use sequencer::{Catalog, Refused, Room};
 use std::alloc::{AllocError, Global};
 use std::io::{Read, Write};
+use std::thread::Threads;
 
 /// Executes a statement at its place, and puts its line behind the text. The catalog is that after the statement.
-fn put_accepted(
+pub(crate) fn put_accepted(
     alloc: Global,
     catalog: &Catalog,
     state: &mut State,
@@ -145,18 +148,18 @@ fn put_read<'a>(
 
 /// The lines that were dealt with: the names and the state that they led to, and the report's line for the last of them.
 #[derive(Drop)]
-struct Dealt {
-    catalog: Catalog,
-    state: State,
+pub(crate) struct Dealt {
+    pub(crate) catalog: Catalog,
+    pub(crate) state: State,
     /// The number of the next line.
-    number: u64,
+    pub(crate) number: u64,
     room: Room,
-    text: Vec<u8>,
+    pub(crate) text: Vec<u8>,
 }
 
 impl Dealt {
     /// Before the first line. It takes no memory.
-    fn new(alloc: Global) -> Self
+    pub fn new(alloc: Global) -> Self
         ensures at { IsAt result.catalog result.state }
         ensures names { result.catalog ≡ no_names }
         ensures number { result.number ≡ 1 }
@@ -176,7 +179,7 @@ impl Dealt {
 }
 
 /// Reads a line, deals with it, and makes the report's line for it. What the line reads as takes the room that is lent.
-fn put_line<'a>(
+pub(crate) fn put_line<'a>(
     alloc: Global,
     dealt: &mut Dealt,
     line: &'a [u8],
@@ -209,6 +212,7 @@ fn put_single_line(alloc: Global, dealt: &mut Dealt, line: &[u8]) -> Result<(), 
     requires at { IsAt dealt.old.catalog dealt.old.state }
     requires number { dealt.old.number < 2 ^ 64 - 1 }
     ensures ok { OnOk result ((reading : Reading) × (ReadsAs line.now reading × DealsWith reading dealt.old dealt.new)) }
+    ensures begins { OnOk result (Begins dealt.old.catalog dealt.new.catalog) }
     ensures err { IfErr result (λ f. f ≡ EngineFault.NoMemory) }
 {
     put_line(alloc, dealt, line, &mut RawRoom::new(alloc))
@@ -269,6 +273,7 @@ fn report_line<R: Read, W: Write>(
           pending = pending.new.items;
           dealt = dealt.new;
         }) }
+    ensures begins { OnOk result (Begins dealt.old.catalog dealt.new.catalog) }
     ensures reads { reader.new.errors ≡ read_errors result reader.old.errors }
     ensures writes { writer.new.errors ≡ write_errors result writer.old.errors }
 {
@@ -299,6 +304,7 @@ fn report_whole_lines<'a, W: Write>(
         (W.contents writer.new.inner) pending.new.items dealt.new) }
     ensures begun { BeginsLines bytes.now (W.contents writer.old.inner) pending.old.items dealt.old
         (W.contents writer.new.inner) pending.new.items }
+    ensures begins { OnOk result (Begins dealt.old.catalog dealt.new.catalog) }
     ensures writes { writer.new.errors ≡ write_errors result writer.old.errors }
     ensures err { IfErr result (λ f. f ≢ EngineFault.Read) }
 {
@@ -326,6 +332,7 @@ fn report_ahead<W: Write>(
         (W.contents writer.new.inner) pending.new.items dealt.new) }
     ensures begun { BeginsLines bytes.now (W.contents writer.old.inner) pending.old.items dealt.old
         (W.contents writer.new.inner) pending.new.items }
+    ensures begins { OnOk result (Begins dealt.old.catalog dealt.new.catalog) }
     ensures writes { writer.new.errors ≡ write_errors result writer.old.errors }
     ensures err { IfErr result (λ f. f ≢ EngineFault.Read) }
 {
@@ -333,16 +340,48 @@ fn report_ahead<W: Write>(
     report_whole_lines(alloc, writer, bytes, given, dealt, pending, &mut raw)
 }
 
-/// Takes the next line, as `report_line`, and then the whole lines behind it that were read ahead.
-fn report_turn<R: Read, W: Write>(
+/// Takes whole lines at the front of the bytes: a stretch of them, with lines read before their turn, where threads are to do so and it
+/// pays, and otherwise all of them, as `report_ahead`.
+fn report_at_hand<T: Threads + Sync, W: Write>(
+    rt: &T,
+    alloc: Global,
+    writer: &mut Counted<W>,
+    lookahead: &mut Lookahead,
+    bytes: &[u8],
+    given: u64,
+    dealt: &mut Dealt,
+    pending: &mut Vec<u8>,
+) -> Result<usize, EngineFault>
+    requires ready { IsReady dealt.old (length bytes.now) given }
+    requires names { Begins lookahead.old.names dealt.old.catalog }
+    ensures taken { IfOk result (λ taken. (taken ≤ length bytes.now) × IsReady dealt.new (length bytes.now - taken) given) }
+    ensures reported { IfOk result (λ taken. TakesLines bytes.now taken (W.contents writer.old.inner) pending.old.items dealt.old
+        (W.contents writer.new.inner) pending.new.items dealt.new) }
+    ensures begun { BeginsLines bytes.now (W.contents writer.old.inner) pending.old.items dealt.old
+        (W.contents writer.new.inner) pending.new.items }
+    ensures names { OnOk result (Begins lookahead.new.names dealt.new.catalog) }
+    ensures writes { writer.new.errors ≡ write_errors result writer.old.errors }
+    ensures err { IfErr result (λ f. f ≢ EngineFault.Read) }
+{
+    if lookahead.is_for(bytes.len()) {
+        return report_stretch(rt, alloc, writer, lookahead, bytes, given, dealt, pending);
+    }
+    report_ahead(alloc, writer, bytes, given, dealt, pending)
+}
+
+/// Takes the next line, as `report_line`, and then whole lines at hand, as `report_at_hand`.
+fn report_turn<T: Threads + Sync, R: Read, W: Write>(
+    rt: &T,
     alloc: Global,
     reader: &mut Counted<R>,
     writer: &mut Counted<W>,
     lines: &mut LineReader,
+    lookahead: &mut Lookahead,
     dealt: &mut Dealt,
     pending: &mut Vec<u8>,
 ) -> Result<bool, EngineFault>
-    requires { IsReady dealt.old (length (ahead lines.old)) reader.old.given }
+    requires ready { IsReady dealt.old (length (ahead lines.old)) reader.old.given }
+    requires names { Begins lookahead.old.names dealt.old.catalog }
     ensures turn { Turn result
         (record {
           rest = prepend_known (ahead lines.old) (R.remaining reader.old.inner);
@@ -360,16 +399,20 @@ fn report_turn<R: Read, W: Write>(
           pending = pending.new.items;
           dealt = dealt.new;
         }) }
+    ensures names { result ≡ Ok true → Begins lookahead.new.names dealt.new.catalog }
     ensures reads { reader.new.errors ≡ read_errors result reader.old.errors }
     ensures writes { writer.new.errors ≡ write_errors result writer.old.errors }
 {
     if !report_line(alloc, reader, writer, lines, dealt, pending)? {
         return Ok(false);
     }
-    let taken = report_ahead(
+    let bytes = lines.bytes_ahead();
+    let taken = report_at_hand(
+        rt,
         alloc,
         writer,
-        lines.bytes_ahead(),
+        lookahead,
+        bytes,
         reader.given,
         dealt,
         pending,
@@ -379,15 +422,18 @@ fn report_turn<R: Read, W: Write>(
 }
 
 /// Takes lines to the end of the input, as `report_turn`.
-fn report_rest<R: Read, W: Write>(
+fn report_rest<T: Threads + Sync, R: Read, W: Write>(
+    rt: &T,
     alloc: Global,
     reader: &mut Counted<R>,
     writer: &mut Counted<W>,
     lines: &mut LineReader,
+    lookahead: &mut Lookahead,
     dealt: &mut Dealt,
     pending: &mut Vec<u8>,
 ) -> Result<(), EngineFault>
-    requires { IsReady dealt.old (length (ahead lines.old)) reader.old.given }
+    requires ready { IsReady dealt.old (length (ahead lines.old)) reader.old.given }
+    requires names { Begins lookahead.old.names dealt.old.catalog }
     ensures report { EndsReporting result
         (record {
           rest = prepend_known (ahead lines.old) (R.remaining reader.old.inner);
@@ -401,15 +447,27 @@ fn report_rest<R: Read, W: Write>(
     ensures reads { reader.new.errors ≡ read_errors result reader.old.errors }
     ensures writes { writer.new.errors ≡ write_errors result writer.old.errors }
 {
-    'lines: while report_turn(alloc, reader, writer, lines, dealt, pending)? {}
+    'lines: while report_turn(rt, alloc, reader, writer, lines, lookahead, dealt, pending)? {}
     Ok(())
 }
 
+/// A reader of lines, which reads much at once where threads read lines before their turn.
+fn lines_for(alloc: Global, reading: ReadingAhead) -> Result<LineReader, AllocError>
+    ensures { IfOk result (λ lines. ahead lines ≡ []) }
+{
+    if reading.threads > 0 {
+        return LineReader::growing(alloc);
+    }
+    LineReader::new(alloc)
+}
+
 /// Reads lines to the end, and writes the report, the end of it still pending. After a fault whole lines are pending.
-fn report_lines<R: Read, W: Write>(
+fn report_lines<T: Threads + Sync, R: Read, W: Write>(
+    rt: &T,
     alloc: Global,
     reader: &mut Counted<R>,
     writer: &mut Counted<W>,
+    reading: ReadingAhead,
     pending: &mut Vec<u8>,
 ) -> Result<(), EngineFault>
     requires { pending.old.items ≡ [] }
@@ -420,9 +478,19 @@ fn report_lines<R: Read, W: Write>(
     ensures reads { reader.new.errors ≡ read_errors result reader.old.errors }
     ensures writes { writer.new.errors ≡ write_errors result writer.old.errors }
 {
-    let mut lines = LineReader::new(alloc)?;
+    let mut lines = lines_for(alloc, reading)?;
+    let mut lookahead = Lookahead::new(alloc, reading);
     let mut dealt = Dealt::new(alloc);
-    report_rest(alloc, reader, writer, &mut lines, &mut dealt, pending)
+    report_rest(
+        rt,
+        alloc,
+        reader,
+        writer,
+        &mut lines,
+        &mut lookahead,
+        &mut dealt,
+        pending,
+    )
 }
 
 /// Reads a log to its end, executes it statement by statement, and writes its report: one line for each line.
@@ -434,10 +502,12 @@ fn report_lines<R: Read, W: Write>(
 /// a growth was refused, `Read` where the reader failed, `Write` where the writer failed, or took no byte of a piece that
 /// wasn't empty. After a fault a beginning of the report stands: after `NoMemory` and `Read` the lines that were dealt
 /// with, after `Write` what the writer took.
-pub fn plain_text<R: Read, W: Write>(
+pub fn plain_text<T: Threads + Sync, R: Read, W: Write>(
+    rt: &T,
     alloc: Global,
     reader: &mut Counted<R>,
     writer: &mut Counted<W>,
+    reading: ReadingAhead,
 ) -> Result<(), EngineFault>
     // What was written is the report of what was read.
     ensures done { OnOk result (IfSome (R.remaining reader.old.inner) (λ input. (text : List ℕ)
@@ -452,7 +522,7 @@ pub fn plain_text<R: Read, W: Write>(
     ensures whole { OnOk result ((reader.new.errors ≡ reader.old.errors) × (writer.new.errors ≡ writer.old.errors)) }
 {
     let mut pending = Vec::with_capacity(alloc, PENDING_BYTES)?;
-    let ended = report_lines(alloc, reader, writer, &mut pending);
+    let ended = report_lines(rt, alloc, reader, writer, reading, &mut pending);
     let written = write_out(writer, pending.as_slice());
     ended?;
     written?;

@@ -59,7 +59,7 @@ fn compare_log<R: Threads + Wait + Sync>(
 ) -> Result<usize, TrialFault> {
     let mut log = drawn_log(alloc, generator, case.drawing)?;
     log.extend_from_slice(last)?;
-    let wanted = Run::Plain.text(rt, alloc, log.as_slice())?;
+    let wanted = Run::plain().text(rt, alloc, log.as_slice())?;
     reports.extend_from_slice(wanted.as_slice())?;
     let runs = case.runs.as_slice();
     right_runs(rt, alloc, log.as_slice(), runs, wanted.as_slice())

@@ -77,7 +77,7 @@ fn is_as_shown<R: Threads + Wait + Sync>(
     example: &Example,
 ) -> Result<bool, TrialFault> {
     let (log, report) = (example.log.as_slice(), example.report.as_slice());
-    Ok(right_runs(rt, alloc, log, &[Run::Plain, Run::Slow], report)? == 2)
+    Ok(right_runs(rt, alloc, log, &[Run::plain(), Run::Slow], report)? == 2)
 }
 
 /// How many examples a text has, and how many of them are as shown.

@@ -8,12 +8,24 @@ use crate::run::Run;
 use crate::tail::Bits;
 use audit_text::Question;
 use batched_text::Settings;
+use bohm_base::ReadingAhead;
 use model_base::Place;
 use std::alloc::Global;
 use trials_base::Drawing;
 
 /// How many settings there are of one, two or four workers, as many partitions, and batches of 1, 3 or 1,024 places.
 const CUTS: u64 = 27;
+
+/// The ways of `aheads` to read lines ahead: how many threads, and the bytes of a stretch.
+const AHEADS: [(usize, usize); 7] = [
+    (1, 16),
+    (1, 100),
+    (1, 4096),
+    (3, 16),
+    (3, 100),
+    (3, 4096),
+    (63, 4096),
+];
 
 /// A number.
 fn parse_number(word: &str) -> Result<u64, TrialFault> {
@@ -62,6 +74,19 @@ fn parse_limit(words: &[&str]) -> Result<Option<Place>, TrialFault> {
     }
 }
 
+/// How lines are read ahead: the threads, and the bytes of a stretch and of a piece.
+fn parse_ahead(words: &[&str]) -> Result<ReadingAhead, TrialFault> {
+    let [threads, stretch, piece] = words else {
+        return Err(TrialFault::Words);
+    };
+    Ok(ReadingAhead {
+        threads: parse_number(threads)? as usize,
+        least: 1,
+        stretch: parse_number(stretch)? as usize,
+        piece: parse_number(piece)? as usize,
+    })
+}
+
 /// A run: its name, and its numbers after colons.
 fn parse_run(alloc: Global, word: &str) -> Result<Run, TrialFault> {
     let parts = word.split(':').collect::<Vec<&str>>(alloc)?;
@@ -69,7 +94,8 @@ fn parse_run(alloc: Global, word: &str) -> Result<Run, TrialFault> {
         return Err(TrialFault::NoSuchRun);
     };
     match *name {
-        "plain" if words.is_empty() => Ok(Run::Plain),
+        "plain" if words.is_empty() => Ok(Run::plain()),
+        "ahead" => Ok(Run::Plain(parse_ahead(words)?)),
         "slow" if words.is_empty() => Ok(Run::Slow),
         "batches" => Ok(Run::Batches(parse_settings(words)?)),
         "kept" => Ok(Run::Kept(parse_settings(words)?)),
@@ -102,6 +128,19 @@ fn cut(number: u64, keep: u64) -> Settings {
     }
 }
 
+/// Appends the runs in order in all ways of `aheads`.
+fn push_aheads(runs: &mut Vec<Run>) -> Result<(), TrialFault> {
+    for (threads, stretch) in AHEADS {
+        runs.push(Run::Plain(ReadingAhead {
+            threads,
+            least: 1,
+            stretch,
+            piece: stretch / 4,
+        }))?;
+    }
+    Ok(())
+}
+
 /// Appends the runs in all settings of `cuts`, in batches that are kept and in batches that aren't.
 fn push_cuts(runs: &mut Vec<Run>, keep: u64) -> Result<(), TrialFault> {
     for number in 0..CUTS {
@@ -111,7 +150,8 @@ fn push_cuts(runs: &mut Vec<Run>, keep: u64) -> Result<(), TrialFault> {
     Ok(())
 }
 
-/// The runs that words name, one at least, each a run or `cuts:KEEP`, which is all settings of `cuts`.
+/// The runs that words name, one at least, each a run, `cuts:KEEP`, which is all settings of `cuts`, or `aheads`, which is all ways of
+/// `aheads`.
 fn parse_run_list(alloc: Global, words: &[&str]) -> Result<Vec<Run>, TrialFault> {
     if words.is_empty() {
         return Err(TrialFault::Words);
@@ -120,6 +160,7 @@ fn parse_run_list(alloc: Global, words: &[&str]) -> Result<Vec<Run>, TrialFault>
     for word in words {
         match word.strip_prefix("cuts:") {
             Some(keep) => push_cuts(&mut runs, parse_number(keep)?)?,
+            None if *word == "aheads" => push_aheads(&mut runs)?,
             None => runs.push(parse_run(alloc, word)?)?,
         }
     }

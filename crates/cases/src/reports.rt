@@ -55,7 +55,7 @@ pub fn same_reports<R: Files + Threads + Wait + Sync>(
     case: &Runs<'_>,
 ) -> Result<String, TrialFault> {
     let log = case.log.bytes(rt, alloc)?;
-    let report = Run::Plain.text(rt, alloc, log.as_slice())?;
+    let report = Run::plain().text(rt, alloc, log.as_slice())?;
     let report = report.as_slice();
     let same = right_runs(rt, alloc, log.as_slice(), case.runs.as_slice(), report)?;
     let count = case.runs.len();
@@ -73,7 +73,7 @@ fn is_reported<R: Threads + Wait + Sync>(
     log: &[u8],
     runs: &[Run],
 ) -> Result<bool, TrialFault> {
-    let report = Run::Plain.text(rt, alloc, log)?;
+    let report = Run::plain().text(rt, alloc, log)?;
     let same = right_runs(rt, alloc, log, runs, report.as_slice())?;
     Ok(same == runs.len() && line_count(report.as_slice()) == line_count(log))
 }

@@ -3,7 +3,7 @@
 use crate::fault::TrialFault;
 use audit_text::{Question, explain_text, grants_text};
 use batched_text::{Settings, report_text, run_text};
-use bohm_base::{plain_text, serial_text};
+use bohm_base::{ReadingAhead, plain_text, serial_text};
 use log_text_base::Counted;
 use model_base::Place;
 use std::alloc::Global;
@@ -14,8 +14,8 @@ use std::thread::Threads;
 /// What makes a text of a log: its report by one of the runs, or the answer to a question about it.
 #[derive(Clone, Copy)]
 pub enum Run {
-    /// The report, one statement after another.
-    Plain,
+    /// The report, one statement after another, with lines read ahead so.
+    Plain(ReadingAhead),
     /// The report, by the definitions.
     Slow,
     /// The report in batches, of which nothing is kept.
@@ -29,6 +29,11 @@ pub enum Run {
 }
 
 impl Run {
+    /// The report, one statement after another, with each line read in its turn.
+    pub fn plain() -> Run {
+        Run::Plain(ReadingAhead::by(0))
+    }
+
     /// Runs a log from its reader to its writer.
     pub fn execute<T: Threads + Wait + Sync, R: Read, W: Write>(
         self,
@@ -38,7 +43,7 @@ impl Run {
         text: &mut Counted<W>,
     ) -> Result<(), TrialFault> {
         match self {
-            Run::Plain => plain_text(alloc, log, text)?,
+            Run::Plain(ahead) => plain_text(rt, alloc, log, text, ahead)?,
             Run::Slow => serial_text(alloc, log, text)?,
             Run::Batches(settings) => report_text(rt, alloc, log, text, &settings)?,
             Run::Kept(settings) => run_kept(rt, alloc, log, text, &settings)?,

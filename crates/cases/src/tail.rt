@@ -153,7 +153,7 @@ pub fn tailed_runs<R: Files + Threads + Wait + Sync>(
     case: &Runs<'_>,
 ) -> Result<String, TrialFault> {
     let log = case.log.bytes(rt, alloc)?;
-    let wanted = Run::Plain.text(rt, alloc, log.as_slice())?;
+    let wanted = Run::plain().text(rt, alloc, log.as_slice())?;
     let mut outcome = String::new(alloc);
     for run in case.runs.as_slice() {
         let part = tailed_run(rt, alloc, log.as_slice(), bits, run, wanted.as_slice())?;

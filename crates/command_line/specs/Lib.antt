@@ -1,5 +1,6 @@
 pub mod Options
 pub mod Running
 pub mod Shapes
+pub mod Ways
 pub mod Words
 pub mod Works

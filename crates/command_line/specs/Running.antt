@@ -1,15 +1,16 @@
 -- How the work on a log ends.
-use Rattle.std.specs.Prelude.{◌≡◌, ◌⊎◌, ℕ, Err, IfSome, IsSome, List, Ok, Option, Result, false, true}
+use Rattle.std.specs.Prelude.{◌≡◌, ◌≤◌, ◌⊎◌, ℕ, Err, IfSome, IsSome, List, None, Ok, Option, Result, Some}
 use Rattle.std.specs.Io.KnownBytes.{Appends}
 use Rattle.log_text_base.specs.Known.{AppendsFront}
 use Rattle.report.specs.Report.{IsReport}
 use Rattle.audit_text.specs.declared.question.Question.{Question}
 use Rattle.batched_text.specs.declared.settings.Settings.{Settings}
-use Rattle.command_line.specs.Options.{is_alone}
 use Rattle.command_line.specs.Words.{path_of}
 use Rattle.command_line.specs.declared.command_words.Command.{Command}
 use Rattle.command_line.specs.declared.command_words.ProgramFault.{ProgramFault}
 use Rattle.command_line.specs.declared.command_words.Source.{Source}
+use Rattle.command_line.specs.declared.options.TheConstants.{MOST_AHEAD}
+use Rattle.command_line.specs.declared.options.Way.{Way}
 use Rattle.command_line.specs.declared.work.WorkFault.{WorkFault}
 
 -- what is told of a log is its report
@@ -46,15 +47,18 @@ IsWorkAnswer answers ended = (answer : EndOf WorkFault) × (answers answer × (e
 abbrev pub EndsAt : WorkAnswers → Source → EndOf ProgramFault → Type 0
 EndsAt answers source ended = IsWorkAnswer answers ended ⊎ (IsSome (path_of source) × (ended ≡ Err ProgramFault.Open))
 
--- the command ended as the run by some settings: with one worker and one partition the plain run, otherwise that in batches
-abbrev pub EndsBySettings : WorkAnswers → (Settings → WorkAnswers) → Settings → Source → EndOf ProgramFault → Type 0
-EndsBySettings plain batched settings source ended =
-    (is_alone settings ≡ true → EndsAt plain source ended) × (is_alone settings ≡ false → EndsAt (batched settings) source ended)
+-- the command ended as the run that goes this way: in order with so many threads that read lines ahead, or with some number of them
+-- within the limits where none is told, or in batches
+abbrev pub EndsByWay : (ℕ → WorkAnswers) → (Settings → WorkAnswers) → Way → Source → EndOf ProgramFault → Type 0
+EndsByWay plain batched (Way.InOrder (Some threads)) source ended = EndsAt (plain threads) source ended
+EndsByWay plain batched (Way.InOrder None) source ended =
+    (threads : ℕ) × ((threads ≤ MOST_AHEAD) × EndsAt (plain threads) source ended)
+EndsByWay plain batched (Way.InBatches settings) source ended = EndsAt (batched settings) source ended
 
 -- the command was done by the work that it asks for on the log that it names, and ended so
-abbrev pub DoesCommand : WorkAnswers → (Settings → WorkAnswers) → WorkAnswers → (Question → WorkAnswers)
+abbrev pub DoesCommand : (ℕ → WorkAnswers) → (Settings → WorkAnswers) → WorkAnswers → (Question → WorkAnswers)
     → (Option ℕ → WorkAnswers) → Command → EndOf ProgramFault → Type 0
-DoesCommand plain batched slow explained pictured (Command.Run source settings) ended = EndsBySettings plain batched settings source ended
+DoesCommand plain batched slow explained pictured (Command.Run source way) ended = EndsByWay plain batched way source ended
 DoesCommand plain batched slow explained pictured (Command.Serial source) ended = EndsAt slow source ended
 DoesCommand plain batched slow explained pictured (Command.Explain source question) ended = EndsAt (explained question) source ended
 DoesCommand plain batched slow explained pictured (Command.Grants source limit) ended = EndsAt (pictured limit) source ended

@@ -1,17 +1,17 @@
 -- Which words of the command line are a command, and how the program ends: its exit status, and what it prints of a fault.
-use Rattle.std.specs.Prelude.{◌≡◌, ◌≢◌, ◌⊎◌, ℕ, List, Option, None, Some, bytes_eq, codes, if◌then◌else◌, option_and_then, option_map, string_bytes, true}
+use Rattle.std.specs.Prelude.{◌≡◌, ◌≢◌, ◌⊎◌, ℕ, List, Option, None, Some, bytes_eq, codes, if◌then◌else◌, option_and_then, option_map, string_bytes}
 use Rattle.clap.specs.Words.{IsAmong, Kinds, Row, Text, first_of}
 use Rattle.clap.specs.declared.error.kind.ErrorKind.{ErrorKind}
 use Rattle.audit_text.specs.declared.question.Question.{Question}
 use Rattle.bohm_base.specs.declared.command_line.ArgumentFault.{ArgumentFault}
-use Rattle.batched_text.specs.Settings.{are_within_limits}
-use Rattle.batched_text.specs.declared.settings.Settings.{Settings}
-use Rattle.command_line.specs.Options.{limit_among, question_among, settings_among}
+use Rattle.command_line.specs.Options.{limit_among, question_among}
+use Rattle.command_line.specs.Ways.{IsWithin, way_among}
 use Rattle.command_line.specs.declared.command_words.Command.{Command}
 use Rattle.command_line.specs.declared.command_words.ProgramFault.{ProgramFault}
 use Rattle.command_line.specs.declared.command_words.Source.{Source}
 use Rattle.command_line.specs.declared.command_words.Usage.{Usage}
 use Rattle.command_line.specs.declared.command_words.Verb.{Verb}
+use Rattle.command_line.specs.declared.options.Way.{Way}
 use Rattle.command_line.specs.declared.work.WorkFault.{WorkFault}
 
 -- whether an error of this kind is told so: help and the version as help, any other as a fault of the words
@@ -73,14 +73,14 @@ path_named word = option_and_then (λ path. if bytes_eq path (codes "-") then No
 
 -- what is asked for, over the log of a path, or of standard input without one
 pub data Asked : Type 0 where
-  run : Option Text → Settings → Asked
+  run : Option Text → Way → Asked
   serial : Option Text → Asked
   explain : Option Text → Question → Asked
   grants : Option Text → Option ℕ → Asked
 
 -- what a subcommand asks for with these words, if its numbers are within their limits
 abbrev pub asked_by : Verb → Option Text → List Row → Option Asked
-asked_by Verb.Run path rows = option_map (run path) (settings_among rows)
+asked_by Verb.Run path rows = option_map (run path) (way_among rows)
 asked_by Verb.Serial path rows = Some (serial path)
 asked_by Verb.Explain path rows = option_map (explain path) (question_among rows)
 asked_by Verb.Grants path rows = option_map (grants path) (limit_among rows)
@@ -92,7 +92,7 @@ asked_in entered =
 
 -- what a command asks for
 abbrev pub asked : Command → Asked
-asked (Command.Run source settings) = run (path_of source) settings
+asked (Command.Run source way) = run (path_of source) way
 asked (Command.Serial source) = serial (path_of source)
 asked (Command.Explain source question) = explain (path_of source) question
 asked (Command.Grants source limit) = grants (path_of source) limit
@@ -105,9 +105,9 @@ Asks command entered = asked_in entered ≡ Some (asked command)
 abbrev pub AsksOutsideLimits : Option (Text × List Row) → Type 0
 AsksOutsideLimits entered = asked_in entered ≡ None
 
--- the settings of a run are within their limits
+-- the numbers of a run are within their limits
 abbrev pub IsWithinLimits : Command → Type 0
-IsWithinLimits (Command.Run source settings) = are_within_limits settings ≡ true
+IsWithinLimits (Command.Run source way) = IsWithin way
 IsWithinLimits (Command.Serial source) = Unit {0}
 IsWithinLimits (Command.Explain source question) = Unit {0}
 IsWithinLimits (Command.Grants source limit) = Unit {0}

@@ -6,11 +6,10 @@ ghost use Rattle.clap.specs.Words.{fault_of, found_of, kind_of, rows_of, subcomm
 ghost use Rattle.command_line.specs.Shapes.{bohm_app, texts_of};
 ghost use Rattle.command_line.specs.Words.{Asks, AsksOutsideLimits, IsWithinLimits, TellsError, TellsOneOf, asked, asked_by, asked_in, message_of, path_named, path_of, status_of, verb_named};
 
-use crate::options::{limit_of, question_of, settings_of};
+use crate::options::{Way, limit_of, question_of, way_of};
 use crate::subcommands::program;
 use crate::work::WorkFault;
 use audit_text::Question;
-use batched_text::Settings;
 use bohm_base::ArgumentFault;
 use clap::error::ErrorKind;
 use clap::{ArgMatches, Error};
@@ -28,8 +27,8 @@ pub enum Source<'a> {
 /// What the program is asked to do.
 #[derive(Clone, Copy, Debug, PartialEq, Eq)]
 pub enum Command<'a> {
-    /// Execute a log by these settings and write its report.
-    Run(Source<'a>, Settings),
+    /// Execute a log in this way and write its report.
+    Run(Source<'a>, Way),
     /// Execute a log by the slow serial run, and write its report.
     Serial(Source<'a>),
     /// Answer a question about a place of a log.
@@ -115,8 +114,8 @@ fn command_of<'a>(verb: Verb, source: Source<'a>, found: &ArgMatches<'a>) -> Opt
     ensures within { IfSome result IsWithinLimits }
 {
     match verb {
-        Verb::Run => match settings_of(found) {
-            Some(settings) => Some(Command::Run(source, settings)),
+        Verb::Run => match way_of(found) {
+            Some(way) => Some(Command::Run(source, way)),
             None => None,
         },
         Verb::Serial => Some(Command::Serial(source)),
@@ -147,7 +146,8 @@ fn command_in<'a>(matches: &ArgMatches<'a>) -> Option<Command<'a>>
 
 /// Reads the words of the command line, the program's name first. The words are judged by `clap`: an answered command
 /// is the one of the subcommand that it finds, with the file and the settings that it finds, and these are within their
-/// limits. Words that it takes fail only where a growth was refused, or where a number isn't within its limits. Help is
+/// limits. Words that it takes fail only where a growth was refused, or where a number isn't within its limits or lines would be read
+/// ahead of batches. Help is
 /// answered only where the words ask for it, and a fault only where they are wrong.
 pub fn read_words<'a>(alloc: Global, words: &'a [&'a str]) -> Result<Command<'a>, Usage>
     ensures taken { OnOk result (fault_of bohm_app (texts_of words.entry.now) ≡ []) }

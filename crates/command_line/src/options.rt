@@ -1,10 +1,12 @@
-//! The numbers among the words: the options of `run`, how its log is cut into batches and by how many workers and partitions these
-//! are run; and the places of which `explain` and `grants` are asked.
+//! The numbers among the words: the options of `run`, by how many workers and partitions its log is run, how it is cut into batches,
+//! and how many threads read its lines ahead; and the places of which `explain` and `grants` are asked.
 
-ghost use Rattle.std.specs.Prelude.{◌≡◌, ◌≤◌, IfOk, IfSome, codes, option_map, true};
+ghost use Rattle.std.specs.Prelude.{◌≡◌, ◌≤◌, ◌∷◌, ◌||◌, [], IfOk, IfSome, codes, is_some, option_map, true, unwrap_or};
+ghost use Rattle.command_line.specs.Ways.{IsWithin, is_alone, way_among, way_by, way_told};
 ghost use Rattle.clap.specs.Words.{app_of, found_of, rows_of, with_rule};
+ghost use Rattle.clap.specs.Walk.{first_of};
 ghost use Rattle.batched_text.specs.Settings.{are_within_limits};
-ghost use Rattle.command_line.specs.Options.{has_flag, is_alone, limit_among, limit_named, number_among, number_rule, number_within, question_among, settings_among, with_options};
+ghost use Rattle.command_line.specs.Options.{has_flag, limit_among, number_among, number_if, number_rule, number_within, question_among, with_options};
 
 use audit_text::Question;
 use batched_text::Settings;
@@ -20,8 +22,6 @@ struct NumberOption {
     name: &'static str,
     least: u64,
     most: u64,
-    /// The number that it has where it isn't told.
-    default: &'static str,
     help: &'static str,
 }
 
@@ -29,15 +29,13 @@ const WORKERS: NumberOption = NumberOption {
     name: "workers",
     least: 1,
     most: MOST_WORKERS as u64,
-    default: "4",
-    help: "How many workers run a batch, 1 to 64",
+    help: "How many workers run a batch, 1 to 64. Without it and --partitions the log is run in order",
 };
 
 const PARTITIONS: NumberOption = NumberOption {
     name: "partitions",
     least: 1,
     most: MOST_PARTITIONS as u64,
-    default: "4",
     help: "By how many partitions a batch is placed, 1 to 64",
 };
 
@@ -45,7 +43,6 @@ const BATCH: NumberOption = NumberOption {
     name: "batch",
     least: 1,
     most: MOST_BATCH_STATEMENTS,
-    default: "1024",
     help: "How many accepted statements a batch has, 1 to 65536",
 };
 
@@ -53,27 +50,57 @@ const KEEP: NumberOption = NumberOption {
     name: "keep",
     least: 0,
     most: MOST_KEPT_BATCHES,
-    default: "1",
     help: "Before how many of the last batches the rows are kept, 0 to 65535",
 };
+
+/// How many threads at most read lines ahead of the run.
+pub(crate) const MOST_AHEAD: u64 = 63;
+
+const AHEAD: NumberOption = NumberOption {
+    name: "ahead",
+    least: 0,
+    most: MOST_AHEAD,
+    help: "How many threads read lines ahead of a run in order, 0 to 63",
+};
+
+/// How many workers run a batch, or by how many partitions it is placed, where only the other is told.
+const USUAL_SHARE: u64 = 4;
 
 /// The greatest place of a log.
 pub(crate) const MOST_PLACE: u64 = MOST_PLACES - 1;
 
-/// Adds an option to a command's description.
+/// Adds an option to a command's description. Where it isn't told it has no number.
 fn with_number<'a>(
     alloc: Global,
     command: Command<'a>,
     option: &NumberOption,
 ) -> Result<Command<'a>, AllocError>
     ensures { IfOk result (λ c. app_of c ≡ with_rule (app_of command.entry)
-        (number_rule option.now.name.now option.now.least option.now.most option.now.default.now)) }
+        (number_rule option.now.name.now option.now.least option.now.most [])) }
 {
     let number = Arg::new(alloc, option.name)
         .long(option.name)
         .value_name("N")
         .value_parser(ValueParser::unsigned(option.least, option.most))
-        .default_value(option.default)
+        .help(option.help);
+    command.arg(number)
+}
+
+/// Adds an option to a command's description that has this number where it isn't told.
+fn with_usual_number<'a>(
+    alloc: Global,
+    command: Command<'a>,
+    option: &NumberOption,
+    usual: &'a str,
+) -> Result<Command<'a>, AllocError>
+    ensures { IfOk result (λ c. app_of c ≡ with_rule (app_of command.entry)
+        (number_rule option.now.name.now option.now.least option.now.most (usual.entry.now ∷ []))) }
+{
+    let number = Arg::new(alloc, option.name)
+        .long(option.name)
+        .value_name("N")
+        .value_parser(ValueParser::unsigned(option.least, option.most))
+        .default_value(usual)
         .help(option.help);
     command.arg(number)
 }
@@ -84,8 +111,9 @@ pub(crate) fn with_options<'a>(alloc: Global, run: Command<'a>) -> Result<Comman
 {
     let run = with_number(alloc, run, &WORKERS)?;
     let run = with_number(alloc, run, &PARTITIONS)?;
-    let run = with_number(alloc, run, &BATCH)?;
-    with_number(alloc, run, &KEEP)
+    let run = with_usual_number(alloc, run, &BATCH, "1024")?;
+    let run = with_usual_number(alloc, run, &KEEP, "1")?;
+    with_number(alloc, run, &AHEAD)
 }
 
 /// The number that a text tells, if it is one within these limits.
@@ -110,21 +138,133 @@ fn number_of(found: &ArgMatches<'_>, option: &NumberOption) -> Option<u64>
     }
 }
 
-/// The settings that the options of a run tell, if each is within its limits.
-pub(crate) fn settings_of(found: &ArgMatches<'_>) -> Option<Settings>
-    ensures told { result ≡ settings_among (rows_of (found_of found.now)) }
-    ensures within { IfSome result (λ settings. are_within_limits settings ≡ true) }
+/// The number that a word tells, if there is a word, and if the number is within these limits.
+fn number_if(word: Option<&str>, least: u64, most: u64) -> Option<Option<u64>>
+    ensures told { result ≡ number_if least most (option_map (λ text. text.now) word.entry) }
+    ensures within { IfSome result (λ told. IfSome told (λ n. (least ≤ n) × (n ≤ most))) }
 {
-    let workers = number_of(found, &WORKERS)?;
-    let partitions = number_of(found, &PARTITIONS)?;
-    let batch = number_of(found, &BATCH)?;
-    let keep = number_of(found, &KEEP)?;
-    Some(Settings {
-        workers: workers as usize,
-        partitions: partitions as usize,
+    match word {
+        None => Some(None),
+        Some(text) => match number_within(text, least, most) {
+            Some(number) => Some(Some(number)),
+            None => None,
+        },
+    }
+}
+
+/// The number that an option has, if it is told, and if it is within its limits.
+fn number_told(found: &ArgMatches<'_>, option: &NumberOption) -> Option<Option<u64>>
+    ensures told { result ≡ number_if option.now.least option.now.most (first_of option.now.name.now (rows_of (found_of found.now))) }
+    ensures within { IfSome result (λ told. IfSome told (λ n. (option.now.least ≤ n) × (n ≤ option.now.most))) }
+{
+    let word = found.get_str(option.name);
+    number_if(word, option.least, option.most)
+}
+
+/// How a log is run.
+#[derive(Clone, Copy, Debug, PartialEq, Eq)]
+pub enum Way {
+    /// Place after place, while so many threads read lines ahead, or as many as pay where no number is told.
+    InOrder(Option<u64>),
+    /// In batches, by these settings.
+    InBatches(Settings),
+}
+
+/// Whether one worker runs the log, and places it by one partition.
+fn is_alone(settings: &Settings) -> bool
+    ensures { result ≡ is_alone settings.now }
+{
+    settings.workers == 1 && settings.partitions == 1
+}
+
+/// The way that goes by some settings, with so many threads that read lines ahead: one worker and one partition run the log in order. None
+/// where lines would be read ahead of batches.
+fn way_by(settings: Settings, ahead: u64) -> Option<Way>
+    requires settings { are_within_limits settings ≡ true }
+    requires ahead { ahead ≤ MOST_AHEAD }
+    ensures way { result ≡ way_by settings ahead }
+    ensures within { IfSome result IsWithin }
+{
+    if is_alone(&settings) {
+        return Some(Way::InOrder(Some(ahead)));
+    }
+    if ahead == 0 {
+        return Some(Way::InBatches(settings));
+    }
+    None
+}
+
+/// How many workers there are, or partitions, where so many are told, or the usual share where none are.
+fn share_of(told: Option<u64>, most: u64) -> u64
+    requires told { IfSome told (λ n. (1 ≤ n) × (n ≤ most)) }
+    requires usual { USUAL_SHARE ≤ most }
+    ensures value { result ≡ unwrap_or told USUAL_SHARE }
+    ensures within { (1 ≤ result) × (result ≤ most) }
+{
+    match told {
+        Some(number) => number,
+        None => USUAL_SHARE,
+    }
+}
+
+/// How many threads read lines ahead of settings, where so many are told, or none.
+fn ahead_of(told: Option<u64>) -> u64
+    requires { IfSome told (λ n. n ≤ MOST_AHEAD) }
+    ensures value { result ≡ unwrap_or told 0 }
+    ensures within { result ≤ MOST_AHEAD }
+{
+    match told {
+        Some(number) => number,
+        None => 0,
+    }
+}
+
+/// Whether workers or partitions are told.
+fn is_told(workers: Option<u64>, partitions: Option<u64>) -> bool
+    ensures { result ≡ (is_some workers || is_some partitions) }
+{
+    workers.is_some() || partitions.is_some()
+}
+
+/// The way by the numbers that are told.
+fn way_told(
+    workers: Option<u64>,
+    partitions: Option<u64>,
+    batch: u64,
+    keep: u64,
+    ahead: Option<u64>,
+) -> Option<Way>
+    requires workers { IfSome workers (λ n. (1 ≤ n) × (n ≤ MOST_WORKERS)) }
+    requires partitions { IfSome partitions (λ n. (1 ≤ n) × (n ≤ MOST_PARTITIONS)) }
+    requires batch { (1 ≤ batch) × (batch ≤ MOST_BATCH_STATEMENTS) }
+    requires keep { keep ≤ MOST_KEPT_BATCHES }
+    requires ahead { IfSome ahead (λ n. n ≤ MOST_AHEAD) }
+    ensures way { result ≡ way_told workers partitions batch keep ahead }
+    ensures within { IfSome result IsWithin }
+{
+    if !is_told(workers, partitions) {
+        return Some(Way::InOrder(ahead));
+    }
+    let settings = Settings {
+        workers: share_of(workers, MOST_WORKERS as u64) as usize,
+        partitions: share_of(partitions, MOST_PARTITIONS as u64) as usize,
         batch,
         keep,
-    })
+    };
+    way_by(settings, ahead_of(ahead))
+}
+
+/// The way that the options of a run tell, if each is within its limits.
+pub(crate) fn way_of(found: &ArgMatches<'_>) -> Option<Way>
+    ensures told { result ≡ way_among (rows_of (found_of found.now)) }
+    ensures within { IfSome result IsWithin }
+{
+    let workers = number_told(found, &WORKERS)?;
+    let partitions = number_told(found, &PARTITIONS)?;
+    let batch = number_of(found, &BATCH)?;
+    let keep = number_of(found, &KEEP)?;
+    let ahead = number_told(found, &AHEAD)?;
+    way_told(workers, partitions, batch, keep, ahead)
 }
 
 /// Whether the flag of this name is among the words.
@@ -158,30 +298,10 @@ pub(crate) fn question_of(found: &ArgMatches<'_>) -> Option<Question>
     }
 }
 
-/// The place that a word names, if there is a word, and if the place is within the limits.
-fn limit_named(word: Option<&str>) -> Option<Option<Place>>
-    ensures { result ≡ limit_named (option_map (λ text. text.now) word.entry) }
-{
-    match word {
-        None => Some(None),
-        Some(text) => match number_within(text, 0, MOST_PLACE) {
-            Some(place) => Some(Some(place)),
-            None => None,
-        },
-    }
-}
-
 /// The place before which the words of `grants` ask for the grants, if they name one, and if it is within the limits.
 pub(crate) fn limit_of(found: &ArgMatches<'_>) -> Option<Option<Place>>
     ensures { result ≡ limit_among (rows_of (found_of found.now)) }
 {
     let word = found.get_str("PLACE");
-    limit_named(word)
-}
-
-/// Whether one worker runs the log, and places it by one partition.
-pub(crate) fn is_alone(settings: &Settings) -> bool
-    ensures { result ≡ is_alone settings.now }
-{
-    settings.workers == 1 && settings.partitions == 1
+    number_if(word, 0, MOST_PLACE)
 }

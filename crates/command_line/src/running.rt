@@ -1,16 +1,17 @@
 //! Does what a command asks for with its log, and tells how that ended.
 
-ghost use Rattle.std.specs.Prelude.{◌≡◌, ◌↔◌, ℕ, Err, IsErr, IsOk, List, Option, true};
+ghost use Rattle.std.specs.Prelude.{◌≡◌, ◌≤◌, ◌↔◌, ℕ, Err, IsErr, IsOk, List, Option, true};
 ghost use Rattle.audit_text.specs.Answer.{IsExplanation};
 ghost use Rattle.audit_text.specs.Picture.{IsPicture};
 ghost use Rattle.audit_text.specs.declared.question.Question.{Question};
 ghost use Rattle.batched_text.specs.Settings.{are_within_limits};
 ghost use Rattle.batched_text.specs.declared.settings.Settings.{Settings};
-ghost use Rattle.command_line.specs.Running.{DoesCommand, EndsAt, EndsBySettings, IsWorkAnswer, TellsReports};
+ghost use Rattle.command_line.specs.Running.{DoesCommand, EndsAt, EndsByWay, IsWorkAnswer, TellsReports};
+ghost use Rattle.command_line.specs.Ways.{IsWithin};
 ghost use Rattle.command_line.specs.Words.{IsWithinLimits};
 
 use crate::command_words::{Command, ProgramFault, Source};
-use crate::options::is_alone;
+use crate::options::{MOST_AHEAD, Way};
 use crate::work::Work;
 use audit_text::Question;
 use batched_text::Settings;
@@ -21,7 +22,7 @@ use std::io::{Read, Write};
 use std::rt::Files;
 use std::sync::Wait;
 use std::thread::Threads;
-use std::{fs, io};
+use std::{fs, io, thread};
 
 /// Works on the log of a reader: the answer is the work's.
 fn work_on<O: Copy, K: Work<O>, T: Threads + Wait + Sync, R: Read + Drop, W: Write + Drop>(
@@ -80,7 +81,7 @@ fn run<O: Copy, K: Work<O>, R: Files + Input + Print + Threads + Wait + Sync>(
 
 /// The works by which commands are done.
 pub struct Works<P, B, S, E, G> {
-    /// The run of one statement after another.
+    /// The run in order, one statement after another, while so many threads read lines ahead.
     pub plain: P,
     /// The run in batches.
     pub batched: B,
@@ -92,33 +93,44 @@ pub struct Works<P, B, S, E, G> {
     pub pictured: G,
 }
 
-/// Runs the log of a source by some settings: with one worker and one partition by the plain run, otherwise in batches.
-fn run_by_settings<
-    P: Work<()>,
-    B: Work<Settings>,
-    R: Files + Input + Print + Threads + Wait + Sync,
->(
+/// How many threads read lines ahead where no number is told, at most: no more were measured to pay.
+const USUAL_AHEAD: u64 = 3;
+
+/// How many threads read lines ahead where no number is told: one for each processor but that of the running thread, up to `USUAL_AHEAD`.
+fn usual_ahead<R: Threads>(rt: &R) -> u64
+    ensures { result ≤ MOST_AHEAD }
+{
+    match thread::available_parallelism(rt) {
+        Ok(processors) => (processors.get() as u64 - 1).min(USUAL_AHEAD),
+        Err(_) => 0,
+    }
+}
+
+/// Runs the log of a source in this way: in order by the plain run, or in batches.
+fn run_by_way<P: Work<u64>, B: Work<Settings>, R: Files + Input + Print + Threads + Wait + Sync>(
     rt: &R,
     alloc: Global,
     plain: &P,
     batched: &B,
-    settings: Settings,
+    way: Way,
     source: Source<'_>,
 ) -> Result<(), ProgramFault>
-    requires plain { P.takes plain.now tt }
-    requires batched { B.takes batched.now settings }
-    ensures { EndsBySettings (P.answers plain.now tt) (B.answers batched.now) settings source.entry result }
+    requires within { IsWithin way }
+    requires plain { (threads : ℕ) → threads ≤ MOST_AHEAD → P.takes plain.now threads }
+    requires batched { (settings : Settings) → are_within_limits settings ≡ true → B.takes batched.now settings }
+    ensures { EndsByWay (P.answers plain.now) (B.answers batched.now) way source.entry result }
 {
-    if is_alone(&settings) {
-        return run(rt, alloc, plain, (), source);
+    match way {
+        Way::InOrder(Some(threads)) => run(rt, alloc, plain, threads, source),
+        Way::InOrder(None) => run(rt, alloc, plain, usual_ahead(rt), source),
+        Way::InBatches(settings) => run(rt, alloc, batched, settings, source),
     }
-    run(rt, alloc, batched, settings, source)
 }
 
-/// Does what a command asks for: `run` by the plain run or in batches, as its settings ask, `serial` by the slow run, `explain` by
+/// Does what a command asks for: `run` in order by the plain run or in batches, as its way is, `serial` by the slow run, `explain` by
 /// the answer to its question, and `grants` by the picture of the grants. It is given works that tell just that.
 pub fn do_command<
-    P: Work<()>,
+    P: Work<u64>,
     B: Work<Settings>,
     S: Work<()>,
     E: Work<Question>,
@@ -131,24 +143,24 @@ pub fn do_command<
     command: Command<'_>,
 ) -> Result<(), ProgramFault>
     requires within { IsWithinLimits command }
-    requires plain { P.takes works.now.plain tt }
+    requires plain { (threads : ℕ) → threads ≤ MOST_AHEAD → P.takes works.now.plain threads }
     requires batched { (settings : Settings) → are_within_limits settings ≡ true → B.takes works.now.batched settings }
     requires slow { S.takes works.now.slow tt }
     requires explained { (question : Question) → E.takes works.now.explained question }
     requires pictured { (limit : Option ℕ) → G.takes works.now.pictured limit }
-    requires plain_reports { TellsReports (P.tells works.now.plain tt) }
+    requires plain_reports { (threads : ℕ) → TellsReports (P.tells works.now.plain threads) }
     requires batched_reports { (settings : Settings) → TellsReports (B.tells works.now.batched settings) }
     requires slow_reports { TellsReports (S.tells works.now.slow tt) }
     requires explains { (question : Question) (input text : List ℕ)
         → E.tells works.now.explained question input text → IsExplanation input question text }
     requires pictures { (limit : Option ℕ) (input text : List ℕ)
         → G.tells works.now.pictured limit input text → IsPicture input limit text }
-    ensures { DoesCommand (P.answers works.now.plain tt) (B.answers works.now.batched) (S.answers works.now.slow tt)
+    ensures { DoesCommand (P.answers works.now.plain) (B.answers works.now.batched) (S.answers works.now.slow tt)
         (E.answers works.now.explained) (G.answers works.now.pictured) command.entry result }
 {
     match command {
-        Command::Run(source, settings) => {
-            run_by_settings(rt, alloc, &works.plain, &works.batched, settings, source)
+        Command::Run(source, way) => {
+            run_by_way(rt, alloc, &works.plain, &works.batched, way, source)
         }
         Command::Serial(source) => run(rt, alloc, &works.slow, (), source),
         Command::Explain(source, question) => run(rt, alloc, &works.explained, question, source),

@@ -14,7 +14,7 @@ ghost use Rattle.command_line.specs.declared.work.WorkFault.{WorkFault};
 
 use audit_text::{AuditFault, Question, explain_text, grants_text};
 use batched_text::{Settings, report_text};
-use bohm_base::{EngineFault, plain_text, serial_text};
+use bohm_base::{EngineFault, ReadingAhead, plain_text, serial_text};
 use log_text_base::Counted;
 use model_base::Place;
 use std::alloc::Global;
@@ -102,11 +102,11 @@ fn audit_fault(fault: AuditFault) -> WorkFault
     }
 }
 
-/// The run of one statement after another, which keeps the rows and the grants.
+/// The run of one statement after another, which keeps the rows and the grants, while so many threads read lines before their turn.
 #[derive(Clone, Copy)]
 pub struct Plain;
 
-impl Work<()> for Plain {
+impl Work<u64> for Plain {
     ghost takes = { λ _ _. Unit {0} };
 
     ghost answers = { λ _ _ result. result ≢ Err WorkFault.NoSuchPlace };
@@ -115,13 +115,14 @@ impl Work<()> for Plain {
 
     fn work<T: Threads + Wait + Sync, R: Read, W: Write>(
         &self,
-        _rt: &T,
+        rt: &T,
         alloc: Global,
-        _order: (),
+        order: u64,
         log: &mut Counted<R>,
         told: &mut Counted<W>,
     ) -> Result<(), WorkFault> {
-        match plain_text(alloc, log, told) {
+        let ahead = ReadingAhead::by(order as usize);
+        match plain_text(rt, alloc, log, told, ahead) {
             Ok(()) => Ok(()),
             Err(fault) => Err(run_fault(fault)),
         }

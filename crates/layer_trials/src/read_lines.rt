@@ -1,6 +1,7 @@
 //! Lines that cross the buffer's end, and readers that give few bytes at a time or fail.
 
 ghost use Rattle.std.specs.Prelude.{None, ◌<◌, ◌≤◌, ◌+◌, ◌^◌, length};
+ghost use Rattle.log_text_base.specs.declared.limits.TheConstants.{BUFFER_BYTES, MOST_GIVEN_BYTES};
 ghost use Rattle.log_text_base.specs.Ahead.{ahead};
 
 use crate::fault::TrialFault;
@@ -71,7 +72,7 @@ fn tell_calls(
     reader: &mut Counted<Pieces<'_>>,
     calls: usize,
 )
-    requires { 0 < length (ahead lines.old) → reader.old.given ≤ 2 ^ 62 + 65536 }
+    requires { 0 < length (ahead lines.old) → reader.old.given ≤ MOST_GIVEN_BYTES + BUFFER_BYTES }
 {
     for _ in 0..calls {
         let answer = lines.next_line(reader);

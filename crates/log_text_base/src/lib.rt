@@ -14,6 +14,8 @@ pub use counted::Counted;
 pub use cutting::cut_line;
 pub use fault::{ReadFault, WriteFault};
 pub use laws::{lines_laws, writing_laws};
-pub use limits::{BUFFER_BYTES, KEPT_BYTES, MOST_GIVEN_BYTES, MOST_LINE_BYTES, PENDING_BYTES};
+pub use limits::{
+    BUFFER_BYTES, FIRST_BUFFER_BYTES, KEPT_BYTES, MOST_GIVEN_BYTES, MOST_LINE_BYTES, PENDING_BYTES,
+};
 pub use line_reader::LineReader;
 pub use writing::{PIECE_LEN, flush, write_much, write_out, write_pending};

@@ -6,8 +6,11 @@ pub const MOST_LINE_BYTES: usize = 4_096;
 /// Bytes that are kept of a line: one more than a line may have, so that a longer one shows.
 pub const KEPT_BYTES: usize = MOST_LINE_BYTES + 1;
 
-/// Bytes that are read ahead at most.
-pub const BUFFER_BYTES: usize = 65_536;
+/// Bytes that are read at once at most.
+pub const BUFFER_BYTES: usize = 1_048_576;
+
+/// Bytes that are read at once at first.
+pub const FIRST_BUFFER_BYTES: usize = 65_536;
 
 /// Bytes that a counted reader gives; a read behind so many is answered by an error.
 pub const MOST_GIVEN_BYTES: u64 = 1 << 62;

@@ -4,26 +4,26 @@ ghost use Rattle.std.specs.Io.KnownBytes.{Keeps, IsAtEnd, prepend_known};
 ghost use Rattle.memchr.specs.Find.{IsFirstByte, is_byte};
 ghost use Rattle.log_text_base.specs.Known.{raised, TookLine, HadSome};
 ghost use Rattle.log_text_base.specs.Lines.{HasLine};
-ghost use Rattle.log_text_base.specs.declared.limits.TheConstants.{BUFFER_BYTES, KEPT_BYTES};
+ghost use Rattle.log_text_base.specs.declared.limits.TheConstants.{BUFFER_BYTES, FIRST_BUFFER_BYTES, KEPT_BYTES};
 
 use super::counted::Counted;
 use super::fault::ReadFault;
-use super::limits::{BUFFER_BYTES, KEPT_BYTES, MOST_GIVEN_BYTES};
+use super::limits::{BUFFER_BYTES, FIRST_BUFFER_BYTES, KEPT_BYTES, MOST_GIVEN_BYTES};
 use memchr::memchr;
 use std::alloc::{AllocError, Global};
 use std::io::Read;
 
-/// A buffer to read into.
-fn empty_buffer(alloc: Global) -> Result<Vec<u8>, AllocError>
-    ensures { IfOk result (λ buffer. vec_len buffer ≡ BUFFER_BYTES) }
+/// A buffer of so many bytes to read into.
+fn empty_buffer(alloc: Global, bytes: usize) -> Result<Vec<u8>, AllocError>
+    ensures { IfOk result (λ buffer. vec_len buffer ≡ bytes) }
 {
-    let buffer = vec![in alloc; 0; BUFFER_BYTES]?;
+    let buffer = vec![in alloc; 0; bytes]?;
     Ok(buffer)
 }
 
-/// Reads a text line by line, through a buffer of `BUFFER_BYTES`. Lines are cut at LF, and a last
-/// piece without LF is a line if it isn't empty. Of a line longer than `KEPT_BYTES`
-/// the first so many are kept.
+/// Reads a text line by line, through a buffer of `FIRST_BUFFER_BYTES`, or one that grows up to
+/// `BUFFER_BYTES`. Lines are cut at LF, and a last piece without LF is a line if it isn't empty.
+/// Of a line longer than `KEPT_BYTES` the first so many are kept.
 ///
 /// It doesn't own the reader, so each call is to be made with the same one.
 #[derive(Drop)]
@@ -38,31 +38,50 @@ pub struct LineReader {
     /// Whether that line crossed the buffer's end, and was copied.
     is_kept: bool,
     kept: Vec<u8>,
-    ghost room: { vec_len buffer ≡ BUFFER_BYTES },
+    /// How many bytes the buffer has at most.
+    most: usize,
+    alloc: Global,
+    ghost some: { 0 < vec_len buffer },
+    ghost room: { vec_len buffer ≤ BUFFER_BYTES },
+    ghost most_room: { most ≤ BUFFER_BYTES },
     ghost ordered: { start ≤ end },
-    ghost within: { end ≤ BUFFER_BYTES },
+    ghost within: { end ≤ vec_len buffer },
     ghost line_ordered: { line_start ≤ line_end },
-    ghost line_within: { line_end ≤ BUFFER_BYTES },
+    ghost line_within: { line_end ≤ vec_len buffer },
     ghost short: { vec_len kept ≤ KEPT_BYTES },
 }
 
 impl LineReader {
     ghost use Rattle.log_text_base.specs.Ahead.{ahead, found_line};
 
-    /// Nothing read ahead, and no line found. The error is that memory ran out.
+    /// Nothing read ahead, and no line found. The buffer keeps its `FIRST_BUFFER_BYTES`. The error is
+    /// that memory ran out.
     pub fn new(alloc: Global) -> Result<LineReader, AllocError>
         ensures ahead { IfOk result (λ lines. ahead lines ≡ []) }
         ensures line { IfOk result (λ lines. found_line lines ≡ []) }
     {
         Ok(LineReader {
-            buffer: empty_buffer(alloc)?,
+            buffer: empty_buffer(alloc, FIRST_BUFFER_BYTES)?,
             start: 0,
             end: 0,
             line_start: 0,
             line_end: 0,
             is_kept: false,
             kept: Vec::new(alloc),
+            most: FIRST_BUFFER_BYTES,
+            alloc,
         })
+    }
+
+    /// As `new`, but each time that a read fills the buffer it is twice as long for the next one, up
+    /// to `BUFFER_BYTES`, where memory isn't refused.
+    pub fn growing(alloc: Global) -> Result<LineReader, AllocError>
+        ensures ahead { IfOk result (λ lines. ahead lines ≡ []) }
+        ensures line { IfOk result (λ lines. found_line lines ≡ []) }
+    {
+        let mut lines = LineReader::new(alloc)?;
+        lines.most = BUFFER_BYTES;
+        Ok(lines)
     }
 
     /// The line that the last `next_line` found, without its LF: its first `KEPT_BYTES`, if it has
@@ -110,6 +129,24 @@ impl LineReader {
     }
 
     #[tactic(auto, using(crate::proofs::Pieces::empty_range))]
+    /// Takes a longer buffer where the last read filled this one and it may grow. Where memory is
+    /// refused the buffer stays as it is.
+    fn grow(&mut self)
+        requires { self.old.start ≡ self.old.end }
+        ensures ahead { self.new.start ≡ self.new.end }
+        ensures kept { self.new.kept.items ≡ self.old.kept.items }
+        ensures is_kept { self.new.is_kept ≡ self.old.is_kept }
+    {
+        let bytes = self.buffer.len();
+        if self.end < bytes || bytes >= self.most {
+            return;
+        }
+        if let Ok(buffer) = empty_buffer(self.alloc, self.most.min(2 * bytes)) {
+            self.buffer = buffer;
+        }
+    }
+
+    #[tactic(auto, using(crate::proofs::Pieces::empty_range))]
     /// Reads ahead where nothing is ahead. False at the end of what the reader gives.
     fn refill<R: Read>(&mut self, reader: &mut Counted<R>) -> Result<bool, ReadFault>
         requires { self.old.start ≡ self.old.end }
@@ -126,6 +163,7 @@ impl LineReader {
         ensures kept { self.new.kept.items ≡ self.old.kept.items }
         ensures is_kept { self.new.is_kept ≡ self.old.is_kept }
     {
+        self.grow();
         match reader.read(self.buffer.as_mut_slice()) {
             Ok(n) => {
                 self.start = 0;

@@ -1,6 +1,9 @@
 pub mod Apart
+pub mod Beginnings
 pub mod Bodies
+pub mod Foretold
 pub mod KnownTables
+pub mod Learned
 pub mod NameLemmas
 pub mod Numbered
 pub mod Passed

@@ -1,5 +1,5 @@
 -- Names that are looked up among the keys of a set.
-use Rattle.std.proofs.Common.{◌≡◌, ℕ, ◌+◌, ◌<◌, Bool, true, false, not, cond, List, [], ◌∷◌, ◌++◌, length, map, slice_get, Some, None, refl, ap, sym, ◌∙◌, subst, true≢false, arith}
+use Rattle.std.proofs.Common.{◌≡◌, ℕ, suc, ◌+◌, ◌<◌, Bool, true, false, not, cond, List, [], ◌∷◌, ◌++◌, length, map, take, slice_get, Some, None, refl, ap, sym, ◌∙◌, subst, true≢false, arith}
 use Rattle.std.specs.Prelude.{bytes_eq, position, nat_lt, ◌||◌}
 use Rattle.std.specs.List.{list_any, prefix_len, position_or_len, IsDistinct}
 use Rattle.std.proofs.Math.ListN.{get_or}
@@ -18,6 +18,26 @@ differ_back first second differ = by (bytes_eq second first) refl
     by : (b : Bool) → bytes_eq second first ≡ b → b ≡ false
     by false is = refl
     by true is = absurd (true≢false (sym ((bytes_eq-Decides first second).1 (sym ((bytes_eq-Decides second first).0 is))) ∙ differ))
+
+-- a test fails before the place at which it passes first
+none_at_first : (p : List ℕ → Bool) (x : List ℕ) (xs : List (List ℕ)) (n : ℕ) (b : Bool) → p x ≡ b → list_any p (take n xs) ≡ false
+    → list_any p (take (cond (not b) (1 + n) 0) (x ∷ xs)) ≡ false
+none_at_first p x xs n true is none = refl
+none_at_first p x xs n false is none =
+    let one : 1 + n ≡ suc n = omega arith in
+    ap (λ (k : ℕ). list_any p (take k (x ∷ xs))) one ∙ ap (λ (b : Bool). b || list_any p (take n xs)) is ∙ none
+
+none_before : (p : List ℕ → Bool) (xs : List (List ℕ)) → list_any p (take (position_or_len p xs) xs) ≡ false
+none_before p [] = refl
+none_before p (x ∷ xs) = none_at_first p x xs (position_or_len p xs) (p x) refl (none_before p xs)
+
+found_at : (b : Bool) (n i : ℕ) → cond b (Some n) None ≡ Some i → n ≡ i
+found_at true n i e = cc
+found_at false n i e = cc
+
+-- the number of a name that is among these
+number_is : (names : List (List ℕ)) (name : List ℕ) (i : ℕ) → known_number names name ≡ Some i → number_of names name ≡ i
+number_is names name i e = found_at (nat_lt (number_of names name) (length names)) (number_of names name) i e
 
 module _ {X : Type 0} (view : X → List ℕ) where
   prefix_len-map : (p : List ℕ → Bool) (xs : List X) → prefix_len p (map view xs) ≡ prefix_len (λ x. p (view x)) xs
@@ -77,3 +97,10 @@ module _ {X : Type 0} (view : X → List ℕ) where
   pub own_known : (keys : List X) (i : ℕ) (key : X) (name : List ℕ) → slice_get keys i ≡ Some key → view key ≡ name → is_known (map view keys) name ≡ true
   own_known keys i key name at same =
       is_known-map name keys ∙ any_passes_from_place (λ x. bytes_eq name (view x)) keys i key at ((bytes_eq-Decides name (view key)).1 (sym same))
+
+  -- so none before it is of its name
+  pub own_new : (keys : List X) (i : ℕ) (key : X) (name : List ℕ) → IsDistinct (λ x y. bytes_eq (view x) (view y)) keys
+      → slice_get keys i ≡ Some key → view key ≡ name → is_known (take i (map view keys)) name ≡ false
+  own_new keys i key name distinct at same =
+      let first : number_of (map view keys) name ≡ i = number_is (map view keys) name i (own_number keys i key name distinct at same) in
+      ap (λ (n : ℕ). is_known (take n (map view keys)) name) (sym first) ∙ none_before (bytes_eq name) (map view keys)

@@ -6,3 +6,4 @@ pub mod Log
 pub mod Taken
 pub mod Tail
 pub mod Admitting
+pub mod Foretelling

@@ -3,6 +3,7 @@
 
 mod admitting;
 mod catalog;
+mod foretelling;
 mod log;
 mod names;
 mod numbering;
@@ -12,6 +13,7 @@ mod tail;
 mod testing;
 
 pub use catalog::Catalog;
+pub use foretelling::Recent;
 pub use log::Log;
 pub use names::NameTable;
 pub use refused::Refused;

@@ -98,6 +98,30 @@ impl NameTable {
         Ok(index as u32)
     }
 
+    /// The name of this number, which none before it is.
+    pub(crate) fn new_name(&self, number: u32) -> &str
+        requires { number < length self.now }
+        ensures name { slice_get self.now number ≡ Some result.now }
+        ensures is_new { is_known (take number self.now) result.now ≡ false }
+        ensures room { number < MOST_NAMES }
+    {
+        let names = self.names.as_slice();
+        let own = &names[number as usize];
+        own.as_str()
+    }
+
+    /// Learns the names that a later table has beyond these. On `Err` memory was refused, and the first of them may be learned.
+    pub(crate) fn catch_up(&mut self, later: &NameTable) -> Result<(), AllocError>
+        requires { take (length self.old) later.now ≡ self.old }
+        ensures ok { OnOk result (self.new ≡ later.now) }
+        ensures begins { take (length self.new) later.now ≡ self.new }
+    {
+        for index in self.names.len()..later.names.len() {
+            self.add(later.new_name(index as u32))?;
+        }
+        Ok(())
+    }
+
     /// The number of a name that is there already or is entered last. It says too whether it is new. A new name is
     /// refused where there are `MOST_NAMES`, or for want of memory; then nothing has changed.
     pub fn enter(&mut self, name: &str) -> Result<(u32, bool), Refused>

@@ -3,6 +3,7 @@ use Rattle.std.specs.Io.KnownBytes.{prepend_known}
 use Rattle.log_text_base.specs.Ahead.{ahead}
 use Rattle.engine.specs.Engine.{finished}
 use Rattle.batched_text.proofs.TakenLines.{TakenSoFar}
+use Rattle.log_text_base.specs.declared.limits.TheConstants.{BUFFER_BYTES, MOST_GIVEN_BYTES}
 use Rattle.batched_text.proofs.quiet.take_lines.Given as goal
 
 abbrev pub invariant-lines : goal.invariant-lines
@@ -10,9 +11,9 @@ invariant-lines g l = record {
   taken : TakenSoFar (g.R.Read.remaining l.initial.reader.inner) (prepend_known (ahead l.lines) (g.R.Read.remaining l.reader.inner)) l.engine.log;
   none : finished l.engine ≡ finished l.initial.engine;
   kept : l.engine.dropped ≡ l.initial.engine.dropped;
-  bounded : 0 < length (ahead l.lines) → l.reader.given ≤ 2 ^ 62 + 65536;
+  bounded : 0 < length (ahead l.lines) → l.reader.given ≤ MOST_GIVEN_BYTES + BUFFER_BYTES;
   read_errors : l.reader.errors ≡ l.initial.reader.errors;
 }
 
 abbrev pub decreases-lines : goal.decreases-lines
-decreases-lines g l = 2 ^ 62 + 65536 + length (ahead l.lines) - l.reader.given
+decreases-lines g l = MOST_GIVEN_BYTES + BUFFER_BYTES + length (ahead l.lines) - l.reader.given

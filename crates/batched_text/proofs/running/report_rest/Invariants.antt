@@ -4,6 +4,7 @@ use Rattle.log_text_base.specs.Ahead.{ahead}
 use Rattle.engine.specs.Engine.{finished}
 use Rattle.batched_text.specs.Batching.{Batched, IsBatchReady}
 use Rattle.batched_text.specs.History.{LinesWait, dropped_by}
+use Rattle.log_text_base.specs.declared.limits.TheConstants.{BUFFER_BYTES, MOST_GIVEN_BYTES}
 use Rattle.batched_text.proofs.running.report_rest.Given as goal
 
 abbrev pub invariant-lines : goal.invariant-lines
@@ -21,4 +22,4 @@ invariant-lines g l = record {
 }
 
 abbrev pub decreases-lines : goal.decreases-lines
-decreases-lines g l = 2 ^ 62 + 65536 + length (ahead l.lines) - l.reader.given
+decreases-lines g l = MOST_GIVEN_BYTES + BUFFER_BYTES + length (ahead l.lines) - l.reader.given

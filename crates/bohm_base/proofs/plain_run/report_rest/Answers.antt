@@ -2,7 +2,7 @@ use Rattle.std.proofs.Common.{◌≡◌, refl, ◌∙◌, arith, rules}
 use Rattle.bohm_base.proofs.plain_run.report_rest.Goals as goal
 
 pub lines-init : goal.lines-init
-lines-init g c = record { ready = c.requires; reported = λ input out so. so; read_errors = refl; write_errors = refl }
+lines-init g c = record { ready = c.requires.ready; reported = λ input out so. so; names = c.requires.names; read_errors = refl; write_errors = refl }
 
 pub returns-in_err-report_turn-clause-report : goal.returns-in_err-report_turn-clause-report
 returns-in_err-report_turn-clause-report g c = record {
@@ -18,6 +18,7 @@ lines-preserved g c =
     record {
       ready = took.ready;
       reported = λ input out so. took.reported input out (c.lines.invariant.reported input out so);
+      names = (rw c.if-branch.true at c.in_ok-report_turn.ensures.names) refl;
       read_errors = reads ∙ c.lines.invariant.read_errors;
       write_errors = writes ∙ c.lines.invariant.write_errors;
     }

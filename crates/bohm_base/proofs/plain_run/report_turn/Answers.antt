@@ -20,7 +20,7 @@ returns-then-not-branch-clause-turn g c = record {
 pub returns-in_err-taken-clause-turn : goal.returns-in_err-taken-clause-turn
 returns-in_err-taken-clause-turn g c =
     let took = (rw c.if-not-branch.false at c.in_ok-report_line.ensures.turn.taken) refl in
-    let begun = rw c.bytes_ahead.ensures at c.report_ahead.ensures.begun in
+    let begun = rw c.bytes_ahead-bytes.ensures at c.report_at_hand.ensures.begun in
     record {
       taken = search rules;
       ended = search rules;
@@ -30,14 +30,14 @@ returns-in_err-taken-clause-turn g c =
 pub returns-clause-turn : goal.returns-clause-turn
 returns-clause-turn g c =
     let took = (rw c.if-not-branch.false at c.in_ok-report_line.ensures.turn.taken) refl in
-    let taken = rw c.bytes_ahead.ensures at c.in_ok-taken.ensures.taken in
-    let reported = rw c.bytes_ahead.ensures at c.in_ok-taken.ensures.reported in
-    let begun = rw c.bytes_ahead.ensures at c.report_ahead.ensures.begun in
+    let taken = rw c.bytes_ahead-bytes.ensures at c.in_ok-taken.ensures.taken in
+    let reported = rw c.bytes_ahead-bytes.ensures at c.in_ok-taken.ensures.reported in
+    let begun = rw c.bytes_ahead-bytes.ensures at c.report_at_hand.ensures.begun in
     let left : length (ahead c.take_ahead.new.self) ≡ length (ahead c.report_line.new.lines) - c.in_ok-taken.taken =
     ap length c.take_ahead.ensures.ahead ∙ length-drop c.in_ok-taken.taken (ahead c.report_line.new.lines) in
     record {
       taken = λ _. record {
-        ready = subst (λ (n : ℕ). IsReady c.report_ahead.new.dealt n c.report_line.new.reader.given) (sym left) taken.1;
+        ready = subst (λ (n : ℕ). IsReady c.report_at_hand.new.dealt n c.report_line.new.reader.given) (sym left) taken.1;
         forward = omega (arith, took.forward, left);
         most = took.most;
         reported = λ input out so. rw c.take_ahead.ensures.ahead (reported _ input out (took.reported input out so));

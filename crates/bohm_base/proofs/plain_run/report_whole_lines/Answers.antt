@@ -1,8 +1,10 @@
-use Rattle.std.proofs.Common.{◌≡◌, ◌∙◌, ◌+◌, ◌-◌, ◌<◌, ◌≤◌, ℕ, List, [], length, take, drop, Option, subst, arith, drop-drop, length-drop}
+use Rattle.std.proofs.Common.{◌≡◌, ◌∙◌, ◌+◌, ◌-◌, ◌<◌, ◌≤◌, ℕ, List, [], length, take, drop, Option, refl, subst, arith, rules, drop-drop, length-drop}
 use Rattle.std.proofs.lemmas.List.{length-take, take_all}
 use Rattle.std.specs.Io.KnownBytes.{prepend_known}
 use Rattle.log_text_base.specs.Known.{HadSome, TookLine}
 use Rattle.log_text.proofs.Total.{total}
+use Rattle.sequencer.proofs.Beginnings.{begins_further, begins_same}
+use Rattle.bohm_base.proofs.ForetoldLines.{line_begins}
 use Rattle.bohm_base.proofs.Reached.{begun_front, report_begun, report_put, report_step}
 use Rattle.bohm_base.proofs.plain_run.report_whole_lines.Goals as goal
 
@@ -44,6 +46,15 @@ returns-in_err-put_out-clause-begun g c =
     (taken_behind c.args.bytes.now c.in-Some.line.now c.lines.taken c.in-Some.count behind (c.in-Some.ensures.line behind)) c.in_ok-put_line.ensures.ok))
     put
 
+pub lines-init : goal.lines-init
+lines-init g c = record {
+  within = omega arith;
+  ready = search rules;
+  reported = λ behind input out so. so;
+  begins = begins_same c.args.dealt.now.catalog;
+  errors = refl;
+}
+
 pub lines-preserved : goal.lines-preserved
 lines-preserved g c =
     let dealt = c.in_ok-put_line.ensures.ok.1.1 in
@@ -60,6 +71,8 @@ lines-preserved g c =
       reported = λ behind input out so.
           report_put input _ _ out _ _ c.lines.dealt c.put_line.new.dealt c.in-Some.line.now c.lines.pending.items c.put_out.new.pending.items (c.lines.invariant.reported behind input out so)
           (taken_behind c.args.bytes.now c.in-Some.line.now c.lines.taken c.in-Some.count behind (c.in-Some.ensures.line behind)) c.in_ok-put_line.ensures.ok put;
+      begins = begins_further c.args.dealt.now.catalog c.lines.dealt.catalog c.put_line.new.dealt.catalog c.lines.invariant.begins
+          (line_begins c.in-Some.line.now c.lines.dealt c.put_line.new.dealt c.in_ok-put_line.ensures.ok);
       errors = c.in_ok-put_out.ensures.errors ∙ c.lines.invariant.errors;
     }
 

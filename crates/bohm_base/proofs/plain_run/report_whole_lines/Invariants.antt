@@ -1,4 +1,5 @@
 use Rattle.std.proofs.Common.{◌≡◌, ◌≤◌, ◌-◌, length}
+use Rattle.sequencer.specs.Foretelling.{Begins}
 use Rattle.bohm_base.specs.Progress.{IsReady, TakesLines}
 use Rattle.bohm_base.proofs.plain_run.report_whole_lines.Given as goal
 
@@ -8,6 +9,7 @@ invariant-lines g l = record {
   ready : IsReady l.dealt (length l.bytes - l.taken) l.given;
   reported : TakesLines l.bytes l.taken (g.W.Write.contents l.initial.writer.inner) l.initial.pending.items l.initial.dealt
       (g.W.Write.contents l.writer.inner) l.pending.items l.dealt;
+  begins : Begins l.initial.dealt.catalog l.dealt.catalog;
   errors : l.writer.errors ≡ l.initial.writer.errors;
 }
 

@@ -4,6 +4,7 @@ use Rattle.std.proofs.lemmas.List.{length-take}
 use Rattle.log_text_base.specs.Ahead.{ahead}
 use Rattle.log_text_base.specs.Known.{raised}
 use Rattle.log_text_base.proofs.Pieces.{line_start, line_cut, line_piece, line_over, drop_range, empty_range, keeps_empty, piece_kept}
+use Rattle.log_text_base.specs.declared.limits.TheConstants.{BUFFER_BYTES, MOST_GIVEN_BYTES}
 use Rattle.log_text_base.proofs.line_reader.LineReader.rest_of_line.Goals as goal
 
 less_ahead : (given all old new fewer n : ℕ) → given + old ≤ new + all → fewer ≡ old - (n + 1) → n < old → given + fewer < new + all
@@ -73,7 +74,7 @@ pieces-smaller g c =
     let kept = c.keep-in-pieces.new.self in
     let some = rw c.if-not-branch.false at c.in_ok-look_ahead.ensures.some in
     let nothing : length (slice_range kept.buffer.items kept.end kept.end) ≡ 0 = ap length (empty_range kept.buffer.items kept.end) in
-    goes_down (2 ^ 62 + 65536) c.pieces.reader.given c.look_ahead.new.reader.given (length (ahead c.pieces.self)) (length (ahead c.look_ahead.new.self)) _
+    goes_down (MOST_GIVEN_BYTES + BUFFER_BYTES) c.pieces.reader.given c.look_ahead.new.reader.given (length (ahead c.pieces.self)) (length (ahead c.look_ahead.new.self)) _
     c.pieces.invariant.some nothing c.in_ok-look_ahead.ensures.given (c.look_ahead.ensures.bound some)
 
 pub returns-in-Some-clause-forward : goal.returns-in-Some-clause-forward
@@ -96,7 +97,7 @@ returns-then-not-branch-clause-forward g c =
     let end = rw c.if-not-branch.true at c.in_ok-look_ahead.ensures.some in (
       none_left c.args.reader.now.given (length (ahead c.args.self.now)) (length (ahead c.pieces.self)) c.pieces.reader.given c.look_ahead.new.reader.given
           (length (ahead c.look_ahead.new.self)) c.pieces.invariant.forward c.pieces.invariant.some (ap length end.0) end.2,
-      subst (λ (m : ℕ). m ≤ 2 ^ 62 + 65536) (sym end.2) c.pieces.invariant.given,
+      subst (λ (m : ℕ). m ≤ MOST_GIVEN_BYTES + BUFFER_BYTES) (sym end.2) c.pieces.invariant.given,
     )
 
 pub returns-then-not-branch-clause-bound : goal.returns-then-not-branch-clause-bound

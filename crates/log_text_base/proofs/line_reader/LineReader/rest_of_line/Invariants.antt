@@ -3,17 +3,18 @@ use Rattle.std.proofs.Common.{◌≡◌, ◌<◌, ◌≤◌, ◌+◌, ◌^◌, �
 use Rattle.std.specs.Io.KnownBytes.{prepend_known}
 use Rattle.log_text_base.proofs.Pieces.{KeepsLine}
 use Rattle.log_text_base.specs.Ahead.{ahead}
+use Rattle.log_text_base.specs.declared.limits.TheConstants.{BUFFER_BYTES, MOST_GIVEN_BYTES}
 use Rattle.log_text_base.proofs.line_reader.LineReader.rest_of_line.Given as goal
 
 abbrev pub invariant-pieces : goal.invariant-pieces
 invariant-pieces g l = record {
   kept : KeepsLine (prepend_known (ahead l.initial.self) (g.R.Read.remaining l.initial.reader.inner)) (prepend_known (ahead l.self) (g.R.Read.remaining l.reader.inner)) l.initial.self.kept.items l.self.kept.items;
   some : 0 < length (ahead l.self);
-  given : l.reader.given ≤ 2 ^ 62 + 65536;
+  given : l.reader.given ≤ MOST_GIVEN_BYTES + BUFFER_BYTES;
   forward : l.initial.reader.given + length (ahead l.self) ≤ l.reader.given + length (ahead l.initial.self);
   errors : l.reader.errors ≡ l.initial.reader.errors;
   is_kept : l.self.is_kept ≡ l.initial.self.is_kept;
 }
 
 abbrev pub decreases-pieces : goal.decreases-pieces
-decreases-pieces g l = 2 ^ 62 + 65536 + length (ahead l.self) - l.reader.given
+decreases-pieces g l = MOST_GIVEN_BYTES + BUFFER_BYTES + length (ahead l.self) - l.reader.given

@@ -1,0 +1,49 @@
+-- How a log is run, by the options of `run`.
+use Rattle.std.specs.Prelude.{◌≡◌, ◌≤◌, ◌&&◌, ◌||◌, ◌==◌, ℕ, Bool, IfSome, List, None, Option, Some, codes, if◌then◌else◌, is_some, option_and_then, true, unwrap_or}
+use Rattle.clap.specs.Words.{Row}
+use Rattle.model_base.specs.declared.limits.TheConstants.{MOST_BATCH_STATEMENTS, MOST_KEPT_BATCHES, MOST_PARTITIONS, MOST_WORKERS}
+use Rattle.batched_text.specs.Settings.{are_within_limits}
+use Rattle.batched_text.specs.declared.settings.Settings.{Settings}
+use Rattle.command_line.specs.Options.{number_among, number_told}
+use Rattle.command_line.specs.declared.options.TheConstants.{MOST_AHEAD, USUAL_SHARE}
+use Rattle.command_line.specs.declared.options.Way.{Way}
+
+-- whether one worker runs the log, and places it by one partition
+abbrev pub is_alone : Settings → Bool
+is_alone settings = settings.workers == 1 && settings.partitions == 1
+
+-- the way by some settings, with so many threads that read lines ahead: alone in order, and otherwise in batches, of which no lines are
+-- read ahead
+abbrev pub way_by : Settings → ℕ → Option Way
+way_by settings ahead =
+    if is_alone settings then Some (Way.InOrder (Some ahead))
+    else (if ahead == 0 then Some (Way.InBatches settings) else None)
+
+-- the way by the numbers that are told: by settings where workers or partitions are, in which what isn't told of the two is the usual
+-- share, and otherwise in order
+abbrev pub way_told : Option ℕ → Option ℕ → ℕ → ℕ → Option ℕ → Option Way
+way_told workers partitions batch keep ahead =
+    if is_some workers || is_some partitions then way_by (record {
+      workers = unwrap_or workers USUAL_SHARE;
+      partitions = unwrap_or partitions USUAL_SHARE;
+      batch = batch;
+      keep = keep;
+    })
+    (unwrap_or ahead 0)
+    else Some (Way.InOrder ahead)
+
+-- the way that the options tell, if each is within its limits
+abbrev pub way_among : List Row → Option Way
+way_among rows =
+    option_and_then (λ workers. option_and_then (λ partitions. option_and_then (λ batch. option_and_then (λ keep. option_and_then (λ ahead.
+    way_told workers partitions batch keep ahead)
+    (number_told (codes "ahead") 0 MOST_AHEAD rows))
+    (number_among (codes "keep") 0 MOST_KEPT_BATCHES rows))
+    (number_among (codes "batch") 1 MOST_BATCH_STATEMENTS rows))
+    (number_told (codes "partitions") 1 MOST_PARTITIONS rows))
+    (number_told (codes "workers") 1 MOST_WORKERS rows)
+
+-- the numbers of a way are within their limits
+abbrev pub IsWithin : Way → Type 0
+IsWithin (Way.InOrder ahead) = IfSome ahead (λ threads. threads ≤ MOST_AHEAD)
+IsWithin (Way.InBatches settings) = are_within_limits settings ≡ true

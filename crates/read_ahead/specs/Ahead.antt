@@ -1,0 +1,36 @@
+-- Lines that are read before their turn.
+use Rattle.std.specs.Prelude.{◌≡◌, ◌≢◌, ◌<◌, ◌≤◌, ◌+◌, ◌++◌, List, None, Some, drop, length, take, ℕ}
+use Rattle.log_text_base.specs.Lines.{first_line, other_lines}
+use Rattle.log_text_base.specs.declared.limits.TheConstants.{KEPT_BYTES}
+use Rattle.line_words.specs.declared.fault.LineFault.{LineFault}
+use Rattle.model_base.specs.declared.statement.Statement.{Statement}
+use Rattle.log_text.specs.Fault.{line_fault}
+use Rattle.log_text.specs.Statement.{Reads, Sentence}
+use Rattle.sequencer.specs.Catalog.{Names}
+use Rattle.sequencer.specs.Foretelling.{Foretells}
+use Rattle.read_ahead.specs.declared.ahead.Ahead.{Ahead}
+use Rattle.read_ahead.specs.declared.ahead.Found.{Found}
+
+-- the line that begins at an index of the bytes, up to `KEPT_BYTES` of it
+abbrev pub line_from : List ℕ → ℕ → List ℕ
+line_from bytes from = take KEPT_BYTES (first_line (drop from bytes))
+
+-- this line begins at an index of the bytes, and ends among them: with its LF it takes so many, whatever comes after the bytes
+pub record IsLineAt (bytes : List ℕ) (from count : ℕ) (line : List ℕ) : Type 0 where
+  pub some : 0 < count
+  pub within : from + count ≤ length bytes
+  pub first : (after : List ℕ) → line ≡ take KEPT_BYTES (first_line (drop from bytes ++ after))
+  pub others : (after : List ℕ) → drop (from + count) bytes ++ after ≡ other_lines (drop from bytes ++ after)
+
+-- what was found of a line by these names: as which statement each sentence is foretold that it reads as, or its fault
+pub record IsFoundOf (names : Names) (line : List ℕ) (found : Found) : Type 0 where
+  pub sound : (statement : Statement) → found ≡ Found.Known statement → line_fault line ≡ None
+  pub known : (statement : Statement) (sentence : Sentence) → found ≡ Found.Known statement → Reads line sentence
+      → Foretells names sentence statement
+  pub faulty : (fault : LineFault) → found ≡ Found.Faulty fault → line_fault line ≡ Some fault
+  pub told : found ≢ Found.Faulty LineFault.NoMemory
+
+-- a line of the bytes, and what was found of it
+pub record IsAhead (names : Names) (bytes : List ℕ) (ahead : Ahead) : Type 0 where
+  pub at : IsLineAt bytes ahead.from ahead.count (line_from bytes ahead.from)
+  pub found : IsFoundOf names (line_from bytes ahead.from) ahead.found

@@ -1,0 +1,63 @@
+//! What was found of a line before its turn.
+
+ghost use Rattle.std.specs.Prelude.{◌≡◌, ◌≢◌, List, Some, ℕ};
+ghost use Rattle.log_text.specs.Fault.{line_fault};
+ghost use Rattle.sequencer.specs.Catalog.{Names};
+ghost use Rattle.read_ahead.specs.Ahead.{IsFoundOf};
+
+use log_text::{LineFault, RawRoom, read_line};
+use model_base::Statement;
+use sequencer::{Catalog, Recent, Room};
+use std::alloc::Global;
+
+/// What was found of a line.
+#[derive(Drop)]
+pub enum Found {
+    /// The statement that its sentence becomes at any later place.
+    Known(Statement),
+    /// Its fault.
+    Faulty(LineFault),
+    /// Nothing: its turn will tell.
+    Unread,
+}
+
+/// A line that was read before its turn, and where it stands among the bytes.
+#[derive(Drop)]
+pub struct Ahead {
+    /// The index of its first byte.
+    pub from: usize,
+    /// How many bytes it has, with its LF.
+    pub count: usize,
+    pub found: Found,
+}
+
+/// What a line's fault tells. Want of memory tells nothing.
+fn found_faulty(fault: LineFault) -> Found
+    ensures { (names : Names) (line : List ℕ)
+        → (fault ≢ LineFault.NoMemory → line_fault line ≡ Some fault) → IsFoundOf names line result }
+{
+    match fault {
+        LineFault::NoMemory => Found::Unread,
+        other => Found::Faulty(other),
+    }
+}
+
+/// Reads a line, and numbers its statement by the names of an earlier place.
+pub(crate) fn found_of<'a>(
+    alloc: Global,
+    catalog: &Catalog,
+    recent: &mut Recent,
+    line: &'a [u8],
+    room: &mut Room,
+    raw: &mut RawRoom<'a>,
+) -> Found
+    ensures { IsFoundOf catalog.now line.now result }
+{
+    match read_line(alloc, line, raw) {
+        Ok(statement) => match catalog.foretell(recent, statement, room, raw) {
+            Some(statement) => Found::Known(statement),
+            None => Found::Unread,
+        },
+        Err(fault) => found_faulty(fault),
+    }
+}

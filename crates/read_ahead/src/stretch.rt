@@ -1,0 +1,241 @@
+//! A stretch of the bytes at hand, whose pieces are read before their turn by whichever thread comes first.
+
+ghost use Rattle.std.specs.Prelude.{◌≡◌, ◌<◌, ◌≤◌, ℕ, [], All, IfOk, IfSome, List, length};
+ghost use Rattle.sequencer.specs.Catalog.{Names, no_names};
+ghost use Rattle.read_ahead.specs.Ahead.{IsAhead};
+
+use crate::ahead::Ahead;
+use crate::cutting::piece_cuts;
+use crate::piece::Piece;
+use crate::reading::foretell_lines;
+use sequencer::Catalog;
+use std::alloc::{AllocError, Global};
+use std::hint;
+use std::marker::{Brand, PhantomData};
+use std::sync::Mutex;
+use std::sync::atomic::AtomicUsize;
+use std::sync::atomic::Ordering::SeqCst;
+
+/// How often a thread looks whether a piece was read, before it goes on without.
+const MOST_LOOKS: usize = 4096;
+
+/// The bytes that are read before their turn, and the names by which they are: a call picks both.
+pub trait Basis {
+    ghost names: { Names };
+
+    ghost bytes: { List ℕ };
+}
+
+impl Basis for Brand {
+    ghost names = { no_names };
+
+    ghost bytes = { [] };
+}
+
+/// A piece whose lines are of these bytes, and were read by these names.
+#[derive(Drop)]
+struct ReadPiece<B: Basis> {
+    piece: Piece,
+    of: PhantomData<B>,
+    ghost ahead: { All (IsAhead B.names B.bytes) piece },
+}
+
+impl<B: Basis> ReadPiece<B> {
+    /// The piece with what is known of it.
+    fn new(piece: Piece) -> Self
+        requires { All (IsAhead B.names B.bytes) piece }
+    {
+        ReadPiece {
+            piece,
+            of: PhantomData,
+        }
+    }
+}
+
+/// The pieces of a stretch. Threads share it by reference: each takes up a piece that no other has taken up, while one of them runs the
+/// lines in order, by what was found of those of a piece if it was read by then.
+#[derive(Drop)]
+pub struct Stretch<B: Basis> {
+    /// Where each piece begins, and where the last one ends.
+    cuts: Vec<usize>,
+    /// Each piece, once it was read and until it is run.
+    pieces: Vec<Mutex<Option<ReadPiece<B>>>>,
+    /// The first piece that no thread has taken up.
+    next: AtomicUsize,
+    /// How many pieces are run: they need not be read any more.
+    passed: AtomicUsize,
+    /// Pieces that were run, and are filled again.
+    spare: Mutex<Vec<Piece>>,
+    alloc: Global,
+    ghost within: { All (λ cut. cut ≤ length B.bytes) cuts.items },
+}
+
+/// Room for so many pieces, none of which is read.
+fn unread<B: Basis>(
+    alloc: Global,
+    count: usize,
+) -> Result<Vec<Mutex<Option<ReadPiece<B>>>>, AllocError> {
+    let mut pieces = Vec::new(alloc);
+    for _ in 0..count {
+        pieces.push(Mutex::new(None))?;
+    }
+    Ok(pieces)
+}
+
+impl<B: Basis> Stretch<B> {
+    /// The bytes before an index, in so many pieces of about one length. The spare pieces are filled.
+    pub fn new(
+        alloc: Global,
+        bytes: &[u8],
+        to: usize,
+        count: usize,
+        spare: Vec<Piece>,
+    ) -> Result<Self, AllocError>
+        requires within { to ≤ length bytes.now }
+        requires bytes { bytes.now ≡ B.bytes }
+    {
+        let cuts = piece_cuts(alloc, bytes, 0, to, count)?;
+        let pieces = unread(alloc, cuts.len() - 1)?;
+        Ok(Stretch {
+            cuts,
+            pieces,
+            next: AtomicUsize::new(0),
+            passed: AtomicUsize::new(0),
+            spare: Mutex::new(spare),
+            alloc,
+        })
+    }
+
+    /// How many pieces there are.
+    pub fn len(&self) -> usize {
+        self.pieces.len()
+    }
+
+    /// Where a cut is, or 0 if there is none of this number.
+    fn cut(&self, number: usize) -> usize
+        ensures { result ≤ length B.bytes }
+    {
+        match self.cuts.get(number) {
+            Some(cut) => *cut,
+            None => 0,
+        }
+    }
+
+    /// Where a piece ends.
+    pub fn end_of(&self, piece: usize) -> usize
+        ensures { result ≤ length B.bytes }
+    {
+        self.cut(piece.saturating_add(1))
+    }
+
+    /// Takes a piece, if it was read by now: what was found of its lines.
+    pub fn take(&self, piece: usize) -> Option<Piece>
+        ensures { IfSome result (λ lines. All (IsAhead B.names B.bytes) lines) }
+    {
+        let mut place = self.pieces.get(piece)?.try_lock()?;
+        let read = place.take()?;
+        Some(read.piece)
+    }
+
+    /// Gives a piece back that was run. It is filled again.
+    pub fn give_back(&self, piece: Piece) {
+        if let Some(mut spare) = self.spare.try_lock() {
+            let _pushed = spare.push(piece);
+        }
+    }
+
+    /// The piece that is filled next: one that was run, or a new one.
+    fn empty_piece(&self) -> Piece {
+        if let Some(mut spare) = self.spare.try_lock() {
+            if let Some(piece) = spare.pop() {
+                return piece;
+            }
+        }
+        Piece::new(self.alloc)
+    }
+
+    /// Keeps a piece that was read until it is run.
+    fn keep(&self, piece: usize, read: Piece)
+        requires { All (IsAhead B.names B.bytes) read }
+    {
+        if let Some(place) = self.pieces.get(piece) {
+            if let Some(mut place) = place.try_lock() {
+                *place = Some(ReadPiece::new(read));
+            }
+        }
+    }
+
+    /// Whether a piece was read and isn't run.
+    fn is_read(&self, piece: usize) -> bool {
+        match self.pieces.get(piece) {
+            Some(place) => match place.try_lock() {
+                Some(read) => read.is_some(),
+                None => false,
+            },
+            None => false,
+        }
+    }
+
+    /// Tells that the pieces before this one need not be read any more.
+    pub fn pass(&self, piece: usize) {
+        self.passed.store(piece, SeqCst);
+    }
+
+    /// Takes up a piece that no thread has taken up, and reads it by these names if it isn't passed. False where none is left.
+    pub fn read_next(&self, names: &Catalog, bytes: &[u8]) -> bool
+        requires names { names.now ≡ B.names }
+        requires bytes { bytes.now ≡ B.bytes }
+    {
+        let piece = self.next.fetch_add(1, SeqCst);
+        if piece >= self.pieces.len() {
+            return false;
+        }
+        if piece >= self.passed.load(SeqCst) {
+            let (from, to) = (self.cut(piece), self.end_of(piece));
+            let read = foretell_lines(self.alloc, names, bytes, from, to, self.empty_piece());
+            self.keep(piece, read);
+        }
+        true
+    }
+
+    /// Reads pieces, as `read_next`, until this one was read. Where none is left to be taken up it waits for a moment.
+    pub fn read_until(&self, names: &Catalog, bytes: &[u8], piece: usize)
+        requires names { names.now ≡ B.names }
+        requires bytes { bytes.now ≡ B.bytes }
+    {
+        'pieces: for _ in 0..self.pieces.len() {
+            if self.is_read(piece) || !self.read_next(names, bytes) {
+                break;
+            }
+        }
+        self.wait_for(piece);
+    }
+
+    /// Waits for a moment, or until a piece was read.
+    fn wait_for(&self, piece: usize) {
+        'looks: for _ in 0..MOST_LOOKS {
+            if self.is_read(piece) {
+                break;
+            }
+            hint::spin_loop();
+        }
+    }
+
+    /// Reads pieces, as `read_next`, until none is left.
+    pub fn read_all(&self, names: &Catalog, bytes: &[u8])
+        requires names { names.now ≡ B.names }
+        requires bytes { bytes.now ≡ B.bytes }
+    {
+        'pieces: for _ in 0..self.pieces.len() {
+            if !self.read_next(names, bytes) {
+                break;
+            }
+        }
+    }
+
+    /// The pieces that were run, whose lists may be filled again.
+    pub fn into_spare(self) -> Vec<Piece> {
+        let Stretch { spare, .. } = self;
+        spare.into_inner()
+    }
+}

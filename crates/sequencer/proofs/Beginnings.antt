@@ -1,0 +1,93 @@
+-- What the names of a later place begin with.
+use Rattle.std.proofs.Common.{◌≡◌, ℕ, ◌≤◌, Bool, true, false, cond, List, [], ◌∷◌, ◌++◌, length, take, drop, Option, Some, None, ap, sym, ◌∙◌, arith}
+use Rattle.std.proofs.Math.Seq.{take-length}
+use Rattle.std.proofs.lemmas.List.{length-take, take-append-drop, take-append-le}
+use Rattle.log_text.specs.Statement.{Sentence}
+use Rattle.log_text.specs.declared.statement.RawDeed.{RawDeed}
+use Rattle.log_text.specs.declared.statement.RawForm.{RawForm}
+use Rattle.log_text.specs.declared.statement.RawGrantee.{RawGrantee}
+use Rattle.sequencer.specs.Names.{is_known, number_of, with_name}
+use Rattle.sequencer.specs.Catalog.{Names, deed_in, grantee_of, with_form, with_grantee, with_named, with_statement}
+use Rattle.sequencer.specs.Foretelling.{Begins, with_one_place}
+
+-- the first of a list are so many as they are
+first_within : {X : Type 0} (first all : List X) → take (length first) all ≡ first → length first ≤ length all
+first_within {X} first all e = omega (arith, length-take (length first) all, ap length e)
+
+-- they are the first of a longer list too
+first_longer : {X : Type 0} (first all more : List X) → take (length first) all ≡ first → take (length first) (all ++ more) ≡ first
+first_longer {X} first all more e = take-append-le (length first) all more (first_within first all e) ∙ e
+
+-- a list that begins so is that and what is behind it
+pub behind : {X : Type 0} (first all : List X) → take (length first) all ≡ first → all ≡ first ++ drop (length first) all
+behind {X} first all e =
+    sym (take-append-drop (length first) all) ∙ ap (λ (xs : List X). xs ++ drop (length first) all) e
+
+-- and of a list of which these are the first
+first_first : {X : Type 0} (few some all : List X) → take (length few) some ≡ few → take (length some) all ≡ some → take (length few) all ≡ few
+first_first {X} few some all e f =
+    ap (λ (xs : List X). take (length few) xs) (behind some all f)
+    ∙ take-append-le (length few) some (drop (length some) all) (first_within few some e) ∙ e
+
+first_named : (first names : List (List ℕ)) (name : List ℕ) → take (length first) names ≡ first → take (length first) (with_name names name) ≡ first
+first_named first names name e = by (is_known names name)
+  where
+    by : (b : Bool) → take (length first) (cond b names (names ++ name ∷ [])) ≡ first
+    by true = e
+    by false = first_longer first names (name ∷ []) e
+
+first_party : (first users : List (List ℕ)) (grantee : RawGrantee) → take (length first) users ≡ first → take (length first) (with_named users grantee) ≡ first
+first_party first users (RawGrantee.Named name) e = first_named first users name e
+first_party first users RawGrantee.Public e = e
+
+first_grantee : (first users : List (List ℕ)) (deed : Option RawDeed) → take (length first) users ≡ first → take (length first) (with_grantee users deed) ≡ first
+first_grantee first users None e = e
+first_grantee first users (Some deed) e = first_party first users (grantee_of deed) e
+
+-- each list of names begins with itself
+pub begins_same : (names : Names) → Begins names names
+begins_same names = record {
+  users = take-length names.users;
+  tables = take-length names.tables;
+  owners = take-length names.owners;
+  columns = take-length names.columns;
+}
+
+pub begins_further : (names some later : Names) → Begins names some → Begins some later → Begins names later
+begins_further names some later begins further = record {
+  users = first_first names.users some.users later.users begins.users further.users;
+  tables = first_first names.tables some.tables later.tables begins.tables further.tables;
+  owners = first_first names.owners some.owners later.owners begins.owners further.owners;
+  columns = first_first names.columns some.columns later.columns begins.columns further.columns;
+}
+
+-- how many places there are says nothing
+pub begins_place : (names later : Names) → Begins names later → Begins names (with_one_place later)
+begins_place names later begins = record {
+  users = begins.users;
+  tables = begins.tables;
+  owners = begins.owners;
+  columns = begins.columns;
+}
+
+-- a statement only names behind
+begins_form : (names later : Names) (user : ℕ) (form : RawForm) → Begins names later → Begins names (with_form later user form)
+begins_form names later user (RawForm.Create table columns) begins = record {
+  users = begins.users;
+  tables = first_longer names.tables later.tables (table ∷ []) begins.tables;
+  owners = first_longer names.owners later.owners (user ∷ []) begins.owners;
+  columns = first_longer names.columns later.columns (columns ∷ []) begins.columns;
+}
+begins_form names later user (RawForm.Run accesses steps deed) begins = begins
+begins_form names later user (RawForm.Deed deed) begins = begins
+
+pub begins_with : (names later : Names) (sentence : Sentence) → Begins names later → Begins names (with_statement later sentence)
+begins_with names later sentence begins =
+    let form = begins_form names later (number_of later.users sentence.user) sentence.form begins in
+    record {
+      users = first_grantee names.users (with_name later.users sentence.user) (deed_in sentence.form)
+          (first_named names.users later.users sentence.user begins.users);
+      tables = form.tables;
+      owners = form.owners;
+      columns = form.columns;
+    }

@@ -1,0 +1,221 @@
+//! How a statement is numbered before its turn, by the names of an earlier place.
+
+ghost use Rattle.std.specs.Prelude.{◌≡◌, ◌<◌, ◌+◌, IfSome, OnErr, OnOk, OnSome, length, true};
+ghost use Rattle.sequencer.specs.Admitting.{deed_by, run_by};
+ghost use Rattle.sequencer.specs.Catalog.{numbered_deed, numbered_form, numbered_grantee};
+ghost use Rattle.sequencer.specs.Foretelling.{Begins, Foretells, Knows, KnowsDeed, KnowsDeedIn, is_known_grantee, with_one_place, with_tables_of};
+ghost use Rattle.sequencer.specs.Known.{HasRoom};
+ghost use Rattle.sequencer.specs.Names.{is_known, number_of};
+ghost use Rattle.std.specs.Option.{option_map};
+
+use crate::catalog::Catalog;
+use crate::numbering::deed_form;
+use crate::room::Room;
+use crate::testing::names_in;
+use log_text::{Name, RawAccess, RawDeed, RawForm, RawGrantee, RawRoom, RawStatement, RawStep};
+use model_base::{DeedForm, Form, Grantee, MOST_PLACES, Statement, Table, User};
+use std::alloc::AllocError;
+use std::mem;
+
+/// The user and the table that were found last. They say nothing of the names: they are only tried first.
+#[derive(Clone, Copy)]
+pub struct Recent {
+    user: User,
+    table: Table,
+}
+
+impl Recent {
+    /// The first user and the first table.
+    pub fn new() -> Self {
+        Recent {
+            user: User(0),
+            table: Table(0),
+        }
+    }
+}
+
+impl Catalog {
+    /// A grantee by number, if it is known. PUBLIC is.
+    fn foretold_grantee(&self, grantee: &RawGrantee<'_>) -> Option<Grantee>
+        ensures number { IfSome result (λ g. g ≡ numbered_grantee self.now.users grantee.now) }
+        ensures known { OnSome result (is_known_grantee self.now.users grantee.now ≡ true) }
+    {
+        match grantee {
+            RawGrantee::Named(name) => {
+                let number = self.users.find(name.as_str())?;
+                Some(Grantee::User(User(number)))
+            }
+            RawGrantee::Public => Some(Grantee::Public),
+        }
+    }
+
+    /// A deed by number, if its table and its grantee are known.
+    fn foretold_deed(&self, recent: &mut Recent, deed: &RawDeed<'_>) -> Option<DeedForm>
+        ensures number { IfSome result (λ d. d ≡ numbered_deed self.now deed.now) }
+        ensures knows { OnSome result (KnowsDeed self.now deed.now) }
+    {
+        let (table, grantee) = names_in(deed);
+        let Ok(table) = self.known_table(&mut recent.table, table) else {
+            return None;
+        };
+        let grantee = self.foretold_grantee(grantee)?;
+        Some(deed_form(deed, table, grantee))
+    }
+
+    /// The deed of a RUN by number, where it has one, as `foretold_deed`.
+    fn foretold_last_deed(
+        &self,
+        recent: &mut Recent,
+        deed: &Option<RawDeed<'_>>,
+    ) -> Option<Option<DeedForm>>
+        ensures number { IfSome result (λ d. d ≡ option_map (numbered_deed self.now) deed.now) }
+        ensures knows { OnSome result (KnowsDeedIn self.now deed.now) }
+    {
+        match deed {
+            None => Some(None),
+            Some(deed) => {
+                let deed = self.foretold_deed(recent, deed)?;
+                Some(Some(deed))
+            }
+        }
+    }
+
+    /// The user of a statement by number, if it is known.
+    fn foretold_user(&self, recent: &mut Recent, user: &Name<'_>) -> Option<User>
+        ensures number { IfSome result (λ u. u ≡ number_of self.now.users user.now) }
+        ensures known { OnSome result (is_known self.now.users user.now ≡ true) }
+    {
+        let user = User(self.users.find_near(recent.user.0, user.as_str())?);
+        recent.user = user;
+        Some(user)
+    }
+
+    /// A RUN, as `foretell`. Its accesses and steps go where room was made, and take it.
+    fn foretell_run(
+        &self,
+        recent: &mut Recent,
+        user: &Name<'_>,
+        accesses: &[RawAccess<'_>],
+        steps: &mut [RawStep<'_>],
+        deed: &Option<RawDeed<'_>>,
+        room: &mut Room,
+    ) -> Option<Statement>
+        requires { HasRoom room.old (RawForm.Run accesses.now steps.old deed.now) }
+        ensures number { IfSome result (λ s. s ≡ record {
+          user = number_of self.now.users user.now;
+          form = numbered_form self.now (RawForm.Run accesses.now steps.old deed.now);
+        }) }
+        ensures knows { OnSome result (Knows self.now (run_by user.now accesses.now steps.old deed.now)) }
+    {
+        let user = self.foretold_user(recent, user)?;
+        let found = mem::replace(&mut room.accesses, Vec::new(self.alloc));
+        let Ok(accesses) = self.numbered_accesses(&mut recent.table, accesses, found) else {
+            return None;
+        };
+        let found = mem::replace(&mut room.steps, Vec::new(self.alloc));
+        let Ok(steps) = self.numbered_steps(&mut recent.table, steps, found) else {
+            return None;
+        };
+        let deed = self.foretold_last_deed(recent, deed)?;
+        Some(Statement {
+            user,
+            form: Form::Run {
+                accesses,
+                steps,
+                deed,
+            },
+        })
+    }
+
+    /// A deed by itself, as `foretell`.
+    fn foretell_deed(
+        &self,
+        recent: &mut Recent,
+        user: &Name<'_>,
+        deed: &RawDeed<'_>,
+    ) -> Option<Statement>
+        ensures number { IfSome result (λ s. s ≡ record {
+          user = number_of self.now.users user.now;
+          form = numbered_form self.now (RawForm.Deed deed.now);
+        }) }
+        ensures knows { OnSome result (Knows self.now (deed_by user.now deed.now)) }
+    {
+        let user = self.foretold_user(recent, user)?;
+        let deed = self.foretold_deed(recent, deed)?;
+        let form = Form::Deed(deed);
+        Some(Statement { user, form })
+    }
+
+    /// The statement that a sentence becomes at any later place of the log, whatever is accepted before: it passes the tests,
+    /// makes no table, and names nobody new. Nothing is answered where a test refuses it by these names, where it makes a
+    /// table or names somebody new, or where memory is refused; that promises nothing of it. It leaves the catalog as it is,
+    /// so several threads may ask one catalog. Rooms are lent as to `admit`.
+    pub fn foretell<'a>(
+        &self,
+        recent: &mut Recent,
+        statement: RawStatement<'a>,
+        room: &mut Room,
+        raw: &mut RawRoom<'a>,
+    ) -> Option<Statement>
+        ensures { IfSome result (λ s. Foretells self.now statement.entry s) }
+    {
+        let _tables = self.tables();
+        if room.reserve(statement.form()).is_err() {
+            return None;
+        }
+        let (user, form) = statement.into_parts();
+        match form {
+            RawForm::Create { .. } => None,
+            RawForm::Run {
+                accesses,
+                steps,
+                deed,
+            } => {
+                raw.accesses = accesses.into_vec();
+                raw.steps = steps.into_vec();
+                let steps = raw.steps.as_mut_slice();
+                self.foretell_run(recent, &user, &raw.accesses, steps, &deed, room)
+            }
+            RawForm::Deed(deed) => self.foretell_deed(recent, &user, &deed),
+        }
+    }
+
+    /// Takes a statement that was foretold as the next place of the log.
+    pub fn take_foretold(&mut self)
+        requires { self.old.places < MOST_PLACES }
+        ensures { self.new ≡ with_one_place self.old }
+    {
+        self.places += 1;
+    }
+
+    /// Learns a table from a later catalog, whose tables these begin. On `Err` memory was refused, and nothing has changed.
+    fn learn_table(&mut self, later: &Catalog, table: Table) -> Result<(), AllocError>
+        requires within { table < length later.now.tables }
+        requires next { self.old ≡ with_tables_of self.old later.now table }
+        ensures ok { OnOk result (self.new ≡ with_tables_of self.old later.now (table + 1)) }
+        ensures err { OnErr result (self.new ≡ self.old) }
+    {
+        self.owners.reserve(1)?;
+        self.columns.reserve(1)?;
+        self.tables.add(later.tables.new_name(table.0))?;
+        self.owners.push_reserved(later.owner(table));
+        self.columns.push_reserved(later.columns(table));
+        Ok(())
+    }
+
+    /// Learns the users and the tables that a later catalog has beyond these. On `Err` memory was refused, and the first of them
+    /// may be learned. The places stay what they are.
+    pub fn catch_up(&mut self, later: &Catalog) -> Result<(), AllocError>
+        requires { Begins self.old later.now }
+        ensures ok { OnOk result (self.new ≡ record later.now { places = self.old.places }) }
+        ensures begins { Begins self.new later.now }
+        ensures places { self.new.places ≡ self.old.places }
+    {
+        self.users.catch_up(&later.users)?;
+        for index in self.tables.len()..later.tables.len() {
+            self.learn_table(later, Table(index as u32))?;
+        }
+        self.recent = later.recent;
+        Ok(())
+    }
+}
