@@ -15,7 +15,8 @@ use Rattle.model_base.specs.Privileges.{gives}
 use Rattle.model_base.specs.Versions.{accesses_of}
 use Rattle.body.specs.declared.window.Window.{Window}
 use Rattle.body.specs.Shown.{WindowShows}
-use Rattle.grants.specs.Loss.{last_end, later_of, loss_of}
+use Rattle.grants_base.specs.Force.{later_of}
+use Rattle.grants.specs.Loss.{last_end, loss_of}
 use Rattle.grants_base.specs.View.{IsLawful, View, entries}
 use Rattle.checker.specs.Admission.{admission, admitted_if, told_if}
 use Rattle.checker.specs.declared.admission.Admission.{Admission}

@@ -41,7 +41,7 @@ impl ReadingAhead {
         ReadingAhead {
             threads,
             least: 16_384,
-            stretch: 1 << 20,
+            stretch: 1 << 19,
             piece: 16_384,
         }
     }

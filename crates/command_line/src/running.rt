@@ -96,13 +96,14 @@ pub struct Works<P, B, S, E, G> {
 /// How many threads read lines ahead where no number is told, at most: no more were measured to pay.
 const USUAL_AHEAD: u64 = 3;
 
-/// How many threads read lines ahead where no number is told: one for each processor but that of the running thread, up to `USUAL_AHEAD`.
+/// How many threads read lines ahead where no number is told: one for each processor, up to `USUAL_AHEAD`, and none where there is one
+/// alone.
 fn usual_ahead<R: Threads>(rt: &R) -> u64
     ensures { result ≤ MOST_AHEAD }
 {
     match thread::available_parallelism(rt) {
-        Ok(processors) => (processors.get() as u64 - 1).min(USUAL_AHEAD),
-        Err(_) => 0,
+        Ok(processors) if processors.get() > 1 => (processors.get() as u64).min(USUAL_AHEAD),
+        _ => 0,
     }
 }
 

@@ -3,7 +3,7 @@
 use crate::both::Both;
 use crate::fault::TrialFault;
 use crate::telling::tell;
-use grants::{BookView, Records, denial, holds, to_end};
+use grants::{BookView, NextInForce, Records, denial, holds, to_end};
 use model_base::{Grant, Grantee, Kind, Need, Place, Revocation, Table, User};
 use std::alloc::Global;
 
@@ -69,6 +69,17 @@ impl<V: Records> Records for Counting<V> {
     fn next_by(&mut self, user: User, kind: Kind, table: Table, from: usize) -> Option<usize> {
         self.view.next_by(user, kind, table, from)
     }
+
+    fn next_in_force(
+        &mut self,
+        grantee: Grantee,
+        kind: Kind,
+        table: Table,
+        option: bool,
+        from: usize,
+    ) -> Option<NextInForce> {
+        self.view.next_in_force(grantee, kind, table, option, from)
+    }
 }
 
 /// The owner's grant of READ to the user, at the place of its number.
@@ -119,7 +130,7 @@ fn tell_held(rt: &impl Print, both: &Both, user: u32, kind: Kind) {
     }
 }
 
-/// The last of many who may read is found at once, and so is that he holds nothing else.
+/// That the last of many may read is told without a look at any grant, and so is that he holds nothing else.
 fn tell_one_of_many(rt: &impl Print, both: &mut Both) -> Result<(), TrialFault> {
     put_readers(both)?;
     let _ = println!(rt; "one of {READERS}");
@@ -154,7 +165,7 @@ fn put_turns(alloc: Global, both: &mut Both) -> Result<(), TrialFault> {
     Ok(())
 }
 
-/// A user who lost a privilege over and over is denied by one look at each grant.
+/// A user who lost a privilege over and over is denied without a look at any grant.
 fn tell_a_denial(rt: &impl Print, alloc: Global, both: &mut Both) -> Result<(), TrialFault> {
     put_turns(alloc, both)?;
     let _ = println!(rt; "granted and taken {TURNS} times");

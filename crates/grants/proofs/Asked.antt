@@ -1,6 +1,6 @@
 -- What isn't found among the grants that the slots ask for isn't in the slots.
 use Rattle.std.proofs.Common.{◌≡◌, ℕ, zero, suc, ◌<◌, ◌≤◌, ◌∷◌, [], length, arith, ◌||◌, ◌&&◌, not, Bool, true, false, List, Option, Some, None, is_none, refl, sym, ◌∙◌, ap, eq-eqb, inl, inr}
-use Rattle.std.specs.Prelude.{◌==◌, ◌⊎◌, ◌+◌, slice_get}
+use Rattle.std.specs.Prelude.{◌==◌, ◌⊎◌, ◌+◌, if◌then◌else◌, slice_get}
 use Rattle.std.specs.Option.{option_map_or}
 use Rattle.std.proofs.lemmas.Bool.{true≢false, and_parts, cases_lt}
 use Rattle.model_base.specs.declared.deed.Grant.{Grant}
@@ -8,13 +8,14 @@ use Rattle.model_base.specs.declared.deed.Grantee.{Grantee}
 use Rattle.model_base.specs.declared.deed.Grantee.TheVariants.{User}
 use Rattle.model_base.specs.declared.deed.Record.{Record}
 use Rattle.model_base.specs.declared.deed.Revocation.{Revocation}
-use Rattle.model_base.specs.Privileges.{concerns, names, same_grantee}
+use Rattle.model_base.specs.Privileges.{concerns, names, option_holder, same_grantee, user_of}
 use Rattle.model_base.proofs.Reaching.{grantee-same, grantee-true, holder_is}
 use Rattle.model_base.proofs.Replay.{by_cases}
+use Rattle.grants_base.specs.Force.{gives_to}
 use Rattle.grants_base.specs.View.{View, flatten, grant_in, slot_at}
 use Rattle.grants.specs.Pass.{concerned}
 use Rattle.grants_base.specs.Index.{is_one_of}
-use Rattle.grants.specs.Work.{bears}
+use Rattle.grants.specs.Work.{bears, has_in_force}
 use Rattle.grants_base.specs.Index.{AreAsked, is_by, is_to, passes_at}
 use Rattle.grants.proofs.SlotLaws.{about_concerned}
 use Rattle.grants.proofs.Worklist.{borne_by}
@@ -34,28 +35,16 @@ module _ (view : View) (asked : List Grant) (are : AreAsked view asked) (revocat
   asks : (passes : Grant → Bool) (k : ℕ) (grant : Grant) → concerned (slot_at view k) revocation ≡ Some grant → passes_at passes asked k ≡ passes grant
   asks passes k grant is = ap (λ found. option_map_or passes found false) (are.each k grant (in_slot (slot_at view k) revocation grant is))
 
-  -- a slot that isn't found gives the user nothing
-  pub bears-skipped : (user k : ℕ) → passes_at (is_to (User user) revocation.kind revocation.table) asked k ≡ false → bears revocation user (slot_at view k) ≡ false
-  bears-skipped user k skipped =
-      by_cases (bears revocation user (slot_at view k))
-      (λ bear.
-      let by = borne_by revocation (slot_at view k) user bear in
-      let about : concerns revocation by.0 ≡ true = about_concerned (slot_at view k) revocation by.0 by.1 in
-      let to : same_grantee by.0.grantee (User user) ≡ true = ap (λ g. same_grantee g (User user)) (holder_is by.0 user by.2) ∙ eq-eqb user user refl in
-      let found : is_to (User user) revocation.kind revocation.table by.0 ≡ true = rw to about in
-      absurd (true≢false (sym found ∙ sym (asks (is_to (User user) revocation.kind revocation.table) k by.0 by.1) ∙ skipped)))
-      (λ none. none)
-
-  -- nor is it named
-  pub named-skipped : (k : ℕ) (grant : Grant) → passes_at (is_to revocation.grantee revocation.kind revocation.table) asked k ≡ false
-      → concerned (slot_at view k) revocation ≡ Some grant → names revocation grant ≡ true → ⊥
-  unfolding names
-  named-skipped k grant skipped is named =
-      let to = (and_parts (revocation.grantor == grant.grantor) (same_grantee revocation.grantee grant.grantee && concerns revocation grant) named).1 in
-      let parts = and_parts (same_grantee revocation.grantee grant.grantee) (concerns revocation grant) to in
-      let found : is_to revocation.grantee revocation.kind revocation.table grant ≡ true =
-      rw (same-grantee grant.grantee revocation.grantee (sym (grantee-true revocation.grantee grant.grantee parts.0))) parts.1 in
-      true≢false (sym found ∙ sym (asks (is_to revocation.grantee revocation.kind revocation.table) k grant is) ∙ skipped)
+  -- a slot that isn't found has no such grant
+  pub candidate-skipped : (grantee : Grantee) (option : Bool) (k : ℕ) → passes_at (is_to grantee revocation.kind revocation.table) asked k ≡ false
+      → has_in_force revocation grantee option (slot_at view k) ≡ false
+  candidate-skipped grantee option k skipped = by_found (concerned (slot_at view k) revocation) refl
+    where
+      by_found : (found : Option Grant) → concerned (slot_at view k) revocation ≡ found
+          → option_map_or (gives_to grantee revocation.kind revocation.table option) found false ≡ false
+      by_found None is = refl
+      by_found (Some grant) is =
+          ap (λ b. b && (grant.option || not option)) (sym (asks (is_to grantee revocation.kind revocation.table) k grant is) ∙ skipped)
 
   -- nor is it by the user
   pub by-skipped : (user k : ℕ) (grant : Grant) → passes_at (is_by user revocation.kind revocation.table) asked k ≡ false
@@ -65,10 +54,46 @@ module _ (view : View) (asked : List Grant) (are : AreAsked view asked) (revocat
       let found : is_by user revocation.kind revocation.table grant ≡ true = rw (eq-eqb grant.grantor user by) about in
       true≢false (sym found ∙ sym (asks (is_by user revocation.kind revocation.table) k grant is) ∙ skipped)
 
+-- a grant that gives the option is with it
+option_true : (grant : Grant) (user : ℕ) → option_holder grant ≡ Some user → grant.option ≡ true
+option_true grant user is = by_option grant.option is
+  where
+    by_option : (option : Bool) → (if option then user_of grant.grantee else None) ≡ Some user → option ≡ true
+    by_option true same = refl
+    by_option false same = absurd (cc)
+
+module _ (view : View) (revocation : Revocation) where
+  -- a slot without a grant in force to the user that has the option gives the user nothing
+  pub bears-skipped : (user k : ℕ) → has_in_force revocation (User user) true (slot_at view k) ≡ false → bears revocation user (slot_at view k) ≡ false
+  bears-skipped user k skipped =
+      by_cases (bears revocation user (slot_at view k))
+      (λ bear.
+      let by = borne_by revocation (slot_at view k) user bear in
+      let about : concerns revocation by.0 ≡ true = about_concerned (slot_at view k) revocation by.0 by.1 in
+      let to : same_grantee by.0.grantee (User user) ≡ true = ap (λ g. same_grantee g (User user)) (holder_is by.0 user by.2) ∙ eq-eqb user user refl in
+      let found : gives_to (User user) revocation.kind revocation.table true by.0 ≡ true = rw (to, about, option_true by.0 user by.2) refl in
+      absurd (true≢false (sym found ∙ sym (ap (λ o. option_map_or (gives_to (User user) revocation.kind revocation.table true) o false) by.1) ∙ skipped)))
+      (λ none. none)
+
+  -- nor is a grant named where none is to the revocation's grantee
+  pub named-skipped : (k : ℕ) (grant : Grant) → has_in_force revocation revocation.grantee false (slot_at view k) ≡ false
+      → concerned (slot_at view k) revocation ≡ Some grant → names revocation grant ≡ true → ⊥
+  unfolding names
+  named-skipped k grant skipped is named =
+      let to = (and_parts (revocation.grantor == grant.grantor) (same_grantee revocation.grantee grant.grantee && concerns revocation grant) named).1 in
+      let parts = and_parts (same_grantee revocation.grantee grant.grantee) (concerns revocation grant) to in
+      let found : gives_to revocation.grantee revocation.kind revocation.table false grant ≡ true =
+      rw (same-grantee grant.grantee revocation.grantee (sym (grantee-true revocation.grantee grant.grantee parts.0)), parts.1) (or-true grant.option) in
+      true≢false (sym found ∙ sym (ap (λ o. option_map_or (gives_to revocation.grantee revocation.kind revocation.table false) o false) is) ∙ skipped)
+    where
+      or-true : (a : Bool) → (a || true) ≡ true
+      or-true true = refl
+      or-true false = refl
+
   -- up to the slot found, nothing that hasn't ended gives the user the option
   pub none_until : (ended : List ℕ) (user from i : ℕ)
       → ((k : ℕ) → k < from → is_one_of ended k ≡ false → bears revocation user (slot_at view k) ≡ false)
-      → ((k : ℕ) → from ≤ k → k < i → passes_at (is_to (User user) revocation.kind revocation.table) asked k ≡ false)
+      → ((k : ℕ) → from ≤ k → k < i → has_in_force revocation (User user) true (slot_at view k) ≡ false)
       → (k : ℕ) → k < i → is_one_of ended k ≡ false → bears revocation user (slot_at view k) ≡ false
   none_until ended user from i before skipped k less stays =
       elim (cases_lt k from) [
@@ -123,20 +148,20 @@ pub record HaveNamed (view : View) (revocation : Revocation) (due : List ℕ) (f
       → names revocation grant ≡ true → is_one_of due j ≡ true
   pub within : (j : ℕ) → is_one_of due j ≡ true → j < length view.slots
 
-pub named_step : (view : View) (asked : List Grant) → AreAsked view asked → (revocation : Revocation) (due more : List ℕ) (from i : ℕ)
-    → passes_at (is_to revocation.grantee revocation.kind revocation.table) asked i ≡ true
-    → ((k : ℕ) → from ≤ k → k < i → passes_at (is_to revocation.grantee revocation.kind revocation.table) asked k ≡ false)
+pub named_step : (view : View) (revocation : Revocation) (due more : List ℕ) (from i : ℕ)
+    → i < length view.slots
+    → ((k : ℕ) → from ≤ k → k < i → has_in_force revocation revocation.grantee false (slot_at view k) ≡ false)
     → HaveNamed view revocation due from
     → ((j : ℕ) → is_one_of due j ≡ true → is_one_of more j ≡ true)
     → (option_map_or (names revocation) (concerned (slot_at view i) revocation) false ≡ true → is_one_of more i ≡ true)
     → ((j : ℕ) → is_one_of more j ≡ true → (is_one_of due j ≡ true) ⊎ (i ≡ j))
     → HaveNamed view revocation more (i + 1)
-named_step view asked are revocation due more from i passes skipped so_far kept new old = record {
+named_step view revocation due more from i there skipped so_far kept new old = record {
   found = λ j grant less is named.
       elim (cases_lt j i) [
         | inl earlier ↦ elim (cases_lt j from) [
           | inl before ↦ kept j (so_far.found j grant before is named)
-          | inr after ↦ absurd (named-skipped view asked are revocation j grant (skipped j after earlier) is named)
+          | inr after ↦ absurd (named-skipped view revocation j grant (skipped j after earlier) is named)
         ]
         | inr later ↦
             let here : j ≡ i = omega arith in
@@ -146,6 +171,6 @@ named_step view asked are revocation due more from i passes skipped so_far kept 
   within = λ j is.
       elim (old j is) [
         | inl before ↦ so_far.within j before
-        | inr here ↦ let at_i = found_within view asked are (is_to revocation.grantee revocation.kind revocation.table) i passes in omega arith
+        | inr here ↦ omega (arith, there)
       ];
 }

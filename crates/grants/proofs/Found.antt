@@ -10,7 +10,8 @@ use Rattle.model_base.specs.declared.deed.Record.{Record}
 use Rattle.model_base.specs.declared.deed.Need.{Need}
 use Rattle.model_base.specs.Privileges.{gives}
 use Rattle.model_base.proofs.Replay.{by_cases}
-use Rattle.grants.specs.Loss.{last_end, later_of, narrowed, slot_loss}
+use Rattle.grants_base.specs.Force.{later_of}
+use Rattle.grants.specs.Loss.{last_end, narrowed, slot_loss}
 use Rattle.grants_base.specs.View.{View, grant_in, slot_at, slot_gives}
 use Rattle.grants_base.specs.Index.{AreAsked, is_to, passes_at}
 use Rattle.grants.proofs.Passing.{given, same_kind-same}

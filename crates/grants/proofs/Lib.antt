@@ -17,5 +17,7 @@ pub mod Asking
 pub mod Asked
 pub mod Borne
 pub mod Narrow
+pub mod ByIndex
 pub mod Found
 pub mod EndedLaws
+pub mod Candidates

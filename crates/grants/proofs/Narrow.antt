@@ -1,9 +1,9 @@
 -- What the grants to a user and those to PUBLIC tell of a need is what all grants tell.
-use Rattle.std.proofs.Common.{◌≡◌, ℕ, zero, suc, ◌||◌, ◌&&◌, not, Bool, true, false, List, [], ◌∷◌, Option, Some, None, is_none, length, map, refl, sym, ◌∙◌, ap, arith, inl, inr}
+use Rattle.std.proofs.Common.{◌≡◌, ℕ, zero, suc, ◌||◌, ◌&&◌, not, Bool, true, false, List, [], ◌∷◌, Option, Some, None, is_none, length, map, refl, sym, ◌∙◌, ap}
 use Rattle.std.specs.Prelude.{◌==◌, if◌then◌else◌, slice_get}
 use Rattle.std.specs.List.{list_any, flat_map}
 use Rattle.std.specs.Option.{option_map_or, option_to_list}
-use Rattle.std.proofs.lemmas.Bool.{and_parts, lt-ltb, le-ltb, cases_lt}
+use Rattle.std.proofs.lemmas.Bool.{and_parts}
 use Rattle.model_base.specs.declared.deed.Grant.{Grant}
 use Rattle.model_base.specs.declared.deed.Grantee.{Grantee}
 use Rattle.model_base.specs.declared.deed.Grantee.TheVariants.{Public, User}
@@ -13,25 +13,12 @@ use Rattle.model_base.specs.declared.deed.Need.{Need}
 use Rattle.model_base.specs.Privileges.{gives, reaches, same_grantee}
 use Rattle.model_base.proofs.Replay.{by_cases}
 use Rattle.grants_base.specs.Index.{AreAsked, is_about, is_to, passes_at}
-use Rattle.grants.specs.Loss.{both, last_end, later_of, narrowed, only_to, slot_loss, standing_in_slots}
+use Rattle.grants_base.specs.Force.{later_of}
+use Rattle.grants.specs.Loss.{both, last_end, narrowed, only_to, slot_loss, standing_in_slots}
 use Rattle.grants_base.specs.View.{View, flatten, grant_in, slot_at, slot_gives}
 use Rattle.grants.specs.declared.holding.Standing.{Standing}
 use Rattle.grants.specs.declared.holding.Standing.TheVariants.{Held, Lost}
-use Rattle.grants.proofs.LossLaws.{later-assoc, later-none}
-
--- the later of two places is the same in either order
-later-swap : (a b : Option ℕ) → later_of a b ≡ later_of b a
-later-swap None None = refl
-later-swap None (Some y) = refl
-later-swap (Some x) None = refl
-later-swap (Some x) (Some y) =
-    elim (cases_lt x y) [
-      | inl xy ↦ rw (lt-ltb x y xy, le-ltb y x (omega arith)) refl
-      | inr yx ↦ elim (cases_lt y x) [
-        | inl less ↦ rw (le-ltb x y yx, lt-ltb y x less) refl
-        | inr xy ↦ let same : x ≡ y = omega arith in rw (le-ltb x y yx, le-ltb y x xy) (ap (λ (n : ℕ). Some n) same)
-      ]
-    ]
+use Rattle.grants_base.proofs.LaterOf.{later-assoc, later-none, later-swap}
 
 later-four : (a b c d : Option ℕ) → later_of (later_of a b) (later_of c d) ≡ later_of (later_of a c) (later_of b d)
 later-four a b c d =

@@ -1,10 +1,13 @@
 //! The book of grants: each grant that was made, with its end.
 
-ghost use Rattle.std.specs.Prelude.{Decides, ◌+◌, ◌≡◌, ◌<◌, ◌++◌, ◌∷◌, [], ℕ, List, All, IfOk, IsTrue, OnErr, OnOk, length, map};
+ghost use Rattle.std.specs.Prelude.{Decides, ◌+◌, ◌≡◌, ◌<◌, ◌++◌, ◌∷◌, [], true, ℕ, List, All, IfOk, IfSome, IsTrue, OnErr, OnOk, Some, length, map, slice_get};
 ghost use Rattle.model_base.specs.declared.deed.Deed.TheVariants.{Granting, Revoking};
 ghost use Rattle.model_base.specs.declared.deed.Deed.{Deed};
 ghost use Rattle.model_base.specs.Privileges.{ended_by, option_of, place_of};
 ghost use Rattle.model_base.specs.Records.{deeds_below, ended_at, recorded};
+ghost use Rattle.model_base.specs.declared.deed.Record.{Record};
+ghost use Rattle.grants_base.specs.Force.{gives_to};
+ghost use Rattle.grants_base.specs.InForce.{IsNextInForce};
 ghost use Rattle.grants_base.specs.Index.{IsNext, is_by, is_to};
 ghost use Rattle.grants_base.specs.declared.entries.End.{End};
 ghost use Rattle.grants_base.specs.declared.entries.Creation.{Creation};
@@ -12,7 +15,8 @@ ghost use Rattle.grants_base.specs.declared.entries.Creation.{Creation};
 use crate::cascade::cascade;
 use crate::ended::Ended;
 use grants_base::{
-    Creation, End, IndexedRecords, Records, append_tables, lies_below, records_below, tables_below,
+    Creation, End, IndexedRecords, NextInForce, Records, append_tables, lies_below, records_below,
+    tables_below,
 };
 use model_base::{Grant, Grantee, Kind, MOST_NAMES, Place, Record, Revocation, Table, User};
 use std::alloc::{AllocError, Global};
@@ -39,7 +43,7 @@ impl Model for Book {
 }
 
 impl Book {
-    ghost use Rattle.grants_base.specs.Book.{Continues, IsLater, IsSoundBook, ShowsBook, cut_book, end_slots, extended, owners_of, table_of_deed, view_of, with_ends, with_grant, with_table};
+    ghost use Rattle.grants_base.specs.Book.{Continues, IsLater, IsSoundBook, ShowsBook, cut_book, end_slots, extended, lies_below, owners_of, table_of_deed, view_of, with_ends, with_grant, with_table};
     ghost use Rattle.grants_base.specs.View.{ShowsDeeds, holds_in};
 
     /// A book without tables and grants. It takes no memory.
@@ -130,6 +134,32 @@ impl Book {
         ensures { IsNext (is_by user kind table) (recorded self.now.records) from result }
     {
         self.records.next_by(user, kind, table, from)
+    }
+
+    /// The least slot at or above this one of a grant in force to the grantee, of the kind on the table, and the last end of such a grant;
+    /// of grants with the option, where it is asked for. None where that isn't known.
+    fn next_in_force(
+        &self,
+        grantee: Grantee,
+        kind: Kind,
+        table: Table,
+        option: bool,
+        from: usize,
+    ) -> Option<NextInForce>
+        ensures { IfSome result (λ next. IsNextInForce (gives_to grantee kind table option) self.now.records from next) }
+    {
+        self.records
+            .next_in_force(grantee, kind, table, option, from)
+    }
+
+    /// Whether each grant and each end lies below a place. It looks at the last of each alone. Where it says no, some may not.
+    fn lies_below(&self, place: Place) -> bool
+        ensures { result ≡ true → (slot : ℕ) (entry : Record) → slice_get self.now.records slot ≡ Some entry
+            → lies_below place entry ≡ true }
+    {
+        // A book is sound, as its accessors say, and so the places of its grants rise.
+        let _tables = self.tables();
+        self.records.lie_below(place)
     }
 
     /// What the revocation takes out of force: the ends of these grants, and their places.
@@ -286,5 +316,19 @@ impl Records for BookView<'_> {
 
     fn next_by(&mut self, user: User, kind: Kind, table: Table, from: usize) -> Option<usize> {
         self.book.next_by(user, kind, table, from)
+    }
+
+    fn next_in_force(
+        &mut self,
+        grantee: Grantee,
+        kind: Kind,
+        table: Table,
+        option: bool,
+        from: usize,
+    ) -> Option<NextInForce> {
+        if !self.book.lies_below(self.place) {
+            return None;
+        }
+        self.book.next_in_force(grantee, kind, table, option, from)
     }
 }

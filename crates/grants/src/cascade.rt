@@ -9,7 +9,7 @@ ghost use Rattle.model_base.specs.declared.deed.Deed.{Deed};
 ghost use Rattle.model_base.specs.declared.deed.Grant.{Grant};
 ghost use Rattle.grants.specs.Pass.{cascade, concerned, concerned_grants, outlasts};
 ghost use Rattle.grants_base.specs.Index.{is_one_of};
-ghost use Rattle.grants.specs.Work.{AllPassed, AreDue, AreEnds, ArePassed, AreWalked, HaveSameKeys, bears, keepers, slots_of};
+ghost use Rattle.grants.specs.Work.{AllPassed, AreDue, AreEnds, ArePassed, AreWalked, HaveSameKeys, IsNextCandidate, bears, keepers, slots_of};
 ghost use Rattle.grants_base.specs.View.{ShowsDeeds, slot_at};
 
 use crate::ended::Ended;
@@ -60,6 +60,26 @@ fn stands<V: Records>(
     bears(view, i, revocation, user) && !ended.contains(i)
 }
 
+/// A slot at or above another such that no slot from that one on and before it has a grant in force, of the revocation's kind and
+/// table, to the grantee, and with the option where it is asked for. None where no later slot has. It goes through the slots only
+/// where the view doesn't know which grants are in force.
+fn next_candidate<V: Records>(
+    view: &mut V,
+    revocation: &Revocation,
+    grantee: &Grantee,
+    option: bool,
+    from: usize,
+) -> Option<usize>
+    ensures next { IsNextCandidate revocation.now grantee.now option (V.shown view.old) from result }
+    ensures same { V.shown view.new ≡ V.shown view.old }
+{
+    let (kind, table) = (revocation.kind, revocation.table);
+    match view.next_in_force(*grantee, kind, table, option, from) {
+        Some(next) => next.slot,
+        None => view.next_to(*grantee, kind, table, from),
+    }
+}
+
 /// The first slot below another that gives the user the option and hasn't ended, where none below `start` does. It is not below
 /// the other where there is none.
 fn first_bearer<V: Records>(
@@ -79,7 +99,7 @@ fn first_bearer<V: Records>(
 {
     let mut from = start;
     while from < below {
-        match view.next_to(Grantee::User(user), revocation.kind, revocation.table, from) {
+        match next_candidate(view, revocation, &Grantee::User(user), true, from) {
             Some(i) if i < below => {
                 if stands(view, i, revocation, ended, user) {
                     return i;
@@ -186,7 +206,7 @@ fn named<V: Records>(
     let end = view.slots();
     let mut from = 0;
     while from < end {
-        match view.next_to(revocation.grantee, revocation.kind, revocation.table, from) {
+        match next_candidate(view, revocation, &revocation.grantee, false, from) {
             Some(i) => {
                 if is_named(view, i, revocation) {
                     due.insert(i)?;
@@ -353,7 +373,8 @@ pub(crate) fn cascade<V: Records>(
 /// of this kind and table ends if the revocation names it, or if its grantor isn't the owner and has the option by no earlier
 /// grant that stays. So a cycle of grants doesn't bear itself, and a grant that an earlier way bears stays. Of this kind and
 /// table it goes through the grants to the revocation's grantee, and once through those by each user whose option ends; the
-/// grants to that user it goes through once as well, each of those by the user being judged from where the last one was. The
+/// grants to that user it goes through once as well, each of those by the user being judged from where the last one was. Of the
+/// grants to somebody it goes through those in force alone, where the view knows them. The
 /// slots to be judged are kept in a set, in a time that grows with the logarithm of their number. Besides that it takes memory
 /// for its answer. On `Err` memory was refused. What the view shows stays in any case.
 pub fn to_end<V: Records>(

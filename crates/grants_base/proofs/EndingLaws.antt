@@ -1,9 +1,9 @@
 -- The endings that are noted, and the ends of records that are reopened.
 use Rattle.std.proofs.Common.{◌≡◌, ℕ, suc, ◌<◌, ◌≤◌, ◌-◌, ◌&&◌, ◌||◌, Bool, true, false, List, [], ◌∷◌, ◌++◌, Some, None, get_or, length, map, refl, sym, ◌∙◌, ap, arith, inl, inr, eq-eqb}
-use Rattle.std.specs.Prelude.{◌==◌, IfSome, Option, slice_get}
-use Rattle.std.specs.Option.{option_to_list}
+use Rattle.std.specs.Prelude.{◌==◌, IfSome, Option, nat_lt, slice_get}
+use Rattle.std.specs.Option.{option_map_or, option_to_list}
 use Rattle.std.specs.List.{insert}
-use Rattle.std.proofs.lemmas.Bool.{true≢false, and_parts, eqb-true, ne_eqb, or_cases}
+use Rattle.std.proofs.lemmas.Bool.{true≢false, and_parts, eqb-true, lt-ltb, ne_eqb, or_cases}
 use Rattle.std.proofs.lemmas.List.Folds.{list_any-append}
 use Rattle.std.proofs.lemmas.List.Sorted.{IsPermutation-insert, list_any-IsPermutation}
 use Rattle.std.proofs.lemmas.Option.{get_or_from_slice_get}
@@ -105,3 +105,8 @@ pub popped : (last : Option Ending) (old left : List Ending) → old ≡ left ++
     → IfSome last (λ ending. (at slot : ℕ) → has_ending old at slot ≡ true → same_ending ending (record { place = at; slot = slot }) ≡ false → has_ending left at slot ≡ true)
 popped None old left parts = tt
 popped (Some ending) old left parts = λ at slot was apart. noted_less left ending at slot (sym (ap (λ es. has_ending es at slot) parts) ∙ was) apart
+
+-- an end that lies below a place, if there is one
+pub ends_below : (place : ℕ) (end : Option ℕ) → ((q : ℕ) → end ≡ Some q → q < place) → option_map_or (λ q. nat_lt q place) end true ≡ true
+ends_below place None below = refl
+ends_below place (Some q) below = lt-ltb q place (below q refl)

@@ -4,5 +4,8 @@ pub mod Lookups
 pub mod SlotEnds
 pub mod Indexing
 pub mod SideLaws
+pub mod LaterOf
+pub mod ForceLaws
+pub mod Keeping
 pub mod SlotsLaws
 pub mod EndingLaws

@@ -1,6 +1,7 @@
 -- The first slot at or above another, among slots that rise.
-use Rattle.std.proofs.Common.{◌≡◌, ℕ, zero, suc, ◌<◌, ◌≤◌, true, false, List, [], ◌∷◌, Option, Some, None, ltb, refl, arith, eq-eqb}
+use Rattle.std.proofs.Common.{◌≡◌, ℕ, zero, suc, ◌<◌, ◌≤◌, true, false, List, [], ◌∷◌, ◌++◌, Option, Some, None, ltb, refl, sym, ◌∙◌, subst, arith, eq-eqb}
 use Rattle.std.specs.Prelude.{◌==◌, All, slice_get}
+use Rattle.std.specs.Option.{option_to_list}
 use Rattle.std.specs.List.Sorted.{IsNonDecreasingBy, IsPartitionPoint}
 use Rattle.std.proofs.lemmas.Bool.{ne_eqb, or_right}
 use Rattle.std.proofs.lemmas.List.Elements.{All-head, All-tail}
@@ -41,3 +42,11 @@ first_of from (x ∷ xs) zero rise point = first_at x xs from rise (less_false x
 first_of from (x ∷ xs) (suc i) rise point =
     first_later x xs from (slice_get xs i) (less_true x from (point.0 0 x (omega arith) (omega arith)))
     (first_of from xs i rise.1 ((λ k d low less. point.0 (suc k) d (omega arith) (omega arith)), (λ k d low less. point.1 (suc k) d (omega arith) (omega arith))))
+
+-- a first slot, if there is one, that isn't below, before later ones
+pub from_first : (first : Option ℕ) (later slots : List ℕ) (from : ℕ) → slots ≡ option_to_list first ++ later → (first ≡ None → later ≡ [])
+    → AreAscending slots → ((low : ℕ) → first ≡ Some low → from ≤ low) → IsFirst (is_one_of slots) from first
+from_first None later slots from are none rise low =
+    subst (λ (all : List ℕ). IsFirst (is_one_of all) from None) (sym (are ∙ none refl)) (λ k above. refl)
+from_first (Some x) later slots from are none rise low =
+    subst (λ (all : List ℕ). IsFirst (is_one_of all) from (Some x)) (sym are) (first_at x later from (subst AreAscending are rise) (low x refl))

@@ -3,3 +3,5 @@ pub mod Index
 pub mod Book
 pub mod Sides
 pub mod Marks
+pub mod Force
+pub mod InForce

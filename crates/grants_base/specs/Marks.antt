@@ -4,9 +4,11 @@ use Rattle.std.specs.List.{list_any}
 use Rattle.std.specs.List.Sorted.{IsNonDecreasingBy}
 use Rattle.model_base.specs.declared.deed.Record.{Record}
 use Rattle.grants_base.specs.Index.{is_to}
+use Rattle.grants_base.specs.InForce.{KeepsInForce}
 use Rattle.grants_base.specs.Sides.{Indexes, is_made_by}
 use Rattle.grants_base.specs.declared.index.Index.{Index}
 use Rattle.grants_base.specs.declared.endings.Ending.{Ending}
+use Rattle.grants_base.specs.declared.in_force.InForceIndex.{InForceIndex}
 
 abbrev pub same_ending : Ending → Ending → Bool
 same_ending a b = (a.place == b.place) && (a.slot == b.slot)
@@ -24,9 +26,10 @@ HasEnds endings entries =
     (slot place : ℕ) (entry : Record) → slice_get entries slot ≡ Some entry → entry.end ≡ Some place
     → has_ending endings place slot ≡ true
 
--- the records are found by their grantees, by their grantors and by their ends
-pub record AreIndexed (entries : List Record) (to by : Index) (endings : List Ending) : Type 0 where
+-- the records are found by their grantees, by their grantors and by their ends, and those in force by their grantees too
+pub record AreIndexed (entries : List Record) (to by : Index) (endings : List Ending) (in_force : InForceIndex) : Type 0 where
   pub grantees : Indexes is_to to entries
   pub grantors : Indexes is_made_by by entries
   pub ends : HasEnds endings entries
   pub order : AreInOrder endings
+  pub kept : KeepsInForce in_force entries

@@ -43,7 +43,7 @@ fn goes_beyond(endings: &[Ending], place: Place) -> bool
 }
 
 /// Whether the last of the endings, which are in order, is at the place or later.
-fn reaches(endings: &[Ending], place: Place) -> bool
+pub(crate) fn reaches(endings: &[Ending], place: Place) -> bool
     requires { AreInOrder endings.now }
     ensures last { result ≡ true → (d : Ending)
         → (0 < length endings.now) × (place ≤ (slice_index_or endings.now (length endings.now - 1) d).place) }

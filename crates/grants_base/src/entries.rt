@@ -42,7 +42,7 @@ pub fn append_tables(tables: &mut Vec<Creation>, more: &[Creation])
 }
 
 /// Ends the record of the slot.
-fn set_end(records: &mut [Record], slot: usize, place: Place)
+pub(crate) fn set_end(records: &mut [Record], slot: usize, place: Place)
     requires { slot < length records.old }
     ensures { records.new ≡ end_slot records.old slot place }
 {

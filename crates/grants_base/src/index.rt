@@ -2,9 +2,9 @@
 
 ghost use Rattle.std.specs.Prelude.{◌≡◌, ◌-◌, ◌++◌, ◌∷◌, [], ℕ, false, OnErr, OnOk, length, slice_get, take, if◌then◌else◌};
 ghost use Rattle.grants_base.specs.Index.{is_one_of, IsFirst};
-ghost use Rattle.grants_base.specs.Sides.{AreAscending, IsEmpty, IsPopped, IsPushed, IsSame, holder_code, kind_code, side_of, slots_under};
+ghost use Rattle.grants_base.specs.Sides.{AreAscending, IsEmpty, IsPopped, IsPushed, IsSame, holder_code, kind_code, side_of, slots_under, to_side};
 
-use model_base::{Grantee, Kind, Table};
+use model_base::{Grant, Grantee, Kind, Table};
 use std::alloc::{AllocError, Global};
 use std::collections::HashMap;
 use std::marker::Model;
@@ -50,6 +50,13 @@ pub(crate) fn side_of(holder: Grantee, kind: Kind, table: Table) -> Side
     }
 }
 
+/// The side of a grant's grantee.
+pub(crate) fn to_side(grant: &Grant) -> Side
+    ensures { result ≡ to_side grant.now }
+{
+    side_of(grant.grantee, grant.kind, grant.table)
+}
+
 /// The slot of an index among these, if there is one.
 fn slot_at(slots: &[usize], i: usize) -> Option<usize>
     ensures { result ≡ slice_get slots.now i }
@@ -58,7 +65,7 @@ fn slot_at(slots: &[usize], i: usize) -> Option<usize>
 }
 
 /// The least of the slots, which rise, that isn't below this one. It takes a time that grows with the logarithm of their number.
-fn next_slot(slots: &[usize], from: usize) -> Option<usize>
+pub(crate) fn next_slot(slots: &[usize], from: usize) -> Option<usize>
     requires { AreAscending slots.now }
     ensures { IsFirst (is_one_of slots.now) from result }
 {

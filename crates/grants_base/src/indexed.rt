@@ -1,28 +1,35 @@
 //! Records that are found by their grantees and by their grantors.
 
-ghost use Rattle.std.specs.Prelude.{◌+◌, ◌-◌, ◌≡◌, ◌<◌, ◌++◌, ◌∷◌, [], All, OnErr, OnOk, length, map, take};
+ghost use Rattle.std.specs.Prelude.{◌+◌, ◌-◌, ◌≡◌, ◌<◌, ◌++◌, ◌∷◌, [], true, ℕ, All, IfSome, OnErr, OnOk, Some, length, map, slice_get, take};
 ghost use Rattle.model_base.specs.Records.{recorded};
-ghost use Rattle.grants_base.specs.Book.{end_slots, reopened, unended};
+ghost use Rattle.grants_base.specs.Book.{end_slot, end_slots, lies_below, reopened, unended};
+ghost use Rattle.grants_base.specs.Force.{gives_to};
+ghost use Rattle.grants_base.specs.InForce.{IsNextInForce, KeepsInForce};
+ghost use Rattle.model_base.specs.Laws.{IsRising};
+ghost use Rattle.model_base.specs.declared.deed.Record.{Record};
 ghost use Rattle.grants_base.specs.Index.{IsNext, is_by, is_to};
 ghost use Rattle.grants_base.specs.Marks.{AreInOrder, HasEnds};
 ghost use Rattle.grants_base.specs.Sides.{IsPushed, IsSame, by_side, to_side};
 ghost use Rattle.grants_base.specs.declared.entries.End.{End};
 
-use crate::endings::{Ending, note, note_by_place, pop_from};
-use crate::entries::{End, reopen_slot, set_ends};
-use crate::index::{Index, Side, side_of};
+use crate::endings::{Ending, note, note_by_place, pop_from, reaches};
+use crate::entries::{End, reopen_slot, set_end};
+use crate::force::NextInForce;
+use crate::in_force::InForceIndex;
+use crate::index::{Index, Side, side_of, to_side};
 use model_base::{Grant, Grantee, Kind, Place, Record, Table, User};
 use std::alloc::{AllocError, Global};
 use std::marker::Model;
 
-/// Records in the order in which they were added, each by its slot. Those of one user are found by an index, and those that
-/// ended at some place by another, so that nothing goes through all of them.
+/// Records in the order in which they were added, each by its slot. Those of one user are found by an index, those that ended at
+/// some place by another, and those in force by a third, so that nothing goes through all of them.
 #[derive(Drop)]
 pub struct IndexedRecords {
     records: Vec<Record>,
     to: Index,
     by: Index,
     endings: Vec<Ending>,
+    in_force: InForceIndex,
 }
 
 impl Model for IndexedRecords {
@@ -34,14 +41,7 @@ impl Model for IndexedRecords {
 
     ghost view = { λ indexed. indexed.records.items };
 
-    ghost invariant = { λ indexed. AreIndexed indexed.records.items indexed.to indexed.by indexed.endings.items };
-}
-
-/// The side of a grant's grantee.
-fn to_side(grant: &Grant) -> Side
-    ensures { result ≡ to_side grant.now }
-{
-    side_of(grant.grantee, grant.kind, grant.table)
+    ghost invariant = { λ indexed. AreIndexed indexed.records.items indexed.to indexed.by indexed.endings.items indexed.in_force };
 }
 
 /// The side of a grant's grantor.
@@ -80,6 +80,40 @@ fn reopen(records: &mut [Record], endings: &mut Vec<Ending>, place: Place)
     }
 }
 
+/// Ends the record of a slot.
+fn end_one(records: &mut [Record], in_force: &mut InForceIndex, end: &End)
+    requires slot { end.now.slot < length records.old }
+    requires kept { KeepsInForce in_force.old records.old }
+    ensures ended { records.new ≡ end_slot records.old end.now.slot end.now.place }
+    ensures kept { KeepsInForce in_force.new records.new }
+{
+    in_force.end(&records[end.slot], end.slot, end.place);
+    set_end(records, end.slot, end.place);
+}
+
+/// Ends the records of the slots, one after the other.
+fn end_each(records: &mut [Record], in_force: &mut InForceIndex, ends: &[End])
+    requires slots { All (λ (end : End). end.slot < length records.old) ends.now }
+    requires kept { KeepsInForce in_force.old records.old }
+    ensures ended { records.new ≡ end_slots records.old ends.now }
+    ensures kept { KeepsInForce in_force.new records.new }
+{
+    for end in ends {
+        end_one(records, in_force, end);
+    }
+}
+
+/// Whether the last of the records, whose places rise, is of a grant that was made below a place, or there is none.
+fn made_below(records: &[Record], place: Place) -> bool
+    requires { IsRising (recorded records.now) }
+    ensures { result ≡ true → (slot : ℕ) (entry : Record) → slice_get records.now slot ≡ Some entry → entry.grant.place < place }
+{
+    match records.last() {
+        Some(last) => last.grant.place < place,
+        None => true,
+    }
+}
+
 impl IndexedRecords {
     /// No records. It takes no memory.
     pub fn new(alloc: Global) -> Self
@@ -90,6 +124,20 @@ impl IndexedRecords {
             to: Index::new(alloc),
             by: Index::new(alloc),
             endings: Vec::new(alloc),
+            in_force: InForceIndex::new(alloc),
+        }
+    }
+
+    /// No records, of which those in force are not kept by themselves. It takes no memory.
+    pub(crate) fn plain(alloc: Global) -> Self
+        ensures { result ≡ [] }
+    {
+        IndexedRecords {
+            records: Vec::new(alloc),
+            to: Index::new(alloc),
+            by: Index::new(alloc),
+            endings: Vec::new(alloc),
+            in_force: InForceIndex::silent(alloc),
         }
     }
 
@@ -108,6 +156,7 @@ impl IndexedRecords {
         self.records.reserve(1)?;
         let slot = self.records.len();
         push_slot(&mut self.to, &mut self.by, &grant, slot)?;
+        self.in_force.push(&grant, slot);
         self.records.push_reserved(Record { grant, end: None });
         Ok(())
     }
@@ -119,7 +168,7 @@ impl IndexedRecords {
         ensures err { OnErr result (self.new ≡ self.old) }
     {
         note(&mut self.endings, ends)?;
-        set_ends(&mut self.records, ends);
+        end_each(&mut self.records, &mut self.in_force, ends);
         Ok(())
     }
 
@@ -130,7 +179,7 @@ impl IndexedRecords {
         ensures err { OnErr result (self.new ≡ self.old) }
     {
         note_by_place(&mut self.endings, ends)?;
-        set_ends(&mut self.records, ends);
+        end_each(&mut self.records, &mut self.in_force, ends);
         Ok(())
     }
 
@@ -169,6 +218,7 @@ impl IndexedRecords {
     pub fn reopen(&mut self, place: Place)
         ensures { self.new ≡ map (reopened place) self.old }
     {
+        self.in_force.forget();
         reopen(&mut self.records, &mut self.endings, place);
     }
 
@@ -177,6 +227,7 @@ impl IndexedRecords {
         ensures shorter { self.new ≡ take (length self.old - 1) self.old }
     {
         if let Some(record) = self.records.pop() {
+            self.in_force.forget();
             self.to.pop(&to_side(&record.grant));
             self.by.pop(&by_side(&record.grant));
         }
@@ -189,6 +240,32 @@ impl IndexedRecords {
         while self.as_slice().len() > len {
             self.pop();
         }
+    }
+
+    /// The least slot at or above this one of a grant in force to the grantee, of the kind on the table, and the last end of such a
+    /// grant; of grants with the option, where it is asked for. It takes a time that grows with the logarithm of the number of those
+    /// in force. None where that isn't known: after records or ends were taken back, or where memory was refused.
+    pub fn next_in_force(
+        &self,
+        grantee: Grantee,
+        kind: Kind,
+        table: Table,
+        option: bool,
+        from: usize,
+    ) -> Option<NextInForce>
+        ensures { IfSome result (λ next. IsNextInForce (gives_to grantee kind table option) self.now from next) }
+    {
+        self.in_force
+            .next(&side_of(grantee, kind, table), option, from)
+    }
+
+    /// Whether each grant, whose places rise, and each end lies below a place. It looks at the last of each alone. Where it says no,
+    /// some may not.
+    pub fn lie_below(&self, place: Place) -> bool
+        requires { IsRising (recorded self.now) }
+        ensures { result ≡ true → (slot : ℕ) (entry : Record) → slice_get self.now slot ≡ Some entry → lies_below place entry ≡ true }
+    {
+        made_below(&self.records, place) && !reaches(&self.endings, place)
     }
 
     /// The least slot at or above this one whose grant is to the grantee, of the kind on the table.

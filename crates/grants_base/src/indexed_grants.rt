@@ -31,7 +31,7 @@ impl IndexedGrants {
         ensures { result ≡ [] }
     {
         IndexedGrants {
-            records: IndexedRecords::new(alloc),
+            records: IndexedRecords::plain(alloc),
         }
     }
 

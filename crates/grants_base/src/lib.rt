@@ -3,6 +3,8 @@
 
 mod endings;
 mod entries;
+mod force;
+mod in_force;
 mod index;
 mod indexed;
 mod indexed_grants;
@@ -11,6 +13,7 @@ mod records;
 pub use entries::{
     Creation, End, append_tables, lies_below, records_below, reopened, set_ends, tables_below,
 };
+pub use force::{NextInForce, later};
 pub use index::{holder_code, kind_code};
 pub use indexed::IndexedRecords;
 pub use indexed_grants::IndexedGrants;

@@ -1,10 +1,13 @@
 //! Views of the records of grants at a place.
 
-ghost use Rattle.std.specs.Prelude.{◌≡◌, ◌<◌, List, Some, IsSome, is_some, length};
+ghost use Rattle.std.specs.Prelude.{◌≡◌, ◌<◌, List, Some, IfSome, IsSome, is_some, length};
 ghost use Rattle.model_base.specs.declared.deed.Grant.{Grant};
+ghost use Rattle.grants_base.specs.Force.{gives_to};
+ghost use Rattle.grants_base.specs.InForce.{ShowsNextInForce};
 ghost use Rattle.grants_base.specs.Index.{AreAsked, IsNext, is_about, is_by, is_to};
 ghost use Rattle.grants_base.specs.View.{View, IsLawful, end_in, grant_in, slot_at};
 
+use crate::force::NextInForce;
 use model_base::{Grant, Grantee, Kind, Place, Table, User};
 
 /// The records of grants as they stand at a place: those of the grants below it, on the tables that the view covers, each
@@ -63,6 +66,25 @@ pub trait Records {
         ensures asked { AreAsked (shown self.old) (asked self.old) }
         ensures same { shown self.new ≡ shown self.old }
         ensures still { asked self.new ≡ asked self.old };
+
+    /// The least slot at or above this one of a grant in force to this user or to PUBLIC, of this kind on this table, and the last
+    /// end of such a grant; of grants with the option, where it is asked for. None where that isn't known unless one goes through the
+    /// slots. It takes no memory.
+    fn next_in_force(
+        &mut self,
+        grantee: Grantee,
+        kind: Kind,
+        table: Table,
+        option: bool,
+        from: usize,
+    ) -> Option<NextInForce>
+        ensures next { IfSome result (λ next. ShowsNextInForce (gives_to grantee kind table option) (shown self.old) from next) }
+        ensures same { shown self.new ≡ shown self.old }
+        ensures still { asked self.new ≡ asked self.old }
+    {
+        let _asked = (grantee, kind, table, option, from);
+        None
+    }
 }
 
 /// Whether the grant is of this kind on this table.

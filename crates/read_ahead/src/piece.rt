@@ -1,9 +1,14 @@
 //! Lines that were read before their turn, and room for further ones.
 
+ghost use Rattle.std.specs.Prelude.{◌≡◌, ◌++◌, ◌∷◌, [], OnErr, OnOk};
+
 use crate::ahead::{Ahead, Found};
-use std::alloc::Global;
+use std::alloc::{AllocError, Global};
 use std::marker::Model;
 use std::mem;
+
+/// By how many lines a full list grows. Many pieces wait at once, so that lists of twice the length would take much memory.
+const MORE_LINES: usize = 64;
 
 /// Lines that were read before their turn, in order. Lists of lines that are of no more use stay behind them, so that the lines
 /// of one piece after another need no memory.
@@ -12,6 +17,18 @@ pub struct Piece {
     lines: Vec<Ahead>,
     /// How many of them are of this piece.
     len: usize,
+}
+
+/// Appends a line to a list. On `Err` memory was refused, and the list is unchanged.
+fn push_line(lines: &mut Vec<Ahead>, line: Ahead) -> Result<(), AllocError>
+    ensures ok { OnOk result (lines.new.items ≡ lines.old.items ++ line ∷ []) }
+    ensures err { OnErr result (lines.new.items ≡ lines.old.items) }
+{
+    if lines.len() == lines.capacity() {
+        lines.reserve_exact(MORE_LINES)?;
+    }
+    lines.push(line)?;
+    Ok(())
 }
 
 impl Model for Piece {
@@ -77,7 +94,7 @@ impl Piece {
     {
         if self.len < self.lines.len() {
             self.lines[self.len] = line;
-        } else if self.lines.push(line).is_err() {
+        } else if push_line(&mut self.lines, line).is_err() {
             return false;
         }
         self.len += 1;

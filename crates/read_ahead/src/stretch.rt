@@ -13,8 +13,8 @@ use std::alloc::{AllocError, Global};
 use std::hint;
 use std::marker::{Brand, PhantomData};
 use std::sync::Mutex;
-use std::sync::atomic::AtomicUsize;
 use std::sync::atomic::Ordering::SeqCst;
+use std::sync::atomic::{AtomicBool, AtomicUsize};
 
 /// How often a thread looks whether a piece was read, before it goes on without.
 const MOST_LOOKS: usize = 4096;
@@ -52,14 +52,22 @@ impl<B: Basis> ReadPiece<B> {
     }
 }
 
+/// Where a piece is kept, once it was read and until it is run.
+#[derive(Drop)]
+struct Place<B: Basis> {
+    /// Whether the piece was read. A thread that waits for it looks here and not at the lock, which is free for the one that reads.
+    is_read: AtomicBool,
+    read: Mutex<Option<ReadPiece<B>>>,
+}
+
 /// The pieces of a stretch. Threads share it by reference: each takes up a piece that no other has taken up, while one of them runs the
 /// lines in order, by what was found of those of a piece if it was read by then.
 #[derive(Drop)]
 pub struct Stretch<B: Basis> {
     /// Where each piece begins, and where the last one ends.
     cuts: Vec<usize>,
-    /// Each piece, once it was read and until it is run.
-    pieces: Vec<Mutex<Option<ReadPiece<B>>>>,
+    /// Each piece.
+    pieces: Vec<Place<B>>,
     /// The first piece that no thread has taken up.
     next: AtomicUsize,
     /// How many pieces are run: they need not be read any more.
@@ -71,13 +79,13 @@ pub struct Stretch<B: Basis> {
 }
 
 /// Room for so many pieces, none of which is read.
-fn unread<B: Basis>(
-    alloc: Global,
-    count: usize,
-) -> Result<Vec<Mutex<Option<ReadPiece<B>>>>, AllocError> {
+fn unread<B: Basis>(alloc: Global, count: usize) -> Result<Vec<Place<B>>, AllocError> {
     let mut pieces = Vec::new(alloc);
     for _ in 0..count {
-        pieces.push(Mutex::new(None))?;
+        pieces.push(Place {
+            is_read: AtomicBool::new(false),
+            read: Mutex::new(None),
+        })?;
     }
     Ok(pieces)
 }
@@ -132,7 +140,7 @@ impl<B: Basis> Stretch<B> {
     pub fn take(&self, piece: usize) -> Option<Piece>
         ensures { IfSome result (λ lines. All (IsAhead B.names B.bytes) lines) }
     {
-        let mut place = self.pieces.get(piece)?.try_lock()?;
+        let mut place = self.pieces.get(piece)?.read.try_lock()?;
         let read = place.take()?;
         Some(read.piece)
     }
@@ -159,19 +167,17 @@ impl<B: Basis> Stretch<B> {
         requires { All (IsAhead B.names B.bytes) read }
     {
         if let Some(place) = self.pieces.get(piece) {
-            if let Some(mut place) = place.try_lock() {
-                *place = Some(ReadPiece::new(read));
+            if let Some(mut kept) = place.read.try_lock() {
+                *kept = Some(ReadPiece::new(read));
             }
+            place.is_read.store(true, SeqCst);
         }
     }
 
-    /// Whether a piece was read and isn't run.
+    /// Whether a piece was read.
     fn is_read(&self, piece: usize) -> bool {
         match self.pieces.get(piece) {
-            Some(place) => match place.try_lock() {
-                Some(read) => read.is_some(),
-                None => false,
-            },
+            Some(place) => place.is_read.load(SeqCst),
             None => false,
         }
     }

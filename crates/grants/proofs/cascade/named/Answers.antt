@@ -1,10 +1,10 @@
-use Rattle.std.proofs.Common.{refl, ◌≡◌, ◌+◌, length, false, sym, ◌∙◌, ap, subst, arith, inl, inr, eq-eqb}
+use Rattle.std.proofs.Common.{refl, ◌≡◌, ◌+◌, length, Some, None, false, sym, ◌∙◌, ap, subst, arith, inl, inr, eq-eqb}
 use Rattle.std.specs.Prelude.{◌==◌}
 use Rattle.std.specs.Option.{option_map_or}
 use Rattle.std.proofs.lemmas.Bool.{true≢false, cases_lt, eqb-true, or_cases, or_right}
 use Rattle.model_base.specs.Privileges.{names}
-use Rattle.grants_base.specs.Index.{AreAsked}
 use Rattle.grants.specs.Pass.{concerned}
+use Rattle.grants.specs.Work.{IsNextCandidate}
 use Rattle.grants_base.specs.Index.{is_one_of}
 use Rattle.grants_base.specs.View.{View, slot_at}
 use Rattle.grants.proofs.Worklist.{one_more}
@@ -16,9 +16,9 @@ pub loop-from-preserved : goal.loop-from-preserved
 loop-from-preserved g c =
     let view = g.V.Records.shown c.args.view.now in
     let revocation = c.args.revocation.now in
-    let asked = g.V.Records.asked c.loop-from.view in
-    let are : AreAsked view asked = subst (λ (v : View). AreAsked v asked) c.loop-from.invariant.same c.in-Some.ensures.asked in
     let i = c.in-Some.i in
+    let found : IsNextCandidate revocation revocation.grantee false view c.loop-from.from (Some i) =
+    subst (λ (v : View). IsNextCandidate revocation revocation.grantee false v c.loop-from.from (Some i)) c.loop-from.invariant.same c.in-Some.ensures.next in
     let same = c.in-Some.ensures.same ∙ c.loop-from.invariant.same in
     let told : c.is_named.result ≡ option_map_or (names revocation) (concerned (slot_at view i) revocation) false =
     c.is_named.ensures.value ∙ ap (λ (v : View). option_map_or (names revocation) (concerned (slot_at v i) revocation) false) same in
@@ -28,13 +28,13 @@ loop-from-preserved g c =
       | then-is_named+in_ok-insert-in-Some w ↦
           let more = one_more c.loop-from.due w.insert.new.self i w.in_ok-insert-in-Some.ensures.updates in
           rw (w.due-is)
-          (named_step view asked are revocation c.loop-from.due.keys w.insert.new.self.keys c.loop-from.from i c.in-Some.ensures.next.1 c.in-Some.ensures.next.2 so_far
+          (named_step view revocation c.loop-from.due.keys w.insert.new.self.keys c.loop-from.from i found.there.1 found.passed so_far
           (λ j is. more j ∙ or_right (i == j) (is_one_of c.loop-from.due.keys j) is)
           (λ _. more i ∙ or_first (i == i) (is_one_of c.loop-from.due.keys i) (eq-eqb i i refl))
           (λ j is. elim (or_cases (i == j) (is_one_of c.loop-from.due.keys j) (sym (more j) ∙ is)) [ inl now ↦ inr (eqb-true i j now) | inr before ↦ inl before ]))
       | else-is_named w ↦
           rw (w.due-is)
-          (named_step view asked are revocation c.loop-from.due.keys c.loop-from.due.keys c.loop-from.from i c.in-Some.ensures.next.1 c.in-Some.ensures.next.2 so_far
+          (named_step view revocation c.loop-from.due.keys c.loop-from.due.keys c.loop-from.from i found.there.1 found.passed so_far
           (λ j is. is) (λ named. absurd (true≢false (sym named ∙ sym told ∙ w.if-is_named.false))) (λ j is. inl is))
     ] in
     record {
@@ -47,11 +47,12 @@ loop-from-preserved g c =
 pub returns-in-None-clause-found : goal.returns-in-None-clause-found
 returns-in-None-clause-found g c = λ j grant is named.
     let view = g.V.Records.shown c.args.view.now in
-    let asked = g.V.Records.asked c.loop-from.view in
-    let are : AreAsked view asked = subst (λ (v : View). AreAsked v asked) c.loop-from.invariant.same c.in-None.ensures.asked in
+    let revocation = c.args.revocation.now in
+    let none : IsNextCandidate revocation revocation.grantee false view c.loop-from.from None =
+    subst (λ (v : View). IsNextCandidate revocation revocation.grantee false v c.loop-from.from None) c.loop-from.invariant.same c.in-None.ensures.next in
     elim (cases_lt j c.loop-from.from) [
       | inl before ↦ c.loop-from.invariant.found j grant before is named
-      | inr after ↦ absurd (named-skipped view asked are c.args.revocation.now j grant (c.in-None.ensures.next j after) is named)
+      | inr after ↦ absurd (named-skipped view revocation j grant (none.passed j after tt) is named)
     ]
 
 pub returns-clause-found : goal.returns-clause-found

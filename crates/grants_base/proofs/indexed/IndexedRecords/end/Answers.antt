@@ -3,6 +3,7 @@ use Rattle.std.proofs.lemmas.List.{with_items_is}
 use Rattle.model_base.specs.declared.deed.Record.{Record}
 use Rattle.grants_base.specs.Book.{end_slots}
 use Rattle.grants_base.specs.Index.{is_to}
+use Rattle.grants_base.specs.InForce.{KeepsInForce}
 use Rattle.grants_base.specs.Marks.{AreIndexed}
 use Rattle.grants_base.proofs.Indexing.{ends_slots, recorded-end_slots}
 use Rattle.grants_base.proofs.SideLaws.{indexes_as}
@@ -13,13 +14,14 @@ pub invariant_of-self-2 : goal.invariant_of-self-2
 invariant_of-self-2 c =
     let entries = c.self.inside.records.items in
     let ends = c.args.ends.now in
-    let long : length c.set_ends.new.records ≡ vec_len c.self.inside.records = c.set_ends.auto.records ∙ c.deref_mut.ensures.len in
-    let now = with_items_is c.self.inside.records c.set_ends.new.records long ∙ c.set_ends.ensures ∙ ap (λ (es : List Record). end_slots es ends) c.deref_mut.ensures.value in
+    let long : length c.end_each.new.records ≡ vec_len c.self.inside.records = c.end_each.auto.records ∙ c.deref_mut.ensures.len in
+    let now = with_items_is c.self.inside.records c.end_each.new.records long ∙ c.end_each.ensures.ended ∙ ap (λ (es : List Record). end_slots es ends) c.deref_mut.ensures.value in
     let grants = recorded-end_slots entries ends in
-    subst (λ (es : List Record). AreIndexed es c.self.inside.to c.self.inside.by c.note.new.endings.items) (sym now)
+    subst (λ (es : List Record). AreIndexed es c.self.inside.to c.self.inside.by c.note.new.endings.items c.end_each.new.in_force) (sym now)
     (record {
       grantees = indexes_as is_to c.self.inside.to entries (end_slots entries ends) grants c.self.invariant.grantees;
       grantors = indexes_as is_made_by c.self.inside.by entries (end_slots entries ends) grants c.self.invariant.grantors;
       ends = ends_slots c.note.new.endings.items entries ends c.in_ok-note.ensures.noted (λ slot place entry is of. c.in_ok-note.ensures.kept place slot (c.self.invariant.ends slot place entry is of));
       order = c.in_ok-note.ensures.order;
+      kept = subst (λ (es : List Record). KeepsInForce c.end_each.new.in_force es) (c.end_each.ensures.ended ∙ ap (λ (es : List Record). end_slots es ends) c.deref_mut.ensures.value) c.end_each.ensures.kept;
     })

@@ -12,8 +12,8 @@ pub invariant_of-self : goal.invariant_of-self
 invariant_of-self c =
     let entries = c.pop.new.self.items in
     let last = c.in-Some.record in
-    let was : AreIndexed (entries ++ last ∷ []) c.self.inside.to c.self.inside.by c.self.inside.endings.items =
-    subst (λ (es : List Record). AreIndexed es c.self.inside.to c.self.inside.by c.self.inside.endings.items) c.in-Some.ensures.items c.self.invariant in
+    let was : AreIndexed (entries ++ last ∷ []) c.self.inside.to c.self.inside.by c.self.inside.endings.items c.self.inside.in_force =
+    subst (λ (es : List Record). AreIndexed es c.self.inside.to c.self.inside.by c.self.inside.endings.items c.self.inside.in_force) c.in-Some.ensures.items c.self.invariant in
     record {
       grantees =
           indexes_less is_to to_side to_side-same c.self.inside.to c.pop-in-Some.new.self entries last was.grantees
@@ -23,4 +23,5 @@ invariant_of-self c =
           (subst (λ (side : Side). IsPopped side c.self.inside.by c.pop-in-Some-2.new.self) c.by_side.ensures c.pop-in-Some-2.ensures);
       ends = ends_less c.self.inside.endings.items entries last was.ends;
       order = was.order;
+      kept = c.forget.ensures entries;
     }

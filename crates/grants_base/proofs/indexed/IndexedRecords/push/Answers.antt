@@ -15,10 +15,11 @@ invariant_of-self-2 c =
     let same : c.reserve.new.self.items ≡ entries = c.reserve.ensures.items in
     let long : length c.reserve.new.self.items ≡ length entries = ap length same in
     let count : c.len-slot.result ≡ length entries = omega (arith, c.len-slot.ensures, c.reserve.new.self.ok.0, long) in
-    subst (λ (es : List Record). AreIndexed es c.push_slot.new.to c.push_slot.new.by c.self.inside.endings.items) (ap (λ (es : List Record). es ++ entry ∷ []) (sym same) ∙ sym c.push_reserved.ensures.items)
+    subst (λ (es : List Record). AreIndexed es c.push_slot.new.to c.push_slot.new.by c.self.inside.endings.items c.push.new.self) (ap (λ (es : List Record). es ++ entry ∷ []) (sym same) ∙ sym c.push_reserved.ensures.items)
     (record {
       grantees = indexes_more is_to to_side to_side-same c.self.inside.to c.push_slot.new.to entries entry c.len-slot.result count c.self.invariant.grantees c.in_ok-push_slot.ensures.to;
       grantors = indexes_more is_made_by by_side by_side-same c.self.inside.by c.push_slot.new.by entries entry c.len-slot.result count c.self.invariant.grantors c.in_ok-push_slot.ensures.by;
       ends = ends_more c.self.inside.endings.items entries c.args.grant c.self.invariant.ends;
       order = c.self.invariant.order;
+      kept = c.push.ensures entries count c.self.invariant.kept;
     })

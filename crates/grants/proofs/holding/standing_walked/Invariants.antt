@@ -1,9 +1,10 @@
 use Rattle.std.proofs.Common.{◌-◌, ◌≡◌, ◌≤◌, length, drop}
 use Rattle.std.specs.List.{flat_map, list_any}
 use Rattle.std.specs.Option.{option_to_list}
-use Rattle.grants.specs.Loss.{last_end, later_of, narrowed}
+use Rattle.grants_base.specs.Force.{later_of}
+use Rattle.grants.specs.Loss.{last_end, narrowed}
 use Rattle.grants_base.specs.View.{entries, slot_gives}
-use Rattle.grants.proofs.holding.standing_by.Given as goal
+use Rattle.grants.proofs.holding.standing_walked.Given as goal
 
 -- the slots that are left give what all give, and the last loss so far, or a later one in them, is that of all
 abbrev pub invariant-loop-from : goal.invariant-loop-from

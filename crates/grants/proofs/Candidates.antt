@@ -1,0 +1,55 @@
+-- The next slot that may have a grant in force to a grantee.
+use Rattle.std.proofs.Common.{◌≡◌, ℕ, zero, suc, ◌<◌, ◌&&◌, Bool, true, false, List, [], ◌∷◌, Option, Some, None, is_none, length, refl, sym, ◌∙◌, ap, arith}
+use Rattle.std.specs.Prelude.{slice_get}
+use Rattle.std.proofs.lemmas.Bool.{and_parts}
+use Rattle.model_base.specs.declared.deed.Grant.{Grant}
+use Rattle.model_base.specs.declared.deed.Grantee.{Grantee}
+use Rattle.model_base.specs.declared.deed.Record.{Record}
+use Rattle.model_base.specs.declared.deed.Revocation.{Revocation}
+use Rattle.model_base.specs.Privileges.{concerns}
+use Rattle.model_base.proofs.Replay.{by_cases}
+use Rattle.grants_base.specs.Force.{gives_to, is_in_force}
+use Rattle.grants_base.specs.InForce.{ShowsNextInForce}
+use Rattle.grants_base.specs.Index.{AreAsked, IsFirst, IsNext, is_to}
+use Rattle.grants_base.specs.View.{View, flatten, slot_at}
+use Rattle.grants_base.specs.declared.force.NextInForce.{NextInForce}
+use Rattle.grants.specs.Work.{IsNextCandidate, has_in_force}
+use Rattle.grants.proofs.Asked.{found_within, candidate-skipped}
+
+-- a slot with no such grant in force isn't open
+closed : (revocation : Revocation) (grantee : Grantee) (option : Bool) (slot : Option Record) → is_in_force (gives_to grantee revocation.kind revocation.table option) slot ≡ false
+    → has_in_force revocation grantee option slot ≡ false
+closed revocation grantee option None is = refl
+closed revocation grantee option (Some entry) is =
+    by_cases (is_none entry.end && concerns revocation entry.grant)
+    (λ both.
+    let free = (and_parts (is_none entry.end) (concerns revocation entry.grant) both).0 in
+    rw both (ap (λ b. b && gives_to grantee revocation.kind revocation.table option entry.grant) (sym free) ∙ is))
+    (λ other. rw other refl)
+
+-- a slot with a grant in force is there
+in_force-within : (slots : List (Option Record)) (passes : Grant → Bool) (i : ℕ) → is_in_force passes (flatten (slice_get slots i)) ≡ true → i < length slots
+in_force-within [] passes i is = absurd (cc)
+in_force-within (slot ∷ slots) passes zero is = omega arith
+in_force-within (slot ∷ slots) passes (suc i) is = let less = in_force-within slots passes i is in omega arith
+
+module _ (view : View) (revocation : Revocation) (grantee : Grantee) (option : Bool) (from : ℕ) where
+  pub candidate_by_index : (next : NextInForce) → ShowsNextInForce (gives_to grantee revocation.kind revocation.table option) view from next
+      → IsNextCandidate revocation grantee option view from next.slot
+  candidate_by_index next is = by_slot next.slot is.slot
+    where
+      by_slot : (found : Option ℕ) → IsFirst (λ k. is_in_force (gives_to grantee revocation.kind revocation.table option) (slot_at view k)) from found
+          → IsNextCandidate revocation grantee option view from found
+      by_slot None none = record { there = tt; passed = λ k low before. closed revocation grantee option (slot_at view k) (none k low) }
+      by_slot (Some i) some = record {
+        there = (some.0, in_force-within view.slots (gives_to grantee revocation.kind revocation.table option) i some.1);
+        passed = λ k low before. closed revocation grantee option (slot_at view k) (some.2 k low before);
+      }
+
+  pub candidate_by_slots : (asked : List Grant) → AreAsked view asked → (found : Option ℕ) → IsNext (is_to grantee revocation.kind revocation.table) asked from found
+      → IsNextCandidate revocation grantee option view from found
+  candidate_by_slots asked are None none = record { there = tt; passed = λ k low before. candidate-skipped view asked are revocation grantee option k (none k low) }
+  candidate_by_slots asked are (Some i) some = record {
+    there = (some.0, found_within view asked are (is_to grantee revocation.kind revocation.table) i some.1);
+    passed = λ k low before. candidate-skipped view asked are revocation grantee option k (some.2 k low before);
+  }

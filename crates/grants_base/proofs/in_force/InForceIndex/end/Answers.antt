@@ -1,0 +1,17 @@
+use Rattle.std.proofs.Common.{sym, ◌∙◌, subst}
+use Rattle.grants_base.specs.Book.{end_slot}
+use Rattle.grants_base.specs.Force.{privilege_taken}
+use Rattle.grants_base.specs.InForce.{IsChanged}
+use Rattle.grants_base.specs.declared.index.Side.{Side}
+use Rattle.grants_base.proofs.Keeping.{keeps_ended, none_of}
+use Rattle.grants_base.proofs.in_force.InForceIndex.end.Goals as goal
+
+pub returns-then-is_some : goal.returns-then-is_some
+returns-then-is_some c = λ entries at keeps. c.forget.ensures (end_slot entries c.args.slot c.args.place)
+
+pub returns-else-not-take : goal.returns-else-not-take
+returns-else-not-take c = λ entries at keeps.
+    let grant = c.args.entry.now.grant in
+    keeps_ended c.args.self.now c.take.new.self c.take.ensures.whole entries keeps c.args.slot c.args.place c.args.entry.now at
+    (none_of c.args.entry.now.end (sym c.is_some.ensures ∙ c.if-is_some.false))
+    (subst (λ (side : Side). IsChanged side (privilege_taken c.args.slot c.args.place grant.option) c.args.self.now c.take.new.self) c.to_side.ensures (c.take.ensures.taken c.if-not-take.false))

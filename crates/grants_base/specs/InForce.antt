@@ -1,0 +1,40 @@
+-- The grants in force under each grantee, kind and table, as they are kept and found.
+use Rattle.std.specs.Prelude.{◌≡◌, ℕ, Bool, true, List, slice_get, unwrap_or, if◌then◌else◌}
+use Rattle.std.specs.HashMap.{get}
+use Rattle.model_base.specs.declared.deed.Grant.{Grant}
+use Rattle.model_base.specs.declared.deed.Grantee.{Grantee}
+use Rattle.model_base.specs.declared.deed.Kind.{Kind}
+use Rattle.model_base.specs.declared.deed.Record.{Record}
+use Rattle.grants_base.specs.Force.{IsForceOf, Privilege, force_of, gives_to, greatest_end, is_in_force, no_privilege}
+use Rattle.grants_base.specs.Index.{IsFirst}
+use Rattle.grants_base.specs.Sides.{same_side, side_of}
+use Rattle.grants_base.specs.View.{View, entries, slot_at}
+use Rattle.grants_base.specs.declared.force.NextInForce.{NextInForce}
+use Rattle.grants_base.specs.declared.in_force.InForceIndex.{InForceIndex}
+use Rattle.grants_base.specs.declared.index.Side.{Side}
+
+-- what an index keeps under a side
+abbrev pub privilege_under : InForceIndex → Side → Privilege
+privilege_under index side = unwrap_or (get same_side index.sides side) no_privilege
+
+-- the index keeps under one side what comes of what another keeps there, and else the same
+abbrev pub IsChanged : Side → (Privilege → Privilege) → InForceIndex → InForceIndex → Type 0
+IsChanged side change old new =
+    (other : Side) → privilege_under new other
+    ≡ (if same_side side other then change (privilege_under old other) else privilege_under old other)
+
+-- an index that is whole keeps under each grantee, kind and table what is in force of the records
+abbrev pub KeepsInForce : InForceIndex → List Record → Type 0
+KeepsInForce index entries =
+    index.is_whole ≡ true → (grantee : Grantee) (kind : Kind) (table : ℕ) (option : Bool)
+    → IsForceOf (gives_to grantee kind table option) entries (force_of option (privilege_under index (side_of grantee kind table)))
+
+-- the next record in force whose grant passes, and the greatest end of those that pass
+pub record IsNextInForce (passes : Grant → Bool) (entries : List Record) (from : ℕ) (next : NextInForce) : Type 0 where
+  pub slot : IsFirst (λ k. is_in_force passes (slice_get entries k)) from next.slot
+  pub lost : next.lost ≡ greatest_end passes entries
+
+-- the same of the slots of a view
+pub record ShowsNextInForce (passes : Grant → Bool) (view : View) (from : ℕ) (next : NextInForce) : Type 0 where
+  pub slot : IsFirst (λ k. is_in_force passes (slot_at view k)) from next.slot
+  pub lost : next.lost ≡ greatest_end passes (entries view)

@@ -1,0 +1,129 @@
+//! The grants in force under each grantee, kind and table, and when those that left force did last.
+
+ghost use Rattle.std.specs.Prelude.{◌≡◌, ◌++◌, ◌∷◌, [], true, List, IfSome, OnOk, Some, slice_get, length};
+ghost use Rattle.model_base.specs.declared.deed.Record.{Record};
+ghost use Rattle.grants_base.specs.Book.{end_slot, unended};
+ghost use Rattle.grants_base.specs.Force.{privilege_taken, force_of, privilege_given};
+ghost use Rattle.grants_base.specs.InForce.{IsChanged, KeepsInForce, privilege_under};
+ghost use Rattle.grants_base.specs.Index.{IsFirst, is_one_of};
+ghost use Rattle.grants_base.specs.Sides.{AreAscending, to_side};
+
+use crate::force::{NextInForce, Privilege};
+use crate::index::{Side, to_side};
+use model_base::{Grant, Place, Record};
+use std::alloc::{AllocError, Global};
+use std::collections::HashMap;
+
+/// What is in force under each grantee, kind and table. Where memory was refused, or grants and ends were taken back, it isn't whole any more:
+/// then it tells nothing.
+#[derive(Drop)]
+pub(crate) struct InForceIndex {
+    alloc: Global,
+    sides: HashMap<Side, Privilege>,
+    is_whole: bool,
+}
+
+impl InForceIndex {
+    /// No grants. It takes no memory.
+    pub fn new(alloc: Global) -> Self
+        ensures { KeepsInForce result [] }
+    {
+        InForceIndex {
+            alloc,
+            sides: HashMap::new(alloc),
+            is_whole: true,
+        }
+    }
+
+    /// An index that tells nothing.
+    pub fn silent(alloc: Global) -> Self
+        ensures none { KeepsInForce result [] }
+        ensures all { (entries : List Record) → KeepsInForce result entries }
+    {
+        InForceIndex {
+            alloc,
+            sides: HashMap::new(alloc),
+            is_whole: false,
+        }
+    }
+
+    /// Forgets all, and tells nothing from now on.
+    pub fn forget(&mut self)
+        ensures { (entries : List Record) → KeepsInForce self.new entries }
+    {
+        *self = InForceIndex::silent(self.alloc);
+    }
+
+    /// Adds the slot of a grant under its side. On `Err` memory was refused.
+    fn put(&mut self, side: Side, slot: usize, option: bool) -> Result<(), AllocError>
+        ensures whole { self.new.is_whole ≡ self.old.is_whole }
+        ensures ok { OnOk result (IsChanged side (privilege_given slot option) self.old self.new) }
+    {
+        if let Some(privilege) = self.sides.get_mut(&side) {
+            return privilege.push(slot, option);
+        }
+        let mut privilege = Privilege::new(self.alloc);
+        privilege.push(slot, option)?;
+        self.sides.insert(side, privilege)?;
+        Ok(())
+    }
+
+    /// Takes away the slot of a grant that left force at a place, and answers whether there was anything under its side.
+    fn take(&mut self, side: &Side, slot: usize, place: Place, option: bool) -> bool
+        ensures whole { self.new.is_whole ≡ self.old.is_whole }
+        ensures taken { result ≡ true → IsChanged side.now (privilege_taken slot place option) self.old self.new }
+    {
+        match self.sides.get_mut(side) {
+            Some(privilege) => {
+                privilege.end(slot, place, option);
+                true
+            }
+            None => false,
+        }
+    }
+
+    /// Adds the record of a grant, without an end, behind all others.
+    pub fn push(&mut self, grant: &Grant, slot: usize)
+        ensures { (entries : List Record) → slot ≡ length entries → KeepsInForce self.old entries
+            → KeepsInForce self.new (entries ++ unended grant.now ∷ []) }
+    {
+        if !self.is_whole {
+            return;
+        }
+        if self.put(to_side(grant), slot, grant.option).is_err() {
+            self.forget();
+        }
+    }
+
+    /// Ends the record of a slot.
+    pub fn end(&mut self, entry: &Record, slot: usize, place: Place)
+        ensures { (entries : List Record) → slice_get entries slot ≡ Some entry.now → KeepsInForce self.old entries
+            → KeepsInForce self.new (end_slot entries slot place) }
+    {
+        let grant = &entry.grant;
+        if entry.end.is_some() || !self.take(&to_side(grant), slot, place, grant.option) {
+            self.forget();
+        }
+    }
+
+    /// The least slot at or above this one of a grant in force under a side, and the last place at which one of them left force; with the
+    /// option, where one is asked for. None where the index isn't whole.
+    pub fn next(&self, side: &Side, option: bool, from: usize) -> Option<NextInForce>
+        requires { self.now.is_whole ≡ true → AreAscending (force_of option (privilege_under self.now side.now)).slots }
+        ensures whole { IfSome result (λ _. self.now.is_whole ≡ true) }
+        ensures slot { IfSome result (λ next.
+            IsFirst (is_one_of (force_of option (privilege_under self.now side.now)).slots) from next.slot) }
+        ensures lost { IfSome result (λ next. next.lost ≡ (force_of option (privilege_under self.now side.now)).lost) }
+    {
+        if !self.is_whole {
+            return None;
+        }
+        match self.sides.get(side) {
+            Some(privilege) => Some(privilege.force(option).next(from)),
+            None => Some(NextInForce {
+                slot: None,
+                lost: None,
+            }),
+        }
+    }
+}
