@@ -181,8 +181,8 @@ impl Book {
 
     /// Ends the grants that the revocation takes out of force, at its place, and answers their places in rising order. The
     /// place has to lie above all of the book, and the table to be one of its tables. It costs what `to_end` does on the
-    /// book's view, and for each grant that ends a time that doesn't grow with the number of grants, on average. On `Err`
-    /// memory was refused, and the book is as it was.
+    /// book's view, and for each grant that ends a time that grows with the number of grants in force of its kind on its table to its
+    /// grantee. On `Err` memory was refused, and the book is as it was.
     pub fn revoke(
         &mut self,
         alloc: Global,
@@ -220,9 +220,9 @@ impl Book {
     /// Adds tables and grants behind the others, the grants without an end, and then ends records by their slots. What is
     /// so put together has to be a book. Where the book showed some deeds, and the grants and ends are what more deeds make
     /// of their records, it then shows them all. Each table and each grant costs a time that doesn't grow with their number, on
-    /// average, and each end the logarithm of the number of these ends. Only where the book has ends at later places than a new
-    /// one are they moved for it, and found in a time that grows with the logarithm of their number. On `Err` memory was
-    /// refused, and the book is as it was.
+    /// average, and each end the logarithm of the number of these ends and, as in `revoke`, the number of grants in force beside
+    /// its own. Only where the book has ends at later places than a new one are they moved for it, and found in a time that grows
+    /// with the logarithm of their number. On `Err` memory was refused, and the book is as it was.
     pub fn extend(
         &mut self,
         tables: &[Creation],
