@@ -93,8 +93,9 @@ impl Book {
     }
 
     /// Adds a grant last. The place has to lie above all of the book, the table to be one of its tables, and the grantor to
-    /// hold the kind with the option, as `holds_option` tells by the book's view. It takes a time that doesn't grow with the
-    /// number of grants, on average. On `Err` memory was refused, and the book is as it was.
+    /// hold the kind with the option, as `holds_option` tells by the book's view. It takes a time that grows with the logarithm of the
+    /// number of grants in force of its kind on its table to its grantee, on average. On `Err` memory was refused, and the book is as
+    /// it was.
     #[tactic(auto, using(crate::proofs::GrantLaws::sound_grant, crate::proofs::GrantLaws::shows_grant, crate::proofs::LaterLaws::later_grant))]
     pub fn grant(&mut self, grant: Grant) -> Result<(), AllocError>
         requires later { IsLater self.old grant.place }
@@ -181,8 +182,8 @@ impl Book {
 
     /// Ends the grants that the revocation takes out of force, at its place, and answers their places in rising order. The
     /// place has to lie above all of the book, and the table to be one of its tables. It costs what `to_end` does on the
-    /// book's view, and for each grant that ends a time that grows with the number of grants in force of its kind on its table to its
-    /// grantee. On `Err` memory was refused, and the book is as it was.
+    /// book's view, and for each grant that ends the logarithm of the number of these and of the grants in force of its kind on its
+    /// table to its grantee. On `Err` memory was refused, and the book is as it was.
     pub fn revoke(
         &mut self,
         alloc: Global,
@@ -219,10 +220,10 @@ impl Book {
 
     /// Adds tables and grants behind the others, the grants without an end, and then ends records by their slots. What is
     /// so put together has to be a book. Where the book showed some deeds, and the grants and ends are what more deeds make
-    /// of their records, it then shows them all. Each table and each grant costs a time that doesn't grow with their number, on
-    /// average, and each end the logarithm of the number of these ends and, as in `revoke`, the number of grants in force beside
-    /// its own. Only where the book has ends at later places than a new one are they moved for it, and found in a time that grows
-    /// with the logarithm of their number. On `Err` memory was refused, and the book is as it was.
+    /// of their records, it then shows them all. Each table costs a time that doesn't grow with their number, on average, each grant
+    /// the logarithm of the number of grants in force of its kind on its table to its grantee, and each end that and the logarithm of
+    /// the number of these ends. Only where the book has ends at later places than a new one are they moved for it, and found in a
+    /// time that grows with the logarithm of their number. On `Err` memory was refused, and the book is as it was.
     pub fn extend(
         &mut self,
         tables: &[Creation],

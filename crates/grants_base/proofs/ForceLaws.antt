@@ -1,16 +1,13 @@
 -- What is in force with one grant more, and with one less.
-use Rattle.std.proofs.Common.{◌≡◌, ℕ, zero, suc, ◌<◌, ◌&&◌, ◌||◌, not, Bool, true, false, List, [], ◌∷◌, ◌++◌, Option, Some, None, is_none, filter, length, refl, sym, ◌∙◌, ap, arith, eq-eqb}
-use Rattle.std.specs.Prelude.{◌==◌, All, if◌then◌else◌, slice_get}
+use Rattle.std.proofs.Common.{◌≡◌, ℕ, zero, suc, ◌&&◌, ◌||◌, not, Bool, true, false, List, [], ◌∷◌, ◌++◌, Option, Some, None, is_none, length, refl, sym, ◌∙◌, ap, arith}
+use Rattle.std.specs.Prelude.{◌==◌, if◌then◌else◌, slice_get}
 use Rattle.std.proofs.lemmas.Bool.Decides.{nat_tests}
-use Rattle.std.proofs.lemmas.Bool.{eqb-true, ne_eqb, or_right, true≢false}
-use Rattle.std.proofs.lemmas.List.Elements.{All-cons, All-head, All-nil, All-tail}
+use Rattle.std.proofs.lemmas.Bool.{eqb-true, ne_eqb}
 use Rattle.model_base.specs.declared.deed.Grant.{Grant}
 use Rattle.model_base.specs.declared.deed.Record.{Record}
 use Rattle.model_base.proofs.Replay.{by_cases}
 use Rattle.grants_base.specs.Book.{end_slot, unended}
-use Rattle.grants_base.specs.Force.{Force, IsForceOf, end_if, greatest_end, is_in_force, later_of, no_force, with_slot, without_slot}
-use Rattle.grants_base.specs.Index.{is_one_of}
-use Rattle.grants_base.specs.Sides.{AreAscending}
+use Rattle.grants_base.specs.Force.{Force, IsForceOf, IsWithSlot, IsWithoutSlot, end_if, greatest_end, is_in_force, later_of, no_force}
 use Rattle.grants_base.proofs.LaterOf.{later-assoc, later-none, later-swap}
 
 or-none : (a : Bool) → (a || false) ≡ a
@@ -35,71 +32,7 @@ suc-apart k = ne_eqb 0 (suc k) (λ same. omega arith)
 suc-same : (a b : ℕ) → (suc a == suc b) ≡ (a == b)
 suc-same a b = grind (arith, nat_tests)
 
--- one number more
-one-more : (numbers : List ℕ) (last k : ℕ) → is_one_of (numbers ++ last ∷ []) k ≡ (is_one_of numbers k || (last == k))
-one-more [] last k = or-none (last == k)
-one-more (n ∷ numbers) last k = ap (λ b. (n == k) || b) (one-more numbers last k) ∙ or-assoc (n == k) (is_one_of numbers k) (last == k)
-
--- or one less
-one-less : (numbers : List ℕ) (gone k : ℕ) → is_one_of (filter (λ other. not (other == gone)) numbers) k ≡ (is_one_of numbers k && not (gone == k))
-one-less [] gone k = refl
-one-less (n ∷ numbers) gone k =
-    by_cases (n == gone)
-    (λ here.
-    let same : n ≡ gone = eqb-true n gone here in
-    rw here
-    (one-less numbers gone k
-    ∙ by_cases (n == k)
-    (λ yes. let is : (gone == k) ≡ true = eq-eqb gone k (omega (arith, same, eqb-true n k yes)) in rw (yes, is) (and-false (is_one_of numbers k)))
-    (λ no. rw no refl)))
-    (λ apart.
-    rw apart
-    (ap (λ b. (n == k) || b) (one-less numbers gone k)
-    ∙ by_cases (n == k)
-    (λ yes.
-    let is : (gone == k) ≡ false = ne_eqb gone k (λ same. true≢false (sym (eq-eqb n gone (omega (arith, same, eqb-true n k yes))) ∙ apart)) in
-    rw (yes, is) refl)
-    (λ no. rw no refl)))
-
--- numbers that lie below a bound
-all-below : (numbers : List ℕ) (bound : ℕ) → ((k : ℕ) → is_one_of numbers k ≡ true → k < bound) → All (λ k. k < bound) numbers
-all-below [] bound below = All-nil (λ k. k < bound)
-all-below (n ∷ numbers) bound below =
-    let here : (n == n) ≡ true = eq-eqb n n refl in
-    All-cons (λ k. k < bound) n numbers (below n (rw here refl)) (all-below numbers bound (λ k is. below k (or_right (n == k) (is_one_of numbers k) is)))
-
-above-more : (low last : ℕ) (numbers : List ℕ) → All (λ later. low < later) numbers → low < last → All (λ later. low < later) (numbers ++ last ∷ [])
-above-more low last [] all less = All-cons (λ later. low < later) last [] less (All-nil (λ later. low < later))
-above-more low last (n ∷ numbers) all less =
-    All-cons (λ later. low < later) n (numbers ++ last ∷ []) (All-head (λ later. low < later) n numbers all) (above-more low last numbers (All-tail (λ later. low < later) n numbers all) less)
-
--- with the last
-rise-more : (numbers : List ℕ) (last : ℕ) → AreAscending numbers → All (λ k. k < last) numbers → AreAscending (numbers ++ last ∷ [])
-rise-more [] last rise below = (All-nil (λ later. last < later), tt)
-rise-more (n ∷ numbers) last rise below =
-    (above-more n last numbers rise.0 (All-head (λ k. k < last) n numbers below), rise-more numbers last rise.1 (All-tail (λ k. k < last) n numbers below))
-
-above-less : (low : ℕ) (p : ℕ → Bool) (numbers : List ℕ) → All (λ later. low < later) numbers → All (λ later. low < later) (filter p numbers)
-above-less low p [] all = all
-above-less low p (n ∷ numbers) all =
-    let rest = above-less low p numbers (All-tail (λ later. low < later) n numbers all) in
-    by_cases (p n)
-    (λ yes. rw yes (All-cons (λ later. low < later) n (filter p numbers) (All-head (λ later. low < later) n numbers all) rest))
-    (λ no. rw no rest)
-
--- and some of them
-rise-less : (p : ℕ → Bool) (numbers : List ℕ) → AreAscending numbers → AreAscending (filter p numbers)
-rise-less p [] rise = rise
-rise-less p (n ∷ numbers) rise =
-    by_cases (p n) (λ yes. rw yes (above-less n p numbers rise.0, rise-less p numbers rise.1)) (λ no. rw no (rise-less p numbers rise.1))
-
 module _ (passes : Grant → Bool) where
-  -- nothing is in force behind the records
-  pub within : (entries : List Record) (k : ℕ) → is_in_force passes (slice_get entries k) ≡ true → k < length entries
-  within [] k is = absurd (cc)
-  within (entry ∷ entries) zero is = omega arith
-  within (entry ∷ entries) (suc k) is = let low = within entries k is in omega arith
-
   force-more : (entries : List Record) (grant : Grant) (k : ℕ)
       → is_in_force passes (slice_get (entries ++ unended grant ∷ []) k) ≡ (is_in_force passes (slice_get entries k) || ((length entries == k) && passes grant))
   force-more [] grant zero = refl
@@ -143,20 +76,19 @@ module _ (passes : Grant → Bool) where
 
   -- nothing is in force of no records
   pub force_none : IsForceOf passes [] no_force
-  force_none = record { slots = λ k. refl; order = tt; lost = refl }
+  force_none = record { slots = λ k. refl; lost = refl }
 
   -- a grant that passes is in force
-  pub force_granted : (entries : List Record) (grant : Grant) (slot : ℕ) (force : Force) → slot ≡ length entries → passes grant ≡ true → IsForceOf passes entries force
-      → IsForceOf passes (entries ++ unended grant ∷ []) (with_slot slot force)
-  force_granted entries grant slot force last passing is = record {
+  pub force_granted : (entries : List Record) (grant : Grant) (slot : ℕ) (old new : Force) → slot ≡ length entries → passes grant ≡ true → IsForceOf passes entries old
+      → IsWithSlot slot old new → IsForceOf passes (entries ++ unended grant ∷ []) new
+  force_granted entries grant slot old new last passing is given = record {
     slots = λ k.
-        one-more force.slots slot k
+        given.slots k
         ∙ ap (λ b. b || (slot == k)) (is.slots k)
         ∙ ap (λ n. is_in_force passes (slice_get entries k) || (n == k)) last
         ∙ sym (force-more entries grant k ∙ ap (λ b. is_in_force passes (slice_get entries k) || ((length entries == k) && b)) passing
         ∙ ap (λ b. is_in_force passes (slice_get entries k) || b) (and-true (length entries == k)));
-    order = rise-more force.slots slot is.order (all-below force.slots slot (λ k one. let low = within entries k (sym (is.slots k) ∙ one) in omega (arith, low, last)));
-    lost = is.lost ∙ sym (greatest-more entries grant);
+    lost = given.lost ∙ is.lost ∙ sym (greatest-more entries grant);
   }
 
   -- one that doesn't changes nothing
@@ -166,18 +98,16 @@ module _ (passes : Grant → Bool) where
         is.slots k
         ∙ sym (force-more entries grant k ∙ ap (λ b. is_in_force passes (slice_get entries k) || ((length entries == k) && b)) failing
         ∙ ap (λ b. is_in_force passes (slice_get entries k) || b) (and-false (length entries == k)) ∙ or-none (is_in_force passes (slice_get entries k)));
-    order = is.order;
     lost = is.lost ∙ sym (greatest-more entries grant);
   }
 
   -- the end of a grant in force that passes
-  pub force_ended : (entries : List Record) (slot place : ℕ) (found : Record) (force : Force) → slice_get entries slot ≡ Some found → found.end ≡ None → passes found.grant ≡ true
-      → IsForceOf passes entries force → IsForceOf passes (end_slot entries slot place) (without_slot slot place force)
-  force_ended entries slot place found force at free passing is = record {
-    slots = λ k. one-less force.slots slot k ∙ ap (λ b. b && not (slot == k)) (is.slots k) ∙ sym (force-less entries slot place k);
-    order = rise-less (λ other. not (other == slot)) force.slots is.order;
+  pub force_ended : (entries : List Record) (slot place : ℕ) (found : Record) (old new : Force) → slice_get entries slot ≡ Some found → found.end ≡ None → passes found.grant ≡ true
+      → IsForceOf passes entries old → IsWithoutSlot slot place old new → IsForceOf passes (end_slot entries slot place) new
+  force_ended entries slot place found old new at free passing is taken = record {
+    slots = λ k. taken.slots k ∙ ap (λ b. b && not (slot == k)) (is.slots k) ∙ sym (force-less entries slot place k);
     lost =
-        ap (λ lost. later_of lost (Some place)) is.lost
+        taken.lost ∙ ap (λ lost. later_of lost (Some place)) is.lost
         ∙ sym (greatest-less entries slot place found at free ∙ ap (λ (b : Bool). later_of (greatest_end passes entries) (if b then Some place else None)) passing);
   }
 
@@ -186,7 +116,6 @@ module _ (passes : Grant → Bool) where
       → IsForceOf passes entries force → IsForceOf passes (end_slot entries slot place) force
   force_other entries slot place found force at free failing is = record {
     slots = λ k. is.slots k ∙ sym (force-less entries slot place k ∙ kept k);
-    order = is.order;
     lost =
         is.lost
         ∙ sym (greatest-less entries slot place found at free ∙ ap (λ (b : Bool). later_of (greatest_end passes entries) (if b then Some place else None)) failing

@@ -1,13 +1,14 @@
 -- An index keeps what is in force with one grant more, and with one less.
 use Rattle.std.proofs.Common.{◌≡◌, ℕ, ◌&&◌, ◌||◌, not, Bool, true, false, List, [], ◌∷◌, ◌++◌, Option, Some, None, length, refl, sym, ◌∙◌, ap, subst}
 use Rattle.std.specs.Prelude.{Err, IfSome, Ok, OnOk, Result, if◌then◌else◌, is_err, is_some, slice_get, unwrap_or}
+use Rattle.std.specs.Bool.{OnFalse, OnTrue}
 use Rattle.model_base.specs.declared.deed.Grant.{Grant}
 use Rattle.model_base.specs.declared.deed.Grantee.{Grantee}
 use Rattle.model_base.specs.declared.deed.Kind.{Kind}
 use Rattle.model_base.specs.declared.deed.Record.{Record}
 use Rattle.model_base.proofs.Replay.{by_cases}
 use Rattle.grants_base.specs.Book.{end_slot, unended}
-use Rattle.grants_base.specs.Force.{IsForceOf, Privilege, privilege_taken, force_of, gives_to, privilege_given, with_slot, without_slot}
+use Rattle.grants_base.specs.Force.{Force, IsForceOf, IsGranted, IsWithSlot, IsWithdrawn, IsWithoutSlot, Privilege, force_of, gives_to}
 use Rattle.grants_base.specs.InForce.{IsChanged, KeepsInForce, privilege_under}
 use Rattle.grants_base.specs.Index.{is_to}
 use Rattle.grants_base.specs.Sides.{side_of, to_side}
@@ -52,86 +53,108 @@ next_told None W S L Q whole slot lost gives = tt
 next_told (Some x) W S L Q whole slot lost gives = gives x whole slot lost
 
 -- what is put where there was nothing
-pub put_new : {X : Type 0} (here : Bool) (none value : X) (change : X → X) (was now : Option X) → value ≡ change none → (here ≡ true → was ≡ None)
-    → now ≡ (if here then Some value else was) → unwrap_or now none ≡ (if here then change (unwrap_or was none) else unwrap_or was none)
-put_new true none value change was now is absent told =
-    let told_none : now ≡ Some value = told in
-    ap (λ found. unwrap_or found none) told_none ∙ is ∙ ap (λ found. change (unwrap_or found none)) (sym (absent refl))
-put_new false none value change was now is absent told = ap (λ found. unwrap_or found none) told
+pub put_new : {X : Type 0} (here : Bool) (none value : X) (Change : X → X → Type 0) (was now : Option X) → Change none value → (here ≡ true → was ≡ None)
+    → now ≡ (if here then Some value else was) → OnTrue here (Change (unwrap_or was none) (unwrap_or now none)) × OnFalse here (unwrap_or now none ≡ unwrap_or was none)
+put_new {X} true none value Change was now is absent told =
+    (subst (λ (o : Option X). Change (unwrap_or o none) (unwrap_or now none)) (sym (absent refl)) (subst (λ (o : Option X). Change none (unwrap_or o none)) (sym told) is), tt)
+put_new false none value Change was now is absent told = (tt, ap (λ found. unwrap_or found none) told)
 
 -- or where there was something
-pub put_changed : {X : Type 0} (here : Bool) (none was value : X) (change : X → X) (found now : Option X) → value ≡ change was → (here ≡ true → found ≡ Some was)
-    → now ≡ (if here then Some value else found) → unwrap_or now none ≡ (if here then change (unwrap_or found none) else unwrap_or found none)
-put_changed true none was value change found now is there told =
-    ap (λ o. unwrap_or o none) told ∙ is ∙ ap (λ o. change (unwrap_or o none)) (sym (there refl))
-put_changed false none was value change found now is there told = ap (λ o. unwrap_or o none) told
+pub put_changed : {X : Type 0} (here : Bool) (none was value : X) (Change : X → X → Type 0) (found now : Option X) → Change was value → (here ≡ true → found ≡ Some was)
+    → now ≡ (if here then Some value else found) → OnTrue here (Change (unwrap_or found none) (unwrap_or now none)) × OnFalse here (unwrap_or now none ≡ unwrap_or found none)
+put_changed {X} true none was value Change found now is there told =
+    (subst (λ (o : Option X). Change (unwrap_or o none) (unwrap_or now none)) (sym (there refl)) (subst (λ (o : Option X). Change was (unwrap_or o none)) (sym told) is), tt)
+put_changed false none was value Change found now is there told = (tt, ap (λ o. unwrap_or o none) told)
+
+-- what holds of a flag that is set, or isn't
+on_true : (b : Bool) (P Q : Type 0) → OnTrue b P × OnFalse b Q → b ≡ true → P
+on_true true P Q both is = both.0
+on_true false P Q both is = absurd (cc)
+
+on_false : (b : Bool) (P Q : Type 0) → OnTrue b P × OnFalse b Q → b ≡ false → Q
+on_false false P Q both is = both.1
+on_false true P Q both is = absurd (cc)
 
 -- of one grantee, kind and table
-module _ (entries : List Record) (grantee : Grantee) (kind : Kind) (table : ℕ) (was : Privilege)
+module _ (entries : List Record) (grantee : Grantee) (kind : Kind) (table : ℕ) (was now : Privilege)
     (before : (asked : Bool) → IsForceOf (gives_to grantee kind table asked) entries (force_of asked was)) where
-  granted_here : (grant : Grant) (slot : ℕ) → slot ≡ length entries → is_to grantee kind table grant ≡ true → (asked : Bool)
-      → IsForceOf (gives_to grantee kind table asked) (entries ++ unended grant ∷ []) (force_of asked (privilege_given slot grant.option was))
-  granted_here grant slot last here false =
-      force_granted (gives_to grantee kind table false) entries grant slot was.plain last (gives-plain grantee kind table grant ∙ here) (before false)
-  granted_here grant slot last here true = chosen grant.option refl
-    where
-      chosen : (option : Bool) → grant.option ≡ option
-          → IsForceOf (gives_to grantee kind table true) (entries ++ unended grant ∷ []) (if option then with_slot slot was.with_option else was.with_option)
-      chosen true is =
-          force_granted (gives_to grantee kind table true) entries grant slot was.with_option last
-          (gives-option grantee kind table grant ∙ ap (λ b. b && grant.option) here ∙ is) (before true)
-      chosen false is =
-          force_apart (gives_to grantee kind table true) entries grant was.with_option
-          (gives-option grantee kind table grant ∙ ap (λ b. is_to grantee kind table grant && b) is ∙ and-false (is_to grantee kind table grant)) (before true)
+  granted_here : (grant : Grant) (slot : ℕ) → slot ≡ length entries → is_to grantee kind table grant ≡ true → IsGranted slot grant.option was now → (asked : Bool)
+      → IsForceOf (gives_to grantee kind table asked) (entries ++ unended grant ∷ []) (force_of asked now)
+  granted_here grant slot last here given false =
+      force_granted (gives_to grantee kind table false) entries grant slot was.plain now.plain last (gives-plain grantee kind table grant ∙ here) (before false) given.0
+  granted_here grant slot last here given true =
+      by_cases grant.option
+      (λ has.
+      force_granted (gives_to grantee kind table true) entries grant slot was.with_option now.with_option last
+      (gives-option grantee kind table grant ∙ ap (λ b. b && grant.option) here ∙ has) (before true)
+      (on_true grant.option (IsWithSlot slot was.with_option now.with_option) (now.with_option ≡ was.with_option) (given.1, given.2) has))
+      (λ lacks.
+      subst (λ (force : Force). IsForceOf (gives_to grantee kind table true) (entries ++ unended grant ∷ []) force)
+      (sym (on_false grant.option (IsWithSlot slot was.with_option now.with_option) (now.with_option ≡ was.with_option) (given.1, given.2) lacks))
+      (force_apart (gives_to grantee kind table true) entries grant was.with_option
+      (gives-option grantee kind table grant ∙ ap (λ b. is_to grantee kind table grant && b) lacks ∙ and-false (is_to grantee kind table grant)) (before true)))
 
-  granted_apart : (grant : Grant) → is_to grantee kind table grant ≡ false → (asked : Bool)
-      → IsForceOf (gives_to grantee kind table asked) (entries ++ unended grant ∷ []) (force_of asked was)
-  granted_apart grant apart asked =
-      force_apart (gives_to grantee kind table asked) entries grant (force_of asked was) (ap (λ b. b && (grant.option || not asked)) apart) (before asked)
+  granted_apart : (grant : Grant) → is_to grantee kind table grant ≡ false → now ≡ was → (asked : Bool)
+      → IsForceOf (gives_to grantee kind table asked) (entries ++ unended grant ∷ []) (force_of asked now)
+  granted_apart grant apart same asked =
+      subst (λ (p : Privilege). IsForceOf (gives_to grantee kind table asked) (entries ++ unended grant ∷ []) (force_of asked p)) (sym same)
+      (force_apart (gives_to grantee kind table asked) entries grant (force_of asked was) (ap (λ b. b && (grant.option || not asked)) apart) (before asked))
 
-  ended_here : (slot place : ℕ) (found : Record) → slice_get entries slot ≡ Some found → found.end ≡ None → is_to grantee kind table found.grant ≡ true → (asked : Bool)
-      → IsForceOf (gives_to grantee kind table asked) (end_slot entries slot place) (force_of asked (privilege_taken slot place found.grant.option was))
-  ended_here slot place found at free here false =
-      force_ended (gives_to grantee kind table false) entries slot place found was.plain at free (gives-plain grantee kind table found.grant ∙ here) (before false)
-  ended_here slot place found at free here true = chosen found.grant.option refl
-    where
-      chosen : (option : Bool) → found.grant.option ≡ option
-          → IsForceOf (gives_to grantee kind table true) (end_slot entries slot place) (if option then without_slot slot place was.with_option else was.with_option)
-      chosen true is =
-          force_ended (gives_to grantee kind table true) entries slot place found was.with_option at free
-          (gives-option grantee kind table found.grant ∙ ap (λ b. b && found.grant.option) here ∙ is) (before true)
-      chosen false is =
-          force_other (gives_to grantee kind table true) entries slot place found was.with_option at free
-          (gives-option grantee kind table found.grant ∙ ap (λ b. is_to grantee kind table found.grant && b) is ∙ and-false (is_to grantee kind table found.grant)) (before true)
+  ended_here : (slot place : ℕ) (found : Record) → slice_get entries slot ≡ Some found → found.end ≡ None → is_to grantee kind table found.grant ≡ true
+      → IsWithdrawn slot place found.grant.option was now → (asked : Bool)
+      → IsForceOf (gives_to grantee kind table asked) (end_slot entries slot place) (force_of asked now)
+  ended_here slot place found at free here taken false =
+      force_ended (gives_to grantee kind table false) entries slot place found was.plain now.plain at free (gives-plain grantee kind table found.grant ∙ here) (before false) taken.0
+  ended_here slot place found at free here taken true =
+      by_cases found.grant.option
+      (λ has.
+      force_ended (gives_to grantee kind table true) entries slot place found was.with_option now.with_option at free
+      (gives-option grantee kind table found.grant ∙ ap (λ b. b && found.grant.option) here ∙ has) (before true)
+      (on_true found.grant.option (IsWithoutSlot slot place was.with_option now.with_option) (now.with_option ≡ was.with_option) (taken.1, taken.2) has))
+      (λ lacks.
+      subst (λ (force : Force). IsForceOf (gives_to grantee kind table true) (end_slot entries slot place) force)
+      (sym (on_false found.grant.option (IsWithoutSlot slot place was.with_option now.with_option) (now.with_option ≡ was.with_option) (taken.1, taken.2) lacks))
+      (force_other (gives_to grantee kind table true) entries slot place found was.with_option at free
+      (gives-option grantee kind table found.grant ∙ ap (λ b. is_to grantee kind table found.grant && b) lacks ∙ and-false (is_to grantee kind table found.grant)) (before true)))
 
-  ended_apart : (slot place : ℕ) (found : Record) → slice_get entries slot ≡ Some found → found.end ≡ None → is_to grantee kind table found.grant ≡ false → (asked : Bool)
-      → IsForceOf (gives_to grantee kind table asked) (end_slot entries slot place) (force_of asked was)
-  ended_apart slot place found at free apart asked =
-      force_other (gives_to grantee kind table asked) entries slot place found (force_of asked was) at free
-      (ap (λ b. b && (found.grant.option || not asked)) apart) (before asked)
+  ended_apart : (slot place : ℕ) (found : Record) → slice_get entries slot ≡ Some found → found.end ≡ None → is_to grantee kind table found.grant ≡ false → now ≡ was
+      → (asked : Bool) → IsForceOf (gives_to grantee kind table asked) (end_slot entries slot place) (force_of asked now)
+  ended_apart slot place found at free apart same asked =
+      subst (λ (p : Privilege). IsForceOf (gives_to grantee kind table asked) (end_slot entries slot place) (force_of asked p)) (sym same)
+      (force_other (gives_to grantee kind table asked) entries slot place found (force_of asked was) at free
+      (ap (λ b. b && (found.grant.option || not asked)) apart) (before asked))
 
 -- of all
 module _ (old new : InForceIndex) (whole : new.is_whole ≡ old.is_whole) (entries : List Record) (keeps : KeepsInForce old entries) where
-  pub keeps_granted : (grant : Grant) (slot : ℕ) → slot ≡ length entries → IsChanged (to_side grant) (privilege_given slot grant.option) old new
+  -- what changed under the side of a grant is what changed under that of a grantee, kind and table, or nothing
+  changed_at : (grant : Grant) (grantee : Grantee) (kind : Kind) (table : ℕ) (Change : Privilege → Privilege → Type 0) → IsChanged (to_side grant) Change old new
+      → OnTrue (is_to grantee kind table grant) (Change (privilege_under old (side_of grantee kind table)) (privilege_under new (side_of grantee kind table)))
+      × OnFalse (is_to grantee kind table grant) (privilege_under new (side_of grantee kind table) ≡ privilege_under old (side_of grantee kind table))
+  changed_at grant grantee kind table Change changed =
+      let side = side_of grantee kind table in
+      subst (λ (b : Bool). OnTrue b (Change (privilege_under old side) (privilege_under new side)) × OnFalse b (privilege_under new side ≡ privilege_under old side))
+      (to_side-same grantee kind table grant) (changed side)
+
+  pub keeps_granted : (grant : Grant) (slot : ℕ) → slot ≡ length entries → IsChanged (to_side grant) (IsGranted slot grant.option) old new
       → KeepsInForce new (entries ++ unended grant ∷ [])
   keeps_granted grant slot last changed is grantee kind table option =
       let side = side_of grantee kind table in
       let was = privilege_under old side in
+      let now = privilege_under new side in
       let before = keeps (sym whole ∙ is) grantee kind table in
-      let told = changed side ∙ ap (λ (b : Bool). if b then privilege_given slot grant.option was else was) (to_side-same grantee kind table grant) in
-      subst (λ (p : Privilege). IsForceOf (gives_to grantee kind table option) (entries ++ unended grant ∷ []) (force_of option p)) (sym told)
-      (by_cases (is_to grantee kind table grant)
-      (λ here. rw here (granted_here entries grantee kind table was before grant slot last here option))
-      (λ apart. rw apart (granted_apart entries grantee kind table was before grant apart option)))
+      let told = changed_at grant grantee kind table (IsGranted slot grant.option) changed in
+      by_cases (is_to grantee kind table grant)
+      (λ here. granted_here entries grantee kind table was now before grant slot last here (on_true (is_to grantee kind table grant) (IsGranted slot grant.option was now) (now ≡ was) told here) option)
+      (λ apart. granted_apart entries grantee kind table was now before grant apart (on_false (is_to grantee kind table grant) (IsGranted slot grant.option was now) (now ≡ was) told apart) option)
 
   pub keeps_ended : (slot place : ℕ) (found : Record) → slice_get entries slot ≡ Some found → found.end ≡ None
-      → IsChanged (to_side found.grant) (privilege_taken slot place found.grant.option) old new → KeepsInForce new (end_slot entries slot place)
+      → IsChanged (to_side found.grant) (IsWithdrawn slot place found.grant.option) old new → KeepsInForce new (end_slot entries slot place)
   keeps_ended slot place found at free changed is grantee kind table option =
       let side = side_of grantee kind table in
       let was = privilege_under old side in
+      let now = privilege_under new side in
       let before = keeps (sym whole ∙ is) grantee kind table in
-      let told = changed side ∙ ap (λ (b : Bool). if b then privilege_taken slot place found.grant.option was else was) (to_side-same grantee kind table found.grant) in
-      subst (λ (p : Privilege). IsForceOf (gives_to grantee kind table option) (end_slot entries slot place) (force_of option p)) (sym told)
-      (by_cases (is_to grantee kind table found.grant)
-      (λ here. rw here (ended_here entries grantee kind table was before slot place found at free here option))
-      (λ apart. rw apart (ended_apart entries grantee kind table was before slot place found at free apart option)))
+      let told = changed_at found.grant grantee kind table (IsWithdrawn slot place found.grant.option) changed in
+      by_cases (is_to grantee kind table found.grant)
+      (λ here. ended_here entries grantee kind table was now before slot place found at free here (on_true (is_to grantee kind table found.grant) (IsWithdrawn slot place found.grant.option was now) (now ≡ was) told here) option)
+      (λ apart. ended_apart entries grantee kind table was now before slot place found at free apart (on_false (is_to grantee kind table found.grant) (IsWithdrawn slot place found.grant.option was now) (now ≡ was) told apart) option)

@@ -8,4 +8,5 @@ pub mod LaterOf
 pub mod ForceLaws
 pub mod Keeping
 pub mod SlotsLaws
+pub mod SlotSetLaws
 pub mod EndingLaws

@@ -1,7 +1,6 @@
 -- The first slot at or above another, among slots that rise.
-use Rattle.std.proofs.Common.{◌≡◌, ℕ, zero, suc, ◌<◌, ◌≤◌, true, false, List, [], ◌∷◌, ◌++◌, Option, Some, None, ltb, refl, sym, ◌∙◌, subst, arith, eq-eqb}
+use Rattle.std.proofs.Common.{◌≡◌, ℕ, zero, suc, ◌<◌, ◌≤◌, true, false, List, [], ◌∷◌, Option, Some, None, ltb, refl, arith, eq-eqb}
 use Rattle.std.specs.Prelude.{◌==◌, All, slice_get}
-use Rattle.std.specs.Option.{option_to_list}
 use Rattle.std.specs.List.Sorted.{IsNonDecreasingBy, IsPartitionPoint}
 use Rattle.std.proofs.lemmas.Bool.{ne_eqb, or_right}
 use Rattle.std.proofs.lemmas.List.Elements.{All-head, All-tail}
@@ -27,8 +26,8 @@ none_under (x ∷ xs) low k above le =
     rw apart (none_under xs low k (All-tail (λ later. low < later) x xs above) le)
 
 -- the first slot, where it isn't below
-pub first_at : (x : ℕ) (xs : List ℕ) (from : ℕ) → AreAscending (x ∷ xs) → from ≤ x → IsFirst (is_one_of (x ∷ xs)) from (Some x)
-first_at x xs from rise le = (le, rw (eq-eqb x x refl) refl, λ k low less. let apart : (x == k) ≡ false = ne_eqb x k (λ same. omega arith) in rw apart (none_under xs x k rise.0 (omega arith)))
+pub first_at : (x : ℕ) (xs : List ℕ) (from : ℕ) → All (λ later. x < later) xs → from ≤ x → IsFirst (is_one_of (x ∷ xs)) from (Some x)
+first_at x xs from above le = (le, rw (eq-eqb x x refl) refl, λ k low less. let apart : (x == k) ≡ false = ne_eqb x k (λ same. omega arith) in rw apart (none_under xs x k above (omega arith)))
 
 -- or one of the later
 pub first_later : (x : ℕ) (xs : List ℕ) (from : ℕ) (found : Option ℕ) → x < from → IsFirst (is_one_of xs) from found → IsFirst (is_one_of (x ∷ xs)) from found
@@ -38,15 +37,7 @@ first_later x xs from (Some i) less is =
 
 pub first_of : (from : ℕ) (xs : List ℕ) (i : ℕ) → AreAscending xs → IsPartitionPoint (λ y. ltb y from ≡ true) (λ y. ltb y from ≡ false) xs i → IsFirst (is_one_of xs) from (slice_get xs i)
 first_of from [] i rise point = λ k low. refl
-first_of from (x ∷ xs) zero rise point = first_at x xs from rise (less_false x from (point.1 0 x (omega arith) (omega arith)))
+first_of from (x ∷ xs) zero rise point = first_at x xs from rise.0 (less_false x from (point.1 0 x (omega arith) (omega arith)))
 first_of from (x ∷ xs) (suc i) rise point =
     first_later x xs from (slice_get xs i) (less_true x from (point.0 0 x (omega arith) (omega arith)))
     (first_of from xs i rise.1 ((λ k d low less. point.0 (suc k) d (omega arith) (omega arith)), (λ k d low less. point.1 (suc k) d (omega arith) (omega arith))))
-
--- a first slot, if there is one, that isn't below, before later ones
-pub from_first : (first : Option ℕ) (later slots : List ℕ) (from : ℕ) → slots ≡ option_to_list first ++ later → (first ≡ None → later ≡ [])
-    → AreAscending slots → ((low : ℕ) → first ≡ Some low → from ≤ low) → IsFirst (is_one_of slots) from first
-from_first None later slots from are none rise low =
-    subst (λ (all : List ℕ). IsFirst (is_one_of all) from None) (sym (are ∙ none refl)) (λ k above. refl)
-from_first (Some x) later slots from are none rise low =
-    subst (λ (all : List ℕ). IsFirst (is_one_of all) from (Some x)) (sym are) (first_at x later from (subst AreAscending are rise) (low x refl))

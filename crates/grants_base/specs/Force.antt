@@ -1,11 +1,12 @@
 -- What is in force of a privilege, and when it was lost last.
-use Rattle.std.specs.Prelude.{◌≡◌, ◌==◌, ◌&&◌, ◌||◌, not, ℕ, Bool, true, false, nat_lt, Option, Some, None, List, [], ◌∷◌, ◌++◌, filter, is_none, slice_get, if◌then◌else◌}
+use Rattle.std.specs.Prelude.{◌≡◌, ◌&&◌, ◌||◌, not, ℕ, Bool, true, false, nat_lt, Option, Some, None, List, [], ◌∷◌, is_none, slice_get, if◌then◌else◌}
+use Rattle.std.specs.Bool.{OnFalse, OnTrue}
 use Rattle.model_base.specs.declared.deed.Grant.{Grant}
 use Rattle.model_base.specs.declared.deed.Grantee.{Grantee}
 use Rattle.model_base.specs.declared.deed.Kind.{Kind}
 use Rattle.model_base.specs.declared.deed.Record.{Record}
 use Rattle.grants_base.specs.Index.{is_one_of, is_to}
-use Rattle.grants_base.specs.Sides.{AreAscending}
+use Rattle.grants_base.specs.SlotSet.{HasGained, HasLost}
 
 -- the later of two places, of which either may be missing
 abbrev pub later_of : Option ℕ → Option ℕ → Option ℕ
@@ -31,7 +32,7 @@ greatest_end passes (entry ∷ entries) = later_of (end_if passes entry) (greate
 abbrev pub gives_to : Grantee → Kind → ℕ → Bool → Grant → Bool
 gives_to grantee kind table option grant = is_to grantee kind table grant && (grant.option || not option)
 
--- some slots in rising order, and a place at which others ended last
+-- some slots, and a place at which others ended last
 pub record Force : Type 0 where
   pub slots : List ℕ
   pub lost : Option ℕ
@@ -39,46 +40,43 @@ pub record Force : Type 0 where
 -- the slots of the records in force whose grants pass, and the greatest end of those that pass
 pub record IsForceOf (passes : Grant → Bool) (entries : List Record) (force : Force) : Type 0 where
   pub slots : (k : ℕ) → is_one_of force.slots k ≡ is_in_force passes (slice_get entries k)
-  pub order : AreAscending force.slots
   pub lost : force.lost ≡ greatest_end passes entries
+
+abbrev pub no_force : Force
+no_force = record { slots = []; lost = None }
+
+-- one slot more
+pub record IsWithSlot (slot : ℕ) (old new : Force) : Type 0 where
+  pub slots : HasGained slot old.slots new.slots
+  pub lost : new.lost ≡ old.lost
+
+-- one less, which ended at a place
+pub record IsWithoutSlot (slot place : ℕ) (old new : Force) : Type 0 where
+  pub slots : HasLost slot old.slots new.slots
+  pub lost : new.lost ≡ later_of old.lost (Some place)
 
 -- the same without the option, and with it
 pub record Privilege : Type 0 where
   pub plain : Force
   pub with_option : Force
 
-abbrev pub no_force : Force
-no_force = record { slots = []; lost = None }
-
 abbrev pub no_privilege : Privilege
 no_privilege = record { plain = no_force; with_option = no_force }
-
--- with one slot more, which is the last
-abbrev pub with_slot : ℕ → Force → Force
-with_slot slot force = record { slots = force.slots ++ slot ∷ []; lost = force.lost }
-
--- without a slot that ended at a place
-abbrev pub without_slot : ℕ → ℕ → Force → Force
-without_slot slot place force = record {
-  slots = filter (λ other. not (other == slot)) force.slots;
-  lost = later_of force.lost (Some place);
-}
-
--- the privilege after one more grant, which gives the option or not
-abbrev pub privilege_given : ℕ → Bool → Privilege → Privilege
-privilege_given slot option privilege = record {
-  plain = with_slot slot privilege.plain;
-  with_option = if option then with_slot slot privilege.with_option else privilege.with_option;
-}
-
--- and after the end of one
-abbrev pub privilege_taken : ℕ → ℕ → Bool → Privilege → Privilege
-privilege_taken slot place option privilege = record {
-  plain = without_slot slot place privilege.plain;
-  with_option = if option then without_slot slot place privilege.with_option else privilege.with_option;
-}
 
 -- what is kept of a privilege, of which the option is asked for or not
 abbrev pub force_of : Bool → Privilege → Force
 force_of true privilege = privilege.with_option
 force_of false privilege = privilege.plain
+
+-- what is kept with the option changes so if the grant has it, and else not at all
+abbrev pub IsForceChanged : Bool → (Force → Force → Type 0) → Privilege → Privilege → Type 0
+IsForceChanged option Change old new =
+    Change old.plain new.plain × OnTrue option (Change old.with_option new.with_option) × OnFalse option (new.with_option ≡ old.with_option)
+
+-- the privilege after one more grant, which gives the option or not
+abbrev pub IsGranted : ℕ → Bool → Privilege → Privilege → Type 0
+IsGranted slot option = IsForceChanged option (IsWithSlot slot)
+
+-- and after the end of one
+abbrev pub IsWithdrawn : ℕ → ℕ → Bool → Privilege → Privilege → Type 0
+IsWithdrawn slot place option = IsForceChanged option (IsWithoutSlot slot place)

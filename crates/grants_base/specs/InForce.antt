@@ -1,5 +1,6 @@
 -- The grants in force under each grantee, kind and table, as they are kept and found.
-use Rattle.std.specs.Prelude.{◌≡◌, ℕ, Bool, true, List, slice_get, unwrap_or, if◌then◌else◌}
+use Rattle.std.specs.Prelude.{◌≡◌, ℕ, Bool, true, List, slice_get, unwrap_or}
+use Rattle.std.specs.Bool.{OnFalse, OnTrue}
 use Rattle.std.specs.HashMap.{get}
 use Rattle.model_base.specs.declared.deed.Grant.{Grant}
 use Rattle.model_base.specs.declared.deed.Grantee.{Grantee}
@@ -17,11 +18,11 @@ use Rattle.grants_base.specs.declared.index.Side.{Side}
 abbrev pub privilege_under : InForceIndex → Side → Privilege
 privilege_under index side = unwrap_or (get same_side index.sides side) no_privilege
 
--- the index keeps under one side what comes of what another keeps there, and else the same
-abbrev pub IsChanged : Side → (Privilege → Privilege) → InForceIndex → InForceIndex → Type 0
-IsChanged side change old new =
-    (other : Side) → privilege_under new other
-    ≡ (if same_side side other then change (privilege_under old other) else privilege_under old other)
+-- what the index keeps under one side has changed so, and nothing else
+abbrev pub IsChanged : Side → (Privilege → Privilege → Type 0) → InForceIndex → InForceIndex → Type 0
+IsChanged side Change old new =
+    (other : Side) → OnTrue (same_side side other) (Change (privilege_under old other) (privilege_under new other))
+    × OnFalse (same_side side other) (privilege_under new other ≡ privilege_under old other)
 
 -- an index that is whole keeps under each grantee, kind and table what is in force of the records
 abbrev pub KeepsInForce : InForceIndex → List Record → Type 0

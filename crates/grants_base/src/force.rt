@@ -1,12 +1,10 @@
 //! What is in force of a privilege, and when it was lost last.
 
-ghost use Rattle.std.specs.Prelude.{◌≡◌, ◌==◌, ◌++◌, [], None, not, filter, OnErr, OnOk};
-ghost use Rattle.std.specs.Option.{option_to_list};
-ghost use Rattle.grants_base.specs.Force.{privilege_taken, force_of, privilege_given, later_of, no_force, no_privilege, with_slot, without_slot};
+ghost use Rattle.std.specs.Prelude.{◌≡◌, OnErr, OnOk};
+ghost use Rattle.grants_base.specs.Force.{IsGranted, IsWithSlot, IsWithdrawn, IsWithoutSlot, force_of, later_of, no_force, no_privilege};
 ghost use Rattle.grants_base.specs.Index.{IsFirst, is_one_of};
-ghost use Rattle.grants_base.specs.Sides.{AreAscending};
 
-use crate::index::next_slot;
+use crate::slot_set::SlotSet;
 use model_base::Place;
 use std::alloc::{AllocError, Global};
 use std::marker::Model;
@@ -22,13 +20,6 @@ pub fn later(place: Option<Place>, other: Option<Place>) -> Option<Place>
     }
 }
 
-/// Takes a slot out of some. It takes a time that grows with their number.
-fn drop_slot(slots: &mut Vec<usize>, slot: usize)
-    ensures { slots.new.items ≡ filter (λ other. not (other == slot)) slots.old.items }
-{
-    slots.retain(|other| *other != slot);
-}
-
 /// The next slot of a grant in force, if there is one, and the last place at which a grant of its side left force.
 #[derive(Clone, Copy, PartialEq, Eq, Debug)]
 pub struct NextInForce {
@@ -36,36 +27,19 @@ pub struct NextInForce {
     pub lost: Option<Place>,
 }
 
-/// Takes the first of some slots away, if there is one.
-fn take_first(slots: &mut Vec<usize>) -> Option<usize>
-    ensures taken { slots.old.items ≡ option_to_list result ++ slots.new.items }
-    ensures none { result ≡ None → slots.new.items ≡ [] }
-{
-    if slots.is_empty() {
-        return None;
-    }
-    Some(slots.remove(0))
-}
-
-/// The slots of some grants in force, in rising order, and the last place at which one of them left force. A single slot takes no heap
-/// block.
+/// The slots of some grants in force, and the last place at which one of them left force.
 #[derive(Drop)]
 pub(crate) struct InForce {
-    first: Option<usize>,
-    later: Vec<usize>,
+    slots: SlotSet,
     lost: Option<Place>,
 }
 
 impl Model for InForce {
-    ghost use Rattle.std.specs.Prelude.{◌≡◌, ◌++◌, None, []};
-    ghost use Rattle.std.specs.Option.{option_to_list};
     ghost use Rattle.grants_base.specs.Force.{Force};
 
     ghost Value = { Force };
 
-    ghost view = { λ force. record { slots = option_to_list force.first ++ force.later.items; lost = force.lost } };
-
-    ghost invariant = { λ force. force.first ≡ None → force.later.items ≡ [] };
+    ghost view = { λ force. record { slots = force.slots; lost = force.lost } };
 }
 
 impl InForce {
@@ -74,56 +48,34 @@ impl InForce {
         ensures { result ≡ no_force }
     {
         InForce {
-            first: None,
-            later: Vec::new(alloc),
+            slots: SlotSet::new(alloc),
             lost: None,
         }
     }
 
-    /// Adds a slot last. On `Err` memory was refused, and nothing has changed.
+    /// Adds a slot. On `Err` memory was refused, and nothing has changed.
     fn push(&mut self, slot: usize) -> Result<(), AllocError>
-        ensures ok { OnOk result (self.new ≡ with_slot slot self.old) }
+        ensures ok { OnOk result (IsWithSlot slot self.old self.new) }
         ensures err { OnErr result (self.new ≡ self.old) }
     {
-        if self.first.is_none() {
-            self.first = Some(slot);
-            return Ok(());
-        }
-        self.later.push(slot)?;
-        Ok(())
+        self.slots.insert(slot)
     }
 
-    /// Takes away a slot whose grant left force at a place. It takes a time that grows with the number of slots.
+    /// Takes away a slot whose grant left force at a place.
     fn end(&mut self, slot: usize, place: Place)
-        ensures { self.new ≡ without_slot slot place self.old }
+        ensures { IsWithoutSlot slot place self.old self.new }
     {
-        drop_slot(&mut self.later, slot);
-        if self.first == Some(slot) {
-            self.first = take_first(&mut self.later);
-        }
+        self.slots.remove(slot);
         self.lost = later(self.lost, Some(place));
-    }
-
-    /// The least slot at or above this one. It takes a time that grows with the logarithm of their number.
-    fn slot_from(&self, from: usize) -> Option<usize>
-        requires { AreAscending (self.now).slots }
-        ensures { IsFirst (is_one_of (self.now).slots) from result }
-    {
-        match self.first {
-            Some(first) if first < from => next_slot(&self.later, from),
-            Some(first) => Some(first),
-            None => None,
-        }
     }
 
     /// The least slot at or above this one, and the last loss.
     pub fn next(&self, from: usize) -> NextInForce
-        requires { AreAscending (self.now).slots }
         ensures slot { IsFirst (is_one_of (self.now).slots) from result.slot }
         ensures lost { result.lost ≡ (self.now).lost }
     {
         NextInForce {
-            slot: self.slot_from(from),
+            slot: self.slots.next(from),
             lost: self.lost,
         }
     }
@@ -155,9 +107,9 @@ impl Privilege {
         }
     }
 
-    /// Adds the slot of a grant last. On `Err` memory was refused.
+    /// Adds the slot of a grant. On `Err` memory was refused.
     pub fn push(&mut self, slot: usize, option: bool) -> Result<(), AllocError>
-        ensures { OnOk result (self.new ≡ privilege_given slot option self.old) }
+        ensures { OnOk result (IsGranted slot option self.old self.new) }
     {
         self.plain.push(slot)?;
         if option {
@@ -168,7 +120,7 @@ impl Privilege {
 
     /// Takes away the slot of a grant that left force at a place.
     pub fn end(&mut self, slot: usize, place: Place, option: bool)
-        ensures { self.new ≡ privilege_taken slot place option self.old }
+        ensures { IsWithdrawn slot place option self.old self.new }
     {
         self.plain.end(slot, place);
         if option {

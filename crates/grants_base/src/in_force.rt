@@ -3,10 +3,10 @@
 ghost use Rattle.std.specs.Prelude.{◌≡◌, ◌++◌, ◌∷◌, [], true, List, IfSome, OnOk, Some, slice_get, length};
 ghost use Rattle.model_base.specs.declared.deed.Record.{Record};
 ghost use Rattle.grants_base.specs.Book.{end_slot, unended};
-ghost use Rattle.grants_base.specs.Force.{privilege_taken, force_of, privilege_given};
+ghost use Rattle.grants_base.specs.Force.{IsGranted, IsWithdrawn, force_of};
 ghost use Rattle.grants_base.specs.InForce.{IsChanged, KeepsInForce, privilege_under};
 ghost use Rattle.grants_base.specs.Index.{IsFirst, is_one_of};
-ghost use Rattle.grants_base.specs.Sides.{AreAscending, to_side};
+ghost use Rattle.grants_base.specs.Sides.{to_side};
 
 use crate::force::{NextInForce, Privilege};
 use crate::index::{Side, to_side};
@@ -57,7 +57,7 @@ impl InForceIndex {
     /// Adds the slot of a grant under its side. On `Err` memory was refused.
     fn put(&mut self, side: Side, slot: usize, option: bool) -> Result<(), AllocError>
         ensures whole { self.new.is_whole ≡ self.old.is_whole }
-        ensures ok { OnOk result (IsChanged side (privilege_given slot option) self.old self.new) }
+        ensures ok { OnOk result (IsChanged side (IsGranted slot option) self.old self.new) }
     {
         if let Some(privilege) = self.sides.get_mut(&side) {
             return privilege.push(slot, option);
@@ -71,7 +71,7 @@ impl InForceIndex {
     /// Takes away the slot of a grant that left force at a place, and answers whether there was anything under its side.
     fn take(&mut self, side: &Side, slot: usize, place: Place, option: bool) -> bool
         ensures whole { self.new.is_whole ≡ self.old.is_whole }
-        ensures taken { result ≡ true → IsChanged side.now (privilege_taken slot place option) self.old self.new }
+        ensures taken { result ≡ true → IsChanged side.now (IsWithdrawn slot place option) self.old self.new }
     {
         match self.sides.get_mut(side) {
             Some(privilege) => {
@@ -109,7 +109,6 @@ impl InForceIndex {
     /// The least slot at or above this one of a grant in force under a side, and the last place at which one of them left force; with the
     /// option, where one is asked for. None where the index isn't whole.
     pub fn next(&self, side: &Side, option: bool, from: usize) -> Option<NextInForce>
-        requires { self.now.is_whole ≡ true → AreAscending (force_of option (privilege_under self.now side.now)).slots }
         ensures whole { IfSome result (λ _. self.now.is_whole ≡ true) }
         ensures slot { IfSome result (λ next.
             IsFirst (is_one_of (force_of option (privilege_under self.now side.now)).slots) from next.slot) }

@@ -9,6 +9,7 @@ mod index;
 mod indexed;
 mod indexed_grants;
 mod records;
+mod slot_set;
 
 pub use entries::{
     Creation, End, append_tables, lies_below, records_below, reopened, set_ends, tables_below,

@@ -1,5 +1,5 @@
 -- A statement none of whose accesses may change its row leaves all rows as they were.
-use Rattle.std.proofs.Common.{◌≡◌, ℕ, ℤ, Bool, true, false, List, [], ◌∷◌, refl, sym, ◌∙◌, ap}
+use Rattle.std.proofs.Common.{◌≡◌, ℕ, ℤ, Bool, true, false, List, [], ◌∷◌, refl, sym}
 use Rattle.std.specs.Prelude.{◌||◌, Err, Ok, OnOk, Result}
 use Rattle.std.specs.List.{list_any}
 use mathlib.Core.Path.{fun_ext}

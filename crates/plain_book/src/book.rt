@@ -253,7 +253,7 @@ fn place_set(alloc: Global, places: &[Place]) -> Result<BTreeSet<Place>, AllocEr
 }
 
 /// The record, ended at this place if it has no end and its grant's place is one of these.
-#[tactic(auto, using(grants::proofs::Holders::contains_one))]
+#[tactic(auto, using(grants_base::proofs::SlotSetLaws::contains_one))]
 fn ended_at(entry: Record, place: Place, ended: &BTreeSet<Place>) -> Record
     ensures { result ≡ ended_at place ended.now.keys entry }
 {

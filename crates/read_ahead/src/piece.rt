@@ -88,6 +88,13 @@ impl Piece {
         }
     }
 
+    /// Gives back what lines that are of no more use hold.
+    pub(crate) fn drop_spare(&mut self)
+        ensures { self.new ≡ self.old }
+    {
+        self.lines.truncate(self.len);
+    }
+
     /// Puts a line behind the others. False where memory was refused, and then nothing has changed.
     pub(crate) fn put(&mut self, line: Ahead) -> bool
         ensures { self.new ≡ (if result then self.old ++ line ∷ [] else self.old) }

@@ -92,5 +92,6 @@ pub fn foretell_lines(
 {
     let mut raw = RawRoom::new(alloc);
     read_lines(alloc, catalog, bytes, from, to, &mut raw, &mut piece);
+    piece.drop_spare();
     piece
 }

@@ -145,10 +145,13 @@ impl<B: Basis> Stretch<B> {
         Some(read.piece)
     }
 
-    /// Gives a piece back that was run. It is filled again.
+    /// Gives a piece back that was run. It is filled again, unless as many wait for that as the stretch has: a thread that finds the lock
+    /// taken makes a new one, so that they would grow in number with the log.
     pub fn give_back(&self, piece: Piece) {
         if let Some(mut spare) = self.spare.try_lock() {
-            let _pushed = spare.push(piece);
+            if spare.len() < self.pieces.len() {
+                let _pushed = spare.push(piece);
+            }
         }
     }
 

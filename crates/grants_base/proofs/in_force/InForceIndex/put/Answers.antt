@@ -1,7 +1,7 @@
 use Rattle.std.proofs.Common.{◌≡◌, Some, None, sym, ◌∙◌, ap, subst}
 use Rattle.std.specs.Prelude.{if◌then◌else◌}
 use Rattle.std.specs.HashMap.{get}
-use Rattle.grants_base.specs.Force.{privilege_given, no_privilege}
+use Rattle.grants_base.specs.Force.{IsGranted, Privilege, no_privilege}
 use Rattle.grants_base.specs.Sides.{same_side}
 use Rattle.grants_base.specs.declared.index.Side.{Side}
 use Rattle.grants_base.proofs.Keeping.{put_new}
@@ -14,7 +14,7 @@ returns-clause-ok c = λ other.
     let told =
     c.in_ok-insert.ensures.updates.0 other
     ∙ ap (λ m. if same_side c.args.side other then Some c.push-2.new.self else get same_side m other) c.get_mut.follows.holds-at-none in
-    put_new (same_side c.args.side other) no_privilege c.push-2.new.self (privilege_given c.args.slot c.args.option) (get same_side was other) (get same_side c.insert.new.self other)
-    (c.in_ok-push.ensures ∙ ap (privilege_given c.args.slot c.args.option) c.new-privilege.ensures)
+    put_new (same_side c.args.side other) no_privilege c.push-2.new.self (IsGranted c.args.slot c.args.option) (get same_side was other) (get same_side c.insert.new.self other)
+    (subst (λ (old : Privilege). IsGranted c.args.slot c.args.option old c.push-2.new.self) c.new-privilege.ensures c.in_ok-push.ensures)
     (λ here. subst (λ (s : Side). get same_side was s ≡ None) (side_true c.args.side other here) (sym c.in_default.ensures.value))
     told

@@ -9,7 +9,7 @@ pub returns-then-from-self : goal.returns-then-from-self
 returns-then-from-self c =
     let rise = subst AreAscending (sym c.self.view_is) c.requires in
     subst (λ (slots : List ℕ). IsFirst (is_one_of slots) c.args.from (Some c.self.inside.first)) c.self.view_is
-    (first_at c.self.inside.first c.self.inside.later.items c.args.from rise c.if-from-self.true)
+    (first_at c.self.inside.first c.self.inside.later.items c.args.from rise.0 c.if-from-self.true)
 
 pub next_slot-requires : goal.next_slot-requires
 next_slot-requires c =

@@ -1,19 +1,14 @@
-use Rattle.std.proofs.Common.{◌≡◌, true, List, sym, ◌∙◌, subst}
+use Rattle.std.proofs.Common.{◌≡◌, true, List, ◌∙◌, subst}
 use Rattle.std.specs.Prelude.{slice_get}
 use Rattle.model_base.specs.declared.deed.Record.{Record}
 use Rattle.grants_base.specs.Force.{force_of, gives_to, is_in_force}
 use Rattle.grants_base.specs.InForce.{IsNextInForce, privilege_under}
 use Rattle.grants_base.specs.Index.{IsFirst, is_one_of}
-use Rattle.grants_base.specs.Sides.{AreAscending, side_of}
+use Rattle.grants_base.specs.Sides.{side_of}
 use Rattle.grants_base.specs.declared.index.Side.{Side}
 use Rattle.grants_base.proofs.Indexing.{first_as}
 use Rattle.grants_base.proofs.Keeping.{next_told}
 use Rattle.grants_base.proofs.indexed.IndexedRecords.next_in_force.Goals as goal
-
-pub next-requires : goal.next-requires
-next-requires c = λ whole.
-    subst (λ (side : Side). AreAscending (force_of c.args.option (privilege_under c.self.inside.in_force side)).slots) (sym c.side_of.ensures)
-    (c.self.invariant.kept whole c.args.grantee c.args.kind c.args.table c.args.option).order
 
 pub returns : goal.returns
 returns c =

@@ -1,5 +1,5 @@
 -- Taking the rest of a line: it ends among the bytes ahead, with the input, or further on.
-use Rattle.std.proofs.Common.{◌≡◌, ℕ, ◌<◌, ◌≤◌, ◌+◌, ◌-◌, ◌^◌, ◌++◌, List, length, take, drop, refl, ap, sym, subst, ◌∙◌, slice_range, length-drop, arith}
+use Rattle.std.proofs.Common.{◌≡◌, ℕ, ◌<◌, ◌≤◌, ◌+◌, ◌-◌, ◌++◌, List, length, take, drop, refl, ap, sym, subst, ◌∙◌, slice_range, length-drop, arith}
 use Rattle.std.proofs.lemmas.List.{length-take}
 use Rattle.log_text_base.specs.Ahead.{ahead}
 use Rattle.log_text_base.specs.Known.{raised}

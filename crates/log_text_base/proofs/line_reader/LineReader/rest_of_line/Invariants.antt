@@ -1,5 +1,5 @@
 -- While the rest of a line is taken, what is kept of it only wants what is still to come.
-use Rattle.std.proofs.Common.{◌≡◌, ◌<◌, ◌≤◌, ◌+◌, ◌^◌, ◌-◌, length}
+use Rattle.std.proofs.Common.{◌≡◌, ◌<◌, ◌≤◌, ◌+◌, ◌-◌, length}
 use Rattle.std.specs.Io.KnownBytes.{prepend_known}
 use Rattle.log_text_base.proofs.Pieces.{KeepsLine}
 use Rattle.log_text_base.specs.Ahead.{ahead}
