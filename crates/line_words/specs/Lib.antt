@@ -1,4 +1,3 @@
 pub mod Words
 pub mod Faults
 pub mod Access
-pub mod StepWords
