@@ -2,6 +2,11 @@ pub mod Digits
 pub mod Plain
 pub mod Whole
 pub mod Splits
+pub mod NameTable
 pub mod NameWords
 pub mod Printable
 pub mod AccessLemmas
+pub mod StepLetters
+pub mod StepNames
+pub mod TakenWords
+pub mod TakenAccess

@@ -12,7 +12,7 @@ use Rattle.line_words.proofs.Splits.{next_word}
 no_space : (b : ℕ) → is_name_byte b ≡ true → eqb b 32 ≡ false
 no_space b e = grind (arith, nat_tests)
 
-letter_byte : (b : ℕ) → is_letter b ≡ true → is_name_byte b ≡ true
+pub letter_byte : (b : ℕ) → is_letter b ≡ true → is_name_byte b ≡ true
 letter_byte b e = grind (arith, nat_tests)
 
 -- where the bytes of a name end

@@ -61,11 +61,14 @@ ghost use Rattle.std.specs.Prelude.{◌≡◌};
 ghost use Rattle.std.specs.List.{list_all};
 ghost use Rattle.line_words.specs.Words.{is_name, is_name_byte};
 
-/// Whether the byte may stand in a name.
+/// Whether the byte may stand in a name. It is looked up in a table that has an n for those that may.
+#[inline(always)]
 pub(crate) fn may_be_in_name(byte: u8) -> bool
     ensures { result ≡ is_name_byte byte }
 {
-    byte.is_ascii_lowercase() || byte.is_ascii_digit() || byte == b'_'
+    let table =
+        b"................................................nnnnnnnnnn.....................................n.nnnnnnnnnnnnnnnnnnnnnnnnnn.....................................................................................................................................";
+    table[usize::from(byte)] == b'n'
 }
 
 /// Whether each byte may stand in a name.

@@ -1,11 +1,16 @@
 //! The words of a line, one after another.
-ghost use Rattle.std.specs.Prelude.{◌≡◌, ◌+◌, ◌≤◌, ◌==◌, List, ℕ, [], ◌∷◌, drop, false, true, length, MatchOption};
+ghost use Rattle.std.specs.Prelude.{◌≡◌, ◌+◌, ◌-◌, ◌<◌, ◌≤◌, ◌==◌, ◌^◌, ◌++◌, List, ℕ, [], ◌∷◌, codes, decimal, drop, false, true, length, slice_index_or, take, MatchBool, MatchOption};
+ghost use Rattle.std.specs.Bool.{OnTrue};
 ghost use Rattle.std.specs.List.{position_or_len, prefix_len};
-ghost use Rattle.line_words.specs.Words.{words, first_word, is_name, is_name_byte};
-ghost use Rattle.line_words.specs.Words.{words_from};
+ghost use Rattle.std.specs.Str.Parse.{AllDigits, digits_value};
+ghost use Rattle.line_words.specs.Access.{IsAccess, access_word, letter_if};
+ghost use Rattle.line_words.specs.StepWords.{step_word};
+ghost use Rattle.line_words.specs.Words.{words, words_from, first_word, is_name, is_name_byte};
 
-use crate::name::may_be_in_name;
-use model_base::MOST_NAME_BYTES;
+use crate::access::RawAccess;
+use crate::name::{Name, may_be_in_name};
+use crate::step_name::StepName;
+use model_base::{Kinds, MOST_NAME_BYTES};
 use std::marker::Model;
 
 /// The index of the first byte of this value at or behind `start`, or the length if there is none.
@@ -32,6 +37,51 @@ fn name_end(bytes: &[u8], start: usize) -> usize
         place += 1;
     }
     place
+}
+
+/// Whether a word ends before an index of a line: a space stands there, or the line ends.
+#[inline(always)]
+fn ends_at(line: &[u8], end: usize) -> bool
+    ensures { OnTrue result (end < length line.now → slice_index_or line.now end 0 ≡ 32) }
+{
+    end >= line.len() || line[end] == b' '
+}
+
+/// So many digits at most are taken at once: what they write is below 2^32.
+const MOST_DIGITS: usize = 9;
+
+/// The number that the digits at an index of the line write, `MOST_DIGITS` of them at most, and the index behind them.
+#[inline(always)]
+fn digits_from(line: &[u8], start: usize) -> (u32, usize)
+    requires { start ≤ length line.now }
+    ensures behind { start ≤ result.1 }
+    ensures few { result.1 ≤ start + MOST_DIGITS }
+    ensures within { result.1 ≤ length line.now }
+    ensures digits { AllDigits 10 (take (result.1 - start) (drop start line.now)) }
+    ensures value { result.0 ≡ digits_value 10 (take (result.1 - start) (drop start line.now)) }
+{
+    let mut value = 0;
+    let mut place = start;
+    while place < line.len() && place - start < MOST_DIGITS && line[place].is_ascii_digit() {
+        value = value * 10 + u32::from(line[place] - b'0');
+        place += 1;
+    }
+    (value, place)
+}
+
+/// Whether a letter stands at an index of the line, and the index behind it.
+#[inline(always)]
+fn behind_letter(line: &[u8], place: usize, letter: u8) -> (bool, usize)
+    requires { place ≤ length line.now }
+    ensures letter { drop place line.now ≡ letter_if result.0 letter ++ drop result.1 line.now }
+    ensures count { result.1 ≡ place + length (letter_if result.0 letter) }
+    ensures within { result.1 ≤ length line.now }
+{
+    if place < line.len() && line[place] == letter {
+        (true, place + 1)
+    } else {
+        (false, place)
+    }
 }
 
 /// The words of a line that are left: the pieces between single spaces from an index of the line on. Past the line's
@@ -68,6 +118,127 @@ impl<'a> Words<'a> {
         self.start = end + 1;
         Some(&self.line[start..end])
     }
+
+    /// The next word, which stays.
+    pub fn first(&self) -> Option<&'a [u8]>
+        ensures { MatchOption result (self.now ≡ []) (λ w. (left : List (List ℕ)) × (self.now ≡ w.now ∷ left)) }
+    {
+        if self.start > self.line.len() {
+            return None;
+        }
+        let end = place_from(self.line, self.start, b' ');
+        Some(&self.line[self.start..end])
+    }
+
+    /// Takes a bar, if it is the next word and stands as it does in most lines; otherwise the words stay as they are.
+    #[inline(always)]
+    pub fn next_bar(&mut self) -> bool
+        ensures { MatchBool result (self.old ≡ codes "|" ∷ self.new) (self.new ≡ self.old) }
+    {
+        let start = self.start;
+        if start >= self.line.len() || self.line[start] != b'|' {
+            return false;
+        }
+        if !ends_at(self.line, start + 1) {
+            return false;
+        }
+        self.start = start + 2;
+        true
+    }
+
+    /// Takes a number, if the next word is the decimal form of one, of nine digits at most; otherwise the words stay as they are. It goes
+    /// over the bytes once.
+    #[inline(always)]
+    pub fn next_number(&mut self) -> Option<u32>
+        ensures { MatchOption result (self.new ≡ self.old) (λ n. (self.old ≡ decimal n ∷ self.new) × (n < 2 ^ 32)) }
+    {
+        let start = self.start;
+        if start >= self.line.len() {
+            return None;
+        }
+        let first = self.line[start];
+        if !first.is_ascii_digit() {
+            return None;
+        }
+        if ends_at(self.line, start + 1) {
+            self.start = start + 2;
+            return Some(u32::from(first - b'0'));
+        }
+        self.next_long_number()
+    }
+
+    /// Takes a number of two to nine digits, as `next_number`.
+    fn next_long_number(&mut self) -> Option<u32>
+        ensures { MatchOption result (self.new ≡ self.old) (λ n. (self.old ≡ decimal n ∷ self.new) × (n < 2 ^ 32)) }
+    {
+        let start = self.start;
+        if start >= self.line.len() || self.line[start] == b'0' {
+            return None;
+        }
+        let (number, end) = digits_from(self.line, start);
+        if end == start || !ends_at(self.line, end) {
+            return None;
+        }
+        self.start = end + 1;
+        Some(number)
+    }
+
+    /// Takes the word of a step, if the next word is one and others follow; otherwise the words stay as they are. It doesn't look for
+    /// the word's end.
+    #[inline(always)]
+    pub fn next_step(&mut self) -> Option<StepName>
+        ensures { MatchOption result (self.new ≡ self.old) (λ s. self.old ≡ step_word s ∷ self.new) }
+    {
+        let start = self.start;
+        if start > self.line.len() {
+            return None;
+        }
+        let name = StepName::at_front(&self.line[start..])?;
+        self.start = start + name.len() + 1;
+        Some(name)
+    }
+
+    /// Takes an access, if the next word is one and its row has nine digits at most; otherwise the words stay as they are. It goes over the
+    /// bytes once.
+    #[inline(always)]
+    pub fn next_access(&mut self) -> Option<RawAccess<'a>>
+        ensures { MatchOption result (self.new ≡ self.old) (λ a. (self.old ≡ access_word a ∷ self.new) × IsAccess a) }
+    {
+        let start = self.start;
+        if start >= self.line.len() || !self.line[start].is_ascii_lowercase() {
+            return None;
+        }
+        let colon = name_end(self.line, start);
+        if colon - start > MOST_NAME_BYTES || colon >= self.line.len() || self.line[colon] != b':' {
+            return None;
+        }
+        let (row, end) = digits_from(self.line, colon + 1);
+        if end == colon + 1 || end >= self.line.len() || self.line[end] != b':' {
+            return None;
+        }
+        if self.line[colon + 1] == b'0' && end > colon + 2 {
+            return None;
+        }
+        let (read, insert_at) = behind_letter(self.line, end + 1, b'R');
+        let (insert, update_at) = behind_letter(self.line, insert_at, b'I');
+        let (update, delete_at) = behind_letter(self.line, update_at, b'U');
+        let (delete, last) = behind_letter(self.line, delete_at, b'D');
+        if last == end + 1 || !ends_at(self.line, last) {
+            return None;
+        }
+        self.start = last + 1;
+        Some(RawAccess {
+            table: Name::of(&self.line[start..colon]),
+            row,
+            kinds: Kinds {
+                read,
+                insert,
+                update,
+                delete,
+            },
+        })
+    }
+
     /// The next word, if it is a name; otherwise the words stay as they are. It goes over the bytes once.
     pub fn next_name(&mut self) -> Option<&'a [u8]>
         ensures { MatchOption result ((is_name (first_word self.old) ≡ false) × (self.new ≡ self.old))

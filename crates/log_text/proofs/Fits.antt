@@ -24,7 +24,8 @@ use Rattle.log_text.proofs.AccessFit.{access_fits}
 use Rattle.line_words.proofs.Whole.{whole_of_decimal}
 use Rattle.log_text.proofs.KindWords.{kind_of_word}
 use Rattle.log_text.proofs.Grantees.{name_is_not_public}
-use Rattle.log_text.proofs.OperationWords.{begins_no_deed, named_operation}
+use Rattle.line_words.proofs.StepNames.{named_operation}
+use Rattle.log_text.proofs.OperationWords.{begins_no_deed}
 use Rattle.log_text.proofs.Tails.{IsTail, body_is_tail, body_more}
 
 -- one more register of an INSERT

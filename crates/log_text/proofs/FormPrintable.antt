@@ -16,8 +16,9 @@ use Rattle.log_text.specs.declared.statement.RawGrantee.TheVariants.{Named, Publ
 use Rattle.log_text.specs.declared.statement.RawDeed.TheVariants.{Grant, Revoke}
 use Rattle.model_base.specs.declared.deed.Kind.{Kind}
 use Rattle.model_base.specs.declared.deed.Kind.TheVariants as kind
+use Rattle.line_words.specs.StepWords.{operation_word}
 use Rattle.line_words.specs.Access.{access_word, letters, letter_if, IsAccess}
-use Rattle.log_text.specs.Statement.{body_words, deed_words, grantee_word, kind_word, last_deed, further_step, operation_word, step_words, row_word, form_words, IsDeed, IsFormInGrammar, IsGrantee, IsLastDeed, IsStep, IsRowNumber, IsRegister}
+use Rattle.log_text.specs.Statement.{body_words, deed_words, grantee_word, kind_word, last_deed, further_step, step_words, row_word, form_words, IsDeed, IsFormInGrammar, IsGrantee, IsLastDeed, IsStep, IsRowNumber, IsRegister}
 use Rattle.line_words.specs.Words.{is_printable}
 use Rattle.model_base.specs.declared.deed.Kinds.{Kinds}
 use Rattle.line_words.specs.declared.access.RawAccess.{RawAccess}

@@ -2,7 +2,6 @@ pub mod Rows
 pub mod Missing
 pub mod OperationWords
 pub mod StepNames
-pub mod StepLetters
 pub mod TakenSteps
 pub mod TakenAccesses
 pub mod KindWords

@@ -4,6 +4,7 @@ use Rattle.std.specs.Prelude.{decimal, codes}
 use Rattle.std.specs.List.{AllByRecursion}
 use Rattle.std.proofs.lemmas.Fmt.{decimal_injective}
 use Rattle.std.proofs.lemmas.Bool.{eqb-false}
+use Rattle.line_words.specs.StepWords.{operation_word, step_name}
 use Rattle.line_words.specs.Words.{first_word}
 use Rattle.line_words.specs.Access.{access_word, IsAccess}
 use Rattle.line_words.specs.declared.access.RawAccess.{RawAccess}
@@ -13,17 +14,16 @@ use Rattle.log_text.specs.declared.statement.RawForm.{RawForm}
 use Rattle.log_text.specs.declared.statement.RawForm.TheVariants.{Create, Run, Deed}
 use Rattle.log_text.specs.declared.statement.RawDeed.{RawDeed}
 use Rattle.log_text.specs.declared.statement.RawDeed.TheVariants.{Grant, Revoke}
-use Rattle.log_text.specs.Statement.{body_words, deed_words, grantee_word, kind_word, last_deed, operation_word, option_words, step_words, form_words, IsDeed, IsFormInGrammar, IsLastDeed, IsStep, IsRegister}
-use Rattle.log_text.specs.Fault.{step_name}
-use Rattle.log_text.specs.declared.step_name.StepName.{StepName}
-use Rattle.log_text.specs.declared.step_name.StepName.TheVariants as name
+use Rattle.log_text.specs.Statement.{body_words, deed_words, grantee_word, kind_word, last_deed, option_words, step_words, form_words, IsDeed, IsFormInGrammar, IsLastDeed, IsStep, IsRegister}
+use Rattle.line_words.specs.declared.step_name.StepName.{StepName}
+use Rattle.line_words.specs.declared.step_name.StepName.TheVariants as name
 use Rattle.model_base.specs.declared.statement.Operation.{Operation}
 use Rattle.log_text.proofs.Bars.{decimal_ne_bar, access_ne_bar, one_row}
 use Rattle.line_words.proofs.Whole.{one_whole}
 use Rattle.log_text.proofs.AccessFit.{one_access}
 use Rattle.log_text.proofs.Grantees.{one_grantee}
 use Rattle.log_text.proofs.KindWords.{one_kind}
-use Rattle.log_text.proofs.OperationWords.{named_operation}
+use Rattle.line_words.proofs.StepNames.{named_operation}
 use Rattle.log_text.proofs.Tails.{IsTail, body_is_tail, body_more, no_step, no_tail}
 
 one_accesses : (xs ys : List RawAccess) (vs ws : List (List ℕ)) → IsTail vs → IsTail ws → AllByRecursion IsAccess xs → AllByRecursion IsAccess ys → map access_word xs ++ vs ≡ map access_word ys ++ ws → (xs ≡ ys) × (vs ≡ ws)

@@ -7,25 +7,32 @@ use Rattle.std.proofs.lemmas.List.{append-nil}
 use Rattle.std.proofs.lemmas.List.Concat.{flat_map-append}
 use Rattle.std.proofs.lemmas.List.Sums.{sum_by-append}
 use Rattle.log_text.specs.Statement.{IsStep, further_step, outs_of, step_words}
+use Rattle.line_words.specs.StepWords.{step_name, step_word}
 use Rattle.line_words.specs.Faults.{IsFault, or_else, unless}
-use Rattle.log_text.specs.Fault.{OfStep, expected_in, fault_from, step_fault, step_name}
-use Rattle.log_text.specs.Parsing.{TakesStep, fault_behind, step_word}
+use Rattle.log_text.specs.Fault.{OfStep, expected_in, fault_from, step_fault}
+use Rattle.log_text.specs.Parsing.{TakesStep, fault_behind}
 use Rattle.line_words.specs.declared.fault.LineFault.{LineFault}
 use Rattle.line_words.specs.declared.fault.LineFault.TheVariants.{TooLong, NotAscii, Empty, UnknownWord, BadNumber, BadName, TooManySteps, TooManyAccesses, BadRegister, NoMemory}
 use Rattle.log_text.specs.declared.statement.RawStep.{RawStep}
-use Rattle.log_text.specs.declared.step_name.StepName.{StepName}
-use Rattle.log_text.specs.declared.step_name.StepName.TheVariants.{Const, Compute, Has, Load, Store, Insert, Delete, Check, Skip, Out}
+use Rattle.line_words.specs.declared.step_name.StepName.{StepName}
+use Rattle.line_words.specs.declared.step_name.StepName.TheVariants.{Const, Compute, Has, Load, Store, Insert, Delete, Check, Skip, Out}
+use Rattle.line_words.proofs.StepNames.{named_step}
 use Rattle.log_text.proofs.StepNames.{at_step, no_deed}
 
 -- the word names the step, of which there may be one more behind so many steps and outs
 abbrev pub Names : StepName → List ℕ → ℕ → ℕ → Type 0
 Names s word steps outs = (word ≡ step_word s) × (step_name (step_word s) ≡ Some s) × (step_fault (Some s) steps outs ≡ None)
 
+-- as a name does that is the step
+pub names : (name s : StepName) (steps outs : ℕ) → name ≡ s → step_fault (Some name) steps outs ≡ None → Names s (step_word name) steps outs
+names name s steps outs is fits = (ap step_word is, named_step s, ap (λ (n : StepName). step_fault (Some n) steps outs) (sym is) ∙ fits)
+
 holds : (b : Bool) (f : LineFault) → unless b f ≡ None → b ≡ true
 holds true f e = refl
 holds false f e = absurd (cc)
 
-few_steps : (s : StepName) (n o : ℕ) → step_fault (Some s) n o ≡ None → n < 64
+-- a step that may come has room
+pub few_steps : (s : StepName) (n o : ℕ) → step_fault (Some s) n o ≡ None → n < 64
 few_steps Out n o e = ltb-true n 64 (and_parts _ _ (holds _ _ e)).0
 few_steps Const n o e = ltb-true n 64 (holds _ _ e)
 few_steps (Compute operation) n o e = ltb-true n 64 (holds _ _ e)
@@ -54,13 +61,13 @@ is_fault BadRegister o e = e
 is_fault NoMemory o e = tt
 
 -- a step that makes so many outs leads from so many to so many
-pub leads : (k o after : ℕ) (s : StepName) (old new : List (List ℕ)) (result : Result (RawStep × Bool) LineFault) → after ≡ o + k
-    → IfOk result (λ r. TakesStep (step_word s ∷ old) r.0 r.1 new × IsStep r.0 × (outs_of r.0 ≡ k))
-    → IfOk result (λ r. TakesStep (step_word s ∷ old) r.0 r.1 new × IsStep r.0 × (after ≡ o + outs_of r.0))
-leads k o after s old new (Err f) more took = tt
-leads k o after s old new (Ok r) more took = (took.0, took.1, more ∙ ap (λ (m : ℕ). o + m) (sym took.2))
+pub leads : (k o after : ℕ) (s : StepName) (t : RawStep) (old new : List (List ℕ)) (result : Result Bool LineFault) → after ≡ o + k
+    → IfOk result (λ r. TakesStep (step_word s ∷ old) t r new × IsStep t × (outs_of t ≡ k))
+    → IfOk result (λ r. TakesStep (step_word s ∷ old) t r new × IsStep t × (after ≡ o + outs_of t))
+leads k o after s t old new (Err f) more took = tt
+leads k o after s t old new (Ok r) more took = (took.0, took.1, more ∙ ap (λ (m : ℕ). o + m) (sym took.2))
 
-module _ (s : StepName) (word : List ℕ) (old new : List (List ℕ)) (n o : ℕ) (result : Result (RawStep × Bool) LineFault) (names : Names s word n o) where
+module _ (s : StepName) (t : RawStep) (word : List ℕ) (old new : List (List ℕ)) (n o : ℕ) (result : Result Bool LineFault) (names : Names s word n o) where
   behind : fault_from (OfStep n o ∷ []) (word ∷ old) ≡ fault_from (expected_in (Some s) n o) old
   behind =
       ap (λ (w : List ℕ). fault_from (OfStep n o ∷ []) (w ∷ old)) names.0
@@ -70,38 +77,38 @@ module _ (s : StepName) (word : List ℕ) (old new : List (List ℕ)) (n o : ℕ
       ∙ ap (λ ps. fault_from ps old) (append-nil (expected_in (Some s) n o))
 
   -- the step was taken
-  pub takes : (after : ℕ → ℕ) → after o ≤ 8 → IfOk result (λ r. TakesStep (step_word s ∷ old) r.0 r.1 new × IsStep r.0 × (after o ≡ o + outs_of r.0))
-      → IfOk result (λ r. TakesStep (word ∷ old) r.0 r.1 new × IsStep r.0 × (n < 64) × (o + outs_of r.0 ≤ 8))
+  pub takes : (after : ℕ → ℕ) → after o ≤ 8 → IfOk result (λ r. TakesStep (step_word s ∷ old) t r new × IsStep t × (after o ≡ o + outs_of t))
+      → IfOk result (λ r. TakesStep (word ∷ old) t r new × IsStep t × (n < 64) × (o + outs_of t ≤ 8))
   takes after few took = takes_if result took
     where
-      takes_if : (found : Result (RawStep × Bool) LineFault) → IfOk found (λ r. TakesStep (step_word s ∷ old) r.0 r.1 new × IsStep r.0 × (after o ≡ o + outs_of r.0))
-          → IfOk found (λ r. TakesStep (word ∷ old) r.0 r.1 new × IsStep r.0 × (n < 64) × (o + outs_of r.0 ≤ 8))
+      takes_if : (found : Result Bool LineFault) → IfOk found (λ r. TakesStep (step_word s ∷ old) t r new × IsStep t × (after o ≡ o + outs_of t))
+          → IfOk found (λ r. TakesStep (word ∷ old) t r new × IsStep t × (n < 64) × (o + outs_of t ≤ 8))
       takes_if (Err f) took = tt
       takes_if (Ok r) took = (
-        subst (λ (w : List ℕ). TakesStep (w ∷ old) r.0 r.1 new) (sym names.0) took.0,
+        subst (λ (w : List ℕ). TakesStep (w ∷ old) t r new) (sym names.0) took.0,
         took.1,
         few_steps s n o names.2,
         omega (arith, took.2, few),
       )
 
   -- what is left has the fault of what is behind the step
-  pub fits : (after : ℕ → ℕ) → IfOk result (λ r. TakesStep (step_word s ∷ old) r.0 r.1 new × IsStep r.0 × (after o ≡ o + outs_of r.0))
-      → IfOk result (λ r. (steps outs : ℕ) → fault_from (expected_in (Some s) steps outs) old ≡ fault_behind r.1 (steps + 1) (after outs) new)
-      → IfOk result (λ r. fault_from (OfStep n o ∷ []) (word ∷ old) ≡ fault_behind r.1 (n + 1) (o + outs_of r.0) new)
+  pub fits : (after : ℕ → ℕ) → IfOk result (λ r. TakesStep (step_word s ∷ old) t r new × IsStep t × (after o ≡ o + outs_of t))
+      → IfOk result (λ r. (steps outs : ℕ) → fault_from (expected_in (Some s) steps outs) old ≡ fault_behind r (steps + 1) (after outs) new)
+      → IfOk result (λ r. fault_from (OfStep n o ∷ []) (word ∷ old) ≡ fault_behind r (n + 1) (o + outs_of t) new)
   fits after took fit = fits_if result took fit
     where
-      fits_if : (found : Result (RawStep × Bool) LineFault) → IfOk found (λ r. TakesStep (step_word s ∷ old) r.0 r.1 new × IsStep r.0 × (after o ≡ o + outs_of r.0))
-          → IfOk found (λ r. (steps outs : ℕ) → fault_from (expected_in (Some s) steps outs) old ≡ fault_behind r.1 (steps + 1) (after outs) new)
-          → IfOk found (λ r. fault_from (OfStep n o ∷ []) (word ∷ old) ≡ fault_behind r.1 (n + 1) (o + outs_of r.0) new)
+      fits_if : (found : Result Bool LineFault) → IfOk found (λ r. TakesStep (step_word s ∷ old) t r new × IsStep t × (after o ≡ o + outs_of t))
+          → IfOk found (λ r. (steps outs : ℕ) → fault_from (expected_in (Some s) steps outs) old ≡ fault_behind r (steps + 1) (after outs) new)
+          → IfOk found (λ r. fault_from (OfStep n o ∷ []) (word ∷ old) ≡ fault_behind r (n + 1) (o + outs_of t) new)
       fits_if (Err f) took fit = tt
-      fits_if (Ok r) took fit = behind ∙ fit n o ∙ ap (λ (m : ℕ). fault_behind r.1 (n + 1) m new) took.2
+      fits_if (Ok r) took fit = behind ∙ fit n o ∙ ap (λ (m : ℕ). fault_behind r (n + 1) m new) took.2
 
   -- a fault of what is behind the word, or want of memory, is one of the step
   pub fails : IfErr result (λ f. (steps outs : ℕ) → IsFault f (fault_from (expected_in (Some s) steps outs) old))
       → IfErr result (λ f. IsFault f (fault_from (OfStep n o ∷ []) (word ∷ old)))
   fails failed = fails_if result failed
     where
-      fails_if : (found : Result (RawStep × Bool) LineFault) → IfErr found (λ f. (steps outs : ℕ) → IsFault f (fault_from (expected_in (Some s) steps outs) old))
+      fails_if : (found : Result Bool LineFault) → IfErr found (λ f. (steps outs : ℕ) → IsFault f (fault_from (expected_in (Some s) steps outs) old))
           → IfErr found (λ f. IsFault f (fault_from (OfStep n o ∷ []) (word ∷ old)))
       fails_if (Ok r) failed = tt
       fails_if (Err f) failed = subst (IsFault f) (sym behind) (failed n o)
@@ -111,7 +118,7 @@ module _ (s : StepName) (word : List ℕ) (old new : List (List ℕ)) (n o : ℕ
       → IfErr result (λ f. IsFault f (fault_from (OfStep n o ∷ []) (word ∷ old)))
   fails_so failed = fails_if result failed
     where
-      fails_if : (found : Result (RawStep × Bool) LineFault) → IfErr found (λ f. (steps outs : ℕ) → fault_from (expected_in (Some s) steps outs) old ≡ Some f)
+      fails_if : (found : Result Bool LineFault) → IfErr found (λ f. (steps outs : ℕ) → fault_from (expected_in (Some s) steps outs) old ≡ Some f)
           → IfErr found (λ f. IsFault f (fault_from (OfStep n o ∷ []) (word ∷ old)))
       fails_if (Ok r) failed = tt
       fails_if (Err f) failed = is_fault f _ (behind ∙ failed n o)

@@ -6,10 +6,11 @@ use Rattle.std.specs.List.{AllByRecursion, sum_by}
 use Rattle.std.proofs.lemmas.List.Sums.{sum_by-cons}
 use Rattle.std.proofs.lemmas.Bool.{cases_Bool, cond-true, cond-false, ltb-true, and_parts, or_cases}
 use Rattle.std.proofs.lemmas.Slice.Eq.{bytes_eq-Decides}
+use Rattle.line_words.specs.StepWords.{step_name}
 use Rattle.line_words.specs.Words.{plain, is_name}
 use Rattle.line_words.specs.Access.{access_word, IsAccess}
 use Rattle.line_words.specs.Faults.{unless, or_else}
-use Rattle.log_text.specs.Fault.{Expected, OfGrantee, OfName, OfPlain, OfWhole, OfRegister, OfRow, OfKind, OfOption, OfAccess, OfStep, OfBar, OfMore, fault_from, is_public, misfit, expected_behind, may_end, is_bar, is_deed, step_name, step_fault, expected_in, expected_in_deed, expected_in_grant, expected_in_revoke, register_fault}
+use Rattle.log_text.specs.Fault.{Expected, OfGrantee, OfName, OfPlain, OfWhole, OfRegister, OfRow, OfKind, OfOption, OfAccess, OfStep, OfBar, OfMore, fault_from, is_public, misfit, expected_behind, may_end, is_bar, is_deed, step_fault, expected_in, expected_in_deed, expected_in_grant, expected_in_revoke, register_fault}
 use Rattle.log_text.specs.Statement.{body_words, deed_words, grantee_word, is_everyone, kind_word, option_words, row_word, IsDeed, IsGrantee, IsLastDeed, IsRegister, IsRowNumber, IsStep, step_words, outs_of}
 use Rattle.line_words.specs.declared.fault.LineFault.TheVariants.{UnknownWord, BadNumber, BadName, TooManySteps}
 use Rattle.line_words.specs.declared.access.RawAccess.{RawAccess}
@@ -19,15 +20,16 @@ use Rattle.log_text.specs.declared.statement.RawDeed.TheVariants as deed
 use Rattle.log_text.specs.declared.statement.RawGrantee.{RawGrantee}
 use Rattle.log_text.specs.declared.statement.RawGrantee.TheVariants as deed_to
 use Rattle.log_text.specs.declared.statement.RawStep.{RawStep}
-use Rattle.log_text.specs.declared.step_name.StepName.{StepName}
-use Rattle.log_text.specs.declared.step_name.StepName.TheVariants as name
+use Rattle.line_words.specs.declared.step_name.StepName.{StepName}
+use Rattle.line_words.specs.declared.step_name.StepName.TheVariants as name
 use Rattle.log_text.specs.declared.statement.RawStep.TheVariants as step
 use Rattle.model_base.specs.declared.statement.RowName.{RowName}
 use Rattle.model_base.specs.Body.{fits_64_bits}
 use Rattle.line_words.proofs.Plain.{plain_empty}
 use Rattle.log_text.proofs.Missing.{whole_missing}
 use Rattle.log_text.proofs.Grantees.{grantee_spells, name_is_not_public}
-use Rattle.log_text.proofs.StepNames.{at_step, named_word}
+use Rattle.line_words.proofs.StepNames.{named_word}
+use Rattle.log_text.proofs.StepNames.{at_step}
 use Rattle.log_text.proofs.Tails.{body_more}
 use Rattle.log_text.proofs.TotalWords.{Spells, both_none, unless_none, kind_spells, plain_spells, whole_spells, register_spells, row_spells, access_spells}
 

@@ -2,6 +2,7 @@
 use Rattle.std.specs.Prelude.{ℕ, ◌+◌, Bool, not, true, false, ◌&&◌, ◌||◌, List, [], ◌∷◌, ◌++◌, length, nat_lt, ◌==◌, bytes_eq, is_some, if◌then◌else◌, Option, Some, None, codes}
 use Rattle.std.specs.List.{list_all}
 use Rattle.line_words.specs.Words.{words, plain, signed_of, is_name, is_printable}
+use Rattle.line_words.specs.StepWords.{step_name}
 use Rattle.line_words.specs.Faults.{unless, or_else}
 use Rattle.line_words.specs.Access.{access_fault}
 use Rattle.line_words.specs.declared.fault.LineFault.{LineFault}
@@ -10,9 +11,8 @@ use Rattle.model_base.specs.declared.limits.TheConstants.{MOST_ACCESSES, MOST_CO
 use Rattle.log_text_base.specs.declared.limits.TheConstants.{MOST_LINE_BYTES}
 use Rattle.model_base.specs.declared.deed.Kind.{Kind}
 use Rattle.model_base.specs.declared.deed.Kind.TheVariants as kind
-use Rattle.model_base.specs.declared.statement.Operation.TheVariants.{Add, Sub, Mul, Less, Same}
-use Rattle.log_text.specs.declared.step_name.StepName.{StepName}
-use Rattle.log_text.specs.declared.step_name.StepName.TheVariants.{Const, Compute, Has, Load, Store, Insert, Delete, Check, Skip, Out}
+use Rattle.line_words.specs.declared.step_name.StepName.{StepName}
+use Rattle.line_words.specs.declared.step_name.StepName.TheVariants.{Const, Compute, Has, Load, Store, Insert, Delete, Check, Skip, Out}
 
 -- what may stand next in a line
 pub data Expected : Type 0 where
@@ -56,25 +56,6 @@ kind_named w =
     else if bytes_eq w (codes "INSERT") then Some kind.Insert
     else if bytes_eq w (codes "UPDATE") then Some kind.Update
     else if bytes_eq w (codes "DELETE") then Some kind.Delete
-    else None
-
--- the step that a word names
-abbrev pub step_name : List ℕ → Option StepName
-step_name w =
-    if bytes_eq w (codes "CONST") then Some Const
-    else if bytes_eq w (codes "ADD") then Some (Compute Add)
-    else if bytes_eq w (codes "SUB") then Some (Compute Sub)
-    else if bytes_eq w (codes "MUL") then Some (Compute Mul)
-    else if bytes_eq w (codes "LESS") then Some (Compute Less)
-    else if bytes_eq w (codes "SAME") then Some (Compute Same)
-    else if bytes_eq w (codes "HAS") then Some Has
-    else if bytes_eq w (codes "LOAD") then Some Load
-    else if bytes_eq w (codes "STORE") then Some Store
-    else if bytes_eq w (codes "INSERT") then Some Insert
-    else if bytes_eq w (codes "DELETE") then Some Delete
-    else if bytes_eq w (codes "CHECK") then Some Check
-    else if bytes_eq w (codes "SKIP") then Some Skip
-    else if bytes_eq w (codes "OUT") then Some Out
     else None
 
 -- a step too many, or an OUT too many
@@ -169,10 +150,14 @@ fault_from [] (w ∷ ws) = Some UnknownWord
 fault_from (p ∷ ps) [] = if may_end p then None else misfit p []
 fault_from (p ∷ ps) (w ∷ ws) = or_else (misfit p w) (fault_from (expected_behind p w ++ ps) ws)
 
+-- the fault of the words of a line, if they have one
+abbrev pub words_fault : List ℕ → Option LineFault
+words_fault line = fault_from (OfName ∷ OfForm ∷ []) (words line)
+
 -- the fault of a line, if it has one
 abbrev pub line_fault : List ℕ → Option LineFault
 line_fault line =
     if nat_lt MOST_LINE_BYTES (length line) then Some TooLong
     else if length line == 0 then Some Empty
-    else if list_all is_printable line then fault_from (OfName ∷ OfForm ∷ []) (words line)
+    else if list_all is_printable line then words_fault line
     else Some NotAscii

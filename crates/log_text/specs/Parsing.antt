@@ -2,26 +2,11 @@
 use Rattle.std.specs.Prelude.{◌≡◌, ℕ, ◌≤◌, Bool, true, false, List, [], ◌∷◌, ◌++◌, Option, None, codes, decimal, length, map}
 use Rattle.std.specs.List.{flat_map, AllByRecursion}
 use Rattle.model_base.specs.declared.limits.TheConstants.{MOST_COLUMNS}
-use Rattle.log_text.specs.Statement.{operation_word, step_words, IsRegister}
+use Rattle.log_text.specs.Statement.{step_words, IsRegister}
 use Rattle.log_text.specs.Fault.{OfMore, OfStep, fault_from}
 use Rattle.line_words.specs.Faults.{IsFault}
 use Rattle.line_words.specs.declared.fault.LineFault.{LineFault}
 use Rattle.log_text.specs.declared.statement.RawStep.{RawStep}
-use Rattle.log_text.specs.declared.step_name.StepName.{StepName}
-use Rattle.log_text.specs.declared.step_name.StepName.TheVariants.{Const, Compute, Has, Load, Store, Insert, Delete, Check, Skip, Out}
-
--- the word that names a step
-abbrev pub step_word : StepName → List ℕ
-step_word Const = codes "CONST"
-step_word (Compute operation) = operation_word operation
-step_word Has = codes "HAS"
-step_word Load = codes "LOAD"
-step_word Store = codes "STORE"
-step_word Insert = codes "INSERT"
-step_word Delete = codes "DELETE"
-step_word Check = codes "CHECK"
-step_word Skip = codes "SKIP"
-step_word Out = codes "OUT"
 
 -- the words begin with a step, and then come a bar and what is left, or nothing
 abbrev pub TakesStep : List (List ℕ) → RawStep → Bool → List (List ℕ) → Type 0

@@ -6,10 +6,9 @@ use Rattle.model_base.specs.declared.limits.TheConstants.{MOST_ACCESSES, MOST_CO
 use Rattle.log_text_base.specs.declared.limits.TheConstants.{MOST_LINE_BYTES}
 use Rattle.model_base.specs.declared.deed.Kind.{Kind}
 use Rattle.model_base.specs.declared.deed.Kind.TheVariants as kind
-use Rattle.model_base.specs.declared.statement.Operation.{Operation}
-use Rattle.model_base.specs.declared.statement.Operation.TheVariants.{Add, Sub, Mul, Less, Same}
 use Rattle.model_base.specs.declared.statement.RowName.{RowName}
 use Rattle.model_base.specs.declared.statement.RowName.TheVariants.{Number, Held}
+use Rattle.line_words.specs.StepWords.{operation_word}
 use Rattle.line_words.specs.Words.{words, is_name}
 use Rattle.line_words.specs.Access.{access_word, IsAccess}
 use Rattle.log_text.specs.declared.statement.RawDeed.{RawDeed}
@@ -31,14 +30,6 @@ pub record Sentence : Type 0 where
 abbrev pub row_word : RowName → List ℕ
 row_word (Number number) = decimal number
 row_word (Held register) = codes "r" ++ decimal register
-
--- the word of an operation
-abbrev pub operation_word : Operation → List ℕ
-operation_word Add = codes "ADD"
-operation_word Sub = codes "SUB"
-operation_word Mul = codes "MUL"
-operation_word Less = codes "LESS"
-operation_word Same = codes "SAME"
 
 -- the words of a step
 abbrev pub step_words : RawStep → List (List ℕ)

@@ -7,7 +7,6 @@ mod parsing;
 mod printing;
 mod raw_room;
 mod statement;
-mod step_name;
 
 pub use kind::kind_word;
 pub use laws::every_line_reads;

@@ -2,8 +2,9 @@
 ghost use Rattle.std.specs.Prelude.{◌≡◌, ◌++◌, ◌∷◌, [], ◌<◌, IfOk, OnOk, List, ℕ, string_bytes, codes, map};
 ghost use Rattle.std.specs.Fmt.{decimal};
 ghost use Rattle.std.specs.List.{flat_map};
+ghost use Rattle.line_words.specs.StepWords.{operation_word};
 ghost use Rattle.line_words.specs.Access.{letters, letter_if, access_word};
-ghost use Rattle.log_text.specs.Statement.{spelling, deed_words, further_step, last_deed, operation_word, row_word, Reads};
+ghost use Rattle.log_text.specs.Statement.{spelling, deed_words, further_step, last_deed, row_word, Reads};
 ghost use Rattle.log_text.specs.Parsing.{spaced};
 ghost use Rattle.log_text.specs.declared.statement.RawStep.{RawStep};
 

@@ -1,5 +1,7 @@
 //! Names in the order in which they came, each found by its hash.
 
+ghost use Rattle.std.specs.Prelude.{◌<◌};
+
 use crate::refused::Refused;
 use crate::testing::test_two;
 use indexmap::IndexSet;
@@ -8,12 +10,28 @@ use model_base::{Grantee, MOST_NAMES, User};
 use std::alloc::{AllocError, Global};
 use std::marker::Model;
 
+/// So many numbers are remembered.
+const RECENT_NUMBERS: usize = 256;
+
+/// Where the number of a name is remembered: by its last bytes, so that names that count up are remembered in different places.
+#[inline(always)]
+fn recent_place(name: &[u8]) -> usize
+    ensures { result < RECENT_NUMBERS }
+{
+    let len = name.len();
+    if len < 3 {
+        return 0;
+    }
+    let (hundreds, tens, ones) = (name[len - 3], name[len - 2], name[len - 1]);
+    (usize::from(hundreds) * 100 + usize::from(tens) * 10 + usize::from(ones)) % RECENT_NUMBERS
+}
+
 /// The names of the users or of the tables of a log. A name's number is its index, from 0.
 #[derive(Drop)]
 pub struct NameTable {
     names: IndexSet<String>,
-    /// The number that was answered last. It says nothing of the names: it is only tried first.
-    recent: u32,
+    /// Numbers that were answered before, by the last bytes of their names. They say nothing of the names: one of them is only tried first.
+    recent: [u32; RECENT_NUMBERS],
     alloc: Global,
 }
 
@@ -40,7 +58,7 @@ impl NameTable {
     {
         NameTable {
             names: IndexSet::new(alloc),
-            recent: 0,
+            recent: [0; RECENT_NUMBERS],
             alloc,
         }
     }
@@ -132,8 +150,9 @@ impl NameTable {
         ensures refused { IfErr result (λ r. IsRefusal r (name_refusal self.old name.now)) }
         ensures err { OnErr result (self.new ≡ self.old) }
     {
-        if let Some(number) = self.find_near(self.recent, name) {
-            self.recent = number;
+        let place = recent_place(name.as_bytes());
+        if let Some(number) = self.find_near(self.recent[place], name) {
+            self.recent[place] = number;
             return Ok((number, false));
         }
         if self.len() >= MOST_NAMES {

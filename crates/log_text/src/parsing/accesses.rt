@@ -10,19 +10,18 @@ ghost use Rattle.log_text.specs.Parsing.{fault_behind};
 use line_words::{LineFault, RawAccess, Words, access_of};
 use model_base::MOST_ACCESSES;
 
-/// For so many accesses a statement has room at first.
-const USUAL_ACCESSES: usize = 4;
-
 /// Takes the first access.
 fn access<'a>(words: &mut Words<'a>) -> Result<RawAccess<'a>, LineFault>
     ensures ok { IfOk result (λ a. (words.old ≡ access_word a ∷ words.new) × IsAccess a × (misfit OfAccess (access_word a) ≡ None)) }
     ensures fault { IfErr result (λ f. misfit OfAccess (first_word words.old) ≡ Some f) }
 {
+    if let Some(access) = words.next_access() {
+        return Ok(access);
+    }
     let Some(word) = words.next() else {
         return Err(LineFault::BadName);
     };
-    let access = access_of(word)?;
-    Ok(access)
+    access_of(word)
 }
 
 /// Takes the accesses, up to the first bar or the end. It says whether the bar follows. They go where room is, and after an
@@ -39,9 +38,18 @@ pub(crate) fn accesses<'a>(
 {
     let first = access(words)?;
     found.clear();
-    found.reserve(USUAL_ACCESSES)?;
+    found.reserve(MOST_ACCESSES)?;
     found.push_reserved(first);
     'accesses: loop {
+        if words.next_bar() {
+            return Ok(true);
+        }
+        if found.len() < MOST_ACCESSES {
+            if let Some(access) = words.next_access() {
+                found.push_reserved(access);
+                continue;
+            }
+        }
         let Some(word) = words.next() else {
             return Ok(false);
         };

@@ -1,9 +1,9 @@
 //! A line, and the statement that it reads as.
-ghost use Rattle.std.specs.Prelude.{◌≡◌, ◌≢◌, List, ℕ, None, Some, MatchResult, IfOk, IfErr, OnOk};
+ghost use Rattle.std.specs.Prelude.{◌≡◌, ◌≢◌, ◌<◌, ◌≤◌, List, ℕ, None, Some, MatchResult, IfOk, IfErr, OnOk, length};
 ghost use Rattle.std.specs.List.{list_all};
 ghost use Rattle.log_text.specs.Statement.{Sentence, Reads};
 ghost use Rattle.line_words.specs.Faults.{IsFault};
-ghost use Rattle.log_text.specs.Fault.{line_fault};
+ghost use Rattle.log_text.specs.Fault.{line_fault, words_fault};
 ghost use Rattle.line_words.specs.Words.{is_printable};
 
 use super::form::form;
@@ -25,7 +25,23 @@ fn is_printable_text(line: &[u8]) -> bool
     printable
 }
 
-/// What `read_line` answers.
+/// The fault of a line whose words have this one: a byte that isn't printable counts before it.
+#[inline(never)]
+fn first_fault(line: &[u8], fault: LineFault) -> LineFault
+    requires short { length line.now ≤ MOST_LINE_BYTES }
+    requires some { 0 < length line.now }
+    requires fault { IsFault fault (words_fault line.now) }
+    ensures { IsFault result (line_fault line.now) }
+{
+    if is_printable_text(line) {
+        fault
+    } else {
+        LineFault::NotAscii
+    }
+}
+
+/// What `read_line` answers. Whether each byte is printable is asked only where the words have a fault: a line that reads as a statement has
+/// printable bytes alone.
 fn line_statement<'a>(
     alloc: Global,
     line: &'a [u8],
@@ -40,13 +56,15 @@ fn line_statement<'a>(
     if line.is_empty() {
         return Err(LineFault::Empty);
     }
-    if !is_printable_text(line) {
-        return Err(LineFault::NotAscii);
-    }
     let mut words = Words::of(line);
-    let user = name(&mut words)?;
-    let form = form(alloc, &mut words, room)?;
-    Ok(RawStatement::of(user, form))
+    let user = match name(&mut words) {
+        Ok(user) => user,
+        Err(fault) => return Err(first_fault(line, fault)),
+    };
+    match form(alloc, &mut words, room) {
+        Ok(form) => Ok(RawStatement::of(user, form)),
+        Err(fault) => Err(first_fault(line, fault)),
+    }
 }
 
 /// The statement that a line, without its end of line, reads as, or the line's fault. Its accesses and steps take the room

@@ -3,7 +3,7 @@ ghost use Rattle.std.specs.Prelude.{MatchBool, ◌≡◌, ◌∷◌, ◌<◌, �
 ghost use Rattle.std.specs.Fmt.{decimal, signed_decimal};
 ghost use Rattle.line_words.specs.Words.{is_name, plain, signed_of, first_word};
 ghost use Rattle.log_text.specs.Statement.{grantee_word, kind_word, row_word, IsGrantee, IsRowNumber};
-ghost use Rattle.log_text.specs.Fault.{OfGrantee, OfName, OfPlain, OfWhole, OfRegister, OfRow, OfKind, OfBar, misfit, fault_from};
+ghost use Rattle.log_text.specs.Fault.{OfGrantee, OfName, OfPlain, OfWhole, OfRegister, OfRow, OfKind, OfBar, misfit, fault_from, register_fault};
 ghost use Rattle.model_base.specs.Body.{fits_64_bits};
 
 use crate::kind::kind_of;
@@ -45,6 +45,9 @@ pub(crate) fn number(words: &mut Words<'_>) -> Result<u32, LineFault>
     ensures ok { IfOk result (λ n. (words.old ≡ decimal n ∷ words.new) × (n < 2 ^ 32) × (plain (decimal n) ≡ Some n)) }
     ensures fault { IfErr result (λ f. misfit OfPlain (first_word words.old) ≡ Some f) }
 {
+    if let Some(number) = words.next_number() {
+        return Ok(number);
+    }
     match words.next() {
         Some(word) => plain_value(word).ok_or(LineFault::BadNumber),
         None => Err(LineFault::BadNumber),
@@ -58,10 +61,26 @@ pub(crate) fn whole_number(words: &mut Words<'_>) -> Result<i64, LineFault>
         × (signed_of (signed_decimal z) ≡ Some z)) }
     ensures fault { IfErr result (λ f. misfit OfWhole (first_word words.old) ≡ Some f) }
 {
+    if let Some(number) = words.next_number() {
+        return Ok(i64::from(number));
+    }
     match words.next() {
         Some(word) => whole_value(word).ok_or(LineFault::BadNumber),
         None => Err(LineFault::BadNumber),
     }
+}
+
+/// The register of a number.
+#[inline(always)]
+fn numbered_register(number: u32) -> Result<Register, LineFault>
+    ensures ok { IfOk result (λ n. (n ≡ number) × (n < MOST_REGISTERS)) }
+    ensures fault { IfErr result (λ f. register_fault (Some number) ≡ Some f) }
+    ensures fits { OnOk result (register_fault (Some number) ≡ None) }
+{
+    if number >= MOST_REGISTERS as u32 {
+        return Err(LineFault::BadRegister);
+    }
+    Ok(Register::new(number as u8))
 }
 
 /// The register that a word spells.
@@ -74,21 +93,32 @@ pub(crate) fn register_of(word: &[u8]) -> Result<Register, LineFault>
     let Some(number) = plain_value(word) else {
         return Err(LineFault::BadNumber);
     };
-    if number >= MOST_REGISTERS as u32 {
-        return Err(LineFault::BadRegister);
-    }
-    Ok(Register::new(number as u8))
+    numbered_register(number)
 }
 
-/// Takes a register.
+/// Takes a register, as `register`, in whatever form it stands.
 #[tactic(auto, using(line_words::proofs::Plain::plain_empty))]
-pub(crate) fn register(words: &mut Words<'_>) -> Result<Register, LineFault>
+#[inline(never)]
+fn other_register(words: &mut Words<'_>) -> Result<Register, LineFault>
     ensures ok { IfOk result (λ n. (words.old ≡ decimal n ∷ words.new) × (n < MOST_REGISTERS) × (misfit OfRegister (decimal n) ≡ None)) }
     ensures fault { IfErr result (λ f. misfit OfRegister (first_word words.old) ≡ Some f) }
 {
     match words.next() {
         Some(word) => register_of(word),
         None => Err(LineFault::BadNumber),
+    }
+}
+
+/// Takes a register.
+#[tactic(auto, using(line_words::proofs::Plain::plain_of_decimal))]
+#[inline(always)]
+pub(crate) fn register(words: &mut Words<'_>) -> Result<Register, LineFault>
+    ensures ok { IfOk result (λ n. (words.old ≡ decimal n ∷ words.new) × (n < MOST_REGISTERS) × (misfit OfRegister (decimal n) ≡ None)) }
+    ensures fault { IfErr result (λ f. misfit OfRegister (first_word words.old) ≡ Some f) }
+{
+    match words.next_number() {
+        Some(number) => numbered_register(number),
+        None => other_register(words),
     }
 }
 
@@ -99,6 +129,9 @@ pub(crate) fn row(words: &mut Words<'_>) -> Result<RowName, LineFault>
     ensures ok { IfOk result (λ r. (words.old ≡ row_word r ∷ words.new) × IsRowNumber r × (misfit OfRow (row_word r) ≡ None)) }
     ensures fault { IfErr result (λ f. misfit OfRow (first_word words.old) ≡ Some f) }
 {
+    if let Some(number) = words.next_number() {
+        return Ok(RowName::Number(number));
+    }
     let Some(word) = words.next() else {
         return Err(LineFault::BadNumber);
     };
@@ -128,6 +161,9 @@ pub(crate) fn bar_or_end(words: &mut Words<'_>) -> Result<bool, LineFault>
     ensures ok { IfOk result (λ more. MatchBool more (words.old ≡ codes "|" ∷ words.new) (words.old ≡ [])) }
     ensures fault { IfErr result (λ f. (steps outs : ℕ) → fault_from (OfBar steps outs ∷ []) words.old ≡ Some f) }
 {
+    if words.next_bar() {
+        return Ok(true);
+    }
     match words.next() {
         None => Ok(false),
         Some(word) if word == b"|".as_slice() => Ok(true),

@@ -1,71 +1,108 @@
 //! The steps of a RUN, and the deed behind them.
-ghost use Rattle.std.specs.Prelude.{◌≡◌, ◌∷◌, ◌+◌, ◌≤◌, ◌<◌, [], vec_len, Some, None, false, IfOk, IfErr, codes};
+ghost use Rattle.std.specs.Prelude.{◌≡◌, ◌∷◌, ◌+◌, ◌≤◌, ◌<◌, ℕ, [], vec_len, Some, None, IfOk, IfErr, MatchOption, OnOk, codes};
 ghost use Rattle.std.specs.List.{AllByRecursion, sum_by};
-ghost use Rattle.log_text.specs.Statement.{body_words, IsLastDeed, IsStep, outs_of};
+ghost use Rattle.log_text.specs.Statement.{body_words, last_deed, IsLastDeed, IsStep, outs_of};
+ghost use Rattle.line_words.specs.StepWords.{step_name, step_word};
 ghost use Rattle.line_words.specs.Faults.{IsFault};
-ghost use Rattle.log_text.specs.Fault.{OfStep, step_fault, step_name, fault_from, is_deed};
-ghost use Rattle.log_text.specs.Parsing.{TakesStep, fault_behind, step_word};
+ghost use Rattle.line_words.specs.Words.{first_word};
+ghost use Rattle.log_text.specs.Fault.{OfStep, step_fault, fault_from};
+ghost use Rattle.log_text.specs.Parsing.{TakesStep, fault_behind};
 
 use super::computing::{check, compute, constant, out, skip};
 use super::deeds::{begins_deed, deed};
 use super::touching::{delete, has, insert, load, store};
 use crate::statement::{RawDeed, RawStep};
-use crate::step_name::StepName;
-use line_words::{LineFault, Words};
-use model_base::{MOST_OUTPUTS, MOST_STEPS};
+use line_words::{LineFault, StepName, Words};
+use model_base::{MOST_OUTPUTS, MOST_STEPS, Register};
 use std::alloc::Global;
 
-/// For so many steps a statement has room at first.
-const USUAL_STEPS: usize = 16;
-
-/// The step that a word names, when there are so many steps and outs before it.
-#[tactic(auto, using(crate::proofs::StepNames::named_word, crate::proofs::StepNames::no_step_fault))]
-fn named_step(word: &[u8], steps: usize, outs: usize) -> Result<StepName, LineFault>
-    ensures ok { IfOk result (λ s. (word.now ≡ step_word s) × (step_name (step_word s) ≡ Some s)
-        × (step_fault (Some s) steps outs ≡ None)) }
-    ensures fault { IfErr result (λ f. step_fault (step_name word.now) steps outs ≡ Some f) }
+/// Takes the word of a step, if the next word is one; otherwise the words stay as they are.
+#[inline(always)]
+fn next_name(words: &mut Words<'_>) -> Option<StepName>
+    ensures { MatchOption result ((step_name (first_word words.old) ≡ None) × (words.new ≡ words.old))
+        (λ s. words.old ≡ step_word s ∷ words.new) }
 {
-    let Some(name) = StepName::of(word) else {
-        return Err(LineFault::UnknownWord);
-    };
+    match words.next_step() {
+        Some(name) => Some(name),
+        None => other_name(words),
+    }
+}
+
+/// Takes the word of a step, as `next_name`, in whatever form it stands.
+#[tactic(auto, using(line_words::proofs::StepNames::named_word))]
+#[inline(never)]
+fn other_name(words: &mut Words<'_>) -> Option<StepName>
+    ensures { MatchOption result ((step_name (first_word words.old) ≡ None) × (words.new ≡ words.old))
+        (λ s. words.old ≡ step_word s ∷ words.new) }
+{
+    let name = StepName::of(words.first()?)?;
+    words.next();
+    Some(name)
+}
+
+/// A step of this name fits behind so many steps and outs.
+#[tactic(auto, using(crate::proofs::StepNames::no_step_fault))]
+#[inline(always)]
+fn one_more(name: StepName, steps: usize, outs: usize) -> Result<(), LineFault>
+    ensures ok { OnOk result (step_fault (Some name) steps outs ≡ None) }
+    ensures fault { IfErr result (λ f. step_fault (Some name) steps outs ≡ Some f) }
+{
     if steps >= MOST_STEPS {
         return Err(LineFault::TooManySteps);
     }
     if matches!(name, StepName::Out) && outs >= MOST_OUTPUTS {
         return Err(LineFault::TooManySteps);
     }
-    Ok(name)
+    Ok(())
 }
 
-/// A step that begins with this word, up to the next one or the end, when there are so many steps and outs before it.
-#[tactic(auto, using(crate::proofs::StepNames::goes_on))]
+/// What is behind the word of a step, up to the next one or the end, when there are so many steps and outs before it. The step goes
+/// where it is to stay.
+#[inline(always)]
 fn step<'a>(
     alloc: Global,
-    word: &[u8],
+    name: StepName,
     words: &mut Words<'a>,
+    found: &mut RawStep<'a>,
     steps: usize,
     outs: usize,
-) -> Result<(RawStep<'a>, bool), LineFault>
+) -> Result<bool, LineFault>
     requires few { outs ≤ MOST_OUTPUTS }
-    requires step { is_deed word.now ≡ false }
-    ensures ok { IfOk result (λ r. TakesStep (word.now ∷ words.old) r.0 r.1 words.new × IsStep r.0
-        × (steps < MOST_STEPS) × (outs + outs_of r.0 ≤ MOST_OUTPUTS)) }
-    ensures fits { IfOk result (λ r. fault_from (OfStep steps outs ∷ []) (word.now ∷ words.old)
-        ≡ fault_behind r.1 (steps + 1) (outs + outs_of r.0) words.new) }
-    ensures fault { IfErr result (λ f. IsFault f (fault_from (OfStep steps outs ∷ []) (word.now ∷ words.old))) }
+    requires fits { step_fault (Some name) steps outs ≡ None }
+    ensures ok { IfOk result (λ more. TakesStep (step_word name ∷ words.old) found.new more words.new × IsStep found.new
+        × (steps < MOST_STEPS) × (outs + outs_of found.new ≤ MOST_OUTPUTS)) }
+    ensures fits { IfOk result (λ more. fault_from (OfStep steps outs ∷ []) (step_word name ∷ words.old)
+        ≡ fault_behind more (steps + 1) (outs + outs_of found.new) words.new) }
+    ensures fault { IfErr result (λ f. IsFault f (fault_from (OfStep steps outs ∷ []) (step_word name ∷ words.old))) }
 {
-    match named_step(word, steps, outs)? {
-        StepName::Const => constant(words),
-        StepName::Compute(operation) => compute(operation, words),
-        StepName::Has => has(words),
-        StepName::Load => load(words),
-        StepName::Store => store(words),
-        StepName::Insert => insert(alloc, words),
-        StepName::Delete => delete(words),
-        StepName::Check => check(words),
-        StepName::Skip => skip(words),
-        StepName::Out => out(words),
+    match name {
+        StepName::Const => constant(words, found),
+        StepName::Compute(operation) => compute(operation, words, found),
+        StepName::Has => has(words, found),
+        StepName::Load => load(words, found),
+        StepName::Store => store(words, found),
+        StepName::Insert => insert(alloc, words, found),
+        StepName::Delete => delete(words, found),
+        StepName::Check => check(words, found),
+        StepName::Skip => skip(words, found),
+        StepName::Out => out(words, found),
     }
+}
+
+/// Takes the deed with which a line ends, where no step begins.
+fn ending<'a>(words: &mut Words<'a>) -> Result<Option<RawDeed<'a>>, LineFault>
+    requires { step_name (first_word words.old) ≡ None }
+    ensures ok { IfOk result (λ deed. (codes "|" ∷ words.old ≡ last_deed deed) × IsLastDeed deed) }
+    ensures fault { IfErr result (λ f. (steps outs : ℕ) → fault_from (OfStep steps outs ∷ []) words.old ≡ Some f) }
+{
+    let Some(word) = words.next() else {
+        return Err(LineFault::UnknownWord);
+    };
+    if !begins_deed(word) {
+        return Err(LineFault::UnknownWord);
+    }
+    let deed = deed(word, words)?;
+    Ok(Some(deed))
 }
 
 /// How many outputs a step makes.
@@ -91,19 +128,19 @@ pub(crate) fn steps<'a>(
     ensures fault { IfErr result (λ f. IsFault f (fault_from (OfStep 0 0 ∷ []) words.old)) }
 {
     found.clear();
-    found.reserve(USUAL_STEPS)?;
+    found.reserve(MOST_STEPS)?;
     let mut outs = 0;
     'steps: loop {
-        let Some(word) = words.next() else {
-            return Err(LineFault::UnknownWord);
+        let Some(name) = next_name(words) else {
+            return ending(words);
         };
-        if begins_deed(word) {
-            let deed = deed(word, words)?;
-            return Ok(Some(deed));
-        }
-        let (step, more) = step(alloc, word, words, found.len(), outs)?;
-        outs += out_count(&step);
-        found.push(step)?;
+        let place = found.len();
+        one_more(name, place, outs)?;
+        found.push_reserved(RawStep::Check {
+            of: Register::new(0),
+        });
+        let more = step(alloc, name, words, &mut found[place], place, outs)?;
+        outs += out_count(&found[place]);
         if !more {
             return Ok(None);
         }

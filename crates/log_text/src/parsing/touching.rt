@@ -1,12 +1,13 @@
 //! The steps that touch a row.
 ghost use Rattle.std.specs.Prelude.{◌≡◌, ◌∷◌, ◌+◌, ◌<◌, vec_len, Some, List, ℕ, IfOk, IfErr, IsTrue, ◌^◌};
 ghost use Rattle.std.specs.Fmt.{decimal};
+ghost use Rattle.line_words.specs.StepWords.{step_word};
 ghost use Rattle.line_words.specs.Words.{is_name};
 ghost use Rattle.log_text.specs.Statement.{row_word, IsStep, IsRowNumber, outs_of};
 ghost use Rattle.line_words.specs.Faults.{IsFault};
 ghost use Rattle.log_text.specs.Fault.{Expected, OfName, OfRow, OfPlain, expected_in, fault_from};
-ghost use Rattle.log_text.specs.Parsing.{AreInsertable, FailAsRegisters, FitAsRegisters, TakesStep, TakesRegisters, fault_behind, step_word};
-ghost use Rattle.log_text.specs.declared.step_name.StepName.TheVariants.{Has, Load, Store, Insert, Delete};
+ghost use Rattle.log_text.specs.Parsing.{AreInsertable, FailAsRegisters, FitAsRegisters, TakesStep, TakesRegisters, fault_behind};
+ghost use Rattle.line_words.specs.declared.step_name.StepName.TheVariants.{Has, Load, Store, Insert, Delete};
 
 use super::places::{bar_or_end, name, number, register, register_of, row};
 use crate::statement::RawStep;
@@ -15,17 +16,18 @@ use model_base::{Items, MOST_COLUMNS, Register, RowName};
 use std::alloc::Global;
 
 /// What stands behind HAS, up to the next step or the end.
-pub(super) fn has<'a>(words: &mut Words<'a>) -> Result<(RawStep<'a>, bool), LineFault>
-    ensures ok { IfOk result (λ r. TakesStep (step_word Has ∷ words.old) r.0 r.1 words.new × IsStep r.0 × (outs_of r.0 ≡ 0)) }
-    ensures fits { IfOk result (λ r. (steps outs : ℕ)
-        → fault_from (expected_in (Some Has) steps outs) words.old ≡ fault_behind r.1 (steps + 1) outs words.new) }
+pub(super) fn has<'a>(words: &mut Words<'a>, step: &mut RawStep<'a>) -> Result<bool, LineFault>
+    ensures ok { IfOk result (λ more. TakesStep (step_word Has ∷ words.old) step.new more words.new
+        × IsStep step.new × (outs_of step.new ≡ 0)) }
+    ensures fits { IfOk result (λ more. (steps outs : ℕ)
+        → fault_from (expected_in (Some Has) steps outs) words.old ≡ fault_behind more (steps + 1) outs words.new) }
     ensures fault { IfErr result (λ f. (steps outs : ℕ) → fault_from (expected_in (Some Has) steps outs) words.old ≡ Some f) }
 {
     let to = register(words)?;
     let table = name(words)?;
     let row = row(words)?;
-    let more = bar_or_end(words)?;
-    Ok((RawStep::Has { to, table, row }, more))
+    *step = RawStep::Has { to, table, row };
+    bar_or_end(words)
 }
 
 /// Takes a table's name, a row and a column.
@@ -44,41 +46,41 @@ fn cell<'a>(words: &mut Words<'a>) -> Result<(Name<'a>, RowName, u32), LineFault
 }
 
 /// What stands behind LOAD, up to the next step or the end.
-pub(super) fn load<'a>(words: &mut Words<'a>) -> Result<(RawStep<'a>, bool), LineFault>
-    ensures ok { IfOk result (λ r. TakesStep (step_word Load ∷ words.old) r.0 r.1 words.new × IsStep r.0 × (outs_of r.0 ≡ 0)) }
-    ensures fits { IfOk result (λ r. (steps outs : ℕ)
-        → fault_from (expected_in (Some Load) steps outs) words.old ≡ fault_behind r.1 (steps + 1) outs words.new) }
+pub(super) fn load<'a>(words: &mut Words<'a>, step: &mut RawStep<'a>) -> Result<bool, LineFault>
+    ensures ok { IfOk result (λ more. TakesStep (step_word Load ∷ words.old) step.new more words.new
+        × IsStep step.new × (outs_of step.new ≡ 0)) }
+    ensures fits { IfOk result (λ more. (steps outs : ℕ)
+        → fault_from (expected_in (Some Load) steps outs) words.old ≡ fault_behind more (steps + 1) outs words.new) }
     ensures fault { IfErr result (λ f. (steps outs : ℕ) → fault_from (expected_in (Some Load) steps outs) words.old ≡ Some f) }
 {
     let to = register(words)?;
     let (table, row, column) = cell(words)?;
-    let more = bar_or_end(words)?;
-    let step = RawStep::Load {
+    *step = RawStep::Load {
         to,
         table,
         row,
         column,
     };
-    Ok((step, more))
+    bar_or_end(words)
 }
 
 /// What stands behind STORE, up to the next step or the end.
-pub(super) fn store<'a>(words: &mut Words<'a>) -> Result<(RawStep<'a>, bool), LineFault>
-    ensures ok { IfOk result (λ r. TakesStep (step_word Store ∷ words.old) r.0 r.1 words.new × IsStep r.0 × (outs_of r.0 ≡ 0)) }
-    ensures fits { IfOk result (λ r. (steps outs : ℕ)
-        → fault_from (expected_in (Some Store) steps outs) words.old ≡ fault_behind r.1 (steps + 1) outs words.new) }
+pub(super) fn store<'a>(words: &mut Words<'a>, step: &mut RawStep<'a>) -> Result<bool, LineFault>
+    ensures ok { IfOk result (λ more. TakesStep (step_word Store ∷ words.old) step.new more words.new
+        × IsStep step.new × (outs_of step.new ≡ 0)) }
+    ensures fits { IfOk result (λ more. (steps outs : ℕ)
+        → fault_from (expected_in (Some Store) steps outs) words.old ≡ fault_behind more (steps + 1) outs words.new) }
     ensures fault { IfErr result (λ f. (steps outs : ℕ) → fault_from (expected_in (Some Store) steps outs) words.old ≡ Some f) }
 {
     let (table, row, column) = cell(words)?;
     let from = register(words)?;
-    let more = bar_or_end(words)?;
-    let step = RawStep::Store {
+    *step = RawStep::Store {
         table,
         row,
         column,
         from,
     };
-    Ok((step, more))
+    bar_or_end(words)
 }
 
 /// The further registers of an INSERT, up to the next step or the end.
@@ -108,10 +110,12 @@ fn more_registers(words: &mut Words<'_>, registers: &mut Vec<Register>) -> Resul
 pub(super) fn insert<'a>(
     alloc: Global,
     words: &mut Words<'a>,
-) -> Result<(RawStep<'a>, bool), LineFault>
-    ensures ok { IfOk result (λ r. TakesStep (step_word Insert ∷ words.old) r.0 r.1 words.new × IsStep r.0 × (outs_of r.0 ≡ 0)) }
-    ensures fits { IfOk result (λ r. (steps outs : ℕ)
-        → fault_from (expected_in (Some Insert) steps outs) words.old ≡ fault_behind r.1 (steps + 1) outs words.new) }
+    step: &mut RawStep<'a>,
+) -> Result<bool, LineFault>
+    ensures ok { IfOk result (λ more. TakesStep (step_word Insert ∷ words.old) step.new more words.new
+        × IsStep step.new × (outs_of step.new ≡ 0)) }
+    ensures fits { IfOk result (λ more. (steps outs : ℕ)
+        → fault_from (expected_in (Some Insert) steps outs) words.old ≡ fault_behind more (steps + 1) outs words.new) }
     ensures fault { IfErr result (λ f. (steps outs : ℕ) → IsFault f (fault_from (expected_in (Some Insert) steps outs) words.old)) }
 {
     let table = name(words)?;
@@ -120,23 +124,24 @@ pub(super) fn insert<'a>(
     let mut from = Vec::with_capacity(alloc, MOST_COLUMNS)?;
     from.push(first)?;
     let more = more_registers(words, &mut from)?;
-    let step = RawStep::Insert {
+    *step = RawStep::Insert {
         table,
         row,
         from: Items::new(from),
     };
-    Ok((step, more))
+    Ok(more)
 }
 
 /// What stands behind DELETE, up to the next step or the end.
-pub(super) fn delete<'a>(words: &mut Words<'a>) -> Result<(RawStep<'a>, bool), LineFault>
-    ensures ok { IfOk result (λ r. TakesStep (step_word Delete ∷ words.old) r.0 r.1 words.new × IsStep r.0 × (outs_of r.0 ≡ 0)) }
-    ensures fits { IfOk result (λ r. (steps outs : ℕ)
-        → fault_from (expected_in (Some Delete) steps outs) words.old ≡ fault_behind r.1 (steps + 1) outs words.new) }
+pub(super) fn delete<'a>(words: &mut Words<'a>, step: &mut RawStep<'a>) -> Result<bool, LineFault>
+    ensures ok { IfOk result (λ more. TakesStep (step_word Delete ∷ words.old) step.new more words.new
+        × IsStep step.new × (outs_of step.new ≡ 0)) }
+    ensures fits { IfOk result (λ more. (steps outs : ℕ)
+        → fault_from (expected_in (Some Delete) steps outs) words.old ≡ fault_behind more (steps + 1) outs words.new) }
     ensures fault { IfErr result (λ f. (steps outs : ℕ) → fault_from (expected_in (Some Delete) steps outs) words.old ≡ Some f) }
 {
     let table = name(words)?;
     let row = row(words)?;
-    let more = bar_or_end(words)?;
-    Ok((RawStep::Delete { table, row }, more))
+    *step = RawStep::Delete { table, row };
+    bar_or_end(words)
 }

@@ -1,5 +1,6 @@
 use Rattle.std.proofs.Common.{◌≡◌, ◌≤◌, vec_len, length, map, [], ◌∷◌, ◌++◌}
 use Rattle.std.specs.List.{AllByRecursion}
+use Rattle.std.specs.Vec.{vec_capacity}
 use Rattle.line_words.specs.Access.{access_word, IsAccess}
 use Rattle.log_text.specs.Fault.{OfAccess, OfNext, fault_from}
 use Rattle.log_text.proofs.parsing.accesses.accesses.Given as goal
@@ -9,6 +10,7 @@ invariant-accesses l = record {
   same : l.fn.words ≡ map access_word l.found.items ++ l.words;
   some : 1 ≤ vec_len l.found;
   room : vec_len l.found ≤ 16;
+  reserved : 16 ≤ vec_capacity l.found;
   each : AllByRecursion IsAccess l.found.items;
   fits : fault_from (OfAccess ∷ OfNext 1 ∷ []) l.fn.words ≡ fault_from (OfNext (vec_len l.found) ∷ []) l.words;
 }

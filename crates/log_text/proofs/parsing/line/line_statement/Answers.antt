@@ -6,16 +6,16 @@ use Rattle.log_text.proofs.parsing.line.line_statement.Goals as goal
 
 pub of-requires : goal.of-requires
 of-requires c =
-    let user = c.in_ok-user.ensures.ok in
-    let form = c.in_ok-form.ensures.ok in
-    let same : words c.args.line.now ≡ c.in_ok-user.user ∷ form_words c.in_ok-form.form =
-    sym c.of-words.ensures ∙ user.0 ∙ ap (λ (ws : List (List ℕ)). c.in_ok-user.user ∷ ws) form.0 in
-    (reads c.args.line.now c.in_ok-user.user c.in_ok-form.form same user.1 form.1 c.if-line-gt-MOST_LINE_BYTES.false).grammar
+    let user = c.in-Ok.ensures.ok in
+    let form = c.in-Ok-form.ensures.ok in
+    let same : words c.args.line.now ≡ c.in-Ok.user ∷ form_words c.in-Ok-form.form =
+    sym c.of-words.ensures ∙ user.0 ∙ ap (λ (ws : List (List ℕ)). c.in-Ok.user ∷ ws) form.0 in
+    (reads c.args.line.now c.in-Ok.user c.in-Ok-form.form same user.1 form.1 c.if-line-gt-MOST_LINE_BYTES.false).grammar
 
-pub returns-clause-read : goal.returns-clause-read
-returns-clause-read c =
-    let user = c.in_ok-user.ensures.ok in
-    let form = c.in_ok-form.ensures.ok in
-    let same : words c.args.line.now ≡ c.in_ok-user.user ∷ form_words c.in_ok-form.form =
-    sym c.of-words.ensures ∙ user.0 ∙ ap (λ (ws : List (List ℕ)). c.in_ok-user.user ∷ ws) form.0 in
-    subst (Reads c.args.line.now) (sym c.of.ensures) (reads c.args.line.now c.in_ok-user.user c.in_ok-form.form same user.1 form.1 c.if-line-gt-MOST_LINE_BYTES.false)
+pub returns-in-Ok-form-clause-read : goal.returns-in-Ok-form-clause-read
+returns-in-Ok-form-clause-read c =
+    let user = c.in-Ok.ensures.ok in
+    let form = c.in-Ok-form.ensures.ok in
+    let same : words c.args.line.now ≡ c.in-Ok.user ∷ form_words c.in-Ok-form.form =
+    sym c.of-words.ensures ∙ user.0 ∙ ap (λ (ws : List (List ℕ)). c.in-Ok.user ∷ ws) form.0 in
+    subst (Reads c.args.line.now) (sym c.of.ensures) (reads c.args.line.now c.in-Ok.user c.in-Ok-form.form same user.1 form.1 c.if-line-gt-MOST_LINE_BYTES.false)

@@ -1,5 +1,6 @@
 use Rattle.std.proofs.Common.{◌≡◌, ◌≤◌, ◌-◌, vec_len, [], ◌∷◌, ◌++◌}
 use Rattle.std.specs.Prelude.{codes}
+use Rattle.std.specs.Vec.{vec_capacity}
 use Rattle.std.specs.List.{AllByRecursion, flat_map, sum_by}
 use Rattle.log_text.specs.Statement.{further_step, outs_of, IsStep}
 use Rattle.log_text.specs.Fault.{OfStep, fault_from}
@@ -9,6 +10,7 @@ abbrev pub invariant-steps : goal.invariant-steps
 invariant-steps l = record {
   same : codes "|" ∷ l.initial.words ≡ flat_map further_step l.found.items ++ codes "|" ∷ l.words;
   room : vec_len l.found ≤ 64;
+  reserved : 64 ≤ vec_capacity l.found;
   outputs : l.outs ≡ sum_by outs_of l.found.items;
   few : l.outs ≤ 8;
   each : AllByRecursion IsStep l.found.items;

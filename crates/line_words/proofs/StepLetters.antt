@@ -2,9 +2,9 @@
 use Rattle.std.proofs.Common.{◌≡◌, ◌<◌, ◌≤◌, ℕ, List, length, get_or, sym, ap, Some, arith}
 use Rattle.std.specs.Prelude.{codes}
 use Rattle.std.proofs.lemmas.Slice.Eq.{text_from_reads}
-use Rattle.log_text.specs.Fault.{step_name}
 use Rattle.model_base.specs.declared.statement.Operation.TheVariants.{Add, Sub, Mul, Less, Same}
-use Rattle.log_text.specs.declared.step_name.StepName.TheVariants.{Const, Compute, Has, Load, Store, Check, Skip, Out}
+use Rattle.line_words.specs.StepWords.{step_name}
+use Rattle.line_words.specs.declared.step_name.StepName.TheVariants.{Const, Compute, Has, Load, Store, Insert, Delete, Check, Skip, Out}
 
 pub named_const : (w : List ℕ) → 5 ≤ length w → length w < 6 → get_or w 0 0 ≡ 67 → get_or w 1 0 ≡ 79 → get_or w 2 0 ≡ 78 → get_or w 3 0 ≡ 83 → get_or w 4 0 ≡ 84 → Some Const ≡ step_name w
 named_const w low high a b c d e = let size : length w ≡ 5 = omega arith in ap step_name (sym (text_from_reads w (codes "CONST") size (a, (b, (c, (d, (e, tt)))))))
@@ -41,3 +41,10 @@ named_skip w low high a b c d = let size : length w ≡ 4 = omega arith in ap st
 
 pub named_out : (w : List ℕ) → 3 ≤ length w → length w < 4 → get_or w 0 0 ≡ 79 → get_or w 1 0 ≡ 85 → get_or w 2 0 ≡ 84 → Some Out ≡ step_name w
 named_out w low high a b c = let size : length w ≡ 3 = omega arith in ap step_name (sym (text_from_reads w (codes "OUT") size (a, (b, (c, tt)))))
+
+-- the words of six letters, letter by letter
+pub named_insert : (w : List ℕ) → 6 ≤ length w → length w < 7 → get_or w 0 0 ≡ 73 → get_or w 1 0 ≡ 78 → get_or w 2 0 ≡ 83 → get_or w 3 0 ≡ 69 → get_or w 4 0 ≡ 82 → get_or w 5 0 ≡ 84 → Some Insert ≡ step_name w
+named_insert w low high a b c d e f = let size : length w ≡ 6 = omega arith in ap step_name (sym (text_from_reads w (codes "INSERT") size (a, (b, (c, (d, (e, (f, tt))))))))
+
+pub named_delete : (w : List ℕ) → 6 ≤ length w → length w < 7 → get_or w 0 0 ≡ 68 → get_or w 1 0 ≡ 69 → get_or w 2 0 ≡ 76 → get_or w 3 0 ≡ 69 → get_or w 4 0 ≡ 84 → get_or w 5 0 ≡ 69 → Some Delete ≡ step_name w
+named_delete w low high a b c d e f = let size : length w ≡ 6 = omega arith in ap step_name (sym (text_from_reads w (codes "DELETE") size (a, (b, (c, (d, (e, (f, tt))))))))

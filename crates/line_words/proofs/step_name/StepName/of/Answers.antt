@@ -1,6 +1,5 @@
-use Rattle.log_text.proofs.StepLetters.{named_const, named_add, named_sub, named_mul, named_less, named_same, named_has, named_load, named_store, named_check, named_skip, named_out}
-use Rattle.log_text.proofs.StepNames.{named_insert, named_delete}
-use Rattle.log_text.proofs.step_name.StepName.of.Goals as goal
+use Rattle.line_words.proofs.StepLetters.{named_const, named_add, named_sub, named_mul, named_less, named_same, named_has, named_load, named_store, named_insert, named_delete, named_check, named_skip, named_out}
+use Rattle.line_words.proofs.step_name.StepName.of.Goals as goal
 
 pub returns-in-CONST : goal.returns-in-CONST
 returns-in-CONST c = search named_const
