@@ -13,8 +13,8 @@ use crate::ending::BodyEnd;
 use crate::registers::{compute, flag, read, write};
 use crate::window::Window;
 use model_base::{
-    Access, Items, Kind, MOST_ACCESSES, MOST_COLUMNS, MOST_OUTPUTS, MOST_REGISTERS, Reason,
-    Register, Row, RowName, Step, Table,
+    Access, Kind, MOST_ACCESSES, MOST_COLUMNS, MOST_OUTPUTS, MOST_REGISTERS, Reason, Register,
+    Registers, Row, RowName, Step, Table,
 };
 
 /// What one step comes to.
@@ -164,7 +164,7 @@ fn insert(
     registers: &[i64; MOST_REGISTERS],
     table: Table,
     row: RowName,
-    from: &Items<Register>,
+    from: &Registers,
 ) -> StepEnd
     requires places { length accesses.now ≤ MOST_ACCESSES }
     requires columns { length from.now ≤ MOST_COLUMNS }

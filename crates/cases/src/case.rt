@@ -21,6 +21,8 @@ pub struct Drawn<'a> {
     /// How many logs are drawn.
     pub logs: u32,
     pub drawing: Drawing,
+    /// Whether one byte of each line that is drawn is changed.
+    pub is_spoilt: bool,
     /// The log whose lines come after those that are drawn.
     pub last: Option<Log<'a>>,
     pub runs: Vec<Run>,
@@ -46,7 +48,8 @@ pub enum Case<'a> {
     /// `tail lines|halves|pieces LOG RUN..`: how often each run reads and writes where the log comes bit by bit, and how many reads are late.
     Tail(Bits, Runs<'a>),
     /// `drawn SEED LOGS LINES USERS DEEDS LAST RUN..`: how many runs of drawn logs write the report of the plain run, and how often
-    /// each ending is in these. LAST is a log whose lines end each drawn one, or `-`.
+    /// each ending is in these. LAST is a log whose lines end each drawn one, or `-`. `spoilt ..`: the same with one byte of each line
+    /// changed.
     Drawn(Drawn<'a>),
     /// `words WORD..`: what a command line asks for, or with which status it ends.
     Words(&'a str),

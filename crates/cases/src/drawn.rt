@@ -4,11 +4,11 @@ use crate::case::Drawn;
 use crate::fault::TrialFault;
 use crate::printing::put_part;
 use crate::run::{Run, right_runs};
-use std::alloc::Global;
+use std::alloc::{AllocError, Global};
 use std::rt::Files;
 use std::sync::Wait;
 use std::thread::Threads;
-use trials_base::{Generator, drawn_log};
+use trials_base::{Drawing, FIRST_LINES, Generator, drawn_log, put_drawn_line};
 
 /// What is counted in the reports: the endings of lines, and lines.
 const ENDINGS: [&str; 12] = [
@@ -47,6 +47,33 @@ fn put_endings(alloc: Global, outcome: &mut String, reports: &[u8]) -> Result<()
     Ok(())
 }
 
+/// The bytes that are put in place of others where lines are spoilt.
+const OTHER_BYTES: &[u8; 20] = b" |:-_0189azrARUIDC\x7f\n";
+
+/// Changes one of the bytes from an index on.
+fn spoil(bytes: &mut [u8], start: usize, generator: &mut Generator) {
+    let other = OTHER_BYTES[generator.below(20) as usize];
+    let count = bytes.len().saturating_sub(start).min(4096) as u32;
+    if count > 0 {
+        bytes[start + generator.below(count) as usize] = other;
+    }
+}
+
+/// A drawn log, of each of whose lines one byte is changed.
+fn spoilt_log(
+    alloc: Global,
+    generator: &mut Generator,
+    drawing: Drawing,
+) -> Result<Vec<u8>, AllocError> {
+    let mut log = Vec::from_slice(alloc, FIRST_LINES)?;
+    for _ in 0..drawing.lines {
+        let start = log.len();
+        put_drawn_line(&mut log, generator, drawing)?;
+        spoil(log.as_mut_slice(), start, generator);
+    }
+    Ok(log)
+}
+
 /// Draws a log that ends with these lines, appends its report by the plain run to those before it, and returns by how many of the runs
 /// it has that.
 fn compare_log<R: Threads + Wait + Sync>(
@@ -57,7 +84,11 @@ fn compare_log<R: Threads + Wait + Sync>(
     last: &[u8],
     reports: &mut Vec<u8>,
 ) -> Result<usize, TrialFault> {
-    let mut log = drawn_log(alloc, generator, case.drawing)?;
+    let mut log = if case.is_spoilt {
+        spoilt_log(alloc, generator, case.drawing)?
+    } else {
+        drawn_log(alloc, generator, case.drawing)?
+    };
     log.extend_from_slice(last)?;
     let wanted = Run::plain().text(rt, alloc, log.as_slice())?;
     reports.extend_from_slice(wanted.as_slice())?;

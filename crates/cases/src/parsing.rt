@@ -225,8 +225,12 @@ fn parse_fail<'a>(alloc: Global, words: &[&'a str]) -> Result<Case<'a>, TrialFau
     Ok(Case::Fail(failing, parse_runs(alloc, rest)?))
 }
 
-/// How logs are drawn, and their runs.
-fn parse_drawn<'a>(alloc: Global, words: &[&'a str]) -> Result<Case<'a>, TrialFault> {
+/// How logs are drawn, whether their lines are spoilt then, and their runs.
+fn parse_drawn<'a>(
+    alloc: Global,
+    words: &[&'a str],
+    is_spoilt: bool,
+) -> Result<Case<'a>, TrialFault> {
     let [seed, logs, lines, users, deeds, last, runs @ ..] = words else {
         return Err(TrialFault::Words);
     };
@@ -245,6 +249,7 @@ fn parse_drawn<'a>(alloc: Global, words: &[&'a str]) -> Result<Case<'a>, TrialFa
         seed,
         logs,
         drawing,
+        is_spoilt,
         last,
         runs,
     }))
@@ -264,7 +269,8 @@ fn parse_case_of_runs<'a>(
         "ends" => Ok(Case::Ends(parse_runs(alloc, words)?)),
         "fail" => parse_fail(alloc, words),
         "tail" => parse_tail(alloc, words),
-        "drawn" => parse_drawn(alloc, words),
+        "drawn" => parse_drawn(alloc, words, false),
+        "spoilt" => parse_drawn(alloc, words, true),
         _ => Err(TrialFault::NoSuchVerb),
     }
 }

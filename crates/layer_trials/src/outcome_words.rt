@@ -67,13 +67,12 @@ fn answering(alloc: Global) -> Result<Form, AllocError>
     ensures needs { IfOk result (λ form. length (needs form) ≡ 0) }
     ensures outputs { IfOk result (λ form. outputs_of form ≡ 1) }
 {
-    let mut steps = Vec::new(alloc);
-    steps.push(Step::Out {
+    let step = Step::Out {
         of: Register::new(0),
-    })?;
+    };
     Ok(Form::Run {
         accesses: Items::empty(alloc),
-        steps: Items::new(steps),
+        steps: Items::new(vec![in alloc; step]?),
         deed: None,
     })
 }

@@ -1,8 +1,7 @@
 -- An access that is taken where it stands.
-use Rattle.std.proofs.Common.{◌≡◌, ℕ, ◌+◌, ◌-◌, ◌<◌, ◌≤◌, ◌^◌, ◌&&◌, Bool, true, false, not, eqb, List, [], ◌∷◌, ◌++◌, length, take, drop, get_or, refl, ap, sym, ◌∙◌, subst, arith, drop-cons, length-drop, append_assoc, suc, inl, inr}
+use Rattle.std.proofs.Common.{◌≡◌, ℕ, ◌+◌, ◌-◌, ◌<◌, ◌≤◌, Bool, true, false, not, eqb, List, [], ◌∷◌, ◌++◌, length, take, drop, get_or, refl, ap, sym, ◌∙◌, arith, drop-cons, length-drop, append_assoc, suc, inl, inr}
 use Rattle.std.specs.Fmt.{decimal}
 use Rattle.std.specs.List.{list_all, prefix_len}
-use Rattle.std.specs.Str.Parse.{AllDigits, digits_value}
 use Rattle.std.proofs.lemmas.List.{drop-drop, get_or-drop, get_or-take, get_or_append_left, length-append, length-take-le, take-append-drop}
 use Rattle.std.proofs.Math.Seq.{take-append_seam}
 use Rattle.std.proofs.lemmas.List.Folds.{list_all-append}
@@ -14,7 +13,7 @@ use Rattle.line_words.specs.Access.{access_word, letter_if, letters}
 use Rattle.line_words.specs.Words.{is_letter, is_name, is_name_byte, words_from}
 use Rattle.line_words.specs.declared.access.RawAccess.{RawAccess}
 use Rattle.line_words.proofs.NameWords.{all_name_bytes, letter_byte, name_from}
-use Rattle.line_words.proofs.TakenWords.{decimal_digits_all, taken_word}
+use Rattle.line_words.proofs.TakenWords.{taken_word}
 
 abbrev pub no_space : List ℕ → Bool
 no_space w = list_all (λ b. not (eqb b 32)) w

@@ -1,5 +1,5 @@
 -- A word that is taken where it stands.
-use Rattle.std.proofs.Common.{◌≡◌, ℕ, zero, suc, ◌+◌, ◌*◌, ◌-◌, ◌<◌, ◌≤◌, ◌^◌, true, false, not, eqb, List, [], ◌∷◌, ◌++◌, length, take, drop, get_or, refl, ap, sym, ◌∙◌, subst, arith, eq-eqb, drop-cons, add-one, length-drop}
+use Rattle.std.proofs.Common.{◌≡◌, ℕ, ◌+◌, ◌*◌, ◌-◌, ◌<◌, ◌≤◌, ◌^◌, true, false, not, eqb, List, [], ◌∷◌, length, take, drop, get_or, refl, ap, sym, ◌∙◌, subst, arith, eq-eqb, drop-cons, length-drop}
 use Rattle.std.specs.Fmt.{decimal}
 use Rattle.std.specs.List.{list_all}
 use Rattle.std.specs.Str.Parse.{AllDigits, digits_value}
@@ -11,9 +11,8 @@ use Rattle.line_words.specs.StepWords.{step_word}
 use Rattle.line_words.specs.Words.{words_from}
 use Rattle.line_words.specs.declared.step_name.StepName.{StepName}
 use Rattle.line_words.specs.declared.step_name.StepName.TheVariants.{Const, Compute, Has, Load, Store, Insert, Delete, Check, Skip, Out}
-use Rattle.model_base.specs.declared.statement.Operation.{Operation}
 use Rattle.model_base.specs.declared.statement.Operation.TheVariants.{Add, Sub, Mul, Less, Same}
-use Rattle.line_words.proofs.Digits.{all_digits_more, digits_form, own, value_more}
+use Rattle.line_words.proofs.Digits.{all_digits_more, digits_form, one_digit, own, value_more}
 use Rattle.line_words.proofs.Splits.{next_word, place_is}
 
 -- bytes without a space, up to one or to the line's end, are the next word
@@ -33,6 +32,40 @@ one_byte line start byte left view within is ne space =
     ∙ ap (λ w. take 1 w ∷ words_from (start + 1 + 1) line) (drop-cons line start 0 within)
     ∙ ap (λ b. (b ∷ []) ∷ words_from (start + 1 + 1) line) is
     ∙ ap (λ n. (byte ∷ []) ∷ words_from n line) (let two : start + 1 + 1 ≡ start + 2 = omega arith in two)
+
+-- one digit
+pub digit_word : (line : List ℕ) (start : ℕ) (left : List (List ℕ)) → words_from start line ≡ left → start + 1 < length line
+    → 48 ≤ get_or line start 0 → get_or line start 0 ≤ 57 → get_or line (start + 1) 0 ≡ 32 → left ≡ decimal (get_or line start 0 - 48) ∷ words_from (start + 2) line
+digit_word line start left view within low high space =
+    let byte = get_or line start 0 in
+    one_byte line start byte left view (omega arith) refl (λ same. omega (arith, low, same)) (λ lt. space)
+    ∙ ap (λ w. w ∷ words_from (start + 2) line) (one_digit (byte ∷ []) refl (omega (arith, low)) (omega (arith, high)))
+
+-- three digits and a bar, each with a space behind it
+pub operand_words : (line : List ℕ) (start : ℕ) (left : List (List ℕ)) → words_from start line ≡ left → start + 7 < length line
+    → 48 ≤ get_or line start 0 → get_or line start 0 ≤ 57 → get_or line (start + 1) 0 ≡ 32
+    → 48 ≤ get_or line (start + 2) 0 → get_or line (start + 2) 0 ≤ 57 → get_or line (start + 3) 0 ≡ 32
+    → 48 ≤ get_or line (start + 4) 0 → get_or line (start + 4) 0 ≤ 57 → get_or line (start + 5) 0 ≡ 32
+    → get_or line (start + 6) 0 ≡ 124 → get_or line (start + 7) 0 ≡ 32
+    → left ≡ decimal (get_or line start 0 - 48) ∷ decimal (get_or line (start + 2) 0 - 48) ∷ decimal (get_or line (start + 4) 0 - 48)
+    ∷ (124 ∷ []) ∷ words_from (start + 8) line
+operand_words line start left view within low high space low-2 high-2 space-2 low-3 high-3 space-3 bar space-4 =
+    let at : (k m : ℕ) → k ≡ m → get_or line k 0 ≡ get_or line m 0 = λ k m same. ap (λ i. get_or line i 0) same in
+    let next : (k m : ℕ) → k ≡ m → words_from k line ≡ words_from m line = λ k m same. ap (λ i. words_from i line) same in
+    let a = decimal (get_or line start 0 - 48) in
+    let b = decimal (get_or line (start + 2) 0 - 48) in
+    let d = decimal (get_or line (start + 4) 0 - 48) in
+    let s3 : start + 2 + 1 ≡ start + 3 = omega arith in
+    let s4 : start + 2 + 2 ≡ start + 4 = omega arith in
+    let s5 : start + 4 + 1 ≡ start + 5 = omega arith in
+    let s6 : start + 4 + 2 ≡ start + 6 = omega arith in
+    let s7 : start + 6 + 1 ≡ start + 7 = omega arith in
+    let s8 : start + 6 + 2 ≡ start + 8 = omega arith in
+    digit_word line start left view (omega arith) low high space
+    ∙ ap (λ ws. a ∷ ws) (digit_word line (start + 2) (words_from (start + 2) line) refl (omega arith) low-2 high-2 (at (start + 2 + 1) (start + 3) s3 ∙ space-2)
+    ∙ ap (λ ws. b ∷ ws) (next (start + 2 + 2) (start + 4) s4 ∙ digit_word line (start + 4) (words_from (start + 4) line) refl (omega arith) low-3 high-3 (at (start + 4 + 1) (start + 5) s5 ∙ space-3)
+    ∙ ap (λ ws. d ∷ ws) (next (start + 4 + 2) (start + 6) s6 ∙ one_byte line (start + 6) 124 (words_from (start + 6) line) refl (omega arith) bar (λ same. omega (arith, same)) (λ lt. at (start + 6 + 1) (start + 7) s7 ∙ space-4)
+    ∙ ap (λ ws. (124 ∷ []) ∷ ws) (next (start + 6 + 2) (start + 8) s8))))
 
 -- digits hold no space
 digits-no_space : (w : List ℕ) (k : ℕ) → AllDigits 10 w → k < length w → eqb (get_or w k 0) 32 ≡ false
@@ -95,22 +128,28 @@ word-no_space Check = refl
 word-no_space Skip = refl
 word-no_space Out = refl
 
--- with a space behind it it is the next word
-pub step_taken : (line : List ℕ) (start : ℕ) (s : StepName) (left : List (List ℕ)) → words_from start line ≡ left → start ≤ length line
-    → length (step_word s) < length (drop start line) → take (length (step_word s)) (drop start line) ≡ step_word s
-    → get_or (drop start line) (length (step_word s)) 0 ≡ 32 → left ≡ step_word s ∷ words_from (start + length (step_word s) + 1) line
-step_taken line start s left view within more word space =
+-- a word with a space behind it is the next word
+pub front_taken : (line : List ℕ) (start : ℕ) (word : List ℕ) (left : List (List ℕ)) → words_from start line ≡ left → start ≤ length line
+    → length word < length (drop start line) → take (length word) (drop start line) ≡ word → list_all (λ b. not (eqb b 32)) word ≡ true
+    → get_or (drop start line) (length word) 0 ≡ 32 → left ≡ word ∷ words_from (start + length word + 1) line
+front_taken line start word left view within more is no_space space =
     let w = drop start line in
-    let n = length (step_word s) in
+    let n = length word in
     let long : length w ≡ length line - start = length-drop start line in
     let size : start + n - start ≡ n = omega arith in
     taken_word line start (start + n) left view (omega arith) (omega arith)
     (λ k lt.
-    ap (λ b. eqb b 32) (sym (get_or-drop start line k 0) ∙ sym (get_or-take n w k 0 (omega arith)) ∙ ap (λ v. get_or v k 0) word)
-    ∙ not-true (eqb (get_or (step_word s) k 0) 32) (AllPass-from_list_all (λ b. not (eqb b 32)) (step_word s) (word-no_space s) k 0 (omega arith)))
+    ap (λ b. eqb b 32) (sym (get_or-drop start line k 0) ∙ sym (get_or-take n w k 0 (omega arith)) ∙ ap (λ v. get_or v k 0) is)
+    ∙ not-true (eqb (get_or word k 0) 32) (AllPass-from_list_all (λ b. not (eqb b 32)) word no_space k 0 (omega arith)))
     (λ lt. sym (get_or-drop start line n 0) ∙ space)
     ∙ ap (λ m. take m w ∷ words_from (start + n + 1) line) size
-    ∙ ap (λ v. v ∷ words_from (start + n + 1) line) word
+    ∙ ap (λ v. v ∷ words_from (start + n + 1) line) is
+
+-- so is the word of a step
+pub step_taken : (line : List ℕ) (start : ℕ) (s : StepName) (left : List (List ℕ)) → words_from start line ≡ left → start ≤ length line
+    → length (step_word s) < length (drop start line) → take (length (step_word s)) (drop start line) ≡ step_word s
+    → get_or (drop start line) (length (step_word s)) 0 ≡ 32 → left ≡ step_word s ∷ words_from (start + length (step_word s) + 1) line
+step_taken line start s left view within more word space = front_taken line start (step_word s) left view within more word (word-no_space s) space
 
 no-space-digits : (w : List ℕ) → AllDigits 10 w → list_all (λ b. not (eqb b 32)) w ≡ true
 no-space-digits w digits = list_all-from_AllPass (λ b. not (eqb b 32)) w (λ k d lt. ap not (let at = digit_at w k digits lt in ne_eqb (get_or w k d) 32 (λ same. let z = get_or_default w k d 0 lt in omega (arith, at, z, same))))

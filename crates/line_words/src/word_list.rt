@@ -10,7 +10,7 @@ ghost use Rattle.line_words.specs.Words.{words, words_from, first_word, is_name,
 use crate::access::RawAccess;
 use crate::name::{Name, may_be_in_name};
 use crate::step_name::StepName;
-use model_base::{Kinds, MOST_NAME_BYTES};
+use model_base::{Kinds, MOST_NAME_BYTES, MOST_REGISTERS, Register};
 use std::marker::Model;
 
 /// The index of the first byte of this value at or behind `start`, or the length if there is none.
@@ -60,9 +60,10 @@ fn digits_from(line: &[u8], start: usize) -> (u32, usize)
     ensures digits { AllDigits 10 (take (result.1 - start) (drop start line.now)) }
     ensures value { result.0 ≡ digits_value 10 (take (result.1 - start) (drop start line.now)) }
 {
+    let last = line.len().min(start + MOST_DIGITS);
     let mut value = 0;
     let mut place = start;
-    while place < line.len() && place - start < MOST_DIGITS && line[place].is_ascii_digit() {
+    while place < last && line[place].is_ascii_digit() {
         value = value * 10 + u32::from(line[place] - b'0');
         place += 1;
     }
@@ -82,6 +83,16 @@ fn behind_letter(line: &[u8], place: usize, letter: u8) -> (bool, usize)
     } else {
         (false, place)
     }
+}
+
+/// Whether a text begins with RUN and a space.
+#[inline(always)]
+fn begins_with_run(text: &[u8]) -> bool
+    ensures long { OnTrue result (3 < length text.now) }
+    ensures word { OnTrue result (take 3 text.now ≡ codes "RUN") }
+    ensures space { OnTrue result (slice_index_or text.now 3 0 ≡ 32) }
+{
+    text.len() >= 4 && text[0] == b'R' && text[1] == b'U' && text[2] == b'N' && text[3] == b' '
 }
 
 /// The words of a line that are left: the pieces between single spaces from an index of the line on. Past the line's
@@ -181,6 +192,51 @@ impl<'a> Words<'a> {
         }
         self.start = end + 1;
         Some(number)
+    }
+
+    /// Takes three registers of one digit each and the bar behind them, if these are the next words and another follows; otherwise the words
+    /// stay as they are. It looks at the eight bytes at once.
+    #[inline(always)]
+    pub fn next_operands(&mut self) -> Option<(Register, Register, Register)>
+        ensures { MatchOption result (self.new ≡ self.old) (λ r. (self.old ≡ decimal r.0 ∷ decimal r.1 ∷ decimal r.2 ∷ codes "|" ∷ self.new)
+            × (r.0 < MOST_REGISTERS) × (r.1 < MOST_REGISTERS) × (r.2 < MOST_REGISTERS)) }
+    {
+        let start = self.start;
+        if start > self.line.len() {
+            return None;
+        }
+        let text = &self.line[start..];
+        if text.len() < 8 || text[6] != b'|' {
+            return None;
+        }
+        if text[1] != b' ' || text[3] != b' ' || text[5] != b' ' || text[7] != b' ' {
+            return None;
+        }
+        if !text[0].is_ascii_digit() || !text[2].is_ascii_digit() || !text[4].is_ascii_digit() {
+            return None;
+        }
+        self.start = start + 8;
+        Some((
+            Register::new(text[0] - b'0'),
+            Register::new(text[2] - b'0'),
+            Register::new(text[4] - b'0'),
+        ))
+    }
+
+    /// Takes the word RUN, if it is the next word and another follows; otherwise the words stay as they are.
+    #[inline(always)]
+    pub fn next_run(&mut self) -> bool
+        ensures { MatchBool result (self.old ≡ codes "RUN" ∷ self.new) (self.new ≡ self.old) }
+    {
+        let start = self.start;
+        if start > self.line.len() {
+            return false;
+        }
+        if !begins_with_run(&self.line[start..]) {
+            return false;
+        }
+        self.start = start + 4;
+        true
     }
 
     /// Takes the word of a step, if the next word is one and others follow; otherwise the words stay as they are. It doesn't look for

@@ -103,16 +103,6 @@ module _ (s : StepName) (t : RawStep) (word : List ℕ) (old new : List (List �
       fits_if (Err f) took fit = tt
       fits_if (Ok r) took fit = behind ∙ fit n o ∙ ap (λ (m : ℕ). fault_behind r (n + 1) m new) took.2
 
-  -- a fault of what is behind the word, or want of memory, is one of the step
-  pub fails : IfErr result (λ f. (steps outs : ℕ) → IsFault f (fault_from (expected_in (Some s) steps outs) old))
-      → IfErr result (λ f. IsFault f (fault_from (OfStep n o ∷ []) (word ∷ old)))
-  fails failed = fails_if result failed
-    where
-      fails_if : (found : Result Bool LineFault) → IfErr found (λ f. (steps outs : ℕ) → IsFault f (fault_from (expected_in (Some s) steps outs) old))
-          → IfErr found (λ f. IsFault f (fault_from (OfStep n o ∷ []) (word ∷ old)))
-      fails_if (Ok r) failed = tt
-      fails_if (Err f) failed = subst (IsFault f) (sym behind) (failed n o)
-
   -- a fault of what is behind the word is one of the step
   pub fails_so : IfErr result (λ f. (steps outs : ℕ) → fault_from (expected_in (Some s) steps outs) old ≡ Some f)
       → IfErr result (λ f. IsFault f (fault_from (OfStep n o ∷ []) (word ∷ old)))
@@ -145,13 +135,6 @@ each_more found more s each here is = subst (AllByRecursion IsStep) (sym is) (wi
     with_last : (ss : List RawStep) → AllByRecursion IsStep ss → AllByRecursion IsStep (ss ++ s ∷ [])
     with_last [] h = (here, tt)
     with_last (x ∷ xs) h = (h.0, with_last xs h.1)
-
--- there may be so many steps
-pub room_more : (len old new : ℕ) → old < 64 → old ≡ len → new ≡ len + 1 → new ≤ 64
-room_more len old new few is one = omega arith
-
-pub few_more : (outs count made : ℕ) → count ≡ made → outs + made ≤ 8 → outs + count ≤ 8
-few_more outs count made is few = omega arith
 
 -- what is left has the fault of the whole
 pub fits_more : (all before after left : List (List ℕ)) (len old new outs count made : ℕ)

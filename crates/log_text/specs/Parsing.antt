@@ -1,10 +1,9 @@
 -- A line while it is read or written.
-use Rattle.std.specs.Prelude.{◌≡◌, ℕ, ◌≤◌, Bool, true, false, List, [], ◌∷◌, ◌++◌, Option, None, codes, decimal, length, map}
+use Rattle.std.specs.Prelude.{◌≡◌, ℕ, ◌≤◌, Bool, true, false, List, [], ◌∷◌, ◌++◌, Option, Some, None, codes, decimal, length, map}
 use Rattle.std.specs.List.{flat_map, AllByRecursion}
 use Rattle.model_base.specs.declared.limits.TheConstants.{MOST_COLUMNS}
 use Rattle.log_text.specs.Statement.{step_words, IsRegister}
 use Rattle.log_text.specs.Fault.{OfMore, OfStep, fault_from}
-use Rattle.line_words.specs.Faults.{IsFault}
 use Rattle.line_words.specs.declared.fault.LineFault.{LineFault}
 use Rattle.log_text.specs.declared.statement.RawStep.{RawStep}
 
@@ -35,7 +34,7 @@ FitAsRegisters registers words more left =
 -- behind so many registers of an INSERT the words have this fault
 abbrev pub FailAsRegisters : ℕ → List (List ℕ) → LineFault → Type 0
 FailAsRegisters registers words fault =
-    (steps outs : ℕ) → IsFault fault (fault_from (OfMore registers steps outs ∷ []) words)
+    (steps outs : ℕ) → fault_from (OfMore registers steps outs ∷ []) words ≡ Some fault
 
 -- each word behind a space
 abbrev pub spaced : List (List ℕ) → List ℕ

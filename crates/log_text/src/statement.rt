@@ -1,7 +1,7 @@
 //! Statements with names as text, as a line spells them.
 
 use line_words::{Name, RawAccess};
-use model_base::{Items, Kind, Operation, Register, RowName};
+use model_base::{Items, Kind, Operation, Register, Registers, RowName};
 use std::marker::Model;
 
 /// One step of a body, with its table's name.
@@ -38,7 +38,7 @@ pub enum RawStep<'a> {
     Insert {
         table: Name<'a>,
         row: RowName,
-        from: Items<Register>,
+        from: Registers,
     },
     Delete {
         table: Name<'a>,

@@ -1,5 +1,6 @@
 pub mod Rows
 pub mod Values
+pub mod Registers
 pub mod Privileges
 pub mod Body
 pub mod Outcomes

@@ -40,4 +40,6 @@ pub use record_laws::{
 };
 pub use reference::Reference;
 pub use row::{Key, Outputs, Row, Values};
-pub use statement::{Access, DeedForm, Form, Operation, Register, RowName, Statement, Step};
+pub use statement::{
+    Access, DeedForm, Form, Operation, Register, Registers, RowName, Statement, Step,
+};

@@ -1,7 +1,7 @@
 //! The statements of a log.
 
 use crate::deed::{Deed, Grant, Grantee, Kind, Kinds, Revocation};
-use crate::limits::MOST_REGISTERS;
+use crate::limits::{MOST_COLUMNS, MOST_REGISTERS};
 use crate::list::Items;
 use crate::name::{Place, RowNumber, Table, User};
 use crate::row::Key;
@@ -44,6 +44,66 @@ impl Register {
     }
 }
 
+/// Up to `MOST_COLUMNS` registers in order, kept in the value itself, so that a step is a plain value and takes no memory of its own.
+#[derive(Clone, Copy, PartialEq, Eq, Debug)]
+pub struct Registers {
+    len: u8,
+    registers: [Register; MOST_COLUMNS],
+}
+
+impl Model for Registers {
+    ghost use Rattle.std.specs.Prelude.{List, ℕ};
+
+    ghost Value = { List ℕ };
+
+    ghost use Rattle.model_base.specs.Registers.{registers_of, IsPadded, padded, padded-undoes};
+
+    ghost view = { registers_of };
+
+    ghost invariant = { IsPadded };
+
+    ghost inverse = { padded };
+
+    ghost inverse_ok = { padded-undoes };
+}
+
+impl Registers {
+    ghost use Rattle.std.specs.Prelude.{◌≡◌, ◌<◌, ◌≤◌, ◌++◌, ◌∷◌, [], length};
+
+    /// The list of one register.
+    pub fn of(register: Register) -> Self
+        ensures { result ≡ register ∷ [] }
+    {
+        let mut registers = [Register(0); MOST_COLUMNS];
+        registers[0] = register;
+        Registers { len: 1, registers }
+    }
+
+    /// How many there are.
+    pub fn len(&self) -> usize
+        ensures count { result ≡ length self.now }
+        ensures most { result ≤ MOST_COLUMNS }
+    {
+        self.len as usize
+    }
+
+    /// The registers, in order.
+    pub fn as_slice(&self) -> &[Register]
+        ensures { result.now ≡ self.now }
+    {
+        &self.registers[..self.len as usize]
+    }
+
+    /// Puts a register behind the others.
+    pub fn push(&mut self, register: Register)
+        requires { length self.old < MOST_COLUMNS }
+        ensures { self.new ≡ self.old ++ register ∷ [] }
+    {
+        self.registers[self.len as usize] = register;
+        self.len += 1;
+    }
+}
+
 /// How a step names its row.
 #[derive(Clone, Copy, PartialEq, Eq, Debug)]
 pub enum RowName {
@@ -83,7 +143,7 @@ pub enum Operation {
 }
 
 /// One step of a body. Registers are named by `to`, `left`, `right`, `from` and `of`; columns are numbered from 0.
-#[derive(Debug, Drop)]
+#[derive(Clone, Copy, Debug)]
 pub enum Step {
     Const {
         to: Register,
@@ -115,7 +175,7 @@ pub enum Step {
     Insert {
         table: Table,
         row: RowName,
-        from: Items<Register>,
+        from: Registers,
     },
     Delete {
         table: Table,

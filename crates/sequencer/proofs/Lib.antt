@@ -5,7 +5,6 @@ pub mod Foretold
 pub mod KnownTables
 pub mod Learned
 pub mod NameLemmas
-pub mod Numbered
 pub mod Passed
 pub mod RefusalLemmas
 pub mod TwoNames

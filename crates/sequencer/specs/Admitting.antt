@@ -1,5 +1,5 @@
 -- What the statements of src/admitting.rt ask for, what entering their users asks of names, and what is taken out of a step.
-use Rattle.std.specs.Prelude.{ℕ, Option, List, []}
+use Rattle.std.specs.Prelude.{ℕ, Option, List}
 use Rattle.log_text.specs.Statement.{Sentence}
 use Rattle.line_words.specs.declared.access.RawAccess.{RawAccess}
 use Rattle.log_text.specs.declared.statement.RawDeed.{RawDeed}
@@ -29,8 +29,3 @@ with_users names user deed = record names { users = with_grantee (with_name name
 -- the first test of a deed's table, and then of the users, that isn't passed
 abbrev pub entry_refusal : Names → List ℕ → Option RawDeed → Option Refused
 entry_refusal names user deed = or_refused (deed_refusal names deed) (users_refusal names.users user deed)
-
--- the registers of an INSERT; other steps have none
-abbrev pub registers_in : RawStep → List ℕ
-registers_in (RawStep.Insert table row from) = from
-registers_in _ = []

@@ -71,16 +71,16 @@ impl Catalog {
         &mut self,
         user: &Name<'_>,
         accesses: &[RawAccess<'_>],
-        steps: &mut [RawStep<'_>],
+        steps: &[RawStep<'_>],
         deed: &Option<RawDeed<'_>>,
         room: &mut Room,
     ) -> Result<Statement, Refused>
         requires place { self.old.places < MOST_PLACES }
-        requires room { HasRoom room.old (RawForm.Run accesses.now steps.old deed.now) }
-        ensures ok { IfOk result (λ s. s ≡ numbered self.old (run_by user.now accesses.now steps.old deed.now)) }
-        ensures passes { OnOk result (refusal self.old (run_by user.now accesses.now steps.old deed.now) ≡ None) }
-        ensures names { OnOk result (self.new ≡ with_statement self.old (run_by user.now accesses.now steps.old deed.now)) }
-        ensures refused { IfErr result (λ r. IsRefusal r (refusal self.old (run_by user.now accesses.now steps.old deed.now))) }
+        requires room { HasRoom room.old (RawForm.Run accesses.now steps.now deed.now) }
+        ensures ok { IfOk result (λ s. s ≡ numbered self.old (run_by user.now accesses.now steps.now deed.now)) }
+        ensures passes { OnOk result (refusal self.old (run_by user.now accesses.now steps.now deed.now) ≡ None) }
+        ensures names { OnOk result (self.new ≡ with_statement self.old (run_by user.now accesses.now steps.now deed.now)) }
+        ensures refused { IfErr result (λ r. IsRefusal r (refusal self.old (run_by user.now accesses.now steps.now deed.now))) }
         ensures err { OnErr result (self.new ≡ self.old) }
     {
         let mut recent = self.recent;
@@ -209,7 +209,7 @@ impl Catalog {
             } => {
                 raw.accesses = accesses.into_vec();
                 raw.steps = steps.into_vec();
-                self.admit_run(&user, &raw.accesses, raw.steps.as_mut_slice(), &deed, room)
+                self.admit_run(&user, &raw.accesses, &raw.steps, &deed, room)
             }
             RawForm::Deed(deed) => self.admit_deed(&user, &deed),
         }

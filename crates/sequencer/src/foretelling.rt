@@ -96,16 +96,16 @@ impl Catalog {
         recent: &mut Recent,
         user: &Name<'_>,
         accesses: &[RawAccess<'_>],
-        steps: &mut [RawStep<'_>],
+        steps: &[RawStep<'_>],
         deed: &Option<RawDeed<'_>>,
         room: &mut Room,
     ) -> Option<Statement>
-        requires { HasRoom room.old (RawForm.Run accesses.now steps.old deed.now) }
+        requires { HasRoom room.old (RawForm.Run accesses.now steps.now deed.now) }
         ensures number { IfSome result (λ s. s ≡ record {
           user = number_of self.now.users user.now;
-          form = numbered_form self.now (RawForm.Run accesses.now steps.old deed.now);
+          form = numbered_form self.now (RawForm.Run accesses.now steps.now deed.now);
         }) }
-        ensures knows { OnSome result (Knows self.now (run_by user.now accesses.now steps.old deed.now)) }
+        ensures knows { OnSome result (Knows self.now (run_by user.now accesses.now steps.now deed.now)) }
     {
         let user = self.foretold_user(recent, user)?;
         let found = mem::replace(&mut room.accesses, Vec::new(self.alloc));
@@ -173,8 +173,7 @@ impl Catalog {
             } => {
                 raw.accesses = accesses.into_vec();
                 raw.steps = steps.into_vec();
-                let steps = raw.steps.as_mut_slice();
-                self.foretell_run(recent, &user, &raw.accesses, steps, &deed, room)
+                self.foretell_run(recent, &user, &raw.accesses, &raw.steps, &deed, room)
             }
             RawForm::Deed(deed) => self.foretell_deed(recent, &user, &deed),
         }

@@ -2,7 +2,6 @@
 
 ghost use Rattle.std.specs.Prelude.{◌≡◌, ◌≤◌, [], length, map, vec_capacity};
 ghost use Rattle.sequencer.specs.Catalog.{Names, grantee_of, numbered_access, numbered_deed, numbered_grantee, numbered_step, named_table_of};
-ghost use Rattle.sequencer.specs.Admitting.{registers_in};
 ghost use Rattle.sequencer.specs.Names.{number_of};
 ghost use Rattle.sequencer.specs.Refusal.{IsAnswerOf, access_refusal, accesses_refusal, column_refusal, step_refusal, steps_refusal};
 ghost use Rattle.model_base.specs.declared.statement.Step.{Step};
@@ -12,8 +11,6 @@ use crate::refused::Refused;
 use crate::testing::{is_repeated, test_skip};
 use log_text::{Name, RawAccess, RawDeed, RawStep};
 use model_base::{Access, DeedForm, Grantee, Items, Key, Register, RowName, Step, Table};
-use std::alloc::Global;
-use std::mem;
 
 /// The deed with its table and its grantee by number.
 pub(crate) fn deed_form(deed: &RawDeed<'_>, table: Table, grantee: Grantee) -> DeedForm
@@ -33,24 +30,6 @@ pub(crate) fn deed_form(deed: &RawDeed<'_>, table: Table, grantee: Grantee) -> D
             table,
             grantee,
         },
-    }
-}
-
-/// The registers of an INSERT, which are taken out of it. Other steps have none.
-fn taken_registers(alloc: Global, step: &mut RawStep<'_>) -> Items<Register>
-    ensures { result ≡ registers_in step.old }
-{
-    match step {
-        RawStep::Insert { from, .. } => mem::replace(from, Items::empty(alloc)),
-        RawStep::Const { .. }
-        | RawStep::Compute { .. }
-        | RawStep::Has { .. }
-        | RawStep::Load { .. }
-        | RawStep::Store { .. }
-        | RawStep::Delete { .. }
-        | RawStep::Check { .. }
-        | RawStep::Skip { .. }
-        | RawStep::Out { .. } => Items::empty(alloc),
     }
 }
 
@@ -138,16 +117,16 @@ impl Catalog {
     }
 
     /// The step with its table by number, where so many steps come later. It has to fit the table, and to pass over no
-    /// more steps than there are. The registers of an INSERT are taken out of it.
+    /// more steps than there are.
     fn numbered_step(
         &self,
         recent: &mut Table,
         later: usize,
-        step: &mut RawStep<'_>,
+        step: &RawStep<'_>,
     ) -> Result<Step, Refused>
-        ensures { IsAnswerOf result (step_refusal self.now later step.old) (numbered_step self.now step.old) }
+        ensures { IsAnswerOf result (step_refusal self.now later step.now) (numbered_step self.now step.now) }
     {
-        match &*step {
+        match step {
             RawStep::Const { to, value } => Ok(Step::Const {
                 to: *to,
                 value: *value,
@@ -184,10 +163,12 @@ impl Catalog {
                 from,
             } => self.numbered_store(recent, table, *row, *column, *from),
             RawStep::Insert { table, row, from } => {
-                let table = self.table_of_width(recent, table, from.as_slice().len())?;
-                let row = *row;
-                let from = taken_registers(self.alloc, step);
-                Ok(Step::Insert { table, row, from })
+                let table = self.table_of_width(recent, table, from.len())?;
+                Ok(Step::Insert {
+                    table,
+                    row: *row,
+                    from: *from,
+                })
             }
             RawStep::Delete { table, row } => {
                 let table = self.known_table(recent, table)?;
@@ -209,15 +190,15 @@ impl Catalog {
     pub(crate) fn numbered_steps(
         &self,
         recent: &mut Table,
-        steps: &mut [RawStep<'_>],
+        steps: &[RawStep<'_>],
         mut found: Vec<Step>,
     ) -> Result<Items<Step>, Refused>
         requires empty { found.items ≡ [] }
-        requires room { length steps.old ≤ vec_capacity found }
-        ensures { IsAnswerOf result (steps_refusal self.now steps.old) (map (numbered_step self.now) steps.old) }
+        requires room { length steps.now ≤ vec_capacity found }
+        ensures { IsAnswerOf result (steps_refusal self.now steps.now) (map (numbered_step self.now) steps.now) }
     {
         let mut later = steps.len();
-        for step in steps.iter_mut() {
+        for step in steps.iter() {
             later -= 1;
             found.push_reserved(self.numbered_step(recent, later, step)?);
         }

@@ -1,19 +1,18 @@
 //! What a statement asks for.
-ghost use Rattle.std.specs.Prelude.{◌≡◌, ◌∷◌, [], Some, IfOk, IfErr, codes};
+ghost use Rattle.std.specs.Prelude.{◌≡◌, ◌≢◌, ◌∷◌, [], Some, IfOk, IfErr, MatchBool, codes};
 ghost use Rattle.log_text.specs.Statement.{form_words, IsFormInGrammar};
 ghost use Rattle.line_words.specs.Faults.{IsFault};
-ghost use Rattle.log_text.specs.Fault.{OfName, OfPlain, OfForm, OfAccess, OfNext, fault_from};
+ghost use Rattle.line_words.specs.Words.{first_word};
+ghost use Rattle.log_text.specs.Fault.{OfName, OfPlain, OfForm, fault_from};
+ghost use Rattle.log_text.specs.declared.statement.RawForm.TheVariants.{Run};
 
 use super::accesses::accesses;
 use super::deeds::{begins_deed, deed};
 use super::places::{end, name, number};
 use super::steps::steps;
 use crate::raw_room::RawRoom;
-use crate::statement::RawForm;
+use crate::statement::{RawDeed, RawForm};
 use line_words::{LineFault, Words};
-use model_base::Items;
-use std::alloc::Global;
-use std::mem;
 
 /// What stands behind CREATE.
 fn create<'a>(words: &mut Words<'a>) -> Result<RawForm<'a>, LineFault>
@@ -26,44 +25,53 @@ fn create<'a>(words: &mut Words<'a>) -> Result<RawForm<'a>, LineFault>
     Ok(RawForm::Create { table, columns })
 }
 
-/// What stands behind RUN. Its accesses and steps take the room that is lent.
-fn run<'a>(
-    alloc: Global,
+/// What stands behind RUN: its deed. Its accesses and steps go into the room.
+#[inline(always)]
+pub(crate) fn run<'a>(
     words: &mut Words<'a>,
     room: &mut RawRoom<'a>,
-) -> Result<RawForm<'a>, LineFault>
-    ensures ok { IfOk result (λ form. (codes "RUN" ∷ words.old ≡ form_words form) × IsFormInGrammar form) }
-    ensures fault { IfErr result (λ f. IsFault f (fault_from (OfAccess ∷ OfNext 1 ∷ []) words.old)) }
+) -> Result<Option<RawDeed<'a>>, LineFault>
+    ensures ok { IfOk result (λ deed. (codes "RUN" ∷ words.old ≡ form_words (Run room.new.accesses.items room.new.steps.items deed))
+        × IsFormInGrammar (Run room.new.accesses.items room.new.steps.items deed)) }
+    ensures fault { IfErr result (λ f. IsFault f (fault_from (OfForm ∷ []) (codes "RUN" ∷ words.old))) }
 {
     let more = accesses(words, &mut room.accesses)?;
     if !more {
         room.steps.clear();
-        let accesses = mem::replace(&mut room.accesses, Vec::new(alloc));
-        let steps = mem::replace(&mut room.steps, Vec::new(alloc));
-        return Ok(RawForm::Run {
-            accesses: Items::new(accesses),
-            steps: Items::new(steps),
-            deed: None,
-        });
+        return Ok(None);
     }
-    let deed = steps(alloc, words, &mut room.steps)?;
-    let accesses = mem::replace(&mut room.accesses, Vec::new(alloc));
-    let steps = mem::replace(&mut room.steps, Vec::new(alloc));
-    Ok(RawForm::Run {
-        accesses: Items::new(accesses),
-        steps: Items::new(steps),
-        deed,
-    })
+    steps(words, &mut room.steps)
 }
 
-/// What stands behind the user.
-pub(crate) fn form<'a>(
-    alloc: Global,
-    words: &mut Words<'a>,
-    room: &mut RawRoom<'a>,
-) -> Result<RawForm<'a>, LineFault>
+/// Takes the word RUN, if it is the next word, in whatever form it stands; otherwise the words stay as they are.
+#[inline(never)]
+fn other_run(words: &mut Words<'_>) -> bool
+    ensures { MatchBool result (words.old ≡ codes "RUN" ∷ words.new) ((words.new ≡ words.old) × (first_word words.old ≢ codes "RUN")) }
+{
+    let Some(word) = words.first() else {
+        return false;
+    };
+    if word != b"RUN".as_slice() {
+        return false;
+    }
+    words.next();
+    true
+}
+
+/// Takes the word RUN, if it is the next word; otherwise the words stay as they are.
+#[inline(always)]
+pub(crate) fn takes_run(words: &mut Words<'_>) -> bool
+    ensures { MatchBool result (words.old ≡ codes "RUN" ∷ words.new) ((words.new ≡ words.old) × (first_word words.old ≢ codes "RUN")) }
+{
+    words.next_run() || other_run(words)
+}
+
+/// What stands behind the user, where it isn't a RUN.
+#[inline(never)]
+pub(crate) fn other_form<'a>(words: &mut Words<'a>) -> Result<RawForm<'a>, LineFault>
+    requires { first_word words.old ≢ codes "RUN" }
     ensures ok { IfOk result (λ form. (words.old ≡ form_words form) × IsFormInGrammar form) }
-    ensures fault { IfErr result (λ f. IsFault f (fault_from (OfForm ∷ []) words.old)) }
+    ensures fault { IfErr result (λ f. fault_from (OfForm ∷ []) words.old ≡ Some f) }
 {
     let Some(word) = words.next() else {
         return Err(LineFault::UnknownWord);
@@ -71,9 +79,6 @@ pub(crate) fn form<'a>(
     if word == b"CREATE".as_slice() {
         let form = create(words)?;
         return Ok(form);
-    }
-    if word == b"RUN".as_slice() {
-        return run(alloc, words, room);
     }
     if begins_deed(word) {
         return Ok(RawForm::Deed(deed(word, words)?));

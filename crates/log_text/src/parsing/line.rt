@@ -1,18 +1,21 @@
 //! A line, and the statement that it reads as.
 ghost use Rattle.std.specs.Prelude.{◌≡◌, ◌≢◌, ◌<◌, ◌≤◌, List, ℕ, None, Some, MatchResult, IfOk, IfErr, OnOk, length};
 ghost use Rattle.std.specs.List.{list_all};
-ghost use Rattle.log_text.specs.Statement.{Sentence, Reads};
+ghost use Rattle.log_text.specs.Statement.{Sentence, IsInGrammar, Reads};
+ghost use Rattle.log_text.specs.declared.statement.RawForm.TheVariants.{Run};
 ghost use Rattle.line_words.specs.Faults.{IsFault};
 ghost use Rattle.log_text.specs.Fault.{line_fault, words_fault};
 ghost use Rattle.line_words.specs.Words.{is_printable};
 
-use super::form::form;
+use super::form::{other_form, run, takes_run};
 use super::places::name;
 use crate::raw_room::RawRoom;
-use crate::statement::RawStatement;
-use line_words::{LineFault, Words};
+use crate::statement::{RawDeed, RawForm, RawStatement};
+use line_words::{LineFault, Name, Words};
 use log_text_base::MOST_LINE_BYTES;
+use model_base::Items;
 use std::alloc::Global;
+use std::mem;
 
 /// Whether each byte is a printable one of ASCII. It looks at all of them, so that many are tested at once.
 fn is_printable_text(line: &[u8]) -> bool
@@ -40,6 +43,27 @@ fn first_fault(line: &[u8], fault: LineFault) -> LineFault
     }
 }
 
+/// The RUN of a user with this deed, whose accesses and steps are taken out of the room.
+#[inline(always)]
+fn run_by<'a>(
+    alloc: Global,
+    user: Name<'a>,
+    room: &mut RawRoom<'a>,
+    deed: Option<RawDeed<'a>>,
+) -> RawStatement<'a>
+    requires { IsInGrammar record { user = user; form = Run room.old.accesses.items room.old.steps.items deed } }
+    ensures { result ≡ record { user = user.entry; form = Run room.old.accesses.items room.old.steps.items deed.entry } }
+{
+    let accesses = mem::replace(&mut room.accesses, Vec::new(alloc));
+    let steps = mem::replace(&mut room.steps, Vec::new(alloc));
+    let form = RawForm::Run {
+        accesses: Items::new(accesses),
+        steps: Items::new(steps),
+        deed,
+    };
+    RawStatement::of(user, form)
+}
+
 /// What `read_line` answers. Whether each byte is printable is asked only where the words have a fault: a line that reads as a statement has
 /// printable bytes alone.
 fn line_statement<'a>(
@@ -61,15 +85,20 @@ fn line_statement<'a>(
         Ok(user) => user,
         Err(fault) => return Err(first_fault(line, fault)),
     };
-    match form(alloc, &mut words, room) {
+    if takes_run(&mut words) {
+        return match run(&mut words, room) {
+            Ok(deed) => Ok(run_by(alloc, user, room, deed)),
+            Err(fault) => Err(first_fault(line, fault)),
+        };
+    }
+    match other_form(&mut words) {
         Ok(form) => Ok(RawStatement::of(user, form)),
         Err(fault) => Err(first_fault(line, fault)),
     }
 }
 
 /// The statement that a line, without its end of line, reads as, or the line's fault. Its accesses and steps take the room
-/// that is lent, and memory only where it isn't enough; the registers of an INSERT take memory of their own. `NoMemory` comes
-/// only where the allocator refused.
+/// that is lent, and memory only where it isn't enough. `NoMemory` comes only where the allocator refused.
 pub fn read_line<'a>(
     alloc: Global,
     line: &'a [u8],

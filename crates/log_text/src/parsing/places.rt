@@ -39,18 +39,29 @@ pub(crate) fn grantee<'a>(words: &mut Words<'a>) -> Result<RawGrantee<'a>, LineF
     }
 }
 
+/// Takes a plain number, as `number`, in whatever form it stands.
+#[tactic(auto, using(line_words::proofs::Plain::plain_some, line_words::proofs::Plain::plain_empty))]
+#[inline(never)]
+fn other_number(words: &mut Words<'_>) -> Result<u32, LineFault>
+    ensures ok { IfOk result (λ n. (words.old ≡ decimal n ∷ words.new) × (n < 2 ^ 32) × (plain (decimal n) ≡ Some n)) }
+    ensures fault { IfErr result (λ f. misfit OfPlain (first_word words.old) ≡ Some f) }
+{
+    match words.next() {
+        Some(word) => plain_value(word).ok_or(LineFault::BadNumber),
+        None => Err(LineFault::BadNumber),
+    }
+}
+
 /// Takes a plain number.
-#[tactic(auto, using(line_words::proofs::Plain::plain_some, line_words::proofs::Plain::plain_of_decimal, line_words::proofs::Plain::plain_empty))]
+#[tactic(auto, using(line_words::proofs::Plain::plain_of_decimal))]
+#[inline(always)]
 pub(crate) fn number(words: &mut Words<'_>) -> Result<u32, LineFault>
     ensures ok { IfOk result (λ n. (words.old ≡ decimal n ∷ words.new) × (n < 2 ^ 32) × (plain (decimal n) ≡ Some n)) }
     ensures fault { IfErr result (λ f. misfit OfPlain (first_word words.old) ≡ Some f) }
 {
-    if let Some(number) = words.next_number() {
-        return Ok(number);
-    }
-    match words.next() {
-        Some(word) => plain_value(word).ok_or(LineFault::BadNumber),
-        None => Err(LineFault::BadNumber),
+    match words.next_number() {
+        Some(number) => Ok(number),
+        None => other_number(words),
     }
 }
 

@@ -1,11 +1,11 @@
 //! The steps of a RUN, and the deed behind them.
-ghost use Rattle.std.specs.Prelude.{◌≡◌, ◌∷◌, ◌+◌, ◌≤◌, ◌<◌, ℕ, [], vec_len, Some, None, IfOk, IfErr, MatchOption, OnOk, codes};
+ghost use Rattle.std.specs.Prelude.{◌≡◌, ◌∷◌, ◌+◌, ◌≤◌, ◌<◌, ℕ, [], vec_len, Some, None, IfOk, IfErr, IfSome, MatchOption, OnOk, codes, true};
 ghost use Rattle.std.specs.List.{AllByRecursion, sum_by};
 ghost use Rattle.log_text.specs.Statement.{body_words, last_deed, IsLastDeed, IsStep, outs_of};
 ghost use Rattle.line_words.specs.StepWords.{step_name, step_word};
 ghost use Rattle.line_words.specs.Faults.{IsFault};
 ghost use Rattle.line_words.specs.Words.{first_word};
-ghost use Rattle.log_text.specs.Fault.{OfStep, step_fault, fault_from};
+ghost use Rattle.log_text.specs.Fault.{OfStep, expected_in, step_fault, fault_from};
 ghost use Rattle.log_text.specs.Parsing.{TakesStep, fault_behind};
 
 use super::computing::{check, compute, constant, out, skip};
@@ -14,7 +14,6 @@ use super::touching::{delete, has, insert, load, store};
 use crate::statement::{RawDeed, RawStep};
 use line_words::{LineFault, StepName, Words};
 use model_base::{MOST_OUTPUTS, MOST_STEPS, Register};
-use std::alloc::Global;
 
 /// Takes the word of a step, if the next word is one; otherwise the words stay as they are.
 #[inline(always)]
@@ -56,11 +55,32 @@ fn one_more(name: StepName, steps: usize, outs: usize) -> Result<(), LineFault>
     Ok(())
 }
 
+/// Takes what is behind the word of an operation, and the bar behind it, where it stands as in most lines; otherwise the words stay as
+/// they are. Most steps of a long body are operations.
+#[tactic(auto, using(line_words::proofs::Plain::plain_of_decimal))]
+#[inline(always)]
+fn computing<'a>(name: StepName, words: &mut Words<'a>) -> Option<RawStep<'a>>
+    ensures step { MatchOption result (words.new ≡ words.old) (λ s. TakesStep (step_word name ∷ words.old) s true words.new
+        × IsStep s × (outs_of s ≡ 0)) }
+    ensures fits { IfSome result (λ s. (steps outs : ℕ)
+        → fault_from (expected_in (Some name) steps outs) words.old ≡ fault_from (OfStep (steps + 1) outs ∷ []) words.new) }
+{
+    let StepName::Compute(operation) = name else {
+        return None;
+    };
+    let (to, left, right) = words.next_operands()?;
+    Some(RawStep::Compute {
+        operation,
+        to,
+        left,
+        right,
+    })
+}
+
 /// What is behind the word of a step, up to the next one or the end, when there are so many steps and outs before it. The step goes
 /// where it is to stay.
 #[inline(always)]
 fn step<'a>(
-    alloc: Global,
     name: StepName,
     words: &mut Words<'a>,
     found: &mut RawStep<'a>,
@@ -81,7 +101,7 @@ fn step<'a>(
         StepName::Has => has(words, found),
         StepName::Load => load(words, found),
         StepName::Store => store(words, found),
-        StepName::Insert => insert(alloc, words, found),
+        StepName::Insert => insert(words, found),
         StepName::Delete => delete(words, found),
         StepName::Check => check(words, found),
         StepName::Skip => skip(words, found),
@@ -118,7 +138,6 @@ fn out_count(step: &RawStep<'_>) -> usize
 /// Takes the steps and the deed behind the first bar, to the end of the line. The steps go where room is, and after an error
 /// some of them may stand there.
 pub(crate) fn steps<'a>(
-    alloc: Global,
     words: &mut Words<'a>,
     found: &mut Vec<RawStep<'a>>,
 ) -> Result<Option<RawDeed<'a>>, LineFault>
@@ -136,10 +155,14 @@ pub(crate) fn steps<'a>(
         };
         let place = found.len();
         one_more(name, place, outs)?;
+        if let Some(step) = computing(name, words) {
+            found.push_reserved(step);
+            continue 'steps;
+        }
         found.push_reserved(RawStep::Check {
             of: Register::new(0),
         });
-        let more = step(alloc, name, words, &mut found[place], place, outs)?;
+        let more = step(name, words, &mut found[place], place, outs)?;
         outs += out_count(&found[place]);
         if !more {
             return Ok(None);

@@ -1,10 +1,9 @@
 //! The steps that touch a row.
-ghost use Rattle.std.specs.Prelude.{◌≡◌, ◌∷◌, ◌+◌, ◌<◌, vec_len, Some, List, ℕ, IfOk, IfErr, IsTrue, ◌^◌};
+ghost use Rattle.std.specs.Prelude.{◌≡◌, ◌∷◌, ◌+◌, ◌<◌, length, Some, List, ℕ, IfOk, IfErr, IsTrue, ◌^◌};
 ghost use Rattle.std.specs.Fmt.{decimal};
 ghost use Rattle.line_words.specs.StepWords.{step_word};
 ghost use Rattle.line_words.specs.Words.{is_name};
 ghost use Rattle.log_text.specs.Statement.{row_word, IsStep, IsRowNumber, outs_of};
-ghost use Rattle.line_words.specs.Faults.{IsFault};
 ghost use Rattle.log_text.specs.Fault.{Expected, OfName, OfRow, OfPlain, expected_in, fault_from};
 ghost use Rattle.log_text.specs.Parsing.{AreInsertable, FailAsRegisters, FitAsRegisters, TakesStep, TakesRegisters, fault_behind};
 ghost use Rattle.line_words.specs.declared.step_name.StepName.TheVariants.{Has, Load, Store, Insert, Delete};
@@ -12,8 +11,7 @@ ghost use Rattle.line_words.specs.declared.step_name.StepName.TheVariants.{Has, 
 use super::places::{bar_or_end, name, number, register, register_of, row};
 use crate::statement::RawStep;
 use line_words::{LineFault, Name, Words};
-use model_base::{Items, MOST_COLUMNS, Register, RowName};
-use std::alloc::Global;
+use model_base::{MOST_COLUMNS, Registers, RowName};
 
 /// What stands behind HAS, up to the next step or the end.
 pub(super) fn has<'a>(words: &mut Words<'a>, step: &mut RawStep<'a>) -> Result<bool, LineFault>
@@ -84,12 +82,12 @@ pub(super) fn store<'a>(words: &mut Words<'a>, step: &mut RawStep<'a>) -> Result
 }
 
 /// The further registers of an INSERT, up to the next step or the end.
-fn more_registers(words: &mut Words<'_>, registers: &mut Vec<Register>) -> Result<bool, LineFault>
-    requires { AreInsertable registers.old.items }
-    ensures ok { IfOk result (λ more. TakesRegisters registers.old.items words.old registers.new.items more words.new) }
-    ensures registers { AreInsertable registers.new.items }
-    ensures fits { IfOk result (λ more. FitAsRegisters (vec_len registers.old) words.old more words.new) }
-    ensures fault { IfErr result (λ fault. FailAsRegisters (vec_len registers.old) words.old fault) }
+fn more_registers(words: &mut Words<'_>, registers: &mut Registers) -> Result<bool, LineFault>
+    requires { AreInsertable registers.old }
+    ensures ok { IfOk result (λ more. TakesRegisters registers.old words.old registers.new more words.new) }
+    ensures registers { AreInsertable registers.new }
+    ensures fits { IfOk result (λ more. FitAsRegisters (length registers.old) words.old more words.new) }
+    ensures fault { IfErr result (λ fault. FailAsRegisters (length registers.old) words.old fault) }
 {
     'registers: loop {
         let Some(word) = words.next() else {
@@ -102,33 +100,24 @@ fn more_registers(words: &mut Words<'_>, registers: &mut Vec<Register>) -> Resul
             return Err(LineFault::UnknownWord);
         }
         let register = register_of(word)?;
-        registers.push(register)?;
+        registers.push(register);
     }
 }
 
 /// What stands behind INSERT, up to the next step or the end.
-pub(super) fn insert<'a>(
-    alloc: Global,
-    words: &mut Words<'a>,
-    step: &mut RawStep<'a>,
-) -> Result<bool, LineFault>
+pub(super) fn insert<'a>(words: &mut Words<'a>, step: &mut RawStep<'a>) -> Result<bool, LineFault>
     ensures ok { IfOk result (λ more. TakesStep (step_word Insert ∷ words.old) step.new more words.new
         × IsStep step.new × (outs_of step.new ≡ 0)) }
     ensures fits { IfOk result (λ more. (steps outs : ℕ)
         → fault_from (expected_in (Some Insert) steps outs) words.old ≡ fault_behind more (steps + 1) outs words.new) }
-    ensures fault { IfErr result (λ f. (steps outs : ℕ) → IsFault f (fault_from (expected_in (Some Insert) steps outs) words.old)) }
+    ensures fault { IfErr result (λ f. (steps outs : ℕ) → fault_from (expected_in (Some Insert) steps outs) words.old ≡ Some f) }
 {
     let table = name(words)?;
     let row = row(words)?;
     let first = register(words)?;
-    let mut from = Vec::with_capacity(alloc, MOST_COLUMNS)?;
-    from.push(first)?;
+    let mut from = Registers::of(first);
     let more = more_registers(words, &mut from)?;
-    *step = RawStep::Insert {
-        table,
-        row,
-        from: Items::new(from),
-    };
+    *step = RawStep::Insert { table, row, from };
     Ok(more)
 }
 

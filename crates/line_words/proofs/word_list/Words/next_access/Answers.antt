@@ -1,4 +1,4 @@
-use Rattle.std.proofs.Common.{◌≡◌, ◌+◌, ◌-◌, ℕ, List, [], get_or, take, drop, ap, ◌∙◌, sym, arith}
+use Rattle.std.proofs.Common.{◌≡◌, ◌+◌, ◌-◌, [], get_or, drop, ap, ◌∙◌, sym, arith}
 use Rattle.line_words.specs.Access.{letters}
 use Rattle.line_words.specs.Words.{is_name, is_name_byte}
 use Rattle.line_words.proofs.NameWords.{all_name_bytes}

@@ -1,6 +1,5 @@
-use Rattle.std.proofs.Common.{◌≡◌, ◌+◌, ◌∷◌, ◌-◌, [], ℕ, ap, ◌∙◌, sym, refl, arith, get_or}
+use Rattle.std.proofs.Common.{◌+◌, ◌∷◌, [], ap, ◌∙◌, sym, refl, arith, get_or}
 use Rattle.std.specs.Fmt.{decimal}
-use Rattle.std.proofs.lemmas.Fmt.{decimal_digit}
 use Rattle.line_words.specs.Words.{words_from}
 use Rattle.line_words.proofs.Digits.{one_digit}
 use Rattle.line_words.proofs.TakenWords.{one_byte}

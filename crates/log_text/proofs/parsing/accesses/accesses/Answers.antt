@@ -1,4 +1,4 @@
-use Rattle.std.proofs.Common.{◌≡◌, ◌∷◌, false, sym, ◌∙◌, refl, arith}
+use Rattle.std.proofs.Common.{◌≡◌, false, sym, ◌∙◌, refl, arith}
 use Rattle.line_words.specs.Access.{access_word}
 use Rattle.log_text.specs.Fault.{is_bar}
 use Rattle.log_text.proofs.AccessFit.{access_fits}

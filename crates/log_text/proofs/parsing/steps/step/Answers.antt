@@ -1,7 +1,7 @@
 use Rattle.std.proofs.Common.{◌+◌, refl, arith}
 use Rattle.line_words.specs.StepWords.{step_word}
 use Rattle.line_words.specs.declared.step_name.StepName.TheVariants.{Const, Compute, Has, Load, Store, Insert, Delete, Check, Skip, Out}
-use Rattle.log_text.proofs.TakenSteps.{takes, fits, fails, fails_so, leads, few_outs, names}
+use Rattle.log_text.proofs.TakenSteps.{takes, fits, fails_so, leads, few_outs, names}
 use Rattle.log_text.proofs.parsing.steps.step.Goals as goal
 
 pub returns-in-Const-clause-ok : goal.returns-in-Const-clause-ok
@@ -104,7 +104,7 @@ returns-in-Insert-clause-fits c =
 pub returns-in-Insert-clause-fault : goal.returns-in-Insert-clause-fault
 returns-in-Insert-clause-fault c =
     let named = names c.args.name Insert c.args.steps c.args.outs c.in-Insert.is c.requires.fits in
-    fails Insert c.insert.new.step (step_word c.args.name) c.args.words.now c.insert.new.words c.args.steps c.args.outs c.insert.result named c.insert.ensures.fault
+    fails_so Insert c.insert.new.step (step_word c.args.name) c.args.words.now c.insert.new.words c.args.steps c.args.outs c.insert.result named c.insert.ensures.fault
 
 pub returns-in-Delete-clause-ok : goal.returns-in-Delete-clause-ok
 returns-in-Delete-clause-ok c =

@@ -1,4 +1,4 @@
-use Rattle.std.proofs.Common.{◌≡◌, ℕ, vec_len, length, map, [], ◌∷◌, ◌++◌}
+use Rattle.std.proofs.Common.{◌≡◌, ℕ, length, map, [], ◌∷◌, ◌++◌}
 use Rattle.std.specs.Prelude.{decimal}
 use Rattle.log_text.specs.Fault.{OfMore, fault_from}
 use Rattle.log_text.specs.Parsing.{AreInsertable}
@@ -6,9 +6,9 @@ use Rattle.log_text.proofs.parsing.touching.more_registers.Given as goal
 
 abbrev pub invariant-registers : goal.invariant-registers
 invariant-registers l = record {
-  same : map decimal l.initial.registers.items ++ l.initial.words ≡ map decimal l.registers.items ++ l.words;
-  insertable : AreInsertable l.registers.items;
-  fits : (steps outs : ℕ) → fault_from (OfMore (vec_len l.initial.registers) steps outs ∷ []) l.initial.words ≡ fault_from (OfMore (vec_len l.registers) steps outs ∷ []) l.words;
+  same : map decimal l.initial.registers ++ l.initial.words ≡ map decimal l.registers ++ l.words;
+  insertable : AreInsertable l.registers;
+  fits : (steps outs : ℕ) → fault_from (OfMore (length l.initial.registers) steps outs ∷ []) l.initial.words ≡ fault_from (OfMore (length l.registers) steps outs ∷ []) l.words;
 }
 
 abbrev pub decreases-registers : goal.decreases-registers

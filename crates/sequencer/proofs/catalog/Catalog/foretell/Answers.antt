@@ -4,8 +4,8 @@ use Rattle.sequencer.proofs.catalog.Catalog.foretell.Goals as goal
 
 pub returns-in-Run : goal.returns-in-Run
 returns-in-Run c =
-    let knows = rw (c.deref.ensures.value, c.as_mut_slice-steps.ensures.value, c.into_vec.ensures, c.into_vec-in-Run.ensures) at c.foretell_run.ensures.knows in
-    let number = rw (c.deref.ensures.value, c.as_mut_slice-steps.ensures.value, c.into_vec.ensures, c.into_vec-in-Run.ensures) at c.foretell_run.ensures.number in
+    let knows = rw (c.deref.ensures.value, c.deref-in-Run.ensures.value, c.into_vec.ensures, c.into_vec-in-Run.ensures) at c.foretell_run.ensures.knows in
+    let number = rw (c.deref.ensures.value, c.deref-in-Run.ensures.value, c.into_vec.ensures, c.into_vec-in-Run.ensures) at c.foretell_run.ensures.number in
     foretells_parts c.args.self.now c.args.statement _ _ _ c.tables-tables.ensures.columns c.into_parts-user.ensures.user
     (sym c.in-Run.is ∙ c.into_parts-user.ensures.form) knows number
 

@@ -6,8 +6,8 @@ use Rattle.sequencer.proofs.catalog.Catalog.numbered_steps.Given as goal
 
 abbrev pub invariant-loop-step : goal.invariant-loop-step
 invariant-loop-step l = record {
-  found : l.found.items ++ map (numbered_step l.self) (drop l.step-index l.steps) ≡ map (numbered_step l.self) l.fn.steps;
-  refusal : steps_refusal l.self l.fn.steps ≡ steps_refusal l.self (drop l.step-index l.steps);
+  found : l.found.items ++ map (numbered_step l.self) (drop l.step-index l.steps) ≡ map (numbered_step l.self) l.steps;
+  refusal : steps_refusal l.self l.steps ≡ steps_refusal l.self (drop l.step-index l.steps);
   later : l.later ≡ length (drop l.step-index l.steps);
-  room : length l.fn.steps ≤ vec_capacity l.found;
+  room : length l.steps ≤ vec_capacity l.found;
 }
