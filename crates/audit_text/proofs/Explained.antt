@@ -1,5 +1,5 @@
 -- From a log that was run to the text that it was read from.
-use Rattle.std.proofs.Common.{◌≡◌, ◌⊎◌, ℕ, List, Option, Some, None, subst, inl, inr}
+use Rattle.std.proofs.Common.{◌≡◌, ◌≤◌, ◌⊎◌, ℕ, List, Option, Some, None, length, subst, inl, inr}
 use Rattle.std.specs.Prelude.{Err, IfSome, Ok, OnOk, Result}
 use Rattle.std.specs.Io.KnownBytes.{Appends}
 use Rattle.log_text_base.specs.Known.{AppendsFront}
@@ -9,7 +9,7 @@ use Rattle.sequencer.specs.Log.{Accepted}
 use Rattle.report.specs.Report.{Reading, log_of}
 use Rattle.bohm_base.specs.Collecting.{IsLogOf}
 use Rattle.batched_text.specs.Batching.{IsLogOfText}
-use Rattle.audit_text.specs.Answer.{Answers, AnswersAccepted, IsExplanation}
+use Rattle.audit_text.specs.Answer.{Answers, AnswersAccepted, HasNoPlace, IsExplanation}
 use Rattle.audit_text.specs.declared.fault.AuditFault.{AuditFault}
 use Rattle.audit_text.specs.declared.question.Question.{Question}
 
@@ -41,3 +41,10 @@ pub begun : (i old new : Option (List ℕ)) (log : Accepted) (question : Questio
 begun None old new log question so answer = tt
 begun (Some input) old new log question so (inl same) = inl same
 begun (Some input) old new log question so (inr answer) = inr (answer.0, (explains input log question answer.0 so answer.1.0, answer.1.1))
+
+-- the log has no such place
+pub no_place : (i : Option (List ℕ)) (log : Accepted) (place : ℕ) → IsLogOfText i log → length log.statements ≤ place → IfSome i (λ input. HasNoPlace input place)
+no_place None log place so past = tt
+no_place (Some input) log place so past =
+    let of : IsLogOf so.1.0 log so.0 = so.1.1.1 in
+    (so.1.0, (so.1.1.0, subst (λ (statements : List Statement). length statements ≤ place) of.statements past))

@@ -1,12 +1,13 @@
 -- The versions of one key, where they stand together among those of other keys.
-use Rattle.std.proofs.Common.{◌≡◌, Bool, true, false, ◌&&◌, ◌||◌, not, cond, List, [], ◌∷◌, ◌++◌, map, refl, sym, ◌∙◌, ap, subst}
+use Rattle.std.proofs.Common.{◌≡◌, ℕ, ◌≤◌, Bool, true, false, ◌&&◌, ◌||◌, not, cond, ltb, List, [], ◌∷◌, ◌++◌, filter, map, refl, sym, ◌∙◌, ap, subst, arith}
+use Rattle.std.proofs.lemmas.Bool.Decides.{nat_tests}
 use Rattle.std.specs.List.{list_any}
 use Rattle.std.proofs.lemmas.List.{map-append, append_assoc, append-nil}
 use Rattle.std.proofs.lemmas.List.Elements.{filter-append}
 use Rattle.model_base.specs.declared.row.Key.{Key}
 use Rattle.body.specs.Room.{same_key}
 use Rattle.body.proofs.Rows.{same_key-true, same_key-own}
-use Rattle.chains.specs.declared.chain.Dated.{Dated}
+use Rattle.chains.specs.declared.replaced.Dated.{Dated}
 use Rattle.chains.specs.declared.version.Version.{Version}
 use Rattle.chains.specs.Keyed.{version_at, without_first, without_last}
 use Rattle.chains.specs.Store.{is_version_of, of_key}
@@ -77,21 +78,6 @@ first-out key (first ∷ front) version back is none =
     ap (λ b. cond b rest (first ∷ without_first key rest)) parts.0
     ∙ ap (λ rest. first ∷ rest) (first-out key front version back is parts.1)
 
--- a key without versions has none to take out
-pub none-last : (key : Key) (versions : List Version) → of_key key versions ≡ [] → without_last key versions ≡ versions
-none-last key [] none = refl
-none-last key (version ∷ versions) none =
-    let parts = tail-none (is_version_of key version) version (of_key key versions) none in
-    ap (λ b. cond (b && not (list_any (is_version_of key) versions)) versions (version ∷ without_last key versions)) parts.0
-    ∙ ap (λ rest. version ∷ rest) (none-last key versions parts.1)
-
-pub none-first : (key : Key) (versions : List Version) → of_key key versions ≡ [] → without_first key versions ≡ versions
-none-first key [] none = refl
-none-first key (version ∷ versions) none =
-    let parts = tail-none (is_version_of key version) version (of_key key versions) none in
-    ap (λ b. cond b versions (version ∷ without_first key versions)) parts.0
-    ∙ ap (λ rest. version ∷ rest) (none-first key versions parts.1)
-
 -- the versions of the other keys stand before and behind those of the key
 module _ (key : Key) (front back : List Version) (none_front : of_key key front ≡ []) (none_back : of_key key back ≡ []) where
   abbrev pub among : List Dated → List Version
@@ -158,3 +144,16 @@ module _ (key : Key) (front back : List Version) (none_front : of_key key front 
           ∙ ap (λ last. of_key other before ++ version ∷ last) none
           ∙ ap (λ first. first ++ version ∷ []) all
           ∙ ap (λ b. of_key other (among chain) ++ cond b (version ∷ []) []) (sym hit)
+
+  -- a version that isn't below a place leaves those below it as they are
+  pub among-below : (chain : List Dated) (dated : Dated) (first : ℕ) → first ≤ dated.place
+      → filter (λ (version : Version). ltb version.place first) (among (chain ++ dated ∷ [])) ≡ filter (λ (version : Version). ltb version.place first) (among chain)
+  among-below chain dated first least =
+      let low = λ (version : Version). ltb version.place first in
+      let own = map (version_at key) chain in
+      let miss : ltb dated.place first ≡ false = grind (arith, nat_tests) in
+      ap (filter low) (longer chain dated)
+      ∙ filter-append low (front ++ own) (version_at key dated ∷ back)
+      ∙ ap (λ b. filter low (front ++ own) ++ cond b (version_at key dated ∷ filter low back) (filter low back)) miss
+      ∙ sym (filter-append low (front ++ own) back)
+      ∙ ap (filter low) (append_assoc front own back)

@@ -8,3 +8,8 @@ pub mod Changed
 pub mod Trimming
 pub mod Noting
 pub mod Sweeping
+pub mod Dropping
+pub mod Backed
+pub mod Cutting
+pub mod Keeping
+pub mod Placed

@@ -1,16 +1,18 @@
 -- Versions that are put, and the notes of those that replace an older one.
-use Rattle.std.proofs.Common.{◌≡◌, ℕ, ℤ, Option, Some, None, is_none, is_some, not, ◌<◌, ◌≤◌, Bool, true, false, cond, ltb, List, [], ◌∷◌, ◌++◌, filter, map, length, take, refl, sym, ◌∙◌, ap, subst, arith}
+use Rattle.std.proofs.Common.{◌≡◌, ℕ, zero, suc, ◌+◌, ℤ, Option, Some, None, is_none, is_some, not, ◌<◌, ◌≤◌, Bool, true, false, cond, ltb, List, [], ◌∷◌, ◌++◌, drop, filter, map, length, take, refl, sym, ◌∙◌, ap, subst, arith}
 use Rattle.std.proofs.lemmas.Bool.Decides.{nat_tests}
-use Rattle.std.proofs.lemmas.List.{append-nil, append_assoc, length-append, map-append, take-append-le}
+use Rattle.std.proofs.lemmas.List.{append-nil, append_assoc, map-append}
 use Rattle.std.proofs.lemmas.List.Elements.{filter-append}
 use Rattle.model_base.specs.declared.row.Key.{Key}
 use Rattle.body.specs.Room.{same_key}
 use Rattle.chains.specs.declared.version.Version.{Version}
 use Rattle.chains.specs.declared.writes.Written.{Written}
-use Rattle.chains.specs.Kept.{AreWrittenInOrder, is_absent, replacing_of, written_by, written_to}
+use Rattle.chains.specs.Keyed.{Held}
+use Rattle.chains.specs.Kept.{AreChained, AreWrittenInOrder, is_absent, replacing_of, written_by, written_to}
 use Rattle.chains.specs.Store.{AreBetween, is_version_of, of_key}
 use Rattle.chains.proofs.Keyed.{key-is}
-use Rattle.chains.proofs.Order.{between-bound}
+use Rattle.chains.proofs.Cutting.{rising-start}
+use Rattle.chains.proofs.Order.{between-append, between-bound, between-of_key}
 use Rattle.chains.proofs.Trimming.{rising-earlier}
 use Rattle.model_base.proofs.Replay.{by_cases}
 
@@ -92,15 +94,6 @@ rising-append first middle end (write ∷ writes) versions rising between =
     let less : write.place < end = omega (arith, rising.1, bound) in
     (rising.0, less, rising-append write.place middle end writes versions rising.2 between)
 
--- what stood before the notes stays
-pub noted-cut : (before : ℕ) (writes : List Written) (version : Version) (others : Bool) → before ≤ length writes → take before (noted others writes version) ≡ take before writes
-noted-cut before writes version true low = take-append-le before writes (written_by version ∷ []) low
-noted-cut before writes version false low = refl
-
-pub noted-long : (before : ℕ) (writes : List Written) (version : Version) (others : Bool) → before ≤ length writes → before ≤ length (noted others writes version)
-noted-long before writes version true low = omega (arith, low, length-append writes (written_by version ∷ []))
-noted-long before writes version false low = low
-
 -- the notes after one version more, of those in which the row is absent
 pub noted-absent : (old : List Written) (done : List Version) (version : Version) (asked : Bool) → asked ≡ is_absent version
     → noted asked (old ++ map written_by (filter is_absent done)) version ≡ old ++ map written_by (filter is_absent (done ++ version ∷ []))
@@ -121,3 +114,43 @@ none-asked None true is = refl
 none-asked None false is = let no : false ≡ true = is in cc
 none-asked (Some row) true is = let no : true ≡ false = is in cc
 none-asked (Some row) false is = refl
+
+-- the versions and the writes, once the first of some versions are put
+between-take : (first end : ℕ) (versions : List Version) (count : ℕ) → AreBetween first end versions → AreBetween first end (take count versions)
+between-take first end versions count between = at versions count first between
+  where
+    bound : (from : ℕ) (versions : List Version) → AreBetween from end versions → from ≤ end
+    bound from versions between = between-bound from end versions between
+
+    at : (versions : List Version) (count from : ℕ) → AreBetween from end versions → AreBetween from end (take count versions)
+    at [] zero from between = between
+    at [] (suc count) from between = between
+    at (version ∷ versions) zero from between = bound from (version ∷ versions) between
+    at (version ∷ versions) (suc count) from between = (between.0, between.1, at versions count version.place between.2)
+
+pub chained-so-far : (old new : Held) (first end : ℕ) (versions : List Version) (count : ℕ) → AreChained old first → AreBetween first end versions
+    → ((key : Key) → of_key key new.versions ≡ of_key key (old.versions ++ take count versions))
+    → ((key : Key) → written_to key new.replacing ≡ replacing_of (of_key key new.versions))
+    → ((from end : ℕ) → AreWrittenInOrder from end (old.replacing ++ map written_by versions) → AreWrittenInOrder from end (new.replacing ++ map written_by (drop count versions)))
+    → AreChained new end
+chained-so-far old new first end versions count chained between added replacing rising = record {
+  ordered = λ key.
+      subst (AreBetween 0 end) (sym (added key ∙ filter-append (is_version_of key) old.versions (take count versions)))
+      (between-append 0 first end (of_key key old.versions) (of_key key (take count versions)) (chained.ordered key)
+      (between-of_key key first end (take count versions) (between-take first end versions count between)));
+  replacing = replacing;
+  rising =
+      rising-start 0 end new.replacing (map written_by (drop count versions))
+      (rising 0 end (rising-append 0 first end old.replacing versions chained.rising between));
+}
+
+-- each of the versions is of the first place or of a later one
+pub between-last : (first end : ℕ) (versions : List Version) (version : Version) → AreBetween first end (versions ++ version ∷ []) → first ≤ version.place
+between-last first end [] version between = between.0
+between-last first end (other ∷ versions) version between =
+    let later : other.place ≤ version.place = between-last other.place end versions version between.2 in omega (arith, between.0, later)
+
+pub between-one-more : (first end : ℕ) (versions : List Version) (count : ℕ) (version : Version) → take (count + 1) versions ≡ take count versions ++ version ∷ []
+    → AreBetween first end versions → first ≤ version.place
+between-one-more first end versions count version more between =
+    between-last first end (take count versions) version (subst (AreBetween first end) more (between-take first end versions (count + 1) between))

@@ -1,4 +1,3 @@
-pub mod Chain
-pub mod Keyed
 pub mod Store
+pub mod Keyed
 pub mod Kept

@@ -8,7 +8,8 @@ use Rattle.model_base.specs.declared.row.Key.{Key}
 use Rattle.model_base.specs.declared.statement.Access.{Access}
 use Rattle.model_base.specs.declared.statement.Statement.{Statement}
 use Rattle.model_base.specs.Outcomes.{rows_before}
-use Rattle.model_base.specs.Versions.{writes_of}
+use Rattle.model_base.specs.Rows.{Rows}
+use Rattle.model_base.specs.Versions.{is_writing, writes_of}
 use Rattle.chains.specs.declared.version.Version.{Version}
 
 -- the versions, those of each key in the order of their places; the place below which the rows before a place aren't kept;
@@ -32,6 +33,27 @@ newest_or before versions place key =
 -- what the store tells of a key before a place: the row of the newest version that is older, or absent
 abbrev pub row_in : Store → ℕ → Key → Option (List ℤ)
 row_in store place key = newest_or None store.versions place key
+
+-- the rows that the store tells at its end
+abbrev pub rows_at_end : Store → Rows
+rows_at_end store table row = row_in store store.end (record { table = table; row = row })
+
+-- the store without what is of this place or a later one
+abbrev pub cut_store : ℕ → Store → Store
+cut_store first store = record {
+  versions = filter (λ (version : Version). nat_lt version.place first) store.versions;
+  mark = store.mark;
+  end = first;
+}
+
+-- the versions that a place leaves, by the rows of its accesses after it: one for each access that may change its row, in order
+abbrev pub versions_by : ℕ → List Access → List (Option (List ℤ)) → List Version
+versions_by place [] rows = []
+versions_by place (access ∷ accesses) [] = []
+versions_by place (access ∷ accesses) (row ∷ rows) =
+    if is_writing access
+    then record { place = place; key = access.key; row = row } ∷ versions_by place accesses rows
+    else versions_by place accesses rows
 
 -- whether the version is of the key
 abbrev pub is_version_of : Key → Version → Bool

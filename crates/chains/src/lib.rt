@@ -5,8 +5,8 @@
 //! that is older than itself.
 #![tactic(auto)]
 
-mod chain;
 mod laws;
+mod replaced;
 mod rows;
 mod store;
 mod version;

@@ -1,211 +1,239 @@
 //! The versions of all rows, found by their keys.
 
-use crate::chain::{Chain, Dated};
+use crate::replaced::{Dated, Replaced, replaced_before, take_below, take_last_from};
 use crate::version::Version;
-use crate::writes::{Written, note_if, take_below};
+use crate::writes::{Written, take_write_below};
+use indexmap::IndexMap;
 use model_base::{Key, Place, Row};
 use std::alloc::{AllocError, Global};
-use std::collections::{BTreeMap, VecDeque};
+use std::collections::VecDeque;
 use std::marker::Model;
 
-/// For each key that has versions, its versions, in the order of the keys.
+/// For each key that has versions the newest of them, and the others of all keys in the order in which they were replaced.
+/// A key without an entry has no replaced version.
 #[derive(Drop)]
 pub(crate) struct Rows {
-    chains: BTreeMap<Key, Chain>,
-    alloc: Global,
+    newest: IndexMap<Key, Dated>,
+    older: VecDeque<Replaced>,
 }
 
 impl Model for Rows {
-    ghost use Rattle.std.specs.Prelude.{List};
-    ghost use Rattle.chains.specs.declared.version.Version.{Version as Kept};
+    ghost use Rattle.chains.specs.Keyed.{AreBacked, Held, held_in};
 
-    ghost Value = { List Kept };
+    ghost Value = { Held };
 
-    ghost use Rattle.chains.specs.Keyed.{versions_in};
+    ghost view = { λ rows. held_in rows.older.items rows.newest.entries };
 
-    ghost view = { λ rows. versions_in rows.chains.entries };
+    ghost invariant = { λ rows. AreBacked rows.older.items rows.newest.entries };
 }
 
 impl Rows {
-    ghost use Rattle.std.specs.Prelude.{◌≡◌, ◌+◌, ◌≤◌, ◌++◌, ◌∷◌, [], List, None, ℕ, if◌then◌else◌, IfOk, OnOk, OnErr, length, map, nat_lt};
-    ghost use Rattle.std.specs.VecDeque.{deque_capacity, deque_len};
+    ghost use Rattle.std.specs.Prelude.{◌≡◌, ◌+◌, ◌≤◌, ◌<◌, ◌&&◌, ◌++◌, ◌∷◌, [], List, None, ℕ, OnOk, OnErr, is_none, length, map, nat_lt, not};
+    ghost use Rattle.std.specs.Bool.{OnTrue, OnFalse};
     ghost use Rattle.model_base.specs.declared.row.Key.{Key as RowKey};
-    ghost use Rattle.chains.specs.Kept.{AreWrittenInOrder, IsStoreKept, replacing_of, written_by, written_to};
-    ghost use Rattle.chains.specs.Keyed.{without_all, without_first, without_last};
-    ghost use Rattle.chains.specs.Store.{is_spent, newest_or, of_key, swept, trimmed};
+    ghost use Rattle.chains.specs.Kept.{AreChained, AreNoted, AreWrittenBelow, AreWrittenInOrder, IsStoreKept, next_swept, replacing_after, written_by};
+    ghost use Rattle.chains.specs.Keyed.{held_below, without_last};
+    ghost use Rattle.chains.specs.Store.{AreBetween, is_spent, newest_or, of_key, swept, trimmed};
     ghost use Rattle.chains.specs.declared.writes.Written.{Written as Noted};
 
     /// No version. It takes no memory.
     pub(crate) fn new(alloc: Global) -> Self
-        ensures { result ≡ [] }
+        ensures { result ≡ record { versions = []; replacing = [] } }
     {
         Rows {
-            chains: BTreeMap::new(alloc),
-            alloc,
+            newest: IndexMap::new(alloc),
+            older: VecDeque::new(alloc),
         }
     }
 
-    /// Puts the version behind the others of its key, and answers whether there are others. On `Err` memory was refused,
-    /// and the rows are as they were.
-    fn put(&mut self, version: &Version) -> Result<bool, AllocError>
-        ensures added { OnOk result ((key : RowKey) → of_key key self.new ≡ of_key key (self.old ++ version.now ∷ [])) }
-        ensures others { IfOk result (λ others. others ≡ nat_lt 0 (length (of_key version.now.key self.old))) }
-        ensures undone { OnOk result (without_last version.now.key self.new ≡ self.old) }
+    /// Adds the version after the others of its key. On `Err` memory was refused, and the rows are as they were.
+    pub(crate) fn put(&mut self, version: &Version) -> Result<(), AllocError>
+        ensures added { OnOk result ((key : RowKey) → of_key key self.new.versions ≡ of_key key (self.old.versions ++ version.now ∷ [])) }
+        ensures replacing { OnOk result (self.new.replacing ≡ replacing_after self.old version.now) }
+        ensures below { OnOk result ((first : ℕ) → first ≤ version.now.place → held_below first self.new ≡ held_below first self.old) }
         ensures err { OnErr result (self.new ≡ self.old) }
     {
         let dated = Dated {
             place: version.place,
             row: version.row,
         };
-        match self.chains.get_mut(&version.key) {
+        self.older.reserve(1)?;
+        match self.newest.get_mut(&version.key) {
             None => {
-                self.chains
-                    .insert(version.key, Chain::new(self.alloc, dated))?;
-                Ok(false)
+                self.newest.insert(version.key, dated)?;
             }
-            Some(chain) => {
-                chain.push(dated)?;
-                Ok(true)
-            }
-        }
-    }
-
-    /// Takes the newest version of the key out, if there is one.
-    fn take_newest(&mut self, key: Key)
-        ensures { self.new ≡ without_last key self.old }
-    {
-        match self.chains.get_mut(&key) {
-            None => return,
-            Some(chain) => {
-                if chain.pop_newest() {
-                    return;
-                }
-            }
-        }
-        self.chains.remove(&key);
-    }
-
-    /// Takes the newest version of the key of each of these out, from the last of them to the first.
-    fn take_back(&mut self, versions: &[Version])
-        ensures { self.new ≡ without_all versions.now self.old }
-    {
-        for index in (0..versions.len()).rev() {
-            self.take_newest(versions[index].key);
-        }
-    }
-
-    /// Puts these versions, each behind the others of its key, and notes those that replace an older one. On `Err` memory
-    /// was refused, and the rows and the notes are as they were.
-    pub(crate) fn put_all(
-        &mut self,
-        versions: &[Version],
-        writes: &mut VecDeque<Written>,
-    ) -> Result<(), AllocError>
-        requires { deque_len writes.old + length versions.now ≤ deque_capacity writes.old }
-        ensures added { OnOk result ((key : RowKey) → of_key key self.new ≡ of_key key (self.old ++ versions.now)) }
-        ensures replacing { OnOk result ((key : RowKey) → written_to key writes.old.items ≡ replacing_of (of_key key self.old)
-            → written_to key writes.new.items ≡ replacing_of (of_key key self.new)) }
-        ensures rising { OnOk result ((first end : ℕ) → AreWrittenInOrder first end (writes.old.items ++ map written_by versions.now)
-            → AreWrittenInOrder first end writes.new.items) }
-        ensures err { OnErr result (self.new ≡ self.old) }
-        ensures writes { OnErr result (writes.new.items ≡ writes.old.items) }
-    {
-        let before = writes.len();
-        for (done, version) in versions.iter().enumerate() {
-            match self.put(version) {
-                Ok(others) => note_if(writes, others, version),
-                Err(refused) => {
-                    self.take_back(&versions[..done]);
-                    writes.truncate(before);
-                    return Err(refused);
-                }
+            Some(newest) => {
+                self.older.push_back_reserved(Replaced {
+                    by: version.place,
+                    key: version.key,
+                    version: *newest,
+                });
+                *newest = dated;
             }
         }
         Ok(())
     }
 
-    /// Takes the oldest version of the key out, if there is one.
-    fn take_oldest(&mut self, key: Key)
-        ensures { self.new ≡ without_first key self.old }
+    /// Takes out the last version that replaced another one, if its place isn't below this one, and returns whether it did.
+    fn take_last(&mut self, first: Place) -> bool
+        ensures taken { OnTrue result ((write : Noted) × (first ≤ write.place) × (self.old.replacing ≡ self.new.replacing ++ write ∷ [])
+            × (self.new.versions ≡ without_last write.key self.old.versions)) }
+        ensures same { OnFalse result (self.new ≡ self.old) }
+        ensures none { OnFalse result ((earlier : List Noted) (last : Noted)
+            → self.new.replacing ≡ earlier ++ last ∷ [] → last.place < first) }
     {
-        match self.chains.get_mut(&key) {
-            None => return,
-            Some(chain) => {
-                if chain.pop_oldest() {
-                    return;
-                }
+        let Some(last) = take_last_from(&mut self.older, first) else {
+            return false;
+        };
+        match self.newest.get_mut(&last.key) {
+            None => return false,
+            Some(newest) => *newest = last.version,
+        }
+        true
+    }
+
+    /// Takes out the versions that replaced another one at this place or later.
+    fn take_back(&mut self, first: Place)
+        requires { (end : ℕ) × AreChained self.old end }
+        ensures below { held_below first self.new ≡ held_below first self.old }
+        ensures chained { (end : ℕ) → AreChained self.old end → AreChained self.new end }
+        ensures gone { AreWrittenBelow first self.new.replacing }
+    {
+        while self.take_last(first) {}
+    }
+
+    /// Takes out the versions of this place and of later ones, where none of them replaced another one.
+    fn keep_below(&mut self, first: Place)
+        requires chained { (end : ℕ) × AreChained self.old end }
+        requires gone { AreWrittenBelow first self.old.replacing }
+        ensures { self.new ≡ held_below first self.old }
+    {
+        self.newest.retain(
+            |_key: &Key, newest: &mut Dated| -> bool
+                ensures { (result ≡ nat_lt newest.old.place first) × (newest.new ≡ newest.old) }
+            { newest.place < first },
+        );
+    }
+
+    /// Takes out the versions of this place and of later ones. It takes no memory, and costs what the rows hold.
+    pub(crate) fn cut(&mut self, first: Place)
+        requires { (end : ℕ) × AreChained self.old end }
+        ensures { self.new ≡ held_below first self.old }
+    {
+        self.take_back(first);
+        self.keep_below(first);
+    }
+
+    /// Adds these versions, each after the others of its key. All others are of places below the first. On `Err` memory was
+    /// refused, and the rows are as they were.
+    pub(crate) fn put_all(&mut self, versions: &[Version], first: Place) -> Result<(), AllocError>
+        requires chained { AreChained self.old first }
+        requires between { (end : ℕ) × AreBetween first end versions.now }
+        ensures added { OnOk result ((key : RowKey) → of_key key self.new.versions ≡ of_key key (self.old.versions ++ versions.now)) }
+        ensures chained { OnOk result ((end : ℕ) → AreBetween first end versions.now → AreChained self.new end) }
+        ensures rising { OnOk result ((from end : ℕ) → AreWrittenInOrder from end (self.old.replacing ++ map written_by versions.now)
+            → AreWrittenInOrder from end self.new.replacing) }
+        ensures err { OnErr result (self.new ≡ self.old) }
+    {
+        for version in versions {
+            if let Err(refused) = self.put(version) {
+                self.cut(first);
+                return Err(refused);
             }
         }
-        self.chains.remove(&key);
+        Ok(())
     }
 
-    /// Takes out of each key the versions below the mark, but the newest of them, and answers how many they were. The
-    /// writes that it goes by are those of the versions that replaced an older one.
-    pub(crate) fn trim(&mut self, writes: &mut VecDeque<Written>, mark: Place) -> usize
-        requires { (absent : List Noted) × (first : ℕ) × (end : ℕ) × (mark ≤ end) × IsStoreKept self.old writes.old.items absent first end }
-        ensures left { (key : RowKey) → of_key key self.new ≡ trimmed mark (of_key key self.old) }
-        ensures newest { (place : ℕ) (key : RowKey) → mark ≤ place → newest_or None self.new place key ≡ newest_or None self.old place key }
-        ensures kept { (absent : List Noted) (first end : ℕ) → IsStoreKept self.old writes.old.items absent first end → mark ≤ end
-            → IsStoreKept self.new writes.new.items absent mark end }
-        ensures gone { result + length self.new ≡ length self.old }
+    /// Takes out of each key the versions below the mark, but the newest of them, and returns how many there were.
+    pub(crate) fn trim(&mut self, mark: Place) -> usize
+        requires { (absent : List Noted) × (first : ℕ) × (end : ℕ) × (mark ≤ end) × IsStoreKept self.old absent first end }
+        ensures left { (key : RowKey) → of_key key self.new.versions ≡ trimmed mark (of_key key self.old.versions) }
+        ensures newest { (place : ℕ) (key : RowKey) → mark ≤ place
+            → newest_or None self.new.versions place key ≡ newest_or None self.old.versions place key }
+        ensures kept { (absent : List Noted) (first end : ℕ) → IsStoreKept self.old absent first end → first ≤ mark → mark ≤ end
+            → IsStoreKept self.new absent mark end }
+        ensures noted { (absent : List Noted) → AreNoted self.old absent → AreNoted self.new absent }
+        ensures gone { result + length self.new.versions ≡ length self.old.versions }
     {
-        let before = writes.len();
-        while let Some(write) = take_below(writes, mark) {
-            self.take_oldest(write.key);
-        }
-        before - writes.len()
+        take_below(&mut self.older, mark)
     }
 
-    /// The row of the newest version of the key that is older than the place.
+    /// The row of the newest version of the key that is older than the place. Where that isn't the newest of all, it looks
+    /// through the replaced versions of all keys.
     pub(crate) fn newest_before(&self, place: Place, key: Key) -> Option<Row>
-        ensures { result ≡ newest_or None self.now place key }
+        ensures { result ≡ newest_or None self.now.versions place key }
     {
-        let _count = self.chains.len();
-        match self.chains.get(&key) {
+        match self.newest.get(&key) {
             None => None,
-            Some(chain) => chain.newest_before(place),
+            Some(newest) if newest.place < place => newest.row,
+            Some(_) => replaced_before(&self.older, place, key),
         }
     }
 
-    /// Whether the key has a single version, below the mark, in which the row is absent.
+    /// Whether the key has a single version, below the mark, in which the row is absent. One that replaced another one isn't
+    /// below the mark.
     fn is_spent(&self, mark: Place, key: Key) -> bool
-        ensures { result ≡ is_spent mark (of_key key self.now) }
+        requires { (absent : List Noted) × (end : ℕ) × IsStoreKept self.now absent mark end }
+        ensures { result ≡ is_spent mark (of_key key self.now.versions) }
     {
-        let _count = self.chains.len();
-        match self.chains.get(&key) {
+        match self.newest.get(&key) {
             None => false,
-            Some(chain) => chain.is_spent(mark),
+            Some(newest) => newest.place < mark && newest.row.is_none(),
         }
     }
 
-    /// Takes the version of the written key out, if it is a single one that tells nothing, and answers how many it took.
-    fn take_spent(&mut self, mark: Place, write: &Written) -> usize
-        ensures rows { self.new ≡ (if is_spent mark (of_key write.now.key self.old)
-            then without_first write.now.key self.old else self.old) }
-        ensures count { result ≡ (if is_spent mark (of_key write.now.key self.old) then 1 else 0) }
+    /// Takes out the version of the key, if it is a single one that tells nothing, and returns how many it took.
+    fn take_spent(&mut self, mark: Place, key: Key) -> usize
+        requires { (absent : List Noted) × (end : ℕ) × IsStoreKept self.old absent mark end }
+        ensures left { (other : RowKey) → of_key other self.new.versions ≡ of_key other (next_swept mark self.old.versions key) }
+        ensures replacing { self.new.replacing ≡ self.old.replacing }
+        ensures gone { result + length self.new.versions ≡ length self.old.versions }
+        ensures one { result ≤ 1 }
     {
-        if !self.is_spent(mark, write.key) {
+        if !self.is_spent(mark, key) {
             return 0;
         }
-        self.take_oldest(write.key);
+        self.newest.swap_remove(&key);
         1
     }
 
-    /// Takes the single versions out that lie below the mark and tell nothing but that the row is absent, and answers how
-    /// many they were. The notes that it goes by are those of versions in which a row is absent.
+    /// Takes out the single versions that lie below the mark and tell nothing but that the row is absent, and returns how
+    /// many there were. The notes that it goes by are those of versions in which a row is absent.
     pub(crate) fn sweep(&mut self, absent: &mut VecDeque<Written>, mark: Place) -> usize
-        requires { (writes : List Noted) × (end : ℕ) × IsStoreKept self.old writes absent.old.items mark end }
-        ensures left { (key : RowKey) → of_key key self.new ≡ swept mark (of_key key self.old) }
-        ensures newest { (place : ℕ) (key : RowKey) → newest_or None self.new place key ≡ newest_or None self.old place key }
-        ensures kept { (writes : List Noted) (end : ℕ) → IsStoreKept self.old writes absent.old.items mark end
-            → IsStoreKept self.new writes absent.new.items mark end }
-        ensures gone { result + length self.new ≡ length self.old }
+        requires kept { (end : ℕ) × IsStoreKept self.old absent.old.items mark end }
+        requires noted { AreNoted self.old absent.old.items }
+        ensures left { (key : RowKey) → of_key key self.new.versions ≡ swept mark (of_key key self.old.versions) }
+        ensures newest { (place : ℕ) (key : RowKey)
+            → newest_or None self.new.versions place key ≡ newest_or None self.old.versions place key }
+        ensures kept { (end : ℕ) → IsStoreKept self.old absent.old.items mark end → IsStoreKept self.new absent.new.items mark end }
+        ensures noted { AreNoted self.new absent.new.items }
+        ensures gone { result + length self.new.versions ≡ length self.old.versions }
     {
         let _waiting = absent.len();
         let mut gone = 0;
-        while let Some(write) = take_below(absent, mark) {
-            gone += self.take_spent(mark, &write);
+        while let Some(write) = take_write_below(absent, mark) {
+            gone += self.take_spent(mark, write.key);
         }
         gone
+    }
+
+    /// Takes out the single versions that lie below the mark and tell nothing but that the row is absent, whether they are
+    /// noted or not, and returns how many there were. It costs what the rows hold.
+    pub(crate) fn sweep_all(&mut self, mark: Place) -> usize
+        requires { (absent : List Noted) × (end : ℕ) × IsStoreKept self.old absent mark end }
+        ensures left { (key : RowKey) → of_key key self.new.versions ≡ swept mark (of_key key self.old.versions) }
+        ensures newest { (place : ℕ) (key : RowKey)
+            → newest_or None self.new.versions place key ≡ newest_or None self.old.versions place key }
+        ensures kept { (absent : List Noted) (end : ℕ) → IsStoreKept self.old absent mark end → IsStoreKept self.new absent mark end }
+        ensures noted { (absent : List Noted) (end : ℕ) → IsStoreKept self.old absent mark end → AreNoted self.new absent }
+        ensures gone { result + length self.new.versions ≡ length self.old.versions }
+    {
+        let before = self.newest.len();
+        self.newest.retain(
+            |_key: &Key, newest: &mut Dated| -> bool
+                ensures { (result ≡ not (nat_lt newest.old.place mark && is_none newest.old.row)) × (newest.new ≡ newest.old) }
+            { !(newest.place < mark && newest.row.is_none()) },
+        );
+        before - self.newest.len()
     }
 }

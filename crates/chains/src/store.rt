@@ -2,8 +2,9 @@
 
 use crate::rows::Rows;
 use crate::version::Version;
-use crate::writes::{Written, note_absent};
-use model_base::{Key, Place, Row};
+use crate::writes::{Written, cut_writes, note_absent, note_if};
+use body::{RowSource, Window};
+use model_base::{Access, Key, MOST_ACCESSES, Place, Row};
 use std::alloc::{AllocError, Global};
 use std::collections::VecDeque;
 use std::marker::Model;
@@ -21,29 +22,32 @@ pub struct BadMark;
 #[derive(Drop)]
 pub struct Chains {
     rows: Rows,
-    replacing: VecDeque<Written>,
     absent: VecDeque<Written>,
+    /// Whether each version that tells nothing is in `absent`: until places are cut off.
+    is_noted: bool,
     mark: Place,
     end: Place,
 }
 
 impl Model for Chains {
-    ghost use Rattle.chains.specs.Kept.{IsStoreKept};
+    ghost use Rattle.std.specs.Prelude.{◌≡◌, true};
+    ghost use Rattle.chains.specs.Kept.{AreNoted, IsStoreKept};
     ghost use Rattle.chains.specs.Store.{Store};
 
     ghost Value = { Store };
 
-    ghost view = { λ chains. record { versions = chains.rows; mark = chains.mark; end = chains.end } };
+    ghost view = { λ chains. record { versions = chains.rows.versions; mark = chains.mark; end = chains.end } };
 
-    ghost invariant = { λ chains. IsStoreKept chains.rows chains.replacing.items chains.absent.items chains.mark chains.end };
+    ghost invariant = { λ chains. IsStoreKept chains.rows chains.absent.items chains.mark chains.end
+        × (chains.is_noted ≡ true → AreNoted chains.rows chains.absent.items) };
 }
 
 impl Chains {
-    ghost use Rattle.std.specs.Prelude.{◌≡◌, ◌≤◌, ◌||◌, ◌++◌, [], ℕ, List, IfOk, OnErr, OnOk, is_err, nat_lt};
+    ghost use Rattle.std.specs.Prelude.{◌≡◌, ◌+◌, ◌<◌, ◌≤◌, ◌^◌, ◌||◌, ◌++◌, ◌∷◌, [], ℕ, List, IfOk, OnErr, OnOk, is_err, length, nat_lt};
     ghost use Rattle.model_base.specs.declared.row.Key.{Key};
     ghost use Rattle.model_base.specs.declared.statement.Statement.{Statement};
     ghost use Rattle.model_base.specs.Outcomes.{rows_before};
-    ghost use Rattle.chains.specs.Store.{AreBetween, Gains, IsRight, Sweeps, Trims, of_key, row_in, versions_between};
+    ghost use Rattle.chains.specs.Store.{AreBetween, Gains, IsRight, Sweeps, Trims, cut_store, of_key, row_in, versions_at, versions_between, versions_by};
 
     /// The store before the first place. It takes no memory.
     pub fn new(alloc: Global) -> Self
@@ -55,8 +59,8 @@ impl Chains {
     {
         Chains {
             rows: Rows::new(alloc),
-            replacing: VecDeque::new(alloc),
             absent: VecDeque::new(alloc),
+            is_noted: true,
             mark: 0,
             end: 0,
         }
@@ -66,6 +70,7 @@ impl Chains {
     pub fn mark(&self) -> Place
         ensures value { result ≡ self.now.mark }
         ensures within { self.now.mark ≤ self.now.end }
+        ensures whole { cut_store self.now.end self.now ≡ self.now }
     {
         self.mark
     }
@@ -87,18 +92,18 @@ impl Chains {
             → cells.items ≡ versions_between log self.old.end new_end → IsRight log self.new) }
         ensures err { OnErr result (self.new ≡ self.old) }
     {
-        self.replacing.reserve(cells.len())?;
         self.absent.reserve(cells.len())?;
         let versions = cells.as_slice();
-        self.rows.put_all(versions, &mut self.replacing)?;
+        self.rows.put_all(versions, self.end)?;
         note_absent(&mut self.absent, versions);
         self.end = new_end;
         Ok(())
     }
 
     /// The row of the key before the place, which is at most the end: that of the newest version older than the place, or
-    /// `None` where the row is absent. `Trimmed` is answered exactly where the place lies below the mark. It takes no
-    /// memory.
+    /// `None` where the row is absent. `Trimmed` is returned exactly where the place lies below the mark. It takes no
+    /// memory. Where no version of the key is of the place or later, it costs one look in the map; else it costs at most the
+    /// versions that were replaced since the mark.
     pub fn row_before(&self, place: Place, key: Key) -> Result<Option<Row>, Trimmed>
         requires { place ≤ self.now.end }
         ensures trimmed { is_err result ≡ nat_lt place self.now.mark }
@@ -112,8 +117,8 @@ impl Chains {
         Ok(self.rows.newest_before(place, key))
     }
 
-    /// Drops for each key all versions of places below the mark but the newest of them, and answers how many they were.
-    /// From then on the rows before the places below the mark aren't told. `BadMark` is answered exactly where the mark
+    /// Drops for each key all versions of places below the mark but the newest of them, and returns how many they were.
+    /// From then on the rows before the places below the mark aren't told. `BadMark` is returned exactly where the mark
     /// lies above the end or below the store's mark, and nothing changes then. It takes no memory, and costs what it drops.
     ///
     /// After Faleiro and Abadi, section 3.3: a version that is replaced is needed no more once no reader is left below
@@ -127,18 +132,103 @@ impl Chains {
         if mark < self.mark || self.end < mark {
             return Err(BadMark);
         }
-        let gone = self.rows.trim(&mut self.replacing, mark);
+        let gone = self.rows.trim(mark);
         self.mark = mark;
         Ok(gone)
     }
 
     /// Takes out the versions that tell nothing: those below the mark that are the only ones of their keys, and in which
-    /// the row is absent. It answers how many they were. What the store tells stays the same. It takes no memory, and costs
-    /// what was appended without a row and has come below the mark since the last call.
+    /// the row is absent. It returns how many they were. What the store tells stays the same. It takes no memory, and costs
+    /// what was appended without a row and has fallen below the mark since the last call; after a `cut` it costs, once, what
+    /// the store holds.
     pub fn sweep(&mut self) -> usize
         ensures swept { Sweeps self.old self.new result }
         ensures right { (log : List Statement) → IsRight log self.old → IsRight log self.new }
     {
-        self.rows.sweep(&mut self.absent, self.mark)
+        if self.is_noted {
+            return self.rows.sweep(&mut self.absent, self.mark);
+        }
+        self.is_noted = true;
+        self.rows.sweep_all(self.mark)
+    }
+
+    /// Moves the end on over one place, which leaves the rows as they are.
+    pub fn pass(&mut self)
+        requires { self.old.end + 1 < 2 ^ 64 }
+        ensures store { self.new ≡ record self.old { end = self.old.end + 1 } }
+        ensures right { (log : List Statement) → rows_before log (self.old.end + 1) ≡ rows_before log self.old.end
+            → IsRight log self.old → IsRight log self.new }
+    {
+        self.end += 1;
+    }
+
+    /// Adds the version that an access of the place before the end leaves, if it may change its row. On `Err` memory was refused,
+    /// and the store is as it was.
+    fn put(&mut self, place: Place, access: &Access, row: &Option<Row>) -> Result<(), AllocError>
+        requires last { place + 1 ≡ self.old.end }
+        requires mark { self.old.mark ≤ place }
+        ensures added { OnOk result ((key : Key) → of_key key self.new.versions
+            ≡ of_key key (self.old.versions ++ versions_by place (access.now ∷ []) (row.now ∷ []))) }
+        ensures mark { self.new.mark ≡ self.old.mark }
+        ensures end { self.new.end ≡ self.old.end }
+        ensures cut { (first : ℕ) → first ≤ place → cut_store first self.new ≡ cut_store first self.old }
+    {
+        if !access.is_writing() {
+            return Ok(());
+        }
+        let version = Version {
+            place,
+            key: access.key,
+            row: *row,
+        };
+        self.absent.reserve(1)?;
+        self.rows.put(&version)?;
+        note_if(&mut self.absent, version.row.is_none(), &version);
+        Ok(())
+    }
+
+    /// Adds the rows that the next place leaves, a version for each access that may change its row, and moves the end on over
+    /// it. The window has the row of each access. On `Err` memory was refused, and some of the versions may be there: `cut`
+    /// takes them out.
+    pub fn put_place(&mut self, accesses: &[Access], window: &Window) -> Result<(), AllocError>
+        requires places { length accesses.now ≤ MOST_ACCESSES }
+        requires room { self.old.end + 1 < 2 ^ 64 }
+        ensures ok { OnOk result (Gains self.old self.new (versions_by self.old.end accesses.now window.now.rows) (self.old.end + 1)) }
+        ensures right { OnOk result ((log : List Statement)
+            → versions_by self.old.end accesses.now window.now.rows ≡ versions_at log self.old.end
+            → IsRight log self.old → IsRight log self.new) }
+        ensures end { self.new.end ≡ self.old.end + 1 }
+        ensures mark { self.new.mark ≡ self.old.mark }
+        ensures cut { (first : ℕ) → first ≤ self.old.end → cut_store first self.new ≡ cut_store first self.old }
+    {
+        let place = self.end;
+        self.pass();
+        for (index, access) in accesses.iter().enumerate() {
+            self.put(place, access, window.row(index))?;
+        }
+        Ok(())
+    }
+
+    /// Takes out the versions of this place and of later ones; the end is this place then. It takes no memory, and costs what
+    /// the store holds, as does the next sweep.
+    pub fn cut(&mut self, first: Place)
+        requires mark { self.old.mark ≤ first }
+        requires end { first ≤ self.old.end }
+        ensures { self.new ≡ cut_store first self.old }
+    {
+        self.rows.cut(first);
+        cut_writes(&mut self.absent, first);
+        self.is_noted = false;
+        self.end = first;
+    }
+}
+
+impl RowSource for Chains {
+    ghost use Rattle.chains.specs.Store.{rows_at_end};
+
+    ghost rows = { rows_at_end };
+
+    fn row(&self, key: Key) -> Option<Row> {
+        self.rows.newest_before(self.end, key)
     }
 }

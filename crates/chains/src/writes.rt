@@ -1,9 +1,10 @@
 //! Places of the log that wrote a key, in order.
 
-ghost use Rattle.std.specs.Prelude.{◌≡◌, ◌+◌, ◌++◌, ◌∷◌, [], ◌<◌, ◌≤◌, IfSome, IfNone, if◌then◌else◌, filter, length, map};
+ghost use Rattle.std.specs.Prelude.{◌≡◌, ◌+◌, ◌++◌, ◌∷◌, [], ◌<◌, ◌≤◌, ℕ, IfSome, IfNone, List, if◌then◌else◌, filter, length, map, nat_lt};
 ghost use Rattle.std.specs.Option.{option_to_list};
 ghost use Rattle.std.specs.VecDeque.{deque_capacity, deque_len};
-ghost use Rattle.chains.specs.Kept.{IsFrom, is_absent, written_by};
+ghost use Rattle.chains.specs.Kept.{AreWrittenInOrder, IsFrom, is_absent, written_by};
+ghost use Rattle.chains.specs.declared.writes.Written.{Written as Noted};
 
 use crate::version::Version;
 use model_base::{Key, Place};
@@ -16,8 +17,8 @@ pub(crate) struct Written {
     pub(crate) key: Key,
 }
 
-/// Takes the first write out and answers it, if its place is below the mark.
-pub(crate) fn take_below(writes: &mut VecDeque<Written>, mark: Place) -> Option<Written>
+/// Takes out the first write and returns it, if its place is below the mark.
+pub(crate) fn take_write_below(writes: &mut VecDeque<Written>, mark: Place) -> Option<Written>
     ensures items { writes.old.items ≡ option_to_list result ++ writes.new.items }
     ensures len { deque_len writes.new + length (option_to_list result) ≡ deque_len writes.old }
     ensures below { IfSome result (λ write. write.place < mark) }
@@ -30,7 +31,7 @@ pub(crate) fn take_below(writes: &mut VecDeque<Written>, mark: Place) -> Option<
     if below { writes.pop_front() } else { None }
 }
 
-/// Puts the version's place behind the others, where that is asked for.
+/// Adds the version's place after the others, where that is asked for.
 pub(crate) fn note_if(writes: &mut VecDeque<Written>, asked: bool, version: &Version)
     requires { deque_len writes.old < deque_capacity writes.old }
     ensures items { writes.new.items ≡ (if asked then writes.old.items ++ written_by version.now ∷ [] else writes.old.items) }
@@ -45,7 +46,7 @@ pub(crate) fn note_if(writes: &mut VecDeque<Written>, asked: bool, version: &Ver
     }
 }
 
-/// Puts the places of the versions in which the row is absent behind the others.
+/// Adds the places of the versions in which the row is absent after the others.
 pub(crate) fn note_absent(writes: &mut VecDeque<Written>, versions: &[Version])
     requires { deque_len writes.old + length versions.now ≤ deque_capacity writes.old }
     ensures { writes.new.items ≡ writes.old.items ++ map written_by (filter is_absent versions.now) }
@@ -53,4 +54,27 @@ pub(crate) fn note_absent(writes: &mut VecDeque<Written>, versions: &[Version])
     for version in versions {
         note_if(writes, version.row.is_none(), version);
     }
+}
+
+/// Takes out the last write and returns it, if its place isn't below this one.
+fn take_write_from(writes: &mut VecDeque<Written>, first: Place) -> Option<Written>
+    ensures items { writes.old.items ≡ writes.new.items ++ option_to_list result }
+    ensures len { deque_len writes.new + length (option_to_list result) ≡ deque_len writes.old }
+    ensures from { IfSome result (λ write. first ≤ write.place) }
+    ensures rest { IfNone result ((earlier : List Noted) (last : Noted)
+        → writes.new.items ≡ earlier ++ last ∷ [] → last.place < first) }
+{
+    let from = match writes.back() {
+        None => false,
+        Some(write) => first <= write.place,
+    };
+    if from { writes.pop_back() } else { None }
+}
+
+/// Takes out the writes of this place and of later ones. It takes no memory.
+pub(crate) fn cut_writes(writes: &mut VecDeque<Written>, first: Place)
+    requires { (from : ℕ) × (end : ℕ) × AreWrittenInOrder from end writes.old.items }
+    ensures { writes.new.items ≡ filter (λ (write : Noted). nat_lt write.place first) writes.old.items }
+{
+    while let Some(_write) = take_write_from(writes, first) {}
 }

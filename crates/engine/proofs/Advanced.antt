@@ -14,11 +14,11 @@ use Rattle.grants_base.specs.Book.{Entries, table_of_deed}
 use Rattle.grants_base.specs.declared.entries.Creation.{Creation}
 use Rattle.sequencer.specs.Log.{Accepted, empty_log}
 use Rattle.sequencer.specs.Tail.{Tail}
-use Rattle.standing.specs.Known.{AreKnown}
+use Rattle.standing.specs.Known.{AreKnown, AreNamed}
 use Rattle.standing.specs.Stands.{Stands}
 use Rattle.standing.proofs.Came.{came_at, came_count}
 use Rattle.taking.specs.Span.{AreOutcomes}
-use Rattle.engine.specs.Engine.{AreNamed, IsRunKept, IsRun, Run, finished}
+use Rattle.engine.specs.Engine.{IsRunKept, IsRun, Run, finished}
 
 ranges : (first count more : ℕ) → range_with_len first (count + more) ≡ range_with_len first count ++ range_with_len (first + count) more
 ranges first zero more =

@@ -5,14 +5,11 @@
 use Rattle.std.specs.Prelude.{◌≡◌, ◌==◌, ◌&&◌, ◌≤◌, ◌+◌, ◌-◌, ℕ, Bool, List, [], ◌∷◌, length, nat_le, nat_lt}
 use Rattle.model_base.specs.declared.limits.TheConstants.{MOST_BATCH_STATEMENTS, MOST_PARTITIONS, MOST_WORKERS}
 use Rattle.model_base.specs.declared.outcome.Outcome.{Outcome}
-use Rattle.model_base.specs.declared.statement.Statement.{Statement}
-use Rattle.model_base.specs.Growing.{NeedsWithin}
-use Rattle.model_base.specs.Outcomes.{creator}
 use Rattle.chains.specs.Store.{Store}
 use Rattle.grants_base.specs.Book.{Entries}
 use Rattle.sequencer.specs.Log.{Accepted}
 use Rattle.engine.specs.declared.crew.Crew.{Crew}
-use Rattle.standing.specs.Known.{AreKnown}
+use Rattle.standing.specs.Known.{AreKnown, AreNamed}
 use Rattle.standing.specs.Stands.{Stands}
 use Rattle.taking.specs.Span.{AreOutcomes}
 
@@ -28,15 +25,6 @@ pub record Run : Type 0 where
 -- how many places are finished
 abbrev pub finished : Run → ℕ
 finished run = length run.outcomes
-
--- where there are so many tables before the first statement, what each needs is on a table that was created before it
-abbrev pub AreNamedFrom : ℕ → List Statement → Type 0
-AreNamedFrom tables [] = Unit {0}
-AreNamedFrom tables (statement ∷ statements) =
-    NeedsWithin tables statement × AreNamedFrom (tables + length (creator statement.user statement.form)) statements
-
-abbrev pub AreNamed : List Statement → Type 0
-AreNamed log = AreNamedFrom 0 log
 
 -- versions and book stand before the first place that isn't finished, the outcomes are the log's, only of finished places
 -- statement and outcome were dropped, and what a statement needs is on earlier tables

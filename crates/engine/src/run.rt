@@ -1,7 +1,9 @@
 //! A log of which a beginning is finished.
 
-ghost use Rattle.std.specs.Prelude.{◌≡◌, ◌<◌, ◌≤◌, ◌+◌, ◌-◌, ◌++◌, IfOk, length};
+ghost use Rattle.std.specs.Prelude.{◌≡◌, ◌<◌, ◌≤◌, ◌+◌, ◌-◌, ◌++◌, IfOk, List, OnErr, OnOk, length};
+ghost use Rattle.model_base.specs.declared.outcome.Outcome.{Outcome as Came};
 ghost use Rattle.chains.specs.Store.{versions_between};
+ghost use Rattle.standing.specs.Known.{AreKnown, AreNamed};
 ghost use Rattle.standing.specs.Stands.{Stands};
 ghost use Rattle.taking.specs.Span.{AreOutcomes};
 
@@ -16,7 +18,7 @@ use model_base::{Key, MOST_BATCH_STATEMENTS, MOST_PARTITIONS, MOST_WORKERS, Outc
 use past::{Past, forget_first};
 use placers::references_of;
 use sequencer::{LogTail, Refused};
-use standing::advance;
+use standing::{advance, run_in_order};
 use std::alloc::{AllocError, Global};
 use std::marker::Model;
 use std::ops::Range;
@@ -60,7 +62,7 @@ impl Model for Engine {
         engine.past.items };
 }
 
-/// What the places of a range come to, run as a batch. An error is want of memory.
+/// The outcomes and the versions of the places of a range, run as a batch on shared words. On `Err` memory was refused.
 fn ran<T: Threads + Wait + Sync, G: Gate + Sync>(
     rt: &T,
     alloc: Global,
@@ -94,6 +96,89 @@ fn ran<T: Threads + Wait + Sync, G: Gate + Sync>(
     let done = execute(rt, alloc, batch, gate, crew.workers)?;
     let taken = take(alloc, log, &done, start..end)?;
     Ok(taken)
+}
+
+/// Runs the places of a range as a batch on shared words, by so many workers and placers. Rows and book are those before the
+/// range's end then, and the outcomes are appended. On `Err` memory was refused, and rows, book and outcomes are as they were.
+fn run_by_workers<T: Threads + Wait + Sync, G: Gate + Sync>(
+    rt: &T,
+    alloc: Global,
+    chains: &mut Chains,
+    book: &mut Book,
+    log: &LogTail,
+    range: Range<Place>,
+    crew: Crew,
+    gate: &G,
+    outcomes: &mut Vec<Outcome>,
+) -> Result<(), AllocError>
+    requires partitions { 0 < crew.partitions }
+    requires order { range.start ≤ range.end }
+    requires kept { log.now.dropped ≤ range.start }
+    requires within { range.end ≤ length log.now.log.statements }
+    requires known { AreKnown log.now.log.statements }
+    requires stands { Stands log.now.log.statements range.start chains.old book.old }
+    ensures stands { OnOk result (Stands log.now.log.statements range.end chains.new book.new) }
+    ensures mark { OnOk result (chains.new.mark ≡ chains.old.mark) }
+    ensures came { OnOk result ((found : List Came) × (outcomes.new.items ≡ outcomes.old.items ++ found)
+        × AreOutcomes log.now.log.statements range.start (range.end - range.start) found) }
+    ensures chains { OnErr result (chains.new ≡ chains.old) }
+    ensures book { OnErr result (book.new ≡ book.old) }
+    ensures outcomes { OnErr result (outcomes.new.items ≡ outcomes.old.items) }
+{
+    let (start, end) = (range.start, range.end);
+    let Taken {
+        outcomes: mut came,
+        versions,
+    } = ran(rt, alloc, log, chains, book, start..end, crew, gate)?;
+    let before = outcomes.len();
+    outcomes.append(&mut came)?;
+    let moved = advance(
+        alloc,
+        chains,
+        book,
+        log,
+        &outcomes[before..],
+        versions,
+        start..end,
+    );
+    if moved.is_err() {
+        outcomes.truncate(before);
+    }
+    moved
+}
+
+/// Runs the places of a range: in order, on this thread, where there is one worker, and on shared words else. The result is the
+/// same, as both contracts say.
+fn run_range<T: Threads + Wait + Sync, G: Gate + Sync>(
+    rt: &T,
+    alloc: Global,
+    chains: &mut Chains,
+    book: &mut Book,
+    log: &LogTail,
+    range: Range<Place>,
+    crew: Crew,
+    gate: &G,
+    outcomes: &mut Vec<Outcome>,
+) -> Result<(), AllocError>
+    requires partitions { 0 < crew.partitions }
+    requires order { range.start ≤ range.end }
+    requires kept { log.now.dropped ≤ range.start }
+    requires within { range.end ≤ length log.now.log.statements }
+    requires known { AreKnown log.now.log.statements }
+    requires named { AreNamed log.now.log.statements }
+    requires stands { Stands log.now.log.statements range.start chains.old book.old }
+    ensures stands { OnOk result (Stands log.now.log.statements range.end chains.new book.new) }
+    ensures mark { OnOk result (chains.new.mark ≡ chains.old.mark) }
+    ensures came { OnOk result ((found : List Came) × (outcomes.new.items ≡ outcomes.old.items ++ found)
+        × AreOutcomes log.now.log.statements range.start (range.end - range.start) found) }
+    ensures chains { OnErr result (chains.new ≡ chains.old) }
+    ensures book { OnErr result (book.new ≡ book.old) }
+    ensures outcomes { OnErr result (outcomes.new.items ≡ outcomes.old.items) }
+{
+    if crew.workers <= 1 {
+        return run_in_order(alloc, chains, book, log, range, gate, outcomes);
+    }
+    run_by_workers(rt, alloc, chains, book, log, range, crew, gate, outcomes)
 }
 
 impl Engine {
@@ -170,10 +255,10 @@ impl Engine {
         self.log.push(statement)
     }
 
-    /// Runs the next places of the log, up to this one, as a batch, by so many workers and placers. The gate is told of each place,
-    /// by its index in the batch, before a worker asks for it and once it is done; one worker alone tells it nothing. Then they are finished: their
-    /// outcomes are the log's, and rows and book stand behind them. On `Err` memory was refused, and the engine is as it was, so
-    /// that the batch can be run again.
+    /// Runs the next places of the log, up to this one, as a batch, by so many workers and placers: by one worker in order, on this
+    /// thread. The gate is told of each place, by its index in the batch, before a worker asks for it and once it is done. Then
+    /// the places are finished: their outcomes are the log's, and rows and book are those before this place. On `Err` memory was
+    /// refused, and the engine is as it was, so that the batch can be run again.
     pub fn run_to<T: Threads + Wait + Sync, G: Gate + Sync>(
         &mut self,
         rt: &T,
@@ -195,37 +280,18 @@ impl Engine {
     {
         let start = self.finished();
         let _len = self.log.len();
-        let Taken {
-            mut outcomes,
-            versions,
-        } = ran(
+        run_range(
             rt,
-            alloc,
-            &self.log,
-            &self.chains,
-            &self.book,
-            start..end,
-            crew,
-            gate,
-        )?;
-        let before = self.outcomes.len();
-        self.outcomes.append(&mut outcomes)?;
-        let moved = advance(
             alloc,
             &mut self.chains,
             &mut self.book,
             &self.log,
-            &self.outcomes[before..],
-            versions,
             start..end,
-        );
-        match moved {
-            Ok(()) => Ok(()),
-            Err(error) => {
-                self.outcomes.truncate(before);
-                Err(error)
-            }
-        }
+            crew,
+            gate,
+            &mut self.outcomes,
+        )?;
+        Ok(())
     }
 
     /// Whether the range may be run as the next batch, by so many workers and placers: it begins at `finished`, lies in the log and
@@ -241,9 +307,8 @@ impl Engine {
             && (1 <= crew.partitions && crew.partitions <= MOST_PARTITIONS)
     }
 
-    /// Runs the range as the next batch, by so many workers and placers, which tell the gate as `run_to` says. Then its places are finished: their outcomes are the log's,
-    /// and rows and book stand behind them. `BadSettings` is answered exactly where `may_run` says no; any other error is want of
-    /// memory. On `Err` the engine is as it was, so that the batch can be run again.
+    /// Runs the range as the next batch, by so many workers and placers, as `run_to`. `BadSettings` is returned exactly where
+    /// `may_run` is false; any other error is `NoMemory`. On `Err` the engine is as it was, so that the batch can be run again.
     pub fn run_batch<T: Threads + Wait + Sync, G: Gate + Sync>(
         &mut self,
         rt: &T,

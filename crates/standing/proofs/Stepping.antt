@@ -24,7 +24,7 @@ use Rattle.standing.specs.Stands.{BookStands, is_completed, made_of}
 use Rattle.model_base.proofs.Growing.{owners-append}
 
 -- a deed or none, as a list
-listed : (deed : Option Deed) → option_map_or (λ made. made ∷ []) deed [] ≡ option_to_list deed
+pub listed : (deed : Option Deed) → option_map_or (λ made. made ∷ []) deed [] ≡ option_to_list deed
 listed None = refl
 listed (Some deed) = refl
 

@@ -1,21 +1,18 @@
-use Rattle.std.proofs.Common.{◌≡◌, ◌+◌, ◌-◌, ◌<◌, List, ◌∷◌, [], ◌++◌, take, length, sym, ◌∙◌, ap, arith}
-use Rattle.std.proofs.lemmas.List.{take_more}
-use Rattle.chains.specs.declared.version.Version.{Version}
-use Rattle.chains.specs.Keyed.{without_all, without_last}
-use Rattle.chains.proofs.Changed.{without_all-snoc}
+use Rattle.std.proofs.Common.{subst, sym}
+use Rattle.chains.specs.Keyed.{Held}
+use Rattle.chains.specs.Kept.{AreChained}
+use Rattle.chains.proofs.Cutting.{all-below, cut-both, last-cut}
 use Rattle.chains.proofs.rows.Rows.take_back.Goals as goal
 
-pub loop-index-preserved : goal.loop-index-preserved
-loop-index-preserved c =
-    let i = c.loop-index.index - 1 in
-    let versions = c.args.versions.now in
-    let version = c.index-versions-index.result in
-    let within : i < length versions = omega arith in
-    let next : i + 1 ≡ c.loop-index.index = omega arith in
-    let more : take c.loop-index.index versions ≡ take i versions ++ version ∷ [] =
-    ap (λ n. take n versions) (sym next) ∙ take_more versions i version within ∙ ap (λ (v : Version). take i versions ++ v ∷ []) (sym c.index-versions-index.is) in
-    ap (without_all (take i versions)) c.take_newest.ensures
-    ∙ ap (λ (v : Version). without_all (take i versions) (without_last v.key c.loop-index.self)) (sym c.index-versions-index.is)
-    ∙ sym (without_all-snoc (take i versions) version c.loop-index.self)
-    ∙ ap (λ (put : List Version). without_all put c.loop-index.self) (sym more)
-    ∙ c.loop-index.invariant
+pub loop-preserved : goal.loop-preserved
+loop-preserved c =
+    let taken = c.loop-test.ensures.taken in
+    let now : AreChained c.loop.self c.requires.0 = c.loop.invariant.chained c.requires.0 c.requires.1 in
+    cut-both c.args.first c.args.self.now c.loop.self c.take_last.new.self c.loop.invariant
+    (last-cut c.args.first c.loop.self c.take_last.new.self taken.0 c.requires.0 taken.1 taken.2 taken.3 now)
+
+pub returns-clause-gone : goal.returns-clause-gone
+returns-clause-gone c =
+    let now : AreChained c.take_last.new.self c.requires.0 =
+    subst (λ (held : Held). AreChained held c.requires.0) (sym c.loop-test.ensures.same) (c.loop.invariant.chained c.requires.0 c.requires.1) in
+    all-below c.args.first 0 c.requires.0 c.take_last.new.self.replacing now.rising c.loop-test.ensures.none

@@ -1,7 +1,10 @@
-use Rattle.std.proofs.Common.{◌≡◌, take}
-use Rattle.chains.specs.Keyed.{without_all}
+use Rattle.std.proofs.Common.{length}
+use Rattle.chains.proofs.Cutting.{IsCut}
 use Rattle.chains.proofs.rows.Rows.take_back.Given as goal
 
--- taking back the first versions comes to what taking back all comes to
-abbrev pub invariant-loop-index : goal.invariant-loop-index
-invariant-loop-index l = without_all (take l.index l.versions) l.self ≡ without_all l.versions l.initial.self
+-- what is below the place stays
+abbrev pub invariant-loop : goal.invariant-loop
+invariant-loop l = IsCut l.first l.initial.self l.self
+
+abbrev pub decreases-loop : goal.decreases-loop
+decreases-loop l = length l.self.replacing

@@ -1,0 +1,27 @@
+use Rattle.std.proofs.Common.{◌≡◌, ◌+◌, ◌≤◌, ◌++◌, ◌∷◌, [], ℕ, List, ap, sym, ◌∙◌, subst, arith, append_assoc}
+use Rattle.model_base.specs.declared.outcome.Outcome.{Outcome}
+use Rattle.standing.specs.Stands.{Stands}
+use Rattle.taking.proofs.Ranges.{outcomes_more}
+use Rattle.standing.proofs.in_order.run_places.Goals as goal
+
+pub loop-index-preserved : goal.loop-index-preserved
+loop-index-preserved g c =
+    let log = c.args.log.now.log.statements in
+    let first = c.args.range.start in
+    let index = c.loop-index.index in
+    let invariant = c.loop-index.invariant in
+    let one = c.in_ok-outcome.outcome in
+    let next : first + index + 1 ≡ first + (index + 1) = omega arith in
+    let least : first ≤ first + index = omega arith in
+    record {
+      stands = subst (λ (n : ℕ). Stands log n c.run_place.new.chains c.run_place.new.book) next c.in_ok-outcome.ensures.stands;
+      mark = c.run_place.ensures.mark ∙ invariant.mark;
+      end = omega (arith, c.run_place.ensures.end, invariant.end);
+      came = (
+        invariant.came.0 ++ one ∷ [],
+        c.in_ok-push.ensures.items ∙ ap (λ (items : List Outcome). items ++ one ∷ []) invariant.came.1 ∙ append_assoc c.args.outcomes.now.items invariant.came.0 (one ∷ []),
+        outcomes_more log first index invariant.came.0 one invariant.came.2 c.in_ok-outcome.ensures.came,
+      );
+      chains = c.run_place.ensures.chains first least ∙ invariant.chains;
+      book = c.run_place.ensures.book first least ∙ invariant.book;
+    }

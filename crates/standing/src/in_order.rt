@@ -1,0 +1,189 @@
+//! The places of a range, run one after another over the rows and the grants before them.
+//!
+//! After J. M. Faleiro and D. J. Abadi, "Rethinking Serializable Multiversion Concurrency Control", PVLDB 8 (2015), section 3: a
+//! transaction is executed once the versions that it reads are there, and what it writes are versions of its place. In the order
+//! of the log the versions that it reads are the newest.
+
+ghost use Rattle.std.specs.Prelude.{◌≡◌, ◌<◌, ◌≤◌, ◌+◌, ◌-◌, ◌++◌, ℕ, false, IfOk, List, None, OnErr, OnOk, Some, length, slice_get, take};
+ghost use Rattle.model_base.specs.declared.outcome.Outcome.{Outcome as Came};
+ghost use Rattle.model_base.specs.Outcomes.{missing, outcome, owners, world_before};
+ghost use Rattle.chains.specs.Store.{cut_store};
+ghost use Rattle.grants_base.specs.Book.{cut_book};
+ghost use Rattle.own_words.specs.Words.{creates};
+ghost use Rattle.standing.specs.Known.{AreKnown, AreNamed};
+ghost use Rattle.standing.specs.Stands.{Stands};
+ghost use Rattle.taking.specs.Span.{AreOutcomes};
+
+use crate::booking::{create, creates, make};
+use body::{BodyEnd, Window, fill, run, shows_rows};
+use chains::Chains;
+use checker::{Admission, admit};
+use grants::Book;
+use model_base::{Outcome, Place, Statement};
+use sequencer::LogTail;
+use std::alloc::{AllocError, Global};
+use std::ops::Range;
+use workers::Gate;
+
+/// Runs the body of a statement whose needs are all held, and makes its deed if the body completes. On `Err` memory was refused,
+/// and all that was added to rows and grants is of this place.
+fn run_admitted(
+    alloc: Global,
+    chains: &mut Chains,
+    book: &mut Book,
+    window: &mut Window,
+    log: &LogTail,
+    place: Place,
+    statement: &Statement,
+) -> Result<Outcome, AllocError>
+    requires known { AreKnown log.now.log.statements }
+    requires stands { Stands log.now.log.statements place chains.old book.old }
+    requires at { slice_get log.now.log.statements place ≡ Some statement.now }
+    requires form { creates statement.now.form ≡ false }
+    requires admitted { missing (owners log.now.log.statements) (world_before log.now.log.statements place)
+        statement.now.user statement.now.form ≡ None }
+    ensures came { IfOk result (λ found. outcome log.now.log.statements place ≡ Some found) }
+    ensures stands { OnOk result (Stands log.now.log.statements (place + 1) chains.new book.new) }
+    ensures mark { chains.new.mark ≡ chains.old.mark }
+    ensures end { chains.old.end ≤ chains.new.end }
+    ensures chains { (first : ℕ) → first ≤ place → cut_store first chains.new ≡ cut_store first chains.old }
+    ensures book { (first : ℕ) → first ≤ place → cut_book first book.new ≡ cut_book first book.old }
+{
+    shows_rows();
+    let _len = log.len();
+    let _dropped = log.dropped();
+    let _mark = chains.mark();
+    fill(statement, chains, window);
+    match run(statement, window) {
+        BodyEnd::Completed => {
+            // A window has a row for each access, which the contract of reading one tells.
+            let _row = window.row(0);
+            chains.put_place(statement.accesses(), window)?;
+            let deed = make(alloc, book, log, place, statement.deed_at(place))?;
+            let outputs = window.outputs();
+            Ok(Outcome::Done { outputs, deed })
+        }
+        BodyEnd::Aborted { step, reason } => {
+            chains.pass();
+            Ok(Outcome::Aborted { step, reason })
+        }
+        BodyEnd::Undeclared { step } => {
+            chains.pass();
+            Ok(Outcome::Undeclared { step })
+        }
+    }
+}
+
+/// Runs a place over the rows and the grants before it; then they are those before the next place. On `Err` memory was refused,
+/// and all that was added to rows and grants is of this place.
+fn run_place(
+    alloc: Global,
+    chains: &mut Chains,
+    book: &mut Book,
+    window: &mut Window,
+    log: &LogTail,
+    place: Place,
+) -> Result<Outcome, AllocError>
+    requires kept { log.now.dropped ≤ place }
+    requires within { place < length log.now.log.statements }
+    requires known { AreKnown log.now.log.statements }
+    requires named { AreNamed log.now.log.statements }
+    requires stands { Stands log.now.log.statements place chains.old book.old }
+    ensures came { IfOk result (λ found. outcome log.now.log.statements place ≡ Some found) }
+    ensures stands { OnOk result (Stands log.now.log.statements (place + 1) chains.new book.new) }
+    ensures mark { chains.new.mark ≡ chains.old.mark }
+    ensures end { chains.old.end ≤ chains.new.end }
+    ensures chains { (first : ℕ) → first ≤ place → cut_store first chains.new ≡ cut_store first chains.old }
+    ensures book { (first : ℕ) → first ≤ place → cut_book first book.new ≡ cut_book first book.old }
+{
+    let _len = log.len();
+    let statement = log.statement(place);
+    if creates(&statement.form) {
+        create(book, log, place, statement)?;
+        chains.pass();
+        return Ok(Outcome::Created);
+    }
+    match admit(statement, &mut book.at(place)) {
+        Admission::Denied { need, cause } => {
+            chains.pass();
+            Ok(Outcome::Denied { need, cause })
+        }
+        Admission::Admitted => { run_admitted(alloc, chains, book, window, log, place, statement) }
+    }
+}
+
+/// Runs the places of a range, and appends their outcomes. On `Err` memory was refused, and all that was added to rows and grants
+/// is of places of the range.
+fn run_places<G: Gate>(
+    alloc: Global,
+    chains: &mut Chains,
+    book: &mut Book,
+    log: &LogTail,
+    range: Range<Place>,
+    gate: &G,
+    outcomes: &mut Vec<Outcome>,
+) -> Result<(), AllocError>
+    requires order { range.start ≤ range.end }
+    requires kept { log.now.dropped ≤ range.start }
+    requires within { range.end ≤ length log.now.log.statements }
+    requires known { AreKnown log.now.log.statements }
+    requires named { AreNamed log.now.log.statements }
+    requires stands { Stands log.now.log.statements range.start chains.old book.old }
+    ensures stands { OnOk result (Stands log.now.log.statements range.end chains.new book.new) }
+    ensures mark { chains.new.mark ≡ chains.old.mark }
+    ensures end { chains.old.end ≤ chains.new.end }
+    ensures came { (found : List Came) × (outcomes.new.items ≡ outcomes.old.items ++ found)
+        × OnOk result (AreOutcomes log.now.log.statements range.start (range.end - range.start) found) }
+    ensures chains { cut_store range.start chains.new ≡ cut_store range.start chains.old }
+    ensures book { cut_book range.start book.new ≡ cut_book range.start book.old }
+{
+    let _len = log.len();
+    let mut window = Window::new();
+    let size = (range.end - range.start) as usize;
+    for index in 0..size {
+        let place = range.start + index as u64;
+        gate.before(index);
+        let outcome = run_place(alloc, chains, book, &mut window, log, place)?;
+        gate.after(index);
+        outcomes.push(outcome)?;
+    }
+    Ok(())
+}
+
+/// Runs the places of a range, one after another, and appends their outcomes; rows and grants are those before the range's end
+/// then. The gate is told of each place, by its index in the range, before it is run and once it is done. On `Err` memory was
+/// refused, and rows, grants and outcomes are as they were.
+pub fn run_in_order<G: Gate>(
+    alloc: Global,
+    chains: &mut Chains,
+    book: &mut Book,
+    log: &LogTail,
+    range: Range<Place>,
+    gate: &G,
+    outcomes: &mut Vec<Outcome>,
+) -> Result<(), AllocError>
+    requires order { range.start ≤ range.end }
+    requires kept { log.now.dropped ≤ range.start }
+    requires within { range.end ≤ length log.now.log.statements }
+    requires known { AreKnown log.now.log.statements }
+    requires named { AreNamed log.now.log.statements }
+    requires stands { Stands log.now.log.statements range.start chains.old book.old }
+    ensures stands { OnOk result (Stands log.now.log.statements range.end chains.new book.new) }
+    ensures mark { OnOk result (chains.new.mark ≡ chains.old.mark) }
+    ensures came { OnOk result ((found : List Came) × (outcomes.new.items ≡ outcomes.old.items ++ found)
+        × AreOutcomes log.now.log.statements range.start (range.end - range.start) found) }
+    ensures chains { OnErr result (chains.new ≡ chains.old) }
+    ensures book { OnErr result (book.new ≡ book.old) }
+    ensures outcomes { OnErr result (outcomes.new.items ≡ outcomes.old.items) }
+{
+    let start = range.start;
+    let before = outcomes.len();
+    let _mark = chains.mark();
+    let done = run_places(alloc, chains, book, log, range, gate, outcomes);
+    if done.is_err() {
+        chains.cut(start);
+        book.cut(start);
+        outcomes.truncate(before);
+    }
+    done
+}
