@@ -1,8 +1,8 @@
 -- The mark, batch after batch.
-use Rattle.std.proofs.Common.{◌≡◌, ◌<◌, ◌≤◌, ◌+◌, ◌-◌, ◌*◌, ◌&&◌, ◌||◌, ◌++◌, ◌∷◌, [], ℕ, zero, suc, Bool, true, false, IsTrue, List, length, refl, ap, sym, ◌∙◌, subst, arith, inl, inr}
+use Rattle.std.proofs.Common.{◌≡◌, ◌<◌, ◌≤◌, ◌+◌, ◌-◌, ◌*◌, ◌&&◌, ◌++◌, ◌∷◌, [], ℕ, zero, suc, Bool, true, List, length, refl, ap, sym, ◌∙◌, subst, arith, inl, inr}
 use Rattle.std.specs.Prelude.{◌==◌, min, nat_lt, nat_le, if◌then◌else◌}
 use Rattle.std.proofs.Math.Nat.{mul-sub}
-use Rattle.std.proofs.lemmas.Bool.{and_parts, cases_lt, le-ltb, leb-false, leb-true, lt-ltb, ne_eqb}
+use Rattle.std.proofs.lemmas.Bool.{and_parts, cases_lt, le-ltb, leb-true, lt-ltb, ne_eqb}
 use Rattle.std.proofs.lemmas.List.{append-nil, length-append}
 use Rattle.report.specs.Report.{Reading, accepted}
 use Rattle.sequencer.specs.Log.{Accepted}
@@ -11,7 +11,7 @@ use Rattle.bohm_base.specs.Collecting.{became, with_reading}
 use Rattle.bohm_base.specs.declared.collecting.Became.{Became}
 use Rattle.engine.specs.Engine.{Run, finished}
 use Rattle.batched_text.specs.Batching.{Deals, IsCounted, IsFilling, IsFresh, IsOpen, ReportsLines, Takes, lines_text}
-use Rattle.batched_text.specs.History.{EndsEarly, IsCutBy, IsTrimmedBy}
+use Rattle.batched_text.specs.History.{IsCutBy, IsTrimmedBy}
 use Rattle.batched_text.specs.Settings.{IsTrimmed, are_within_limits, mark_behind}
 use Rattle.batched_text.specs.declared.batching.Batching.{Batching}
 use Rattle.batched_text.specs.declared.history.History.{History}
@@ -122,21 +122,10 @@ abbrev pub IsDue : History → Settings → Run → Type 0
 IsDue History.Kept settings run = finished run + settings.batch ≤ length run.log.statements
 IsDue History.Dropped settings run = Unit {0}
 
-pub due : (history : History) (settings : Settings) (run : Run) (urgent : Bool) (waiting : ℕ) → (urgent || nat_le settings.batch waiting) ≡ true
-    → (IsTrue urgent → EndsEarly history) → waiting + finished run ≡ length run.log.statements → IsDue history settings run
-due History.Dropped settings run urgent waiting is early all = tt
-due History.Kept settings run true waiting is early all = absurd (early refl)
-due History.Kept settings run false waiting is early all = omega (arith, leb-true settings.batch waiting is)
-
--- what isn't due isn't full
-pub not_full : (urgent : Bool) (batch waiting : ℕ) → (urgent || nat_le batch waiting) ≡ false → waiting < batch
-not_full true batch waiting is = absurd (cc is)
-not_full false batch waiting is = leb-false batch waiting is
-
--- and isn't urgent
-pub not_urgent : (urgent full : Bool) → (urgent || full) ≡ false → IsTrue urgent → ⊥
-not_urgent true full is so = absurd (cc is)
-not_urgent false full is so = absurd (cc so)
+pub due : (history : History) (settings : Settings) (run : Run) (waiting : ℕ) → settings.batch ≤ waiting
+    → waiting + finished run ≡ length run.log.statements → IsDue history settings run
+due History.Dropped settings run waiting full all = tt
+due History.Kept settings run waiting full all = omega (arith, full, all)
 
 module _ (settings : Settings) (old new : Batching) (reported : IsReported settings old new) where
   abbrev count : ℕ
@@ -225,9 +214,10 @@ module _ (settings : Settings) (old new : Batching) (reported : IsReported setti
   trimmed_all History.Dropped filling some = tt
 
   -- all lines that waited are reported
-  pub reports_all : (history : History) → IsFilling history settings old → (text : List ℕ) → text ≡ lines_text old.engine.log (old.number - length old.waiting.items) (finished old.engine) old.waiting.items
-      → ReportsLines old.engine.log (finished old.engine) (finished new.engine) old.waiting.items new.waiting.items old.number text
-  reports_all history filling text told = record {
+  pub reports_all : (history : History) → IsFilling history settings old
+      → new.pending.items ≡ old.pending.items ++ lines_text old.engine.log (old.number - length old.waiting.items) (finished old.engine) old.waiting.items
+      → ReportsLines old.engine.log (finished old.engine) (finished new.engine) old.waiting.items new.waiting.items old.number old.pending.items new.pending.items
+  reports_all history filling told = record {
     out = old.waiting.items;
     all = sym (append-nil old.waiting.items) ∙ ap (λ (ls : List Became). old.waiting.items ++ ls) (sym reported.left);
     first = old.number - length old.waiting.items;
@@ -237,14 +227,15 @@ module _ (settings : Settings) (old new : Batching) (reported : IsReported setti
   }
 
 -- none is reported
-pub reports_none : (batching : Batching) (text : List ℕ) → length batching.waiting.items < batching.number → text ≡ []
-    → ReportsLines batching.engine.log (finished batching.engine) (finished batching.engine) batching.waiting.items batching.waiting.items batching.number text
-reports_none batching text few empty = record {
+pub reports_none : (batching : Batching) → length batching.waiting.items < batching.number
+    → ReportsLines batching.engine.log (finished batching.engine) (finished batching.engine) batching.waiting.items batching.waiting.items batching.number
+    batching.pending.items batching.pending.items
+reports_none batching few = record {
   out = [];
   all = refl;
   first = batching.number - length batching.waiting.items;
   number = omega (arith, few);
-  told = empty;
+  told = sym (append-nil batching.pending.items);
   places = omega arith;
 }
 
@@ -271,16 +262,21 @@ filled history settings old new reading room takes whole =
 
 -- a line that was taken, and what was reported then
 pub dealt : (reading : Reading) (old taken new : Batching) → Takes reading old taken → new.engine.log ≡ taken.engine.log → new.number ≡ taken.number
-    → ReportsLines taken.engine.log (finished taken.engine) (finished new.engine) taken.waiting.items new.waiting.items taken.number new.text.items → Deals reading old new
+    → ReportsLines taken.engine.log (finished taken.engine) (finished new.engine) taken.waiting.items new.waiting.items taken.number taken.pending.items new.pending.items
+    → Deals reading old new
 dealt reading old taken new takes log number reports =
     let done : finished taken.engine ≡ finished old.engine = ap finished takes.engine in
+    let lines : List Became = old.waiting.items ++ became old.engine.log.names reading ∷ [] in
+    let put : Accepted → ℕ → List Became → ℕ → List ℕ → Type 0 =
+    λ l d ls n pending. ReportsLines l d (finished new.engine) ls new.waiting.items n pending new.pending.items in
     record {
       log = log ∙ ap (λ (run : Run). run.log) takes.engine;
       number = number ∙ takes.number;
-      reports = subst (λ (l : Accepted). ReportsLines l (finished old.engine) (finished new.engine) (old.waiting.items ++ became old.engine.log.names reading ∷ []) new.waiting.items new.number new.text.items) (sym log)
-          (subst (λ (n : ℕ). ReportsLines taken.engine.log (finished old.engine) (finished new.engine) (old.waiting.items ++ became old.engine.log.names reading ∷ []) new.waiting.items n new.text.items) (sym number)
-          (subst (λ (ls : List Became). ReportsLines taken.engine.log (finished old.engine) (finished new.engine) ls new.waiting.items taken.number new.text.items) takes.waiting
-          (subst (λ (n : ℕ). ReportsLines taken.engine.log n (finished new.engine) taken.waiting.items new.waiting.items taken.number new.text.items) done reports)));
+      reports = subst (λ (l : Accepted). put l (finished old.engine) lines new.number old.pending.items) (sym log)
+          (subst (λ (n : ℕ). put taken.engine.log (finished old.engine) lines n old.pending.items) (sym number)
+          (subst (λ (pending : List ℕ). put taken.engine.log (finished old.engine) lines taken.number pending) takes.pending
+          (subst (λ (ls : List Became). put taken.engine.log (finished old.engine) ls taken.number taken.pending.items) takes.waiting
+          (subst (λ (n : ℕ). put taken.engine.log n taken.waiting.items taken.number taken.pending.items) done reports))));
     }
 
 -- before the first batch

@@ -1,25 +1,24 @@
 -- The report at its end, and what was written when a fault comes.
-use Rattle.std.proofs.Common.{◌≡◌, ◌≤◌, ◌+◌, ◌-◌, ◌++◌, ℕ, List, [], ◌∷◌, Option, Some, None, length, refl, ap, sym, ◌∙◌, subst, arith}
-use Rattle.std.specs.Prelude.{IfSome}
-use Rattle.std.specs.Io.KnownBytes.{Appends, IsAtEnd, Keeps, prepend_known}
+use Rattle.std.proofs.Common.{◌≡◌, ◌≤◌, ◌+◌, ◌-◌, ◌++◌, ℕ, List, [], ◌∷◌, Option, Some, None, length, refl, ap, sym, ◌∙◌, subst, arith, append_assoc}
+use Rattle.std.specs.Io.KnownBytes.{Appends, IsAtEnd, prepend_known}
 use Rattle.std.proofs.lemmas.List.{append-nil, length-append}
 use Rattle.log_text_base.specs.Known.{AppendsFront, MovesOut}
-use Rattle.log_text_base.proofs.Written.{appends_none, appends_then}
+use Rattle.log_text_base.proofs.Written.{appends_then}
 use Rattle.log_text.specs.Statement.{Sentence}
 use Rattle.sequencer.specs.Catalog.{Names}
 use Rattle.sequencer.specs.Log.{Accepted, empty_log}
 use Rattle.sequencer.specs.Refusal.{refusal}
 use Rattle.sequencer.specs.declared.refused.Refused.{Refused}
-use Rattle.report.specs.Report.{IsReport, Reading, accepted, faulty, read, statement_if}
+use Rattle.report.specs.Report.{Reading, accepted, faulty, read, statement_if}
 use Rattle.bohm_base.specs.declared.collecting.Became.{Became}
 use Rattle.bohm_base.specs.Collecting.{Collects, IsLogOf, AreReadBefore, became, became_if, log_text, places_of}
 use Rattle.bohm_base.proofs.Beginnings.{rest_lost}
-use Rattle.bohm_base.proofs.Reached.{all_written, report_begun, appends_nothing}
+use Rattle.bohm_base.proofs.Reached.{report_begun, appends_nothing}
 use Rattle.bohm_base.specs.Pending.{HasBegunReport, HasReport}
 use Rattle.bohm_base.proofs.LinesRead.{collect_end}
 use Rattle.bohm_base.proofs.Logs.{report_is}
 use Rattle.engine.specs.Engine.{Run, finished}
-use Rattle.batched_text.specs.Batching.{Batched, Gathers, IsBatched, IsCounted, IsFresh, IsLogOfText, Takes, lines_text}
+use Rattle.batched_text.specs.Batching.{Batched, BatchedUpTo, Gathers, IsBatched, IsCounted, IsFresh, IsLogOfText, Takes, lines_text}
 use Rattle.batched_text.specs.declared.batching.Batching.{Batching}
 use Rattle.batched_text.specs.Places.{places_in}
 use Rattle.batched_text.proofs.Reports.{parts}
@@ -54,7 +53,7 @@ one_more names (faulty fault) = omega arith
 
 -- at first nothing is read, and nothing is written
 pub batched_start : (i o : Option (List ℕ)) (bytes : List ℕ) (batching : Batching) → bytes ≡ [] → IsFresh batching
-    → Batched i (prepend_known bytes i) o o [] batching.engine.log (finished batching.engine) batching.waiting.items batching.number
+    → BatchedUpTo i (prepend_known bytes i) o o batching
 batched_start None o bytes batching b first = tt
 batched_start (Some xs) o bytes batching b first = (
   [],
@@ -68,7 +67,7 @@ batched_start (Some xs) o bytes batching b first = (
           (subst (λ (log : Accepted). IsLogOf [] log []) (sym first.log) (record { names = refl; statements = refl; each = refl }));
       number = omega (arith, ap length first.nobody, first.number);
       places = sym first.none;
-      text = refl;
+      text = first.nothing;
       whole = first.whole;
       within = omega (arith, first.none);
     },
@@ -80,27 +79,27 @@ counted_start run waiting l none nobody =
     subst (λ (ls : List Became). IsCounted run ls) (sym nobody) (omega (arith, none, ap (λ (log : Accepted). length log.statements) l))
 
 -- what was pending is written
-pub batched_written : (i j o n m : Option (List ℕ)) (pending : List ℕ) (log : Accepted) (done : ℕ) (waiting : List Became) (next : ℕ)
-    → Batched i j o n ([] ++ pending) log done waiting next → Appends n m pending → Batched i j o m [] log done waiting next
-batched_written None j o n m pending log done waiting next so appends = tt
-batched_written (Some xs) None o n m pending log done waiting next so appends = absurd so
-batched_written (Some xs) (Some ys) o n m pending log done waiting next so appends = (
+pub batched_written : (i j o n m : Option (List ℕ)) (pending less : List ℕ) (log : Accepted) (done : ℕ) (waiting : List Became) (next : ℕ)
+    → Batched i j o n pending log done waiting next → Appends n m pending → less ≡ [] → Batched i j o m less log done waiting next
+batched_written None j o n m pending less log done waiting next so appends none = tt
+batched_written (Some xs) None o n m pending less log done waiting next so appends none = absurd so
+batched_written (Some xs) (Some ys) o n m pending less log done waiting next so appends none = (
   so.0 ++ pending,
   (
     appends_then o n m so.0 pending so.1.0 appends,
-    subst (λ (w : List ℕ). IsBatched xs ys w log done waiting next) (sym (append-nil (so.0 ++ pending))) so.1.1,
+    subst (λ (w : List ℕ). IsBatched xs ys ((so.0 ++ pending) ++ w) log done waiting next) (sym none)
+        (subst (λ (w : List ℕ). IsBatched xs ys w log done waiting next) (sym (append-nil (so.0 ++ pending))) so.1.1),
   ),
 )
 
 -- a front of what was pending is written, and the rest is lost
-pub begun_cut : (i o n m : Option (List ℕ)) (pending : List ℕ) → HasBegunReport i o n ([] ++ pending) → AppendsFront n m pending → HasBegunReport i o m []
-begun_cut i o n m pending begun front = report_begun i o n m pending [] begun (rest_lost n m pending [] front refl)
+pub begun_cut : (i o n m : Option (List ℕ)) (pending less : List ℕ) → HasBegunReport i o n pending → AppendsFront n m pending → less ≡ [] → HasBegunReport i o m less
+begun_cut i o n m pending less begun front none = report_begun i o n m pending less begun (rest_lost n m pending less front none)
 
 -- at the end of the input, the waiting lines reported, the report is whole
 module _ (o n : Option (List ℕ)) (batching : Batching) (text : List ℕ)
-    (told : text ≡ lines_text batching.engine.log (batching.number - length batching.waiting.items) (finished batching.engine) batching.waiting.items) where
-  ended : (i j : Option (List ℕ)) → IsAtEnd j
-      → Batched i j o n [] batching.engine.log (finished batching.engine) batching.waiting.items batching.number → HasReport i o n text
+    (told : text ≡ batching.pending.items ++ lines_text batching.engine.log (batching.number - length batching.waiting.items) (finished batching.engine) batching.waiting.items) where
+  ended : (i j : Option (List ℕ)) → IsAtEnd j → BatchedUpTo i j o n batching → HasReport i o n text
   ended None j end so = tt
   ended (Some xs) None end so = absurd so
   ended (Some xs) (Some ys) end so =
@@ -118,7 +117,8 @@ module _ (o n : Option (List ℕ)) (batching : Batching) (text : List ℕ)
             so.0,
             so.1.0,
             ap (λ (w : List ℕ). so.0 ++ w) told
-                ∙ ap (λ (w : List ℕ). w ++ lines_text log (batching.number - length waiting) (finished batching.engine) waiting) (sym (append-nil so.0) ∙ was.text)
+                ∙ sym (append_assoc so.0 batching.pending.items (lines_text log (batching.number - length waiting) (finished batching.engine) waiting))
+                ∙ ap (λ (w : List ℕ). w ++ lines_text log (batching.number - length waiting) (finished batching.engine) waiting) was.text
                 ∙ ap (λ (k : ℕ). lines_text log 1 0 was.reported ++ lines_text log k (finished batching.engine) waiting) number
                 ∙ ap (λ (p : ℕ). lines_text log 1 0 was.reported ++ lines_text log (1 + length was.reported) p waiting) place
                 ∙ sym (parts log.statements log.names.tables 1 0 was.reported waiting),
@@ -130,8 +130,7 @@ module _ (o n : Option (List ℕ)) (batching : Batching) (text : List ℕ)
   ended_batched i gathers = ended i gathers.0 gathers.1.0 gathers.1.1
 
 -- and the log is that of the text
-log_if_ended : (i j o n : Option (List ℕ)) (batching : Batching) → IsAtEnd j
-    → Batched i j o n [] batching.engine.log (finished batching.engine) batching.waiting.items batching.number → IsLogOfText i batching.engine.log
+log_if_ended : (i j o n : Option (List ℕ)) (batching : Batching) → IsAtEnd j → BatchedUpTo i j o n batching → IsLogOfText i batching.engine.log
 log_if_ended None j o n batching end so = tt
 log_if_ended (Some xs) None o n batching end so = absurd so
 log_if_ended (Some xs) (Some ys) o n batching end so =
@@ -147,25 +146,3 @@ pub begun_whole : (i o n : Option (List ℕ)) (pending : List ℕ) → HasReport
 begun_whole None o n pending whole = tt
 begun_whole (Some xs) o n pending whole =
     (whole.0, (whole.1.0, ([], subst (MovesOut o n whole.0) (sym (append-nil pending)) whole.1.1)))
-
--- the whole report, all of it written
-pub written_whole : (i o n m : Option (List ℕ)) (pending : List ℕ) → HasReport i o n pending → Appends n m pending → HasReport i o m []
-written_whole None o n m pending whole appends = tt
-written_whole (Some xs) o n m pending whole appends = (
-  whole.0,
-  (
-    whole.1.0,
-    (
-      whole.1.1.0 ++ pending,
-      appends_then o n m whole.1.1.0 pending whole.1.1.1 appends,
-      append-nil (whole.1.1.0 ++ pending) ∙ whole.1.1.2,
-    ),
-  ),
-)
-
--- nothing more is written
-pub front_nothing : (o : Option (List ℕ)) → AppendsFront o o []
-front_nothing o = (0, appends_none o [])
-
-pub all_nothing : (i o n k : Option (List ℕ)) → HasReport i o n [] → Keeps n k → IfSome i (λ input. (text : List ℕ) × (IsReport input text × Appends o k text))
-all_nothing i o n k whole keeps = all_written i o n n k [] whole (appends_nothing n) keeps

@@ -1,26 +1,31 @@
 -- A fault that is told on tells the same failures.
-use Rattle.std.proofs.Common.{◌≡◌, ℕ, Result, Ok, Err, sym, ap, ◌∙◌}
-use Rattle.std.specs.Prelude.{IsErrAnd}
+use Rattle.std.proofs.Common.{◌≡◌, ◌<◌, ◌≤◌, ◌+◌, ℕ, Result, Ok, Err, sym, ap, ◌∙◌, arith}
+use Rattle.std.specs.Prelude.{IsErrAnd, OnErr, OnOk}
+use Rattle.log_text_base.specs.Known.{raised}
 use Rattle.log_text_base.specs.declared.fault.ReadFault.{ReadFault}
-use Rattle.bohm_base.specs.Faults.{read_errors, write_errors}
+use Rattle.bohm_base.specs.Faults.{write_errors}
 use Rattle.bohm_base.specs.declared.fault.EngineFault.{EngineFault}
 
 told_on : {B E : Type 0} (fault : E) (result : Result B E) → IsErrAnd result (λ other. other ≡ fault) → result ≡ Err fault
 told_on fault (Ok value) same = absurd same
 told_on fault (Err other) same = ap Err same
 
--- the reader's failures, and the writer's
-pub reads_on : (A : Type 0) {B : Type 0} (fault : EngineFault) (result : Result B EngineFault) (errors : ℕ) → IsErrAnd result (λ other. other ≡ fault)
-    → read_errors {A = A} (Err fault) errors ≡ read_errors result errors
-reads_on A EngineFault.NoMemory result errors same = sym (ap (λ r. read_errors r errors) (told_on EngineFault.NoMemory result same))
-reads_on A EngineFault.Read result errors same = sym (ap (λ r. read_errors r errors) (told_on EngineFault.Read result same))
-reads_on A EngineFault.Write result errors same = sym (ap (λ r. read_errors r errors) (told_on EngineFault.Write result same))
+-- failures that were counted stay so
+errors_stay : {A E : Type 0} (written : Result A E) (old new : ℕ) → OnOk written (new ≡ old) → OnErr written (new ≡ raised old) → old < 18446744073709551616 → old ≤ new
+errors_stay (Ok done) old new same more most = omega (arith, same)
+errors_stay (Err fault) old new same more most = omega (arith, more, most)
 
-pub writes_on : (A : Type 0) {B : Type 0} (fault : EngineFault) (result : Result B EngineFault) (errors : ℕ) → IsErrAnd result (λ other. other ≡ fault)
-    → write_errors {A = A} (Err fault) errors ≡ write_errors result errors
-writes_on A EngineFault.NoMemory result errors same = sym (ap (λ r. write_errors r errors) (told_on EngineFault.NoMemory result same))
-writes_on A EngineFault.Read result errors same = sym (ap (λ r. write_errors r errors) (told_on EngineFault.Read result same))
-writes_on A EngineFault.Write result errors same = sym (ap (λ r. write_errors r errors) (told_on EngineFault.Write result same))
+-- a run that ended since the writer failed has counted that, whatever was written after it
+pub write_counted : (A : Type 0) {B C E : Type 0} (fault : EngineFault) (result : Result B EngineFault) (written : Result C E) (old mid new : ℕ)
+    → IsErrAnd result (λ other. other ≡ fault) → result ≡ Err EngineFault.Write → mid ≡ write_errors {A = A} (Err fault) old
+    → OnOk written (new ≡ mid) → OnErr written (new ≡ raised mid) → old < 18446744073709551615 → old < new
+write_counted A EngineFault.NoMemory result written old mid new told is counted same more small =
+    absurd (cc (sym (told_on EngineFault.NoMemory result told) ∙ is))
+write_counted A EngineFault.Read result written old mid new told is counted same more small =
+    absurd (cc (sym (told_on EngineFault.Read result told) ∙ is))
+write_counted A EngineFault.Write result written old mid new told is counted same more small =
+    let one : mid ≡ old + 1 = omega (arith, counted, small) in
+    omega (arith, one, errors_stay written mid new same more (omega (arith, one, small)))
 
 -- a failure of the reader is told as one
 pub read_on : {A B : Type 0} (fault : ReadFault) (result : Result B ReadFault) → IsErrAnd result (λ other. other ≡ fault) → (first : Result A ReadFault) → first ≡ Err fault

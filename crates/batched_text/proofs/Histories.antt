@@ -1,7 +1,8 @@
 -- How many places were dropped, as the run goes on.
-use Rattle.std.proofs.Common.{◌≡◌, sym, ◌∙◌}
+use Rattle.std.proofs.Common.{◌≡◌, List, [], sym, ◌∙◌}
+use Rattle.bohm_base.specs.declared.collecting.Became.{Became}
 use Rattle.engine.specs.Engine.{Run, finished}
-use Rattle.batched_text.specs.History.{KeepsAll, dropped_by}
+use Rattle.batched_text.specs.History.{KeepsAll, NoneWait, dropped_by}
 use Rattle.batched_text.specs.declared.history.History.{History}
 
 -- at first none are, and none are finished
@@ -18,3 +19,8 @@ kept_longer History.Dropped old new same done kept = same ∙ kept ∙ sym done
 pub keeps_all : (history : History) (old new : Run) → new.dropped ≡ old.dropped → old.dropped ≡ dropped_by history old → KeepsAll history new
 keeps_all History.Kept old new same kept = same ∙ kept
 keeps_all History.Dropped old new same kept = tt
+
+-- where no line waits, none does
+pub none_wait : (history : History) (waiting : List Became) → waiting ≡ [] → NoneWait history waiting
+none_wait History.Kept waiting none = tt
+none_wait History.Dropped waiting none = none

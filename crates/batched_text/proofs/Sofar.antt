@@ -11,13 +11,13 @@ use Rattle.report.specs.Report.{IsReport, Reading, accepted, log_of, names_after
 use Rattle.report.proofs.ReportLemmas.{log_of-append, names_after-append}
 use Rattle.report.proofs.Readings.{IsTotal, readings}
 use Rattle.bohm_base.specs.declared.collecting.Became.{Became}
-use Rattle.bohm_base.specs.Collecting.{IsLogOf, ReadsAs, all_became, became, log_text, report_text}
+use Rattle.bohm_base.specs.Collecting.{IsLogOf, ReadsAs, all_became, became, log_text, report_text, with_reading}
 use Rattle.bohm_base.proofs.LinesRead.{collect_step}
 use Rattle.bohm_base.proofs.Logs.{report_is}
 use Rattle.bohm_base.proofs.WholeLogs.{tables_after}
 use Rattle.bohm_base.specs.Pending.{HasBegunReport}
 use Rattle.engine.specs.Engine.{finished}
-use Rattle.batched_text.specs.Batching.{Batched, Deals, lines_text}
+use Rattle.batched_text.specs.Batching.{Batched, BatchedUpTo, Deals, ReportsLines, lines_text}
 use Rattle.batched_text.specs.declared.batching.Batching.{Batching}
 use Rattle.batched_text.specs.Places.{places_in}
 use Rattle.batched_text.proofs.Reports.{longer, parts}
@@ -96,53 +96,99 @@ begun_batched total (Some xs) (Some ys) o n pending log done waiting next so =
     let begins : text ≡ lines_text log 1 0 is.reported ++ rest = report-begins log is.earlier later.0 is.reported waiting is.whole is.made few in
     (text, (report, (rest, (so.0, so.1.0, sym (append_assoc so.0 pending rest) ∙ ap (λ (w : List ℕ). w ++ rest) is.text ∙ sym begins))))
 
--- one more line was dealt with
-pub batched_step : (i j k o n : Option (List ℕ)) (pending line : List ℕ) (reading : Reading) (old new : Batching)
-    → Batched i j o n pending old.engine.log (finished old.engine) old.waiting.items old.number → TookLine j k [] line × HadSome j
-    → ReadsAs line reading → Deals reading old new → IsWithin new
-    → Batched i k o n (pending ++ new.text.items) new.engine.log (finished new.engine) new.waiting.items new.number
-batched_step None j k o n pending line reading old new so took reads deals within = tt
-batched_step (Some xs) None k o n pending line reading old new so took reads deals within = absurd so
-batched_step (Some xs) (Some ys) None o n pending line reading old new so took reads deals within = absurd took.0
-batched_step (Some xs) (Some ys) (Some zs) o n pending line reading old new so took reads deals within =
+-- a line was taken, and waits
+pub batched_taken : (i j k o n : Option (List ℕ)) (pending line : List ℕ) (reading : Reading) (log new : Accepted) (done : ℕ) (waiting : List Became) (next : ℕ)
+    → Batched i j o n pending log done waiting next → TookLine j k [] line × HadSome j → ReadsAs line reading → new ≡ with_reading log reading → IsWhole new
+    → done ≤ length new.statements → Batched i k o n pending new done (waiting ++ became log.names reading ∷ []) (next + 1)
+batched_taken None j k o n pending line reading log new done waiting next so took reads is whole within = tt
+batched_taken (Some xs) None k o n pending line reading log new done waiting next so took reads is whole within = absurd so
+batched_taken (Some xs) (Some ys) None o n pending line reading log new done waiting next so took reads is whole within = absurd took.0
+batched_taken (Some xs) (Some ys) (Some zs) o n pending line reading log new done waiting next so took reads is whole within =
     let was = so.1.1 in
-    let log : Accepted = old.engine.log in
-    let waiting : List Became = old.waiting.items in
-    let left : List Became = new.waiting.items in
-    let text : List ℕ = new.text.items in
-    let put = deals.reports in
     let one : Became = became log.names reading in
-    let step = collect_step (Some xs) (Some ys) (Some zs) log new.engine.log (was.reported ++ waiting) ((was.reported ++ waiting) ++ one ∷ []) line one
-    (was.earlier, (was.leads, was.made)) took (reading, (reads, (refl, deals.log))) refl in
-    let sorted : (was.reported ++ waiting) ++ one ∷ [] ≡ (was.reported ++ put.out) ++ left =
-    append_assoc was.reported waiting (one ∷ []) ∙ ap (λ (ls : List Became). was.reported ++ ls) put.all ∙ sym (append_assoc was.reported put.out left) in
+    let step = collect_step (Some xs) (Some ys) (Some zs) log new (was.reported ++ waiting) ((was.reported ++ waiting) ++ one ∷ []) line one
+    (was.earlier, (was.leads, was.made)) took (reading, (reads, (refl, is))) refl in
     let few : places_in was.reported ≤ length log.statements = omega (arith, was.places, was.within) in
-    let here : put.first ≡ 1 + length was.reported = omega (arith, put.number, deals.number, was.number, length-append waiting (one ∷ [])) in
-    let place : finished old.engine ≡ 0 + places_in was.reported = omega (arith, was.places) in
-    let stays : lines_text new.engine.log 1 0 was.reported ≡ lines_text log 1 0 was.reported =
-    ap (λ (l : Accepted). lines_text l 1 0 was.reported) deals.log
+    let stays : lines_text new 1 0 was.reported ≡ lines_text log 1 0 was.reported =
+    ap (λ (l : Accepted). lines_text l 1 0 was.reported) is
     ∙ ap (λ (ss : List Statement). report_text (log.statements ++ ss) (names_with log.names reading).tables 1 0 was.reported) (sym (append-nil (accepted log.names reading)))
-    ∙ told-longer log (reading ∷ []) was.reported was.whole few in
-    let told : (so.0 ++ pending) ++ text ≡ lines_text new.engine.log 1 0 (was.reported ++ put.out) =
-    ap (λ (w : List ℕ). w ++ text) was.text
-    ∙ ap (λ (w : List ℕ). lines_text log 1 0 was.reported ++ w) put.told
-    ∙ ap (λ (w : List ℕ). w ++ lines_text new.engine.log put.first (finished old.engine) put.out) (sym stays)
-    ∙ ap (λ (m : ℕ). lines_text new.engine.log 1 0 was.reported ++ lines_text new.engine.log m (finished old.engine) put.out) here
-    ∙ ap (λ (p : ℕ). lines_text new.engine.log 1 0 was.reported ++ lines_text new.engine.log (1 + length was.reported) p put.out) place
-    ∙ sym (parts new.engine.log.statements new.engine.log.names.tables 1 0 was.reported put.out) in (
+    ∙ told-longer log (reading ∷ []) was.reported was.whole few in (
       so.0,
       (
         so.1.0,
         record {
           earlier = step.0;
           leads = step.1.0;
-          reported = was.reported ++ put.out;
-          made = subst (λ (ls : List Became). IsLogOf step.0 new.engine.log ls) sorted step.1.1;
-          number = omega (arith, was.number, deals.number, length-append was.reported put.out, length-append waiting (one ∷ []), ap length put.all, length-append put.out left);
-          places = omega (arith, places-append was.reported put.out, was.places, put.places);
-          text = sym (append_assoc so.0 pending text) ∙ told;
-          whole = within.whole;
-          within = within.within;
+          reported = was.reported;
+          made = subst (λ (ls : List Became). IsLogOf step.0 new ls) (append_assoc was.reported waiting (one ∷ [])) step.1.1;
+          number = omega (arith, was.number, length-append waiting (one ∷ []));
+          places = was.places;
+          text = was.text ∙ sym stays;
+          whole = whole;
+          within = within;
         },
       ),
     )
+
+-- the first of the lines that waited are reported behind what was pending
+pub batched_reported : (i j o n : Option (List ℕ)) (log : Accepted) (done_old done_new : ℕ) (lines waiting : List Became) (next : ℕ) (pending_old pending_new : List ℕ)
+    → Batched i j o n pending_old log done_old lines next → ReportsLines log done_old done_new lines waiting next pending_old pending_new
+    → done_new ≤ length log.statements → Batched i j o n pending_new log done_new waiting next
+batched_reported None j o n log done_old done_new lines waiting next pending_old pending_new so put within = tt
+batched_reported (Some xs) None o n log done_old done_new lines waiting next pending_old pending_new so put within = absurd so
+batched_reported (Some xs) (Some ys) o n log done_old done_new lines waiting next pending_old pending_new so put within =
+    let was = so.1.1 in
+    let sorted : was.reported ++ lines ≡ (was.reported ++ put.out) ++ waiting =
+    ap (λ (ls : List Became). was.reported ++ ls) put.all ∙ sym (append_assoc was.reported put.out waiting) in
+    let here : put.first ≡ 1 + length was.reported = omega (arith, put.number, was.number) in
+    let place : done_old ≡ 0 + places_in was.reported = omega (arith, was.places) in
+    let told : so.0 ++ pending_new ≡ lines_text log 1 0 (was.reported ++ put.out) =
+    ap (λ (w : List ℕ). so.0 ++ w) put.told
+    ∙ sym (append_assoc so.0 pending_old (lines_text log put.first done_old put.out))
+    ∙ ap (λ (w : List ℕ). w ++ lines_text log put.first done_old put.out) was.text
+    ∙ ap (λ (m : ℕ). lines_text log 1 0 was.reported ++ lines_text log m done_old put.out) here
+    ∙ ap (λ (p : ℕ). lines_text log 1 0 was.reported ++ lines_text log (1 + length was.reported) p put.out) place
+    ∙ sym (parts log.statements log.names.tables 1 0 was.reported put.out) in (
+      so.0,
+      (
+        so.1.0,
+        record {
+          earlier = was.earlier;
+          leads = was.leads;
+          reported = was.reported ++ put.out;
+          made = subst (λ (ls : List Became). IsLogOf was.earlier log ls) sorted was.made;
+          number = omega (arith, was.number, length-append was.reported put.out, ap length put.all, length-append put.out waiting);
+          places = omega (arith, places-append was.reported put.out, was.places, put.places);
+          text = told;
+          whole = was.whole;
+          within = within;
+        },
+      ),
+    )
+
+-- one more line was dealt with
+pub batched_step : (i j k o n : Option (List ℕ)) (line : List ℕ) (reading : Reading) (old new : Batching)
+    → BatchedUpTo i j o n old → TookLine j k [] line × HadSome j → ReadsAs line reading → Deals reading old new → finished old.engine ≤ length old.engine.log.statements
+    → IsWithin new → BatchedUpTo i k o n new
+batched_step i j k o n line reading old new so took reads deals before within =
+    let log : Accepted = old.engine.log in
+    let lines : List Became = old.waiting.items ++ became log.names reading ∷ [] in
+    let longer : length new.engine.log.statements ≡ length log.statements + length (accepted log.names reading) =
+    ap (λ (l : Accepted). length l.statements) deals.log ∙ length-append log.statements (accepted log.names reading) in
+    let taken : Batched i k o n old.pending.items new.engine.log (finished old.engine) lines (old.number + 1) =
+    batched_taken i j k o n old.pending.items line reading log new.engine.log (finished old.engine) old.waiting.items old.number so took reads deals.log within.whole
+    (omega (arith, before, longer)) in
+    batched_reported i k o n new.engine.log (finished old.engine) (finished new.engine) lines new.waiting.items new.number old.pending.items new.pending.items
+    (subst (λ (m : ℕ). Batched i k o n old.pending.items new.engine.log (finished old.engine) lines m) (sym deals.number) taken)
+    deals.reports within.within
+
+-- the lines that waited were reported, and no other was taken
+pub batched_early : (i j o n : Option (List ℕ)) (old new : Batching) → BatchedUpTo i j o n old → new.engine.log ≡ old.engine.log → new.number ≡ old.number
+    → ReportsLines old.engine.log (finished old.engine) (finished new.engine) old.waiting.items new.waiting.items old.number old.pending.items new.pending.items
+    → IsWithin new → BatchedUpTo i j o n new
+batched_early i j o n old new so log number reports within =
+    let P : Accepted → Type 0 = λ l. Batched i j o n new.pending.items l (finished new.engine) new.waiting.items new.number in
+    let Q : ℕ → Type 0 = λ m. Batched i j o n new.pending.items old.engine.log (finished new.engine) new.waiting.items m in
+    subst P (sym log) (subst Q (sym number)
+    (batched_reported i j o n old.engine.log (finished old.engine) (finished new.engine) old.waiting.items new.waiting.items old.number old.pending.items new.pending.items so reports
+    (omega (arith, within.within, ap (λ (l : Accepted). length l.statements) log))))

@@ -29,15 +29,17 @@ pub record Takes (reading : Reading) (old new : Batching) : Type 0 where
   pub engine : new.engine ≡ record old.engine { log = with_reading old.engine.log reading }
   pub waiting : new.waiting.items ≡ old.waiting.items ++ became old.engine.log.names reading ∷ []
   pub number : new.number ≡ old.number + 1
-  pub text : new.text.items ≡ []
+  pub pending : new.pending.items ≡ old.pending.items
 
--- of some lines, of which the last has the number before this one, the first were reported and the others wait
-pub record ReportsLines (log : Accepted) (done_old done_new : ℕ) (lines waiting : List Became) (next : ℕ) (text : List ℕ) : Type 0 where
+-- of some lines, of which the last has the number before this one, the first were reported behind what was pending, and the others
+-- wait
+pub record ReportsLines (log : Accepted) (done_old done_new : ℕ) (lines waiting : List Became) (next : ℕ)
+    (pending_old pending_new : List ℕ) : Type 0 where
   pub out : List Became
   pub all : lines ≡ out ++ waiting
   pub first : ℕ
   pub number : first + length lines ≡ next
-  pub told : text ≡ lines_text log first done_old out
+  pub told : pending_new ≡ pending_old ++ lines_text log first done_old out
   pub places : done_new ≡ done_old + places_in out
 
 -- a line that was read so was dealt with: it waits for the end of its batch, or its batch was run and is reported
@@ -47,7 +49,7 @@ pub record Deals (reading : Reading) (old new : Batching) : Type 0 where
   pub reports :
       ReportsLines new.engine.log (finished old.engine) (finished new.engine) (old.waiting.items
       ++ became old.engine.log.names reading ∷ [])
-      new.waiting.items new.number new.text.items
+      new.waiting.items new.number old.pending.items new.pending.items
 
 -- the lines that wait are counted, the batches that are finished are full, but where nothing is kept, and the next one isn't
 -- larger than a batch may be
@@ -72,6 +74,7 @@ pub record IsFresh (batching : Batching) : Type 0 where
   pub kept : batching.engine.dropped ≡ 0
   pub nobody : batching.waiting.items ≡ []
   pub number : batching.number ≡ 1
+  pub nothing : batching.pending.items ≡ []
 
 -- a further line can be dealt with
 pub record IsBatchReady (history : History) (settings : Settings) (batching : Batching) (ahead given : ℕ) : Type 0 where
@@ -108,13 +111,17 @@ pub record BatchedStanding : Type 0 where
   pub out : Option (List ℕ)
   pub batching : Batching
 
--- the lines of the input up to where the run stands are reported or wait
-abbrev pub BatchedTo : Option (List ℕ) → Option (List ℕ) → BatchedStanding → Type 0
-BatchedTo input out now =
-    Batched input now.rest out now.out [] now.batching.engine.log
-    (finished now.batching.engine) now.batching.waiting.items now.batching.number
+-- the lines of the input up to where it is now are reported or wait, the end of the report still pending
+abbrev pub BatchedUpTo : Option (List ℕ) → Option (List ℕ) → Option (List ℕ) → Option (List ℕ) → Batching → Type 0
+BatchedUpTo input rest out out_now batching =
+    Batched input rest out out_now batching.pending.items batching.engine.log
+    (finished batching.engine) batching.waiting.items batching.number
 
--- one more line was taken
+-- so it is where the run stands
+abbrev pub BatchedTo : Option (List ℕ) → Option (List ℕ) → BatchedStanding → Type 0
+BatchedTo input out now = BatchedUpTo input now.rest out now.out now.batching
+
+-- one more line was taken, and further ones perhaps
 pub record TakesBatchedLine (history : History) (settings : Settings) (old new : BatchedStanding) : Type 0 where
   pub ready : IsBatchReady history settings new.batching new.ahead new.given
   pub forward : old.given + new.ahead < new.given + old.ahead
@@ -124,25 +131,23 @@ pub record TakesBatchedLine (history : History) (settings : Settings) (old new :
 -- all lines of the input are reported or wait
 abbrev pub Gathers : Option (List ℕ) → Option (List ℕ) → Option (List ℕ) → Batching → Type 0
 Gathers input out_old out_now batching =
-    (rest : Option (List ℕ))
-    × (IsAtEnd rest
-    × Batched input rest out_old out_now [] batching.engine.log (finished batching.engine) batching.waiting.items batching.number)
+    (rest : Option (List ℕ)) × (IsAtEnd rest × BatchedUpTo input rest out_old out_now batching)
 
 -- what a turn came to by its answer, whatever input is batched: one more line was taken, or there was none; and in any case a
--- beginning of the report was written
+-- beginning of the report stands
 pub record BatchedTurn (history : History) (settings : Settings) (result : Result Bool EngineFault)
     (old new : BatchedStanding) : Type 0 where
   pub taken : result ≡ Ok true → TakesBatchedLine history settings old new
   pub room : result ≡ Ok false → IsOpen history settings new.batching
   pub ended : result ≡ Ok false → (input out : Option (List ℕ)) → BatchedTo input out old → Gathers input out new.out new.batching
-  pub begun : (input out : Option (List ℕ)) → BatchedTo input out old → HasBegunReport input out new.out []
+  pub begun : (input out : Option (List ℕ)) → BatchedTo input out old → HasBegunReport input out new.out new.batching.pending.items
 
 -- what the turns to the end of the input came to, whatever input is batched
 pub record EndsBatching (history : History) (settings : Settings) (result : Result (Unit {0}) EngineFault)
     (old : BatchedStanding) (out_now : Option (List ℕ)) (batching : Batching) : Type 0 where
   pub room : result ≡ Ok tt → IsOpen history settings batching
   pub done : result ≡ Ok tt → (input out : Option (List ℕ)) → BatchedTo input out old → Gathers input out out_now batching
-  pub begun : (input out : Option (List ℕ)) → BatchedTo input out old → HasBegunReport input out out_now []
+  pub begun : (input out : Option (List ℕ)) → BatchedTo input out old → HasBegunReport input out out_now batching.pending.items
 
 -- the log is that of the input
 abbrev pub IsLogOfText : Option (List ℕ) → Accepted → Type 0

@@ -1,6 +1,5 @@
 -- Of how many places neither statement nor outcome is kept, and which batches may end before they are full.
-use Rattle.std.specs.Prelude.{◌≡◌, ◌<◌, ◌≤◌, ⊤, ℕ, List, length}
-use Rattle.log_text_base.specs.Lines.{HasLine}
+use Rattle.std.specs.Prelude.{◌≡◌, ◌≤◌, ⊤, ℕ, List, []}
 use Rattle.bohm_base.specs.declared.collecting.Became.{Became}
 use Rattle.engine.specs.Engine.{Run, finished}
 use Rattle.batched_text.specs.Settings.{IsCut, IsTrimmed, mark_behind}
@@ -28,17 +27,7 @@ abbrev pub IsTrimmedBy : History → Settings → Run → Type 0
 IsTrimmedBy History.Kept settings run = IsTrimmed settings run
 IsTrimmedBy History.Dropped settings run = ⊤
 
--- a batch may end before it is full
-abbrev pub EndsEarly : History → Type 0
-EndsEarly History.Kept = ⊥
-EndsEarly History.Dropped = ⊤
-
--- what waits is reported before the next line is read, since the reader is asked for that line: no whole line is at hand
-abbrev pub IsUrgent : History → List ℕ → Type 0
-IsUrgent History.Kept ahead = ⊥
-IsUrgent History.Dropped ahead = ¬ HasLine ahead
-
--- where some lines wait a whole line is at hand, so that the reader isn't asked for the next one
-abbrev pub LinesWait : History → List Became → List ℕ → Type 0
-LinesWait History.Kept waiting ahead = ⊤
-LinesWait History.Dropped waiting ahead = 0 < length waiting → HasLine ahead
+-- where nothing is kept no line waits, so that each is reported before the reader is asked for the next one
+abbrev pub NoneWait : History → List Became → Type 0
+NoneWait History.Kept waiting = ⊤
+NoneWait History.Dropped waiting = waiting ≡ []

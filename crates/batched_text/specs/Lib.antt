@@ -3,3 +3,4 @@ pub mod History
 pub mod Places
 pub mod Batching
 pub mod Faults
+pub mod Foretold

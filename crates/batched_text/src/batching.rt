@@ -1,9 +1,9 @@
 //! Lines that are taken, and run as a batch once there are enough of them.
 
-ghost use Rattle.std.specs.Prelude.{◌≡◌, ◌<◌, ◌≤◌, ◌+◌, ◌-◌, ◌++◌, ◌^◌, ◌||◌, IsTrue, OnOk, [], true, length, if◌then◌else◌, nat_le, nat_lt};
+ghost use Rattle.std.specs.Prelude.{◌≡◌, ◌<◌, ◌≤◌, ◌+◌, ◌-◌, ◌++◌, OnErr, OnOk, [], true, length, if◌then◌else◌, nat_lt};
 ghost use Rattle.engine.specs.Engine.{finished};
-ghost use Rattle.batched_text.specs.Batching.{IsCounted, IsFilling, IsOpen, ReportsLines, lines_text};
-ghost use Rattle.batched_text.specs.History.{EndsEarly, KeepsAll, dropped_by};
+ghost use Rattle.batched_text.specs.Batching.{IsFilling, IsOpen, ReportsLines, lines_text};
+ghost use Rattle.batched_text.specs.History.{KeepsAll, NoneWait, dropped_by};
 ghost use Rattle.batched_text.specs.Settings.{are_within_limits, mark_behind};
 
 use crate::history::History;
@@ -25,8 +25,10 @@ pub(crate) struct Batching {
     pub(crate) waiting: Vec<Became>,
     /// The number of the next line.
     pub(crate) number: u64,
-    /// The report's lines that were made last.
-    pub(crate) text: Vec<u8>,
+    /// The report's lines that weren't written yet.
+    pub(crate) pending: Vec<u8>,
+    /// Where the report's lines of a batch are made.
+    text: Vec<u8>,
 }
 
 impl Batching {
@@ -42,6 +44,7 @@ impl Batching {
             engine,
             waiting: Vec::new(alloc),
             number: 1,
+            pending: Vec::new(alloc),
             text: Vec::new(alloc),
         }
     }
@@ -105,8 +108,8 @@ fn forget_finished(engine: &mut Engine, history: History)
     }
 }
 
-/// Runs the places that wait as a batch, trims the rows behind it, and makes the report's lines for the waiting lines. Then what is
-/// finished is forgotten, unless all of it is kept.
+/// Runs the places that wait as a batch, trims the rows behind it, and appends the report's lines for the waiting lines to what is
+/// pending. Then what is finished is forgotten, unless all of it is kept. On `Err` memory was refused, and what was pending is.
 pub(crate) fn report_batch<T: Threads + Wait + Sync>(
     rt: &T,
     alloc: Global,
@@ -118,8 +121,9 @@ pub(crate) fn report_batch<T: Threads + Wait + Sync>(
     requires filling { IsFilling history settings.now batching.old }
     requires kept { batching.old.engine.dropped ≡ dropped_by history batching.old.engine }
     ensures kept { OnOk result (batching.new.engine.dropped ≡ dropped_by history batching.new.engine) }
-    ensures text { OnOk result (batching.new.text.items ≡ lines_text batching.old.engine.log
+    ensures told { OnOk result (batching.new.pending.items ≡ batching.old.pending.items ++ lines_text batching.old.engine.log
         (batching.old.number - length batching.old.waiting.items) (finished batching.old.engine) batching.old.waiting.items) }
+    ensures err { OnErr result (batching.new.pending.items ≡ batching.old.pending.items) }
     ensures left { OnOk result (batching.new.waiting.items ≡ []) }
     ensures log { OnOk result (batching.new.engine.log ≡ batching.old.engine.log) }
     ensures number { OnOk result (batching.new.number ≡ batching.old.number) }
@@ -129,10 +133,10 @@ pub(crate) fn report_batch<T: Threads + Wait + Sync>(
         then mark_behind settings.now (finished batching.old.engine) (length batching.old.engine.log.statements)
         else batching.old.engine.store.mark)) }
 {
-    batching.text.clear();
     let place = batching.engine.finished();
     run_waiting(rt, alloc, &mut batching.engine, settings)?;
     let first = batching.number - batching.waiting.len() as u64;
+    batching.text.clear();
     put_lines(
         &mut batching.text,
         &batching.engine,
@@ -140,43 +144,60 @@ pub(crate) fn report_batch<T: Threads + Wait + Sync>(
         place,
         &batching.waiting,
     )?;
+    batching.pending.extend_from_slice(&batching.text)?;
     batching.waiting.clear();
     forget_finished(&mut batching.engine, history);
     Ok(())
 }
 
-/// Whether a batch ends of which so many places wait: it is full, or what waits is urgent.
-fn is_due(waiting: u64, settings: &Settings, urgent: bool) -> bool
-    ensures { result ≡ (urgent || nat_le settings.now.batch waiting) }
-{
-    urgent || waiting >= settings.batch
-}
-
-/// Reports the waiting lines if their batch is full, or if they are urgent, which they are only where nothing is kept.
-pub(crate) fn report_due<T: Threads + Wait + Sync>(
+/// Reports the waiting lines, as `report_batch`, if their batch is full.
+pub(crate) fn report_full<T: Threads + Wait + Sync>(
     rt: &T,
     alloc: Global,
     batching: &mut Batching,
     settings: &Settings,
     history: History,
-    urgent: bool,
 ) -> Result<(), AllocError>
     requires settings { are_within_limits settings.now ≡ true }
     requires filling { IsFilling history settings.now batching.old }
     requires kept { batching.old.engine.dropped ≡ dropped_by history batching.old.engine }
-    requires empty { batching.old.text.items ≡ [] }
-    requires early { IsTrue urgent → EndsEarly history }
     ensures reports { OnOk result (ReportsLines batching.old.engine.log (finished batching.old.engine) (finished batching.new.engine)
-        batching.old.waiting.items batching.new.waiting.items batching.old.number batching.new.text.items) }
+        batching.old.waiting.items batching.new.waiting.items batching.old.number batching.old.pending.items batching.new.pending.items) }
     ensures log { OnOk result (batching.new.engine.log ≡ batching.old.engine.log) }
     ensures number { OnOk result (batching.new.number ≡ batching.old.number) }
     ensures room { OnOk result (IsOpen history settings.now batching.new) }
-    ensures none { IsTrue urgent → OnOk result (batching.new.waiting.items ≡ []) }
     ensures kept { OnOk result (batching.new.engine.dropped ≡ dropped_by history batching.new.engine) }
+    ensures err { OnErr result (batching.new.pending.items ≡ batching.old.pending.items) }
 {
     let waiting = batching.engine.log().len() - batching.engine.finished();
-    if is_due(waiting, settings, urgent) {
+    if waiting >= settings.batch {
         report_batch(rt, alloc, batching, settings, history)?;
     }
     Ok(())
+}
+
+/// Reports the waiting lines, as `report_batch`, though their batch isn't full, unless all that is finished is kept.
+pub(crate) fn report_early<T: Threads + Wait + Sync>(
+    rt: &T,
+    alloc: Global,
+    batching: &mut Batching,
+    settings: &Settings,
+    history: History,
+) -> Result<(), AllocError>
+    requires settings { are_within_limits settings.now ≡ true }
+    requires room { IsOpen history settings.now batching.old }
+    requires kept { batching.old.engine.dropped ≡ dropped_by history batching.old.engine }
+    ensures reports { OnOk result (ReportsLines batching.old.engine.log (finished batching.old.engine) (finished batching.new.engine)
+        batching.old.waiting.items batching.new.waiting.items batching.old.number batching.old.pending.items batching.new.pending.items) }
+    ensures log { OnOk result (batching.new.engine.log ≡ batching.old.engine.log) }
+    ensures number { OnOk result (batching.new.number ≡ batching.old.number) }
+    ensures room { OnOk result (IsOpen history settings.now batching.new) }
+    ensures kept { OnOk result (batching.new.engine.dropped ≡ dropped_by history batching.new.engine) }
+    ensures none { OnOk result (NoneWait history batching.new.waiting.items) }
+    ensures err { OnErr result (batching.new.pending.items ≡ batching.old.pending.items) }
+{
+    match history {
+        History::Kept => Ok(()),
+        History::Dropped => report_batch(rt, alloc, batching, settings, history),
+    }
 }

@@ -5,16 +5,20 @@
 #![tactic(auto)]
 
 mod batching;
+mod foretold;
 mod history;
 mod laws;
 mod lines;
+mod lookahead;
 mod quiet;
 mod reporting;
 mod running;
 mod settings;
+mod stretches;
 
 pub use laws::reports_stand;
+pub use lookahead::ReadingAhead;
 pub use quiet::run_quietly;
 pub use reporting::put_place;
-pub use running::{report_text, run_text};
+pub use running::{report_in_order, report_text, run_text};
 pub use settings::Settings;

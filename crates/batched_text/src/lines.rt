@@ -1,36 +1,38 @@
 //! A line, taken into the log of an engine.
 
-ghost use Rattle.std.specs.Prelude.{◌≡◌, ◌≢◌, ◌<◌, ◌-◌, ◌^◌, Err, IfOk, IfErr, IsTrue, List, OnOk, false, true};
+ghost use Rattle.std.specs.Prelude.{◌≡◌, ◌≢◌, ◌<◌, ◌-◌, ◌^◌, Err, IfOk, IfErr, OnErr, OnOk, true};
 ghost use Rattle.std.specs.Result.{ForOk};
-ghost use Rattle.log_text_base.specs.Ahead.{ahead, found_line};
 ghost use Rattle.log_text.specs.Statement.{IsInGrammar};
 ghost use Rattle.report.specs.Report.{Reading, read};
-ghost use Rattle.bohm_base.specs.declared.collecting.Became.{Became};
 ghost use Rattle.bohm_base.specs.Collecting.{ReadsAs, became, reading_of, with_reading};
 ghost use Rattle.engine.specs.Engine.{finished};
 ghost use Rattle.batched_text.specs.Batching.{Deals, IsOpen, Takes};
-ghost use Rattle.batched_text.specs.History.{IsUrgent, LinesWait, dropped_by};
+ghost use Rattle.batched_text.specs.History.{dropped_by};
 ghost use Rattle.batched_text.specs.Settings.{are_within_limits};
 
-use crate::batching::{Batching, report_due};
+use crate::batching::{Batching, report_full};
 use crate::history::History;
 use crate::settings::Settings;
 use bohm_base::{Became, EngineFault, faulty_line, refused_line};
 use engine::Engine;
-use log_text::{LineFault, RawStatement, parse_line};
-use log_text_base::LineReader;
+use log_text::{LineFault, RawRoom, RawStatement, read_line};
 use std::alloc::Global;
 use std::sync::Wait;
 use std::thread::Threads;
 
 /// Takes a statement into the log if it is not refused, and says what its line became.
-fn take_statement(engine: &mut Engine, statement: RawStatement<'_>) -> Result<Became, EngineFault>
+#[inline(always)]
+fn take_statement<'a>(
+    engine: &mut Engine,
+    statement: RawStatement<'a>,
+    raw: &mut RawRoom<'a>,
+) -> Result<Became, EngineFault>
     requires { IsInGrammar statement }
     ensures line { IfOk result (λ line. line ≡ became engine.old.log.names (read statement.entry)) }
     ensures engine { OnOk result (engine.new ≡ record engine.old { log = with_reading engine.old.log (read statement.entry) }) }
     ensures err { IfErr result (λ f. f ≡ EngineFault.NoMemory) }
 {
-    match engine.push(statement) {
+    match engine.push_lent(statement, raw) {
         Ok(_) => Ok(Became::Accepted),
         Err(refused) => {
             let line = refused_line(refused)?;
@@ -40,9 +42,11 @@ fn take_statement(engine: &mut Engine, statement: RawStatement<'_>) -> Result<Be
 }
 
 /// Takes the statement that a line was read as into the log if it is one that is not refused, and says what the line became.
-pub(crate) fn take_read(
+#[inline(always)]
+pub(crate) fn take_read<'a>(
     engine: &mut Engine,
-    found: Result<RawStatement<'_>, LineFault>,
+    found: Result<RawStatement<'a>, LineFault>,
+    raw: &mut RawRoom<'a>,
 ) -> Result<Became, EngineFault>
     requires { ForOk found IsInGrammar }
     ensures line { IfOk result (λ line. line ≡ became engine.old.log.names (reading_of found.entry)) }
@@ -52,7 +56,7 @@ pub(crate) fn take_read(
 {
     match found {
         Ok(statement) => {
-            let line = take_statement(engine, statement)?;
+            let line = take_statement(engine, statement, raw)?;
             Ok(line)
         }
         Err(fault) => {
@@ -62,57 +66,50 @@ pub(crate) fn take_read(
     }
 }
 
-/// Reads a line, and takes its statement into the log if it is one that is not refused. Then the line waits.
-fn take_line(alloc: Global, batching: &mut Batching, line: &[u8]) -> Result<(), EngineFault>
+/// Reads a line, and takes its statement into the log if it is one that is not refused. Then the line waits. What the line reads as
+/// takes the room that is lent.
+pub(crate) fn take_line<'a>(
+    alloc: Global,
+    batching: &mut Batching,
+    line: &'a [u8],
+    raw: &mut RawRoom<'a>,
+) -> Result<(), EngineFault>
     requires { batching.old.number < 2 ^ 64 - 1 }
     ensures ok { OnOk result ((reading : Reading) × (ReadsAs line.now reading × Takes reading batching.old batching.new)) }
     ensures kept { OnOk result ((batching.new.engine.dropped ≡ batching.old.engine.dropped)
         × (finished batching.new.engine ≡ finished batching.old.engine)) }
+    ensures pending { batching.new.pending.items ≡ batching.old.pending.items }
     ensures err { IfErr result (λ f. f ≡ EngineFault.NoMemory) }
 {
-    batching.text.clear();
-    let found = parse_line(alloc, line);
-    let line = take_read(&mut batching.engine, found)?;
+    let found = read_line(alloc, line, raw);
+    let line = take_read(&mut batching.engine, found, raw)?;
     batching.waiting.push(line)?;
     batching.number += 1;
     Ok(())
 }
 
-/// Whether what waits is to be reported before the next line is read. So it is where nothing is kept and no whole line is
-/// at hand, since the reader is asked for the next line then.
-fn is_urgent(history: History, lines: &LineReader) -> bool
-    ensures urgent { IsTrue result → IsUrgent history (ahead lines.now) }
-    ensures calm { result ≡ false → (waiting : List Became) → LinesWait history waiting (ahead lines.now) }
-{
-    match history {
-        History::Kept => false,
-        History::Dropped => !lines.has_line(),
-    }
-}
-
-/// Takes the line that was found, and makes the report's lines for the waiting lines if their batch is full, or if no whole
-/// line is at hand and nothing is kept.
-pub(crate) fn deal<T: Threads + Wait + Sync>(
+/// Takes a line, as `take_line`, and reports the waiting lines if their batch is full. On `Err` what was pending is.
+pub(crate) fn deal<'a, T: Threads + Wait + Sync>(
     rt: &T,
     alloc: Global,
     batching: &mut Batching,
     settings: &Settings,
     history: History,
-    lines: &LineReader,
+    line: &'a [u8],
+    raw: &mut RawRoom<'a>,
 ) -> Result<(), EngineFault>
     requires settings { are_within_limits settings.now ≡ true }
     requires room { IsOpen history settings.now batching.old }
     requires kept { batching.old.engine.dropped ≡ dropped_by history batching.old.engine }
     requires number { batching.old.number < 2 ^ 64 - 1 }
-    ensures dealt { OnOk result ((reading : Reading) × (ReadsAs (found_line lines.now) reading × Deals reading batching.old batching.new)) }
+    ensures dealt { OnOk result ((reading : Reading) × (ReadsAs line.now reading × Deals reading batching.old batching.new)) }
     ensures room { OnOk result (IsOpen history settings.now batching.new) }
-    ensures waits { OnOk result (LinesWait history batching.new.waiting.items (ahead lines.now)) }
     ensures kept { OnOk result (batching.new.engine.dropped ≡ dropped_by history batching.new.engine) }
+    ensures pending { OnErr result (batching.new.pending.items ≡ batching.old.pending.items) }
     ensures err { IfErr result (λ f. f ≡ EngineFault.NoMemory) }
 {
-    take_line(alloc, batching, lines.line())?;
+    take_line(alloc, batching, line, raw)?;
     let _dropped = batching.engine.log().dropped();
-    let urgent = is_urgent(history, lines);
-    report_due(rt, alloc, batching, settings, history, urgent)?;
+    report_full(rt, alloc, batching, settings, history)?;
     Ok(())
 }

@@ -11,7 +11,7 @@ ghost use Rattle.batched_text.specs.Batching.{IsLogOfText};
 use crate::batching::trim_to;
 use crate::lines::take_read;
 use engine::{Crew, Engine};
-use log_text::parse_line;
+use log_text::{RawRoom, read_line};
 use log_text_base::{Counted, LineReader, ReadFault};
 use std::alloc::{AllocError, Global};
 use std::io::Read;
@@ -27,8 +27,9 @@ fn take_quietly(alloc: Global, engine: &mut Engine, line: &[u8]) -> Result<(), A
     ensures { OnOk result ((reading : Reading) × (ReadsAs line.now reading
         × (engine.new ≡ record engine.old { log = with_reading engine.old.log reading }))) }
 {
-    let found = parse_line(alloc, line);
-    match take_read(engine, found) {
+    let mut raw = RawRoom::new(alloc);
+    let found = read_line(alloc, line, &mut raw);
+    match take_read(engine, found, &mut raw) {
         Ok(_line) => Ok(()),
         Err(_fault) => Err(AllocError),
     }

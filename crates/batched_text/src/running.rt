@@ -1,43 +1,65 @@
 //! A log, read, run in batches, and reported as batches finish.
 
-ghost use Rattle.std.specs.Prelude.{◌≡◌, ◌≢◌, ◌<◌, ◌≤◌, ◌+◌, ◌-◌, ◌^◌, ◌↔◌, ℕ, [], false, true, List, IfErr, IfOk, IfSome, MatchBool, OnErr, OnOk, Err, length};
+ghost use Rattle.std.specs.Prelude.{◌≡◌, ◌≢◌, ◌<◌, ◌≤◌, ◌+◌, ◌-◌, ◌^◌, ◌↔◌, ℕ, [], false, true, List, Option, IfErr, IfOk, IfSome, MatchBool, OnOk, Err, Ok, length};
 ghost use Rattle.std.specs.Io.KnownBytes.{Appends, IsAtEnd, prepend_known};
 ghost use Rattle.log_text_base.specs.Ahead.{ahead, found_line};
 ghost use Rattle.log_text_base.specs.Known.{AppendsFront, HadSome, TookLine, raised};
 ghost use Rattle.report.specs.Report.{IsReport};
 ghost use Rattle.bohm_base.specs.Faults.{read_errors, write_errors};
 ghost use Rattle.bohm_base.specs.Pending.{HasBegunReport, HasReport};
+ghost use Rattle.sequencer.specs.Foretelling.{Begins};
 ghost use Rattle.engine.specs.Engine.{finished};
-ghost use Rattle.batched_text.specs.Batching.{EndsBatching, Gathers, IsFresh, IsLogOfText, IsOpen, IsBatchReady, BatchedTurn};
+ghost use Rattle.batched_text.specs.Batching.{BatchedTurn, EndsBatching, Gathers, IsBatchReady, IsFresh, IsLogOfText, IsOpen};
 ghost use Rattle.batched_text.specs.Faults.{of_text};
-ghost use Rattle.batched_text.specs.History.{IsTrimmedBy, LinesWait, dropped_by};
+ghost use Rattle.batched_text.specs.Foretold.{Runs, log_names};
+ghost use Rattle.batched_text.specs.History.{IsTrimmedBy, NoneWait, dropped_by};
 ghost use Rattle.batched_text.specs.Settings.{IsTrimmed, are_within_limits};
 
-use crate::batching::{Batching, report_batch};
+use crate::batching::{Batching, report_batch, report_early};
+use crate::foretold::report_until;
 use crate::history::History;
 use crate::lines::deal;
+use crate::lookahead::{Lookahead, ReadingAhead, report_stretch};
 use crate::settings::{Settings, are_within_limits};
-use bohm_base::Became;
+use bohm_base::{Became, EngineFault as TextFault};
 use engine::{Engine, EngineFault};
+use log_text::RawRoom;
 use log_text_base::{
-    BUFFER_BYTES, Counted, LineReader, MOST_GIVEN_BYTES, ReadFault, flush, write_out,
+    BUFFER_BYTES, Counted, LineReader, MOST_GIVEN_BYTES, ReadFault, flush, write_out, write_pending,
 };
-use std::alloc::Global;
+use std::alloc::{AllocError, Global};
 use std::io::{Read, Write};
 use std::sync::Wait;
 use std::thread::Threads;
 
-/// Finds the next line, as `LineReader::next_line`. Where nothing is kept it is called only while no line waits, or with a
-/// whole line at hand: while lines wait, the reader isn't asked.
+/// Each line is read in its turn.
+const NONE_AHEAD: ReadingAhead = ReadingAhead {
+    threads: 0,
+    least: 0,
+    stretch: 0,
+    piece: 0,
+};
+
+/// Batches that are run in order, of which nothing is kept.
+const IN_ORDER: Settings = Settings {
+    workers: 1,
+    partitions: 1,
+    batch: 64,
+    keep: 0,
+};
+
+/// Finds the next line, as `LineReader::next_line`. It is called only while nothing of the report is pending and, where nothing is
+/// kept, while no line waits: so each line is answered before the reader is asked for the next one.
 fn next_line<R: Read>(
     reader: &mut Counted<R>,
     lines: &mut LineReader,
     history: History,
     waiting: &[Became],
+    pending: &[u8],
 ) -> Result<bool, ReadFault>
-    requires waits { LinesWait history waiting.now (ahead lines.old) }
+    requires none { NoneWait history waiting.now }
+    requires nothing { pending.now ≡ [] }
     requires bounded { 0 < length (ahead lines.old) → reader.old.given ≤ MOST_GIVEN_BYTES + BUFFER_BYTES }
-    ensures waits { history ≡ History.Dropped → 0 < length waiting.now → reader.new ≡ reader.old }
     ensures line { IfOk result (λ found. MatchBool found
         (TookLine (prepend_known (ahead lines.old) (R.remaining reader.old.inner))
         (prepend_known (ahead lines.new) (R.remaining reader.new.inner))
@@ -50,29 +72,149 @@ fn next_line<R: Read>(
         ((reader.old.given + length (ahead lines.new) < reader.new.given + length (ahead lines.old))
         × (reader.new.given ≤ MOST_GIVEN_BYTES + BUFFER_BYTES))
         (reader.new.given ≡ reader.old.given)) }
-    ensures bound { 0 < length (ahead lines.new) → reader.new.given ≤ MOST_GIVEN_BYTES + BUFFER_BYTES }
 {
     lines.next_line(reader)
 }
 
-/// Takes the next line, and if its batch ends with it runs it and writes the report's lines for it. False at the end of the
-/// input. A batch ends where it is full, and where nothing is kept also where no whole line is at hand.
-fn report_line<T: Threads + Wait + Sync, R: Read, W: Write>(
+/// Takes the next line, and reports its batch if that is full. False at the end of the input.
+fn report_line<T: Threads + Wait + Sync, R: Read>(
+    rt: &T,
+    alloc: Global,
+    reader: &mut Counted<R>,
+    lines: &mut LineReader,
+    batching: &mut Batching,
+    settings: &Settings,
+    history: History,
+) -> Result<bool, TextFault>
+    requires settings { are_within_limits settings.now ≡ true }
+    requires ready { IsBatchReady history settings.now batching.old (length (ahead lines.old)) reader.old.given }
+    requires nothing { batching.old.pending.items ≡ [] }
+    requires none { NoneWait history batching.old.waiting.items }
+    requires kept { batching.old.engine.dropped ≡ dropped_by history batching.old.engine }
+    ensures kept { OnOk result (batching.new.engine.dropped ≡ dropped_by history batching.new.engine) }
+    ensures turn { (held : Option (List ℕ)) → BatchedTurn history settings.now result
+        (record {
+          rest = prepend_known (ahead lines.old) (R.remaining reader.old.inner);
+          ahead = length (ahead lines.old);
+          given = reader.old.given;
+          out = held;
+          batching = batching.old;
+        })
+        (record {
+          rest = prepend_known (ahead lines.new) (R.remaining reader.new.inner);
+          ahead = length (ahead lines.new);
+          given = reader.new.given;
+          out = held;
+          batching = batching.new;
+        }) }
+    ensures reads { reader.new.errors ≡ read_errors result reader.old.errors }
+    ensures begins { OnOk result (Begins (log_names batching.old) (log_names batching.new)) }
+    ensures err { IfErr result (λ f. f ≢ TextFault.Write) }
+{
+    if !next_line(reader, lines, history, &batching.waiting, &batching.pending)? {
+        return Ok(false);
+    }
+    let mut raw = RawRoom::new(alloc);
+    deal(
+        rt,
+        alloc,
+        batching,
+        settings,
+        history,
+        lines.line(),
+        &mut raw,
+    )?;
+    Ok(true)
+}
+
+/// Deals with whole lines at the front of the bytes: a stretch of them, with lines read before their turn, where threads are to do so
+/// and it pays, and otherwise all of them, which share one room. It returns how many bytes those lines are.
+fn deal_at_hand<T: Threads + Wait + Sync>(
+    rt: &T,
+    alloc: Global,
+    lookahead: &mut Lookahead,
+    batching: &mut Batching,
+    settings: &Settings,
+    history: History,
+    bytes: &[u8],
+    given: u64,
+) -> Result<usize, TextFault>
+    requires settings { are_within_limits settings.now ≡ true }
+    requires begins { Begins lookahead.old.names (log_names batching.old) }
+    requires ready { IsBatchReady history settings.now batching.old (length bytes.now) given }
+    requires kept { batching.old.engine.dropped ≡ dropped_by history batching.old.engine }
+    ensures runs { Runs history settings.now bytes.now given 0 batching.old batching.new result }
+    ensures names { OnOk result (Begins lookahead.new.names (log_names batching.new)) }
+{
+    if lookahead.is_for(bytes.len()) {
+        return report_stretch(
+            rt, alloc, lookahead, batching, settings, history, bytes, given,
+        );
+    }
+    let mut raw = RawRoom::new(alloc);
+    report_until(
+        rt,
+        alloc,
+        batching,
+        settings,
+        history,
+        bytes,
+        0,
+        bytes.len(),
+        given,
+        &mut raw,
+    )
+}
+
+/// Deals with whole lines at the front of the bytes, as `deal_at_hand`. Then it reports the lines that wait, unless all is kept.
+fn report_at_hand<T: Threads + Wait + Sync>(
+    rt: &T,
+    alloc: Global,
+    lookahead: &mut Lookahead,
+    batching: &mut Batching,
+    settings: &Settings,
+    history: History,
+    bytes: &[u8],
+    given: u64,
+) -> Result<usize, TextFault>
+    requires settings { are_within_limits settings.now ≡ true }
+    requires begins { Begins lookahead.old.names (log_names batching.old) }
+    requires ready { IsBatchReady history settings.now batching.old (length bytes.now) given }
+    requires kept { batching.old.engine.dropped ≡ dropped_by history batching.old.engine }
+    ensures runs { Runs history settings.now bytes.now given 0 batching.old batching.new result }
+    ensures names { OnOk result (Begins lookahead.new.names (log_names batching.new)) }
+    ensures none { OnOk result (NoneWait history batching.new.waiting.items) }
+{
+    let taken = deal_at_hand(
+        rt, alloc, lookahead, batching, settings, history, bytes, given,
+    )?;
+    report_early(rt, alloc, batching, settings, history)?;
+    Ok(taken)
+}
+
+/// Takes the next line, as `report_line`, and then the whole lines at hand, as `report_at_hand`. Then it writes what is pending of the
+/// report.
+fn report_turn<T: Threads + Wait + Sync, R: Read, W: Write>(
     rt: &T,
     alloc: Global,
     reader: &mut Counted<R>,
     writer: &mut Counted<W>,
     lines: &mut LineReader,
+    lookahead: &mut Lookahead,
     batching: &mut Batching,
     settings: &Settings,
     history: History,
-) -> Result<bool, bohm_base::EngineFault>
+) -> Result<bool, TextFault>
     requires settings { are_within_limits settings.now ≡ true }
     requires ready { IsBatchReady history settings.now batching.old (length (ahead lines.old)) reader.old.given }
-    requires waits { LinesWait history batching.old.waiting.items (ahead lines.old) }
+    requires nothing { batching.old.pending.items ≡ [] }
+    requires none { NoneWait history batching.old.waiting.items }
     requires kept { batching.old.engine.dropped ≡ dropped_by history batching.old.engine }
+    requires begins { Begins lookahead.old.names (log_names batching.old) }
     ensures kept { OnOk result (batching.new.engine.dropped ≡ dropped_by history batching.new.engine) }
-    ensures waits { result ≡ Ok true → LinesWait history batching.new.waiting.items (ahead lines.new) }
+    ensures names { result ≡ Ok true → Begins lookahead.new.names (log_names batching.new) }
+    ensures nothing { result ≡ Ok true → batching.new.pending.items ≡ [] }
+    ensures none { result ≡ Ok true → NoneWait history batching.new.waiting.items }
     ensures turn { BatchedTurn history settings.now result
         (record {
           rest = prepend_known (ahead lines.old) (R.remaining reader.old.inner);
@@ -91,29 +233,43 @@ fn report_line<T: Threads + Wait + Sync, R: Read, W: Write>(
     ensures reads { reader.new.errors ≡ read_errors result reader.old.errors }
     ensures writes { writer.new.errors ≡ write_errors result writer.old.errors }
 {
-    if !next_line(reader, lines, history, batching.waiting.as_slice())? {
+    if !report_line(rt, alloc, reader, lines, batching, settings, history)? {
         return Ok(false);
     }
-    deal(rt, alloc, batching, settings, history, lines)?;
-    write_out(writer, &batching.text)?;
+    let bytes = lines.bytes_ahead();
+    let taken = report_at_hand(
+        rt,
+        alloc,
+        lookahead,
+        batching,
+        settings,
+        history,
+        bytes,
+        reader.given,
+    )?;
+    lines.take_ahead(taken);
+    write_pending(writer, &mut batching.pending)?;
     Ok(true)
 }
 
-/// Takes lines to the end of the input, as `report_line`.
+/// Takes lines to the end of the input, as `report_turn`.
 fn report_rest<T: Threads + Wait + Sync, R: Read, W: Write>(
     rt: &T,
     alloc: Global,
     reader: &mut Counted<R>,
     writer: &mut Counted<W>,
     lines: &mut LineReader,
+    lookahead: &mut Lookahead,
     batching: &mut Batching,
     settings: &Settings,
     history: History,
-) -> Result<(), bohm_base::EngineFault>
+) -> Result<(), TextFault>
     requires settings { are_within_limits settings.now ≡ true }
     requires ready { IsBatchReady history settings.now batching.old (length (ahead lines.old)) reader.old.given }
-    requires waits { LinesWait history batching.old.waiting.items (ahead lines.old) }
+    requires nothing { batching.old.pending.items ≡ [] }
+    requires none { NoneWait history batching.old.waiting.items }
     requires kept { batching.old.engine.dropped ≡ dropped_by history batching.old.engine }
+    requires begins { Begins lookahead.old.names (log_names batching.old) }
     ensures kept { OnOk result (batching.new.engine.dropped ≡ dropped_by history batching.new.engine) }
     ensures ends { EndsBatching history settings.now result
         (record {
@@ -127,10 +283,20 @@ fn report_rest<T: Threads + Wait + Sync, R: Read, W: Write>(
     ensures reads { reader.new.errors ≡ read_errors result reader.old.errors }
     ensures writes { writer.new.errors ≡ write_errors result writer.old.errors }
 {
-    'lines: while report_line(
-        rt, alloc, reader, writer, lines, batching, settings, history,
+    'lines: while report_turn(
+        rt, alloc, reader, writer, lines, lookahead, batching, settings, history,
     )? {}
     Ok(())
+}
+
+/// A reader of lines, which reads much at once where threads read lines before their turn.
+fn lines_for(alloc: Global, reading: ReadingAhead) -> Result<LineReader, AllocError>
+    ensures { IfOk result (λ lines. ahead lines ≡ []) }
+{
+    if reading.threads > 0 {
+        return LineReader::growing(alloc);
+    }
+    LineReader::new(alloc)
 }
 
 /// Takes the lines of the input from the first to the last, and runs and reports each batch as it is full.
@@ -142,7 +308,8 @@ fn report_lines<T: Threads + Wait + Sync, R: Read, W: Write>(
     batching: &mut Batching,
     settings: &Settings,
     history: History,
-) -> Result<(), bohm_base::EngineFault>
+    reading: ReadingAhead,
+) -> Result<(), TextFault>
     requires settings { are_within_limits settings.now ≡ true }
     requires first { IsFresh batching.old }
     requires kept { batching.old.engine.dropped ≡ dropped_by history batching.old.engine }
@@ -150,17 +317,27 @@ fn report_lines<T: Threads + Wait + Sync, R: Read, W: Write>(
     ensures room { OnOk result (IsOpen history settings.now batching.new) }
     ensures done { OnOk result (Gathers (R.remaining reader.old.inner) (W.contents writer.old.inner)
         (W.contents writer.new.inner) batching.new) }
-    ensures begun { HasBegunReport (R.remaining reader.old.inner) (W.contents writer.old.inner) (W.contents writer.new.inner) [] }
+    ensures begun { HasBegunReport (R.remaining reader.old.inner) (W.contents writer.old.inner) (W.contents writer.new.inner)
+        batching.new.pending.items }
     ensures reads { reader.new.errors ≡ read_errors result reader.old.errors }
     ensures writes { writer.new.errors ≡ write_errors result writer.old.errors }
 {
-    let mut lines = LineReader::new(alloc)?;
+    let mut lines = lines_for(alloc, reading)?;
+    let mut lookahead = Lookahead::new(alloc, reading);
     report_rest(
-        rt, alloc, reader, writer, &mut lines, batching, settings, history,
+        rt,
+        alloc,
+        reader,
+        writer,
+        &mut lines,
+        &mut lookahead,
+        batching,
+        settings,
+        history,
     )
 }
 
-/// Takes the lines of the input, and runs and reports all of it.
+/// Takes the lines of the input, and runs and reports all of it, the end of the report still pending.
 fn report_all<T: Threads + Wait + Sync, R: Read, W: Write>(
     rt: &T,
     alloc: Global,
@@ -169,7 +346,8 @@ fn report_all<T: Threads + Wait + Sync, R: Read, W: Write>(
     batching: &mut Batching,
     settings: &Settings,
     history: History,
-) -> Result<(), bohm_base::EngineFault>
+    reading: ReadingAhead,
+) -> Result<(), TextFault>
     requires settings { are_within_limits settings.now ≡ true }
     requires first { IsFresh batching.old }
     requires kept { batching.old.engine.dropped ≡ dropped_by history batching.old.engine }
@@ -177,18 +355,22 @@ fn report_all<T: Threads + Wait + Sync, R: Read, W: Write>(
     ensures log { OnOk result (IsLogOfText (R.remaining reader.old.inner) batching.new.engine.log) }
     ensures all { OnOk result (finished batching.new.engine ≡ length batching.new.engine.log.statements) }
     ensures trimmed { OnOk result (IsTrimmedBy history settings.now batching.new.engine) }
-    ensures done { OnOk result (HasReport (R.remaining reader.old.inner) (W.contents writer.old.inner) (W.contents writer.new.inner) []) }
-    ensures begun { HasBegunReport (R.remaining reader.old.inner) (W.contents writer.old.inner) (W.contents writer.new.inner) [] }
+    ensures done { OnOk result (HasReport (R.remaining reader.old.inner) (W.contents writer.old.inner) (W.contents writer.new.inner)
+        batching.new.pending.items) }
+    ensures begun { HasBegunReport (R.remaining reader.old.inner) (W.contents writer.old.inner) (W.contents writer.new.inner)
+        batching.new.pending.items }
     ensures reads { reader.new.errors ≡ read_errors result reader.old.errors }
     ensures writes { writer.new.errors ≡ write_errors result writer.old.errors }
 {
-    report_lines(rt, alloc, reader, writer, batching, settings, history)?;
+    report_lines(
+        rt, alloc, reader, writer, batching, settings, history, reading,
+    )?;
     report_batch(rt, alloc, batching, settings, history)?;
-    write_out(writer, &batching.text)?;
     Ok(())
 }
 
-/// Reads a log to its end, runs it in batches, and writes its report; then the writer is flushed.
+/// Reads a log to its end, runs it in batches, and writes its report, at a fault as much of it as was made; then the writer is
+/// flushed.
 fn run_batches<T: Threads + Wait + Sync, R: Read, W: Write>(
     rt: &T,
     alloc: Global,
@@ -196,7 +378,8 @@ fn run_batches<T: Threads + Wait + Sync, R: Read, W: Write>(
     writer: &mut Counted<W>,
     settings: &Settings,
     history: History,
-) -> Result<Engine, bohm_base::EngineFault>
+    reading: ReadingAhead,
+) -> Result<Engine, TextFault>
     requires { are_within_limits settings.now ≡ true }
     ensures log { IfOk result (λ engine. IsLogOfText (R.remaining reader.old.inner) engine.log) }
     ensures all { IfOk result (λ engine. finished engine ≡ length engine.log.statements) }
@@ -206,24 +389,37 @@ fn run_batches<T: Threads + Wait + Sync, R: Read, W: Write>(
         × (IsReport input text × Appends (W.contents writer.old.inner) (W.contents writer.new.inner) text))) }
     ensures begun { IfSome (R.remaining reader.old.inner) (λ input. (text : List ℕ)
         × (IsReport input text × AppendsFront (W.contents writer.old.inner) (W.contents writer.new.inner) text)) }
-    ensures reads { reader.new.errors ≡ read_errors result reader.old.errors }
-    ensures writes { writer.new.errors ≡ write_errors result writer.old.errors }
+    ensures read { result ≡ Err TextFault.Read → reader.old.errors < 2 ^ 64 - 1 → reader.old.errors < reader.new.errors }
+    ensures write { result ≡ Err TextFault.Write → writer.old.errors < 2 ^ 64 - 1 → writer.old.errors < writer.new.errors }
+    ensures whole { OnOk result ((reader.new.errors ≡ reader.old.errors) × (writer.new.errors ≡ writer.old.errors)) }
 {
     let mut batching = Batching::new(alloc);
-    report_all(rt, alloc, reader, writer, &mut batching, settings, history)?;
+    let ended = report_all(
+        rt,
+        alloc,
+        reader,
+        writer,
+        &mut batching,
+        settings,
+        history,
+        reading,
+    );
+    let written = write_out(writer, &batching.pending);
+    ended?;
+    written?;
     flush(writer)?;
     let Batching { engine, .. } = batching;
     Ok(engine)
 }
 
 /// The fault of a run, as one of an engine.
-fn engine_fault(fault: bohm_base::EngineFault) -> EngineFault
+fn engine_fault(fault: TextFault) -> EngineFault
     ensures { result ≡ of_text fault }
 {
     match fault {
-        bohm_base::EngineFault::NoMemory => EngineFault::NoMemory,
-        bohm_base::EngineFault::Read => EngineFault::Read,
-        bohm_base::EngineFault::Write => EngineFault::Write,
+        TextFault::NoMemory => EngineFault::NoMemory,
+        TextFault::Read => EngineFault::Read,
+        TextFault::Write => EngineFault::Write,
     }
 }
 
@@ -270,7 +466,15 @@ pub fn run_text<T: Threads + Wait + Sync, R: Read, W: Write>(
     if !are_within_limits(settings) {
         return Err(EngineFault::BadSettings);
     }
-    match run_batches(rt, alloc, reader, writer, settings, History::Kept) {
+    match run_batches(
+        rt,
+        alloc,
+        reader,
+        writer,
+        settings,
+        History::Kept,
+        NONE_AHEAD,
+    ) {
         Ok(engine) => Ok(engine),
         Err(fault) => Err(engine_fault(fault)),
     }
@@ -309,8 +513,57 @@ pub fn report_text<T: Threads + Wait + Sync, R: Read, W: Write>(
     if !are_within_limits(settings) {
         return Err(EngineFault::BadSettings);
     }
-    match run_batches(rt, alloc, reader, writer, settings, History::Dropped) {
+    match run_batches(
+        rt,
+        alloc,
+        reader,
+        writer,
+        settings,
+        History::Dropped,
+        NONE_AHEAD,
+    ) {
         Ok(_) => Ok(()),
         Err(fault) => Err(engine_fault(fault)),
     }
+}
+
+/// Reads a log to its end, runs it in order on this thread, and writes its report: one line for each line. Nothing that is finished is
+/// kept. By so many further threads, `reading` says, lines are read before their turn.
+///
+/// Where no whole line is at hand, what waits of the report is written before more is read: a line that comes alone is
+/// answered at once. While whole lines are at hand the report is gathered.
+///
+/// The rows and the grants are kept in memory, and of a line nothing but the names that it is the first to name. `NoMemory` comes where
+/// a growth was refused, `Read` where the reader failed, `Write` where the writer failed, or took no byte of a piece that
+/// wasn't empty. After a fault a beginning of the report stands: after `NoMemory` and `Read` the batches that were finished, after
+/// `Write` what the writer took.
+pub fn report_in_order<T: Threads + Wait + Sync, R: Read, W: Write>(
+    rt: &T,
+    alloc: Global,
+    reader: &mut Counted<R>,
+    writer: &mut Counted<W>,
+    reading: ReadingAhead,
+) -> Result<(), TextFault>
+    // What was written is the report of what was read.
+    ensures done { OnOk result (IfSome (R.remaining reader.old.inner) (λ input. (text : List ℕ)
+        × (IsReport input text × Appends (W.contents writer.old.inner) (W.contents writer.new.inner) text))) }
+    // After a fault it is a beginning of it.
+    ensures begun { IfSome (R.remaining reader.old.inner) (λ input. (text : List ℕ)
+        × (IsReport input text × AppendsFront (W.contents writer.old.inner) (W.contents writer.new.inner) text)) }
+    // Read and Write come only where the reader or the writer failed.
+    ensures read { result ≡ Err TextFault.Read → reader.old.errors < 2 ^ 64 - 1 → reader.old.errors < reader.new.errors }
+    ensures write { result ≡ Err TextFault.Write → writer.old.errors < 2 ^ 64 - 1 → writer.old.errors < writer.new.errors }
+    // Ok says that neither of them failed, in the flush at the end neither.
+    ensures whole { OnOk result ((reader.new.errors ≡ reader.old.errors) × (writer.new.errors ≡ writer.old.errors)) }
+{
+    run_batches(
+        rt,
+        alloc,
+        reader,
+        writer,
+        &IN_ORDER,
+        History::Dropped,
+        reading,
+    )?;
+    Ok(())
 }

@@ -6,5 +6,3 @@ pub mod Beginnings
 pub mod WholeLogs
 pub mod Reporting
 pub mod Reached
-pub mod Taking
-pub mod ForetoldLines

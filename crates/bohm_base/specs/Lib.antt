@@ -1,5 +1,3 @@
 pub mod Collecting
 pub mod Faults
 pub mod Pending
-pub mod Progress
-pub mod Foretold

@@ -1,7 +1,6 @@
 -- What was written behind what a writer held, and what is pending.
-use Rattle.std.specs.Prelude.{ℕ, ◌<◌, Option, List, IfSome, length}
+use Rattle.std.specs.Prelude.{ℕ, Option, List, IfSome}
 use Rattle.log_text_base.specs.Known.{HasBegun, MovesOut}
-use Rattle.log_text_base.specs.Lines.{HasLine}
 use Rattle.report.specs.Report.{IsReport}
 
 -- behind what the writer held stands the report of the input, the end of it still pending
@@ -13,7 +12,3 @@ HasReport input old now pending =
 abbrev pub HasBegunReport : Option (List ℕ) → Option (List ℕ) → Option (List ℕ) → List ℕ → Type 0
 HasBegunReport input old now pending =
     IfSome input (λ bytes. (text : List ℕ) × (IsReport bytes text × HasBegun old now pending text))
-
--- where something is pending a whole line is at hand, so that the reader isn't asked for the next one
-abbrev pub Waits : List ℕ → List ℕ → Type 0
-Waits pending ahead = 0 < length pending → HasLine ahead

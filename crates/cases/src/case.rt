@@ -33,9 +33,9 @@ pub struct Drawn<'a> {
 pub enum Case<'a> {
     /// `report NAME RUN..`: by how many of the runs NAME.log has the report NAME.report.
     Report(Runs<'a>),
-    /// `same LOG RUN..`: how long the report of the plain run is, how it ends, and how many of the runs write the same.
+    /// `same LOG RUN..`: how long the report of the run in order is, how it ends, and how many of the runs write the same.
     Same(Runs<'a>),
-    /// `beginnings LOG RUN..`: for how many of its beginnings the report of the plain run has as many lines as the beginning, and is
+    /// `beginnings LOG RUN..`: for how many of its beginnings the report of the run in order has as many lines as the beginning, and is
     /// that of the other runs too.
     Beginnings(Runs<'a>),
     /// `print LOG RUN..`: the texts that the runs write.
@@ -47,7 +47,7 @@ pub enum Case<'a> {
     Fail(Failing, Runs<'a>),
     /// `tail lines|halves|pieces LOG RUN..`: how often each run reads and writes where the log comes bit by bit, and how many reads are late.
     Tail(Bits, Runs<'a>),
-    /// `drawn SEED LOGS LINES USERS DEEDS LAST RUN..`: how many runs of drawn logs write the report of the plain run, and how often
+    /// `drawn SEED LOGS LINES USERS DEEDS LAST RUN..`: how many runs of drawn logs write the report of the run in order, and how often
     /// each ending is in these. LAST is a log whose lines end each drawn one, or `-`. `spoilt ..`: the same with one byte of each line
     /// changed.
     Drawn(Drawn<'a>),
@@ -59,6 +59,6 @@ pub enum Case<'a> {
     Spellings(&'a str),
     /// `parts LINE`: the parts of a statement.
     Parts(&'a str),
-    /// `guide FILE`: how many examples a guide has, and how many of them are as it shows by the plain run and by the slow one.
+    /// `guide FILE`: how many examples a guide has, and how many of them are as it shows by the run in order and by the slow one.
     Guide(&'a str),
 }

@@ -1,4 +1,4 @@
-//! Drawn logs, whose reports by other runs are compared with that of the plain run.
+//! Drawn logs, whose reports by other runs are compared with that of the run in order.
 
 use crate::case::Drawn;
 use crate::fault::TrialFault;
@@ -74,7 +74,7 @@ fn spoilt_log(
     Ok(log)
 }
 
-/// Draws a log that ends with these lines, appends its report by the plain run to those before it, and returns by how many of the runs
+/// Draws a log that ends with these lines, appends its report by the run in order to those before it, and returns by how many of the runs
 /// it has that.
 fn compare_log<R: Threads + Wait + Sync>(
     rt: &R,
@@ -90,7 +90,7 @@ fn compare_log<R: Threads + Wait + Sync>(
         drawn_log(alloc, generator, case.drawing)?
     };
     log.extend_from_slice(last)?;
-    let wanted = Run::plain().text(rt, alloc, log.as_slice())?;
+    let wanted = Run::in_order().text(rt, alloc, log.as_slice())?;
     reports.extend_from_slice(wanted.as_slice())?;
     let runs = case.runs.as_slice();
     right_runs(rt, alloc, log.as_slice(), runs, wanted.as_slice())
@@ -104,7 +104,7 @@ fn last_lines<R: Files>(rt: &R, alloc: Global, case: &Drawn<'_>) -> Result<Vec<u
     }
 }
 
-/// How many runs of drawn logs write the report of the plain run, and how often each ending is in these.
+/// How many runs of drawn logs write the report of the run in order, and how often each ending is in these.
 pub fn drawn_reports<R: Files + Threads + Wait + Sync>(
     rt: &R,
     alloc: Global,

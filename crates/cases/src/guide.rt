@@ -70,14 +70,14 @@ impl Example {
     }
 }
 
-/// Whether the plain run and the slow one write the report that is shown.
+/// Whether the run in order and the slow one write the report that is shown.
 fn is_as_shown<R: Threads + Wait + Sync>(
     rt: &R,
     alloc: Global,
     example: &Example,
 ) -> Result<bool, TrialFault> {
     let (log, report) = (example.log.as_slice(), example.report.as_slice());
-    Ok(right_runs(rt, alloc, log, &[Run::plain(), Run::Slow], report)? == 2)
+    Ok(right_runs(rt, alloc, log, &[Run::in_order(), Run::Slow], report)? == 2)
 }
 
 /// How many examples a text has, and how many of them are as shown.

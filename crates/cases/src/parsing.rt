@@ -7,8 +7,7 @@ use crate::logs::Log;
 use crate::run::Run;
 use crate::tail::Bits;
 use audit_text::Question;
-use batched_text::Settings;
-use bohm_base::ReadingAhead;
+use batched_text::{ReadingAhead, Settings};
 use model_base::Place;
 use std::alloc::Global;
 use trials_base::Drawing;
@@ -94,8 +93,8 @@ fn parse_run(alloc: Global, word: &str) -> Result<Run, TrialFault> {
         return Err(TrialFault::NoSuchRun);
     };
     match *name {
-        "plain" if words.is_empty() => Ok(Run::plain()),
-        "ahead" => Ok(Run::Plain(parse_ahead(words)?)),
+        "plain" if words.is_empty() => Ok(Run::in_order()),
+        "ahead" => Ok(Run::InOrder(parse_ahead(words)?)),
         "slow" if words.is_empty() => Ok(Run::Slow),
         "batches" => Ok(Run::Batches(parse_settings(words)?)),
         "kept" => Ok(Run::Kept(parse_settings(words)?)),
@@ -131,7 +130,7 @@ fn cut(number: u64, keep: u64) -> Settings {
 /// Appends the runs in order in all ways of `aheads`.
 fn push_aheads(runs: &mut Vec<Run>) -> Result<(), TrialFault> {
     for (threads, stretch) in AHEADS {
-        runs.push(Run::Plain(ReadingAhead {
+        runs.push(Run::InOrder(ReadingAhead {
             threads,
             least: 1,
             stretch,

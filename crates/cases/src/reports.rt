@@ -48,14 +48,14 @@ fn sum_of(text: &[u8]) -> u64 {
     sum
 }
 
-/// How long the report of the plain run is, how it ends, and how many of the runs write the same.
+/// How long the report of the run in order is, how it ends, and how many of the runs write the same.
 pub fn same_reports<R: Files + Threads + Wait + Sync>(
     rt: &R,
     alloc: Global,
     case: &Runs<'_>,
 ) -> Result<String, TrialFault> {
     let log = case.log.bytes(rt, alloc)?;
-    let report = Run::plain().text(rt, alloc, log.as_slice())?;
+    let report = Run::in_order().text(rt, alloc, log.as_slice())?;
     let report = report.as_slice();
     let same = right_runs(rt, alloc, log.as_slice(), case.runs.as_slice(), report)?;
     let count = case.runs.len();
@@ -66,14 +66,14 @@ pub fn same_reports<R: Files + Threads + Wait + Sync>(
     )?)
 }
 
-/// Whether the report of a log by the plain run has a line for each of its lines, and is that of the runs too.
+/// Whether the report of a log by the run in order has a line for each of its lines, and is that of the runs too.
 fn is_reported<R: Threads + Wait + Sync>(
     rt: &R,
     alloc: Global,
     log: &[u8],
     runs: &[Run],
 ) -> Result<bool, TrialFault> {
-    let report = Run::plain().text(rt, alloc, log)?;
+    let report = Run::in_order().text(rt, alloc, log)?;
     let same = right_runs(rt, alloc, log, runs, report.as_slice())?;
     Ok(same == runs.len() && line_count(report.as_slice()) == line_count(log))
 }

@@ -2,8 +2,8 @@
 
 use crate::fault::TrialFault;
 use audit_text::{Question, explain_text, grants_text};
-use batched_text::{Settings, report_text, run_text};
-use bohm_base::{ReadingAhead, plain_text, serial_text};
+use batched_text::{ReadingAhead, Settings, report_in_order, report_text, run_text};
+use bohm_base::serial_text;
 use log_text_base::Counted;
 use model_base::Place;
 use std::alloc::Global;
@@ -15,7 +15,7 @@ use std::thread::Threads;
 #[derive(Clone, Copy)]
 pub enum Run {
     /// The report, one statement after another, with lines read ahead so.
-    Plain(ReadingAhead),
+    InOrder(ReadingAhead),
     /// The report, by the definitions.
     Slow,
     /// The report in batches, of which nothing is kept.
@@ -30,8 +30,8 @@ pub enum Run {
 
 impl Run {
     /// The report, one statement after another, with each line read in its turn.
-    pub fn plain() -> Run {
-        Run::Plain(ReadingAhead::by(0))
+    pub fn in_order() -> Run {
+        Run::InOrder(ReadingAhead::by(0))
     }
 
     /// Runs a log from its reader to its writer.
@@ -43,7 +43,7 @@ impl Run {
         text: &mut Counted<W>,
     ) -> Result<(), TrialFault> {
         match self {
-            Run::Plain(ahead) => plain_text(rt, alloc, log, text, ahead)?,
+            Run::InOrder(ahead) => report_in_order(rt, alloc, log, text, ahead)?,
             Run::Slow => serial_text(alloc, log, text)?,
             Run::Batches(settings) => report_text(rt, alloc, log, text, &settings)?,
             Run::Kept(settings) => run_kept(rt, alloc, log, text, &settings)?,

@@ -145,7 +145,7 @@ fn tailed_run<R: Threads + Wait + Sync>(
     Ok(format!(in alloc; "{reads} reads, {late} late, {writes} writes, the {same} report")?)
 }
 
-/// How often each run reads and writes where a log comes so, how many reads are late, and whether the report is that of the plain run.
+/// How often each run reads and writes where a log comes so, how many reads are late, and whether the report is that of the run in order.
 pub fn tailed_runs<R: Files + Threads + Wait + Sync>(
     rt: &R,
     alloc: Global,
@@ -153,7 +153,7 @@ pub fn tailed_runs<R: Files + Threads + Wait + Sync>(
     case: &Runs<'_>,
 ) -> Result<String, TrialFault> {
     let log = case.log.bytes(rt, alloc)?;
-    let wanted = Run::plain().text(rt, alloc, log.as_slice())?;
+    let wanted = Run::in_order().text(rt, alloc, log.as_slice())?;
     let mut outcome = String::new(alloc);
     for run in case.runs.as_slice() {
         let part = tailed_run(rt, alloc, log.as_slice(), bits, run, wanted.as_slice())?;

@@ -50,15 +50,15 @@ EndsAt answers source ended = IsWorkAnswer answers ended ⊎ (IsSome (path_of so
 -- the command ended as the run that goes this way: in order with so many threads that read lines ahead, or with some number of them
 -- within the limits where none is told, or in batches
 abbrev pub EndsByWay : (ℕ → WorkAnswers) → (Settings → WorkAnswers) → Way → Source → EndOf ProgramFault → Type 0
-EndsByWay plain batched (Way.InOrder (Some threads)) source ended = EndsAt (plain threads) source ended
-EndsByWay plain batched (Way.InOrder None) source ended =
-    (threads : ℕ) × ((threads ≤ MOST_AHEAD) × EndsAt (plain threads) source ended)
-EndsByWay plain batched (Way.InBatches settings) source ended = EndsAt (batched settings) source ended
+EndsByWay in_order batched (Way.InOrder (Some threads)) source ended = EndsAt (in_order threads) source ended
+EndsByWay in_order batched (Way.InOrder None) source ended =
+    (threads : ℕ) × ((threads ≤ MOST_AHEAD) × EndsAt (in_order threads) source ended)
+EndsByWay in_order batched (Way.InBatches settings) source ended = EndsAt (batched settings) source ended
 
 -- the command was done by the work that it asks for on the log that it names, and ended so
 abbrev pub DoesCommand : (ℕ → WorkAnswers) → (Settings → WorkAnswers) → WorkAnswers → (Question → WorkAnswers)
     → (Option ℕ → WorkAnswers) → Command → EndOf ProgramFault → Type 0
-DoesCommand plain batched slow explained pictured (Command.Run source way) ended = EndsByWay plain batched way source ended
-DoesCommand plain batched slow explained pictured (Command.Serial source) ended = EndsAt slow source ended
-DoesCommand plain batched slow explained pictured (Command.Explain source question) ended = EndsAt (explained question) source ended
-DoesCommand plain batched slow explained pictured (Command.Grants source limit) ended = EndsAt (pictured limit) source ended
+DoesCommand in_order batched slow explained pictured (Command.Run source way) ended = EndsByWay in_order batched way source ended
+DoesCommand in_order batched slow explained pictured (Command.Serial source) ended = EndsAt slow source ended
+DoesCommand in_order batched slow explained pictured (Command.Explain source question) ended = EndsAt (explained question) source ended
+DoesCommand in_order batched slow explained pictured (Command.Grants source limit) ended = EndsAt (pictured limit) source ended

@@ -10,4 +10,4 @@ mod work;
 pub use command_words::{Command, ProgramFault, Source, Usage, ending, read_words};
 pub use options::Way;
 pub use running::{Works, do_command};
-pub use work::{Batched, Explained, Pictured, Plain, Slow, Work, WorkFault};
+pub use work::{Batched, Explained, InOrder, Pictured, Slow, Work, WorkFault};

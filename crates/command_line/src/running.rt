@@ -82,7 +82,7 @@ fn run<O: Copy, K: Work<O>, R: Files + Input + Print + Threads + Wait + Sync>(
 /// The works by which commands are done.
 pub struct Works<P, B, S, E, G> {
     /// The run in order, one statement after another, while so many threads read lines ahead.
-    pub plain: P,
+    pub in_order: P,
     /// The run in batches.
     pub batched: B,
     /// The slow run.
@@ -107,28 +107,28 @@ fn usual_ahead<R: Threads>(rt: &R) -> u64
     }
 }
 
-/// Runs the log of a source in this way: in order by the plain run, or in batches.
+/// Runs the log of a source in this way: in order on one thread, or in batches by workers.
 fn run_by_way<P: Work<u64>, B: Work<Settings>, R: Files + Input + Print + Threads + Wait + Sync>(
     rt: &R,
     alloc: Global,
-    plain: &P,
+    in_order: &P,
     batched: &B,
     way: Way,
     source: Source<'_>,
 ) -> Result<(), ProgramFault>
     requires within { IsWithin way }
-    requires plain { (threads : ℕ) → threads ≤ MOST_AHEAD → P.takes plain.now threads }
+    requires in_order { (threads : ℕ) → threads ≤ MOST_AHEAD → P.takes in_order.now threads }
     requires batched { (settings : Settings) → are_within_limits settings ≡ true → B.takes batched.now settings }
-    ensures { EndsByWay (P.answers plain.now) (B.answers batched.now) way source.entry result }
+    ensures { EndsByWay (P.answers in_order.now) (B.answers batched.now) way source.entry result }
 {
     match way {
-        Way::InOrder(Some(threads)) => run(rt, alloc, plain, threads, source),
-        Way::InOrder(None) => run(rt, alloc, plain, usual_ahead(rt), source),
+        Way::InOrder(Some(threads)) => run(rt, alloc, in_order, threads, source),
+        Way::InOrder(None) => run(rt, alloc, in_order, usual_ahead(rt), source),
         Way::InBatches(settings) => run(rt, alloc, batched, settings, source),
     }
 }
 
-/// Does what a command asks for: `run` in order by the plain run or in batches, as its way is, `serial` by the slow run, `explain` by
+/// Does what a command asks for: `run` in order on one thread or in batches, as its way is, `serial` by the slow run, `explain` by
 /// the answer to its question, and `grants` by the picture of the grants. It is given works that tell just that.
 pub fn do_command<
     P: Work<u64>,
@@ -144,24 +144,24 @@ pub fn do_command<
     command: Command<'_>,
 ) -> Result<(), ProgramFault>
     requires within { IsWithinLimits command }
-    requires plain { (threads : ℕ) → threads ≤ MOST_AHEAD → P.takes works.now.plain threads }
+    requires in_order { (threads : ℕ) → threads ≤ MOST_AHEAD → P.takes works.now.in_order threads }
     requires batched { (settings : Settings) → are_within_limits settings ≡ true → B.takes works.now.batched settings }
     requires slow { S.takes works.now.slow tt }
     requires explained { (question : Question) → E.takes works.now.explained question }
     requires pictured { (limit : Option ℕ) → G.takes works.now.pictured limit }
-    requires plain_reports { (threads : ℕ) → TellsReports (P.tells works.now.plain threads) }
+    requires in_order_reports { (threads : ℕ) → TellsReports (P.tells works.now.in_order threads) }
     requires batched_reports { (settings : Settings) → TellsReports (B.tells works.now.batched settings) }
     requires slow_reports { TellsReports (S.tells works.now.slow tt) }
     requires explains { (question : Question) (input text : List ℕ)
         → E.tells works.now.explained question input text → IsExplanation input question text }
     requires pictures { (limit : Option ℕ) (input text : List ℕ)
         → G.tells works.now.pictured limit input text → IsPicture input limit text }
-    ensures { DoesCommand (P.answers works.now.plain) (B.answers works.now.batched) (S.answers works.now.slow tt)
+    ensures { DoesCommand (P.answers works.now.in_order) (B.answers works.now.batched) (S.answers works.now.slow tt)
         (E.answers works.now.explained) (G.answers works.now.pictured) command.entry result }
 {
     match command {
         Command::Run(source, way) => {
-            run_by_way(rt, alloc, &works.plain, &works.batched, way, source)
+            run_by_way(rt, alloc, &works.in_order, &works.batched, way, source)
         }
         Command::Serial(source) => run(rt, alloc, &works.slow, (), source),
         Command::Explain(source, question) => run(rt, alloc, &works.explained, question, source),

@@ -13,8 +13,8 @@ ghost use Rattle.command_line.specs.Works.{of_audit, of_run};
 ghost use Rattle.command_line.specs.declared.work.WorkFault.{WorkFault};
 
 use audit_text::{AuditFault, Question, explain_text, grants_text};
-use batched_text::{Settings, report_text};
-use bohm_base::{EngineFault, ReadingAhead, plain_text, serial_text};
+use batched_text::{ReadingAhead, Settings, report_in_order, report_text};
+use bohm_base::{EngineFault, serial_text};
 use log_text_base::Counted;
 use model_base::Place;
 use std::alloc::Global;
@@ -102,11 +102,11 @@ fn audit_fault(fault: AuditFault) -> WorkFault
     }
 }
 
-/// The run of one statement after another, which keeps the rows and the grants, while so many threads read lines before their turn.
+/// The run in order on one thread, while so many further threads read lines before their turn.
 #[derive(Clone, Copy)]
-pub struct Plain;
+pub struct InOrder;
 
-impl Work<u64> for Plain {
+impl Work<u64> for InOrder {
     ghost takes = { λ _ _. Unit {0} };
 
     ghost answers = { λ _ _ result. result ≢ Err WorkFault.NoSuchPlace };
@@ -122,7 +122,7 @@ impl Work<u64> for Plain {
         told: &mut Counted<W>,
     ) -> Result<(), WorkFault> {
         let ahead = ReadingAhead::by(order as usize);
-        match plain_text(rt, alloc, log, told, ahead) {
+        match report_in_order(rt, alloc, log, told, ahead) {
             Ok(()) => Ok(()),
             Err(fault) => Err(run_fault(fault)),
         }

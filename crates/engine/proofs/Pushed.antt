@@ -3,11 +3,13 @@ use Rattle.std.proofs.Common.{◌≡◌, ℕ, List, [], ◌∷◌, None, length,
 use Rattle.std.specs.Prelude.{OnErr, OnOk, Result, Ok, Err}
 use Rattle.std.proofs.lemmas.List.{length-append}
 use Rattle.model_base.specs.declared.outcome.Outcome.{Outcome}
+use Rattle.model_base.specs.declared.statement.Statement.{Statement}
 use Rattle.model_base.specs.Outcomes.{owners}
 use Rattle.chains.specs.Store.{Store}
 use Rattle.grants_base.specs.Book.{Entries}
 use Rattle.log_text.specs.Statement.{Sentence}
 use Rattle.sequencer.specs.Catalog.{numbered}
+use Rattle.sequencer.specs.Foretelling.{IsForetold}
 use Rattle.sequencer.specs.Log.{Accepted, with_accepted}
 use Rattle.sequencer.specs.Refusal.{refusal}
 use Rattle.sequencer.specs.Tail.{Tail}
@@ -47,4 +49,15 @@ module _ (tail : Tail) (store : Store) (book : Entries) (outcomes : List Outcome
   pushed past same sentence after (Ok place) accepted passes err =
       subst (λ (t : Tail). IsRunKept (run_of store book outcomes t.dropped t.log) past) (sym accepted) (record { is = one-more sentence passes; same = same })
   pushed past same sentence after (Err refused) accepted passes err =
+      subst (λ (t : Tail). IsRunKept (run_of store book outcomes t.dropped t.log) past) (sym err) (record { is = run; same = same })
+
+  -- so it is where a statement is taken as it was foretold, or memory was refused
+  pub pushed_foretold : {E : Type 0} (past : List Outcome) → length past ≡ tail.dropped → (sentence : Sentence) (statement : Statement)
+      → IsForetold tail.log.names sentence statement → (after : Tail) (result : Result ℕ E)
+      → OnOk result ((s : Sentence) → IsForetold tail.log.names s statement → after ≡ record tail { log = with_accepted tail.log s }) → OnErr result (after ≡ tail)
+      → IsRunKept (run_of store book outcomes after.dropped after.log) past
+  pushed_foretold past same sentence statement is after (Ok place) accepted err =
+      subst (λ (t : Tail). IsRunKept (run_of store book outcomes t.dropped t.log) past) (sym (accepted sentence is))
+      (record { is = one-more sentence is.passes; same = same })
+  pushed_foretold past same sentence statement is after (Err refused) accepted err =
       subst (λ (t : Tail). IsRunKept (run_of store book outcomes t.dropped t.log) past) (sym err) (record { is = run; same = same })

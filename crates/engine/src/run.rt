@@ -13,8 +13,11 @@ use chains::{BadMark, Chains, Trimmed};
 use executing::execute;
 use grants::Book;
 use log_batch::LogBatch;
-use log_text::RawStatement;
-use model_base::{Key, MOST_BATCH_STATEMENTS, MOST_PARTITIONS, MOST_WORKERS, Outcome, Place, Row};
+use log_text::{RawRoom, RawStatement};
+use model_base::{
+    Key, MOST_BATCH_STATEMENTS, MOST_PARTITIONS, MOST_PLACES, MOST_WORKERS, Outcome, Place, Row,
+    Statement,
+};
 use past::{Past, forget_first};
 use placers::references_of;
 use sequencer::{LogTail, Refused};
@@ -182,11 +185,13 @@ fn run_range<T: Threads + Wait + Sync, G: Gate + Sync>(
 }
 
 impl Engine {
-    ghost use Rattle.std.specs.Prelude.{◌↔◌, ◌⊎◌, ◌||◌, false, Option, None, Some, Err, IfErr, IfOk, OnErr, OnOk, is_err, nat_lt, slice_get};
+    ghost use Rattle.std.specs.Prelude.{◌↔◌, ◌⊎◌, ◌||◌, false, Option, None, Some, Err, IfErr, IfOk, OnErr, OnOk, drop, is_err, nat_lt, slice_get};
     ghost use Rattle.std.specs.Option.{MatchOption};
     ghost use Rattle.model_base.specs.Outcomes.{deeds_before, outcome, owners, rows_before};
     ghost use Rattle.chains.specs.Store.{Sweeps, Trims};
     ghost use Rattle.grants_base.specs.Book.{ShowsBook};
+    ghost use Rattle.log_text.specs.Statement.{IsInGrammar, Sentence};
+    ghost use Rattle.sequencer.specs.Foretelling.{IsForetold};
     ghost use Rattle.sequencer.specs.Log.{empty_log, with_accepted};
     ghost use Rattle.sequencer.specs.Refusal.{IsRefusal, refusal};
     ghost use Rattle.engine.specs.Engine.{IsRun, finished, may_run};
@@ -243,7 +248,25 @@ impl Engine {
         self.chains.mark()
     }
 
-    /// Takes a statement as the next place, as the log does. After a refusal the engine is as it was.
+    /// Takes a statement as the next place, as the log does. After a refusal the engine is as it was. What it was read into goes back
+    /// to where lines are read, and its accesses and steps take the memory of a statement that was forgotten, where that is enough.
+    #[inline(always)]
+    pub fn push_lent<'a>(
+        &mut self,
+        statement: RawStatement<'a>,
+        raw: &mut RawRoom<'a>,
+    ) -> Result<Place, Refused>
+        ensures place { IfOk result (λ place. place ≡ length self.old.log.statements) }
+        ensures accepted { OnOk result (self.new ≡ record self.old { log = with_accepted self.old.log statement.entry }) }
+        ensures passes { OnOk result (refusal self.old.log.names statement.entry ≡ None) }
+        ensures refused { IfErr result (λ r. IsRefusal r (refusal self.old.log.names statement.entry)) }
+        ensures err { OnErr result (self.new ≡ self.old) }
+    {
+        let _dropped = self.log.dropped();
+        self.log.push_lent(statement, raw)
+    }
+
+    /// Takes a statement as the next place, as `push_lent`, with memory of its own for what it was read into.
     pub fn push(&mut self, statement: RawStatement<'_>) -> Result<Place, Refused>
         ensures place { IfOk result (λ place. place ≡ length self.old.log.statements) }
         ensures accepted { OnOk result (self.new ≡ record self.old { log = with_accepted self.old.log statement.entry }) }
@@ -253,6 +276,19 @@ impl Engine {
     {
         let _dropped = self.log.dropped();
         self.log.push(statement)
+    }
+
+    /// Takes a copy of a statement that was foretold as the next place. On `Err` memory was refused, and the engine is as it was.
+    pub fn push_foretold(&mut self, statement: &Statement) -> Result<Place, AllocError>
+        requires place { length self.old.log.statements < MOST_PLACES }
+        requires foretold { (sentence : Sentence) × (IsInGrammar sentence × IsForetold self.old.log.names sentence statement.now) }
+        ensures place { IfOk result (λ place. place ≡ length self.old.log.statements) }
+        ensures accepted { OnOk result ((sentence : Sentence) → IsForetold self.old.log.names sentence statement.now
+            → self.new ≡ record self.old { log = with_accepted self.old.log sentence }) }
+        ensures err { OnErr result (self.new ≡ self.old) }
+    {
+        let _dropped = self.log.dropped();
+        self.log.push_foretold(statement)
     }
 
     /// Runs the next places of the log, up to this one, as a batch, by so many workers and placers: by one worker in order, on this
@@ -335,13 +371,18 @@ impl Engine {
     }
 
     /// Drops the statements and the outcomes of the places that are finished. It takes no memory, and costs what there is to drop.
+    /// Where no place is left after them, later statements take the memory of the dropped ones.
     pub fn forget(&mut self)
         ensures { self.new ≡ record self.old { dropped = finished self.old } }
     {
-        let _len = self.log.len();
+        let len = self.log.len();
         let count = self.outcomes.len();
         let end = self.log.dropped() + count as u64;
-        self.log.forget(end);
+        if end == len {
+            self.log.forget_all();
+        } else {
+            self.log.forget(end);
+        }
         forget_first(&mut self.past, &mut self.outcomes, count);
     }
 
@@ -361,6 +402,13 @@ impl Engine {
         } else {
             None
         }
+    }
+
+    /// The outcomes that are kept, in order: the first of them is that of the first place that wasn't forgotten.
+    pub fn kept_outcomes(&self) -> &[Outcome]
+        ensures { result.now ≡ drop self.now.dropped self.now.outcomes }
+    {
+        &self.outcomes
     }
 
     /// The row of a key before a place that is finished, or is the next one: the log's. `Trimmed` is answered exactly where the

@@ -18,6 +18,7 @@ use Rattle.log_text.specs.Statement.{IsInGrammar, Sentence}
 use Rattle.log_text.specs.declared.statement.RawForm.{RawForm}
 use Rattle.sequencer.specs.Names.{is_known, number_of, with_name}
 use Rattle.sequencer.specs.Catalog.{Names, no_names, numbered, numbered_form, with_form, with_statement}
+use Rattle.sequencer.specs.Foretelling.{IsForetold, with_one_place}
 use Rattle.sequencer.specs.Log.{Accepted, empty_log, with_accepted}
 use Rattle.sequencer.specs.Refusal.{create_refusal, form_refusal, refusal, refuse_unless}
 use Rattle.sequencer.specs.Taken.{HasFilledRows, IsFilled, IsKept, IsTaken, columns_by}
@@ -219,6 +220,21 @@ kept_after log after sentence statement kept e names is statements taken filled 
     subst (P after.names) (sym all) (subst (λ (ns : Names). P ns (log.statements ++ numbered log.names sentence ∷ [])) (sym names)
     (kept_with log sentence kept e (subst (λ (ns : Names). IsTaken ns (numbered log.names sentence)) names (subst (IsTaken after.names) is taken))
     (subst (λ (s : Statement). HasFilledRows s.form) is filled)))
+
+-- a log that takes a statement as it was foretold
+module _ (log : Accepted) (sentence : Sentence) (statement : Statement) (is : IsForetold log.names sentence statement) where
+  abbrev foretold : Accepted
+  foretold = record { names = with_one_place log.names; statements = log.statements ++ statement ∷ [] }
+
+  pub foretold_accepted : foretold ≡ with_accepted log sentence
+  foretold_accepted =
+      ap (λ (ns : Names). record { names = ns; statements = log.statements ++ statement ∷ [] }) (sym is.names)
+      ∙ ap (λ (s : Statement). record { names = with_statement log.names sentence; statements = log.statements ++ s ∷ [] }) is.ok
+
+  pub kept_foretold : IsKept log → IsInGrammar sentence → IsKept foretold
+  kept_foretold kept grammar =
+      subst IsKept (sym foretold_accepted)
+      (kept_with log sentence kept is.passes (taken_after log.names sentence grammar is.passes) (filled_rows log.names sentence grammar is.passes))
 
 -- the log without statements
 pub kept_empty : IsKept empty_log

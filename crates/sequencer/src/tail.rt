@@ -1,18 +1,22 @@
 //! The end of a log, of which the first statements aren't kept.
 
-ghost use Rattle.std.specs.Prelude.{◌≡◌, ◌<◌, ◌≤◌, None, Some, length, slice_get, All, IfOk, IfErr, OnOk, OnErr};
+ghost use Rattle.std.specs.Prelude.{◌≡◌, ◌<◌, ◌≤◌, None, Some, drop, length, slice_get, All, IfOk, IfErr, OnOk, OnErr};
+ghost use Rattle.log_text.specs.Statement.{IsInGrammar, Sentence};
 ghost use Rattle.model_base.specs.Growing.{NeedsOwnTables};
+ghost use Rattle.sequencer.specs.Foretelling.{IsForetold};
 ghost use Rattle.sequencer.specs.Refusal.{IsRefusal, refusal};
 ghost use Rattle.sequencer.specs.Log.{empty_log, with_accepted};
 ghost use Rattle.sequencer.specs.Taken.{IsWhole};
 
 use crate::catalog::Catalog;
 use crate::refused::Refused;
-use log_text::RawStatement;
-use model_base::{MOST_COLUMNS, MOST_PLACES, Place, Statement, Table, User};
+use crate::room::Room;
+use log_text::{RawForm, RawRoom, RawStatement};
+use model_base::{Form, MOST_COLUMNS, MOST_PLACES, Place, Statement, Table, User};
 use past::{Past, forget_first};
-use std::alloc::Global;
+use std::alloc::{AllocError, Global};
 use std::marker::Model;
+use std::mem;
 
 /// A log whose first statements may be dropped once nobody reads them any more: the names of the whole log, and the statements
 /// that are kept. A statement has the same place as in the whole log.
@@ -21,6 +25,8 @@ pub struct LogTail {
     catalog: Catalog,
     past: Past<Statement>,
     kept: Vec<Statement>,
+    /// Statements that were dropped, and whose memory later ones take.
+    spare: Vec<Statement>,
 }
 
 impl Model for LogTail {
@@ -38,6 +44,40 @@ impl Model for LogTail {
     ghost invariant = { λ tail. IsKept record { names = tail.catalog; statements = tail.past.items ++ tail.kept.items } };
 }
 
+/// The room of the last RUN that was dropped, or another room where there is none.
+fn lend(spare: &mut Vec<Statement>, other: Room) -> Room {
+    'dropped: while let Some(statement) = spare.pop() {
+        if let Form::Run {
+            accesses,
+            steps,
+            ..
+        } = statement.form
+        {
+            return Room {
+                accesses: accesses.into_vec(),
+                steps: steps.into_vec(),
+            };
+        }
+    }
+    other
+}
+
+/// Room for a statement that was read, as `lend`. Only a RUN takes any.
+fn room_for(spare: &mut Vec<Statement>, room: Room, form: &RawForm<'_>) -> Room {
+    match form {
+        RawForm::Run { .. } => lend(spare, room),
+        RawForm::Create { .. } | RawForm::Deed(_) => room,
+    }
+}
+
+/// Room for a copy of a statement, as `room_for`.
+fn room_to_copy(spare: &mut Vec<Statement>, room: Room, form: &Form) -> Room {
+    match form {
+        Form::Run { .. } => lend(spare, room),
+        Form::Create { .. } | Form::Deed(_) => room,
+    }
+}
+
 impl LogTail {
     /// The log without statements. It takes no memory.
     #[tactic(auto, using(crate::proofs::WholeLogs::kept_empty))]
@@ -48,12 +88,19 @@ impl LogTail {
             catalog: Catalog::new(alloc),
             past: Past::new(),
             kept: Vec::new(alloc),
+            spare: Vec::new(alloc),
         }
     }
 
     /// Takes a statement as the next place, which is the length until then. The first test that it doesn't pass refuses
-    /// it; one that passes is refused only for want of memory. After a refusal the log is as it was.
-    pub fn push(&mut self, statement: RawStatement<'_>) -> Result<Place, Refused>
+    /// it; one that passes is refused only where memory is refused. After a refusal the log is as it was. What it was read into goes
+    /// back to where lines are read, and its accesses and steps take the memory of a dropped statement where that is enough.
+    #[inline(always)]
+    pub fn push_lent<'a>(
+        &mut self,
+        statement: RawStatement<'a>,
+        raw: &mut RawRoom<'a>,
+    ) -> Result<Place, Refused>
         ensures place { IfOk result (λ place. place ≡ length self.old.log.statements) }
         ensures accepted { OnOk result (self.new ≡ record self.old { log = with_accepted self.old.log statement.entry }) }
         ensures passes { OnOk result (refusal self.old.log.names statement.entry ≡ None) }
@@ -64,15 +111,47 @@ impl LogTail {
             return Err(self.catalog.refused(&statement));
         }
         let place = self.catalog.places();
-        let mut room = self.catalog.no_room();
-        let mut raw = self.catalog.no_raw_room();
-        match self.catalog.admit(statement, &mut room, &mut raw) {
+        let none = self.catalog.no_room();
+        let mut room = room_for(&mut self.spare, none, statement.form());
+        match self.catalog.admit(statement, &mut room, raw) {
             Ok(statement) => {
                 self.kept.push_reserved(statement);
                 Ok(place)
             }
             Err(refused) => Err(refused),
         }
+    }
+
+    /// Takes a statement as the next place, as `push_lent`, with memory of its own for what it was read into.
+    pub fn push(&mut self, statement: RawStatement<'_>) -> Result<Place, Refused>
+        ensures place { IfOk result (λ place. place ≡ length self.old.log.statements) }
+        ensures accepted { OnOk result (self.new ≡ record self.old { log = with_accepted self.old.log statement.entry }) }
+        ensures passes { OnOk result (refusal self.old.log.names statement.entry ≡ None) }
+        ensures refused { IfErr result (λ r. IsRefusal r (refusal self.old.log.names statement.entry)) }
+        ensures err { OnErr result (self.new ≡ self.old) }
+    {
+        let mut raw = self.catalog.no_raw_room();
+        self.push_lent(statement, &mut raw)
+    }
+
+    /// Takes a copy of a statement that was foretold as the next place, which is the length until then. On `Err` memory was refused,
+    /// and the log is as it was.
+    pub fn push_foretold(&mut self, statement: &Statement) -> Result<Place, AllocError>
+        requires place { length self.old.log.statements < MOST_PLACES }
+        requires foretold { (sentence : Sentence) × (IsInGrammar sentence × IsForetold self.old.log.names sentence statement.now) }
+        ensures place { IfOk result (λ place. place ≡ length self.old.log.statements) }
+        ensures accepted { OnOk result ((sentence : Sentence) → IsForetold self.old.log.names sentence statement.now
+            → self.new ≡ record self.old { log = with_accepted self.old.log sentence }) }
+        ensures err { OnErr result (self.new ≡ self.old) }
+    {
+        self.kept.reserve(1)?;
+        let place = self.catalog.places();
+        let none = self.catalog.no_room();
+        let room = room_to_copy(&mut self.spare, none, &statement.form);
+        let copy = room.copy_of(statement)?;
+        self.catalog.take_foretold();
+        self.kept.push_reserved(copy);
+        Ok(place)
     }
 
     /// How many statements were accepted, which is the place of the next one.
@@ -105,6 +184,13 @@ impl LogTail {
         &self.kept[(place - dropped) as usize]
     }
 
+    /// The statements that are kept, in order: the first of them is that of the first place that wasn't dropped.
+    pub fn kept_statements(&self) -> &[Statement]
+        ensures { result.now ≡ drop self.now.dropped self.now.log.statements }
+    {
+        &self.kept
+    }
+
     /// Drops the statements below a place. It takes no memory, and costs what there is to drop and to move.
     pub fn forget(&mut self, place: Place)
         requires order { self.old.dropped ≤ place }
@@ -113,6 +199,20 @@ impl LogTail {
     {
         let dropped = self.catalog.places() - self.kept.len() as u64;
         forget_first(&mut self.past, &mut self.kept, (place - dropped) as usize);
+    }
+
+    /// Drops all statements, whose memory later ones take. It takes no memory itself.
+    pub fn forget_all(&mut self)
+        ensures { self.new ≡ record self.old { dropped = length self.old.log.statements } }
+    {
+        self.past.append(&self.kept);
+        if self.spare.len() < self.kept.len() {
+            mem::swap(&mut self.spare, &mut self.kept);
+        }
+        if self.kept.len() <= self.spare.capacity() - self.spare.len() {
+            let _appended = self.spare.append(&mut self.kept);
+        }
+        self.kept.clear();
     }
 
     /// What the log knows of names: a user or a table is of this log where its number is below their count.

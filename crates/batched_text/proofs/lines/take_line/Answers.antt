@@ -7,16 +7,16 @@ use Rattle.batched_text.proofs.lines.take_line.Goals as goal
 
 pub returns-clause-ok : goal.returns-clause-ok
 returns-clause-ok c =
-    let parsed = c.parse_line-found.ensures in
+    let parsed = c.read_line-found.ensures in
     let took = c.in_ok-line.ensures in (
-      reading_of c.parse_line-found.result,
+      reading_of c.read_line-found.result,
       (
-        reads_as c.args.line.now c.parse_line-found.result parsed.read parsed.sound parsed.fault took.told,
+        reads_as c.args.line.now c.read_line-found.result parsed.read parsed.sound parsed.fault took.told,
         record {
           engine = took.engine;
           waiting = c.in_ok-push.ensures.items ∙ ap (λ (line : Became). c.args.batching.now.waiting.items ++ line ∷ []) took.line;
           number = refl;
-          text = c.clear.ensures.items;
+          pending = refl;
         },
       ),
     )

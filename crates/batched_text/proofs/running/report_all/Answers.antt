@@ -2,17 +2,14 @@ use Rattle.std.proofs.Common.{◌∙◌, length, ap, sym, subst}
 use Rattle.sequencer.specs.Log.{Accepted}
 use Rattle.batched_text.specs.Batching.{IsLogOfText}
 use Rattle.batched_text.proofs.Cutting.{limits, trimmed_all}
-use Rattle.batched_text.proofs.Ended.{begun_cut, begun_whole, ended_batched, log_ended, written_whole}
+use Rattle.batched_text.proofs.Ended.{begun_whole, ended_batched, log_ended}
 use Rattle.batched_text.proofs.running.report_all.Goals as goal
 
 pub report_batch-requires-clause-filling : goal.report_batch-requires-clause-filling
 report_batch-requires-clause-filling g c κs within = c.in_ok-report_lines.ensures.room.filling
 
-pub returns-in_err-write_out-clause-begun : goal.returns-in_err-write_out-clause-begun
-returns-in_err-write_out-clause-begun g c =
-    begun_cut _ _ _ _ c.report_batch.new.batching.text.items
-    (begun_whole _ _ _ _ (ended_batched _ _ c.report_lines.new.batching c.report_batch.new.batching.text.items c.in_ok-report_batch.ensures.text _ c.in_ok-report_lines.ensures.done))
-    (rw c.deref.ensures.value at c.write_out.ensures.front)
+pub returns-in_err-report_batch-clause-begun : goal.returns-in_err-report_batch-clause-begun
+returns-in_err-report_batch-clause-begun g c = rw c.in_err-report_batch.ensures.err c.report_lines.ensures.begun
 
 pub returns-clause-log : goal.returns-clause-log
 returns-clause-log g c =
@@ -31,12 +28,9 @@ returns-clause-trimmed g c =
 
 pub returns-clause-done : goal.returns-clause-done
 returns-clause-done g c =
-    written_whole _ _ _ _ c.report_batch.new.batching.text.items
-    (ended_batched _ _ c.report_lines.new.batching c.report_batch.new.batching.text.items c.in_ok-report_batch.ensures.text _ c.in_ok-report_lines.ensures.done)
-    (rw c.deref.ensures.value at c.in_ok-write_out.ensures.ok)
+    ended_batched _ _ c.report_lines.new.batching c.report_batch.new.batching.pending.items c.in_ok-report_batch.ensures.told _ c.in_ok-report_lines.ensures.done
 
 pub returns-clause-begun : goal.returns-clause-begun
 returns-clause-begun g c =
-    begun_whole _ _ _ _ (written_whole _ _ _ _ c.report_batch.new.batching.text.items
-    (ended_batched _ _ c.report_lines.new.batching c.report_batch.new.batching.text.items c.in_ok-report_batch.ensures.text _ c.in_ok-report_lines.ensures.done)
-    (rw c.deref.ensures.value at c.in_ok-write_out.ensures.ok))
+    begun_whole _ _ _ c.report_batch.new.batching.pending.items
+    (ended_batched _ _ c.report_lines.new.batching c.report_batch.new.batching.pending.items c.in_ok-report_batch.ensures.told _ c.in_ok-report_lines.ensures.done)

@@ -1,18 +1,12 @@
 use Rattle.std.proofs.Common.{arith, rules}
 use Rattle.log_text_base.specs.Ahead.{found_line}
 use Rattle.log_text.proofs.Total.{total}
-use Rattle.batched_text.proofs.Ended.{batched_written, begun_cut}
+use Rattle.batched_text.proofs.ForetoldLines.{begins_dealt}
 use Rattle.batched_text.proofs.Sofar.{batched_step, begun_batched}
 use Rattle.batched_text.proofs.running.report_line.Goals as goal
 
-pub next_line-requires-clause-waits : goal.next_line-requires-clause-waits
-next_line-requires-clause-waits g c = rw c.as_slice.ensures.value c.requires.waits
-
-pub returns-clause-waits : goal.returns-clause-waits
-returns-clause-waits g c = λ _. c.in_ok-deal.ensures.waits
-
 pub returns-in_err-next_line-clause-turn : goal.returns-in_err-next_line-clause-turn
-returns-in_err-next_line-clause-turn g c = record {
+returns-in_err-next_line-clause-turn g c = λ held. record {
   taken = search rules;
   room = search rules;
   ended = search rules;
@@ -20,7 +14,7 @@ returns-in_err-next_line-clause-turn g c = record {
 }
 
 pub returns-then-not-branch-clause-turn : goal.returns-then-not-branch-clause-turn
-returns-then-not-branch-clause-turn g c = record {
+returns-then-not-branch-clause-turn g c = λ held. record {
   taken = search rules;
   room = λ _. c.requires.ready.room;
   ended = λ _ input out so. (_, (rw c.if-not-branch.true at c.in_ok-next_line.ensures.line, so));
@@ -28,33 +22,19 @@ returns-then-not-branch-clause-turn g c = record {
 }
 
 pub returns-in_err-deal-clause-turn : goal.returns-in_err-deal-clause-turn
-returns-in_err-deal-clause-turn g c = record {
+returns-in_err-deal-clause-turn g c = λ held. record {
   taken = search rules;
   room = search rules;
   ended = search rules;
-  begun = λ input out so. begun_batched total input _ out _ _ _ _ _ _ so;
+  begun = λ input out so. rw c.in_err-deal.ensures.pending (begun_batched total input _ out _ _ _ _ _ _ so);
 }
 
-pub returns-in_err-write_out-clause-turn : goal.returns-in_err-write_out-clause-turn
-returns-in_err-write_out-clause-turn g c =
-    let dealt = c.in_ok-deal.ensures.dealt in
-    let room = c.in_ok-deal.ensures.room.filling in
-    record {
-      taken = search rules;
-      room = search rules;
-      ended = search rules;
-      begun = λ input out so. begun_cut input out _ _ c.deal.new.batching.text.items
-          (begun_batched total input _ out _ _ _ _ _ _
-          (batched_step input _ _ out _ _ (found_line c.next_line.new.lines) dealt.0 c.args.batching.now c.deal.new.batching so
-          (rw c.if-not-branch.false at c.in_ok-next_line.ensures.line) dealt.1.0 dealt.1.1 (record { whole = room.whole; within = omega (arith, room.counted) })))
-          (rw c.deref.ensures.value at c.write_out.ensures.front);
-    }
-
 pub returns-clause-turn : goal.returns-clause-turn
-returns-clause-turn g c =
+returns-clause-turn g c = λ held.
     let given = rw c.if-not-branch.false at c.in_ok-next_line.ensures.given in
-    let dealt = c.in_ok-deal.ensures.dealt in
+    let dealt = rw c.line.ensures at c.in_ok-deal.ensures.dealt in
     let room = c.in_ok-deal.ensures.room.filling in
+    let before = c.requires.ready.room.filling in
     record {
       taken = λ _. record {
         ready = record {
@@ -64,16 +44,19 @@ returns-clause-turn g c =
         };
         forward = given.0;
         most = given.1;
-        batched = λ input out so. batched_written input _ out _ _ c.deal.new.batching.text.items _ _ _ _
-            (batched_step input _ _ out _ _ (found_line c.next_line.new.lines) dealt.0 c.args.batching.now c.deal.new.batching so
-            (rw c.if-not-branch.false at c.in_ok-next_line.ensures.line) dealt.1.0 dealt.1.1 (record { whole = room.whole; within = omega (arith, room.counted) }))
-            (rw c.deref.ensures.value at c.in_ok-write_out.ensures.ok);
+        batched = λ input out so. batched_step input _ _ out _ (found_line c.next_line.new.lines) dealt.0 c.args.batching.now c.deal.new.batching so
+            (rw c.if-not-branch.false at c.in_ok-next_line.ensures.line) dealt.1.0 dealt.1.1 (omega (arith, before.counted))
+            (record { whole = room.whole; within = omega (arith, room.counted) });
       };
       room = search rules;
       ended = search rules;
       begun = λ input out so. begun_batched total input _ out _ _ _ _ _ _
-          (batched_written input _ out _ _ c.deal.new.batching.text.items _ _ _ _
-          (batched_step input _ _ out _ _ (found_line c.next_line.new.lines) dealt.0 c.args.batching.now c.deal.new.batching so
-          (rw c.if-not-branch.false at c.in_ok-next_line.ensures.line) dealt.1.0 dealt.1.1 (record { whole = room.whole; within = omega (arith, room.counted) }))
-          (rw c.deref.ensures.value at c.in_ok-write_out.ensures.ok));
+          (batched_step input _ _ out _ (found_line c.next_line.new.lines) dealt.0 c.args.batching.now c.deal.new.batching so
+          (rw c.if-not-branch.false at c.in_ok-next_line.ensures.line) dealt.1.0 dealt.1.1 (omega (arith, before.counted))
+          (record { whole = room.whole; within = omega (arith, room.counted) }));
     }
+
+pub returns-clause-begins : goal.returns-clause-begins
+returns-clause-begins g c =
+    let dealt = c.in_ok-deal.ensures.dealt in
+    begins_dealt dealt.0 c.args.batching.now c.deal.new.batching dealt.1.1

@@ -1,0 +1,77 @@
+-- What a line that was read before its turn comes to in its turn.
+use Rattle.std.proofs.Common.{◌≡◌, ℕ, ◌<◌, List, ◌++◌, ap, sym, ◌∙◌, subst}
+use Rattle.std.specs.Prelude.{All, Err, Ok, Option, Some, None}
+use Rattle.model_base.specs.declared.limits.TheConstants.{MOST_PLACES}
+use Rattle.model_base.specs.declared.statement.Statement.{Statement}
+use Rattle.log_text.specs.Fault.{line_fault}
+use Rattle.log_text.specs.Statement.{IsInGrammar, Reads, Sentence}
+use Rattle.line_words.specs.declared.fault.LineFault.{LineFault}
+use Rattle.log_text.proofs.Total.{total}
+use Rattle.sequencer.specs.Catalog.{Names}
+use Rattle.sequencer.specs.Foretelling.{Begins, IsForetold}
+use Rattle.sequencer.specs.Log.{Accepted, with_accepted}
+use Rattle.sequencer.specs.Refusal.{refusal}
+use Rattle.sequencer.specs.declared.refused.Refused.{Refused}
+use Rattle.sequencer.proofs.Beginnings.{begins_further, begins_same, begins_with}
+use Rattle.read_ahead.specs.Ahead.{IsAhead, line_from}
+use Rattle.read_ahead.specs.declared.ahead.Ahead.{Ahead}
+use Rattle.read_ahead.specs.declared.ahead.Found.{Found}
+use Rattle.report.specs.Report.{Reading, faulty, names_if, names_with, read, statement_if}
+use Rattle.bohm_base.specs.Collecting.{ReadsAs, became, became_if, with_reading}
+use Rattle.bohm_base.specs.declared.collecting.Became.{Became}
+use Rattle.bohm_base.proofs.LinesRead.{reads_as}
+use Rattle.batched_text.specs.Batching.{Deals}
+use Rattle.batched_text.specs.Foretold.{WasReadAhead, WereReadAhead, log_names}
+use Rattle.batched_text.specs.declared.batching.Batching.{Batching}
+
+-- a sentence that passes its tests is read into the log as it is accepted
+pub known_log : (log : Accepted) (sentence : Sentence) → refusal log.names sentence ≡ None → with_accepted log sentence ≡ with_reading log (read sentence)
+known_log log sentence passes =
+    ap (λ (r : Option Refused). record { names = names_if log.names sentence r; statements = log.statements ++ statement_if log.names sentence r }) (sym passes)
+
+pub known_became : (names : Names) (sentence : Sentence) → refusal names sentence ≡ None → Became.Accepted ≡ became names (read sentence)
+known_became names sentence passes = ap became_if (sym passes)
+
+-- what was found of a line is how it is read
+known_reading : (line : List ℕ) (sentence : Sentence) → Reads line sentence → line_fault line ≡ None → ReadsAs line (read sentence)
+known_reading line sentence reads sound = reads_as line (Ok sentence) reads sound tt (λ same. cc)
+
+pub known_at : (now : Names) (bytes : List ℕ) (ahead : Ahead) (statement : Statement) → WasReadAhead now bytes ahead → ahead.found ≡ Found.Known statement
+    → (sentence : Sentence) × (IsInGrammar sentence × (ReadsAs (line_from bytes ahead.from) (read sentence) × (now.places < MOST_PLACES → IsForetold now sentence statement)))
+known_at now bytes ahead statement was is =
+    let found = was.ahead.found in
+    let line : List ℕ = line_from bytes ahead.from in
+    let sound : line_fault line ≡ None = found.sound statement is in
+    let reading = total line sound in
+    (reading.0, (reading.1.grammar, (known_reading line reading.0 reading.1 sound, λ place. found.known statement reading.0 is reading.1 now was.begins place)))
+
+pub faulty_at : (now : Names) (bytes : List ℕ) (ahead : Ahead) (fault : LineFault) → WasReadAhead now bytes ahead → ahead.found ≡ Found.Faulty fault
+    → ReadsAs (line_from bytes ahead.from) (faulty fault)
+faulty_at now bytes ahead fault was is =
+    reads_as (line_from bytes ahead.from) (Err fault) tt tt (λ told. was.ahead.found.faulty fault is)
+    (λ same. was.ahead.found.told (is ∙ ap (λ (f : LineFault). Found.Faulty f) (let own : fault ≡ LineFault.NoMemory = cc in own)))
+
+-- a line that was dealt with only names behind
+begins_if : (names : Names) (sentence : Sentence) (refused : Option Refused) → Begins names (names_if names sentence refused)
+begins_if names sentence None = begins_with names names sentence (begins_same names)
+begins_if names sentence (Some refused) = begins_same names
+
+begins_reading : (names : Names) (reading : Reading) → Begins names (names_with names reading)
+begins_reading names (read sentence) = begins_if names sentence (refusal names sentence)
+begins_reading names (faulty fault) = begins_same names
+
+pub begins_dealt : (reading : Reading) (old new : Batching) → Deals reading old new → Begins (log_names old) (log_names new)
+begins_dealt reading old new deals =
+    subst (λ (log : Accepted). Begins (log_names old) log.names) (sym deals.log) (begins_reading (log_names old) reading)
+
+-- lines that were read ahead stay so
+pub still_ahead : (now later : Names) (bytes : List ℕ) (lines : List Ahead) → WereReadAhead now bytes lines → Begins now later → WereReadAhead later bytes lines
+still_ahead now later bytes lines were further = record {
+  names = were.names;
+  begins = begins_further were.names now later were.begins further;
+  ahead = were.ahead;
+}
+
+-- lines of a piece that was read by names with which these begin
+pub piece_ahead : (names now : Names) (bytes : List ℕ) (lines : List Ahead) → Begins names now → All (IsAhead names bytes) lines → WereReadAhead now bytes lines
+piece_ahead names now bytes lines begins ahead = record { names = names; begins = begins; ahead = ahead }

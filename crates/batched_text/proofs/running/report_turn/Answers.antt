@@ -1,0 +1,82 @@
+use Rattle.std.proofs.Common.{◌≡◌, ◌-◌, length, ap, refl, ◌∙◌, arith, rules, length-drop}
+use Rattle.log_text_base.specs.Ahead.{ahead}
+use Rattle.log_text.proofs.Total.{total}
+use Rattle.batched_text.proofs.Ended.{batched_written, begun_cut}
+use Rattle.batched_text.proofs.Sofar.{begun_batched}
+use Rattle.batched_text.proofs.running.report_turn.Goals as goal
+
+pub returns-in_err-report_line-clause-turn : goal.returns-in_err-report_line-clause-turn
+returns-in_err-report_line-clause-turn g c = record {
+  taken = search rules;
+  room = search rules;
+  ended = search rules;
+  begun = (c.report_line.ensures.turn _).begun;
+}
+
+pub returns-then-not-branch-clause-turn : goal.returns-then-not-branch-clause-turn
+returns-then-not-branch-clause-turn g c =
+    let turn = c.in_ok-report_line.ensures.turn (g.W.Write.contents c.args.writer.now.inner) in
+    record {
+      taken = search rules;
+      room = λ _. (rw c.if-not-branch.true at turn.room) refl;
+      ended = λ _. (rw c.if-not-branch.true at turn.ended) refl;
+      begun = turn.begun;
+    }
+
+pub returns-in_err-taken-clause-turn : goal.returns-in_err-taken-clause-turn
+returns-in_err-taken-clause-turn g c =
+    let took = (rw c.if-not-branch.false at (c.in_ok-report_line.ensures.turn (g.W.Write.contents c.args.writer.now.inner)).taken) refl in
+    let begun = rw c.bytes_ahead-bytes.ensures at c.report_at_hand.ensures.runs.begun in
+    record {
+      taken = search rules;
+      room = search rules;
+      ended = search rules;
+      begun = λ input out so. begun _ input out _ (took.batched input out so);
+    }
+
+pub returns-in_err-write_pending-clause-turn : goal.returns-in_err-write_pending-clause-turn
+returns-in_err-write_pending-clause-turn g c =
+    let took = (rw c.if-not-branch.false at (c.in_ok-report_line.ensures.turn (g.W.Write.contents c.args.writer.now.inner)).taken) refl in
+    let begun = rw c.bytes_ahead-bytes.ensures at c.report_at_hand.ensures.runs.begun in
+    record {
+      taken = search rules;
+      room = search rules;
+      ended = search rules;
+      begun = λ input out so. begun_cut input out _ _ c.report_at_hand.new.batching.pending.items c.write_pending.new.pending.items
+          (begun _ input out _ (took.batched input out so)) c.write_pending.ensures.front c.write_pending.ensures.empty;
+    }
+
+pub returns-clause-turn : goal.returns-clause-turn
+returns-clause-turn g c =
+    let took = (rw c.if-not-branch.false at (c.in_ok-report_line.ensures.turn (g.W.Write.contents c.args.writer.now.inner)).taken) refl in
+    let runs = rw c.bytes_ahead-bytes.ensures at c.in_ok-taken.ensures.runs in
+    let still = runs.ready.room.filling in
+    let left : length (ahead c.take_ahead.new.self) ≡ length (ahead c.report_line.new.lines) - c.in_ok-taken.taken =
+    ap length c.take_ahead.ensures.ahead ∙ length-drop c.in_ok-taken.taken (ahead c.report_line.new.lines) in
+    record {
+      taken = λ _. record {
+        ready = record {
+          room = record {
+            filling = record { whole = still.whole; counted = still.counted; few = still.few; cut = still.cut; most = still.most };
+            less = runs.ready.room.less;
+          };
+          bounded = λ some. runs.ready.bounded (omega (arith, some, left));
+          numbered = omega (arith, runs.ready.numbered, left);
+        };
+        forward = omega (arith, took.forward, left);
+        most = took.most;
+        batched = λ input out so.
+            batched_written input _ out _ _ c.report_at_hand.new.batching.pending.items c.write_pending.new.pending.items _ _ _ _
+            (rw c.take_ahead.ensures.ahead (runs.taken _ input out _ (took.batched input out so))) c.in_ok-write_pending.ensures.ok c.write_pending.ensures.empty;
+      };
+      room = search rules;
+      ended = search rules;
+      begun = λ input out so. begun_batched total input _ out _ _ _ _ _ _
+          (batched_written input _ out _ _ c.report_at_hand.new.batching.pending.items c.write_pending.new.pending.items _ _ _ _
+          (runs.taken _ input out _ (took.batched input out so)) c.in_ok-write_pending.ensures.ok c.write_pending.ensures.empty);
+    }
+
+pub report_at_hand-requires-clause-ready : goal.report_at_hand-requires-clause-ready
+report_at_hand-requires-clause-ready g c κs within =
+    let took = (rw c.if-not-branch.false at (c.in_ok-report_line.ensures.turn (g.W.Write.contents c.args.writer.now.inner)).taken) refl in
+    rw c.bytes_ahead-bytes.ensures took.ready

@@ -1,0 +1,66 @@
+-- Lines of the bytes at hand that were read before their turn, and what dealing with them leads to.
+use Rattle.std.specs.Prelude.{◌≡◌, ◌-◌, ◌≤◌, All, IfErr, IfOk, List, OnOk, Option, Result, drop, length, ℕ}
+use Rattle.std.specs.Io.KnownBytes.{prepend_known}
+use Rattle.sequencer.specs.Catalog.{Names}
+use Rattle.sequencer.specs.Foretelling.{Begins}
+use Rattle.read_ahead.specs.Ahead.{IsAhead, IsLineAt}
+use Rattle.read_ahead.specs.declared.ahead.Ahead.{Ahead}
+use Rattle.report.specs.Report.{Reading}
+use Rattle.bohm_base.specs.Collecting.{ReadsAs}
+use Rattle.bohm_base.specs.Pending.{HasBegunReport}
+use Rattle.bohm_base.specs.declared.fault.EngineFault.{EngineFault}
+use Rattle.batched_text.specs.Batching.{BatchedUpTo, IsBatchReady, Takes}
+use Rattle.batched_text.specs.History.{dropped_by}
+use Rattle.batched_text.specs.declared.batching.Batching.{Batching}
+use Rattle.batched_text.specs.declared.history.History.{History}
+use Rattle.batched_text.specs.declared.settings.Settings.{Settings}
+
+-- the names of the log
+abbrev pub log_names : Batching → Names
+log_names batching = batching.engine.log.names
+
+-- the line was read before its turn by names with which those now begin
+pub record WasReadAhead (now : Names) (bytes : List ℕ) (line : Ahead) : Type 0 where
+  pub names : Names
+  pub begins : Begins names now
+  pub ahead : IsAhead names bytes line
+
+-- so were these lines, all by the same names
+pub record WereReadAhead (now : Names) (bytes : List ℕ) (lines : List Ahead) : Type 0 where
+  pub names : Names
+  pub begins : Begins names now
+  pub ahead : All (IsAhead names bytes) lines
+
+-- the line that begins at an index of the bytes was taken, and takes so many of them
+pub record TakesAt (bytes : List ℕ) (from count : ℕ) (old new : Batching) : Type 0 where
+  pub line : List ℕ
+  pub at : IsLineAt bytes from count line
+  pub reading : Reading
+  pub reads : ReadsAs line reading
+  pub takes : Takes reading old new
+
+-- with what was reported or waits up to one index of the bytes at hand, the lines up to another are reported or wait
+abbrev pub TakesFrom : List ℕ → ℕ → ℕ → Batching → Batching → Type 0
+TakesFrom bytes from to old new =
+    (behind input out held : Option (List ℕ))
+    → BatchedUpTo input (prepend_known (drop from bytes) behind) out held old
+    → BatchedUpTo input (prepend_known (drop to bytes) behind) out held new
+
+-- a beginning of the report stands, where what is before an index of the bytes at hand was reported or waits
+abbrev pub BeginsFrom : List ℕ → ℕ → Batching → Batching → Type 0
+BeginsFrom bytes from old new =
+    (behind input out held : Option (List ℕ))
+    → BatchedUpTo input (prepend_known (drop from bytes) behind) out held old
+    → HasBegunReport input out held new.pending.items
+
+-- what a run of lines from an index of the bytes on came to, whose answer is the index before which all is dealt with: further
+-- lines can be dealt with, and the names begin as they did; and in any case a beginning of the report stands
+pub record Runs (history : History) (settings : Settings) (bytes : List ℕ) (given from : ℕ) (old new : Batching)
+    (result : Result ℕ EngineFault) : Type 0 where
+  pub within : IfOk result (λ to. to ≤ length bytes)
+  pub ready : IfOk result (λ to. IsBatchReady history settings new (length bytes - to) given)
+  pub kept : OnOk result (new.engine.dropped ≡ dropped_by history new.engine)
+  pub taken : IfOk result (λ to. TakesFrom bytes from to old new)
+  pub begun : BeginsFrom bytes from old new
+  pub begins : OnOk result (Begins (log_names old) (log_names new))
+  pub err : IfErr result (λ fault. fault ≡ EngineFault.NoMemory)

@@ -1,0 +1,234 @@
+//! Lines that were read before their turn are dealt with in their turn.
+
+ghost use Rattle.std.specs.Prelude.{◌≡◌, ◌<◌, ◌≤◌, ◌-◌, ◌^◌, IfErr, IfOk, MatchOption, OnOk, length, true};
+ghost use Rattle.log_text.specs.Statement.{IsInGrammar, Sentence};
+ghost use Rattle.sequencer.specs.Foretelling.{IsForetold};
+ghost use Rattle.report.specs.Report.{faulty, read};
+ghost use Rattle.batched_text.specs.Batching.{IsBatchReady, Takes};
+ghost use Rattle.batched_text.specs.Foretold.{Runs, TakesAt, WasReadAhead, WereReadAhead, log_names};
+ghost use Rattle.batched_text.specs.History.{dropped_by};
+ghost use Rattle.batched_text.specs.Settings.{are_within_limits};
+
+use crate::batching::{Batching, report_full};
+use crate::history::History;
+use crate::lines::take_line;
+use crate::settings::Settings;
+use bohm_base::{Became, EngineFault};
+use log_text::{LineFault, RawRoom};
+use log_text_base::cut_line;
+use model_base::{MOST_PLACES, Statement};
+use read_ahead::{Ahead, Found};
+use std::alloc::Global;
+use std::sync::Wait;
+use std::thread::Threads;
+
+/// Takes a statement that was foretold into the log. Then its line waits.
+fn take_known(batching: &mut Batching, statement: &Statement) -> Result<(), EngineFault>
+    requires number { batching.old.number < 2 ^ 64 - 1 }
+    requires place { length batching.old.engine.log.statements < MOST_PLACES }
+    requires foretold { (sentence : Sentence) × (IsInGrammar sentence × IsForetold (log_names batching.old) sentence statement.now) }
+    ensures ok { OnOk result ((sentence : Sentence) → IsForetold (log_names batching.old) sentence statement.now
+        → Takes (read sentence) batching.old batching.new) }
+    ensures pending { batching.new.pending.items ≡ batching.old.pending.items }
+    ensures err { IfErr result (λ f. f ≡ EngineFault.NoMemory) }
+{
+    batching.engine.push_foretold(statement)?;
+    batching.waiting.push(Became::Accepted)?;
+    batching.number += 1;
+    Ok(())
+}
+
+/// Takes a line with this fault, which waits then.
+fn take_faulty(batching: &mut Batching, fault: LineFault) -> Result<(), EngineFault>
+    requires number { batching.old.number < 2 ^ 64 - 1 }
+    ensures ok { OnOk result (Takes (faulty fault) batching.old batching.new) }
+    ensures pending { batching.new.pending.items ≡ batching.old.pending.items }
+    ensures err { IfErr result (λ f. f ≡ EngineFault.NoMemory) }
+{
+    batching.waiting.push(Became::Faulty(fault))?;
+    batching.number += 1;
+    Ok(())
+}
+
+/// Takes the line that begins at an index of the bytes, and returns how many of them it takes. None where no line is whole there, and
+/// then nothing has changed.
+fn take_next<'a>(
+    alloc: Global,
+    batching: &mut Batching,
+    bytes: &'a [u8],
+    from: usize,
+    raw: &mut RawRoom<'a>,
+) -> Result<Option<usize>, EngineFault>
+    requires number { batching.old.number < 2 ^ 64 - 1 }
+    requires within { from ≤ length bytes.now }
+    ensures ok { IfOk result (λ found. MatchOption found (batching.new ≡ batching.old)
+        (λ count. TakesAt bytes.now from count batching.old batching.new)) }
+    ensures pending { batching.new.pending.items ≡ batching.old.pending.items }
+    ensures err { IfErr result (λ f. f ≡ EngineFault.NoMemory) }
+{
+    let Some((line, count)) = cut_line(&bytes[from..]) else {
+        return Ok(None);
+    };
+    take_line(alloc, batching, line, raw)?;
+    Ok(Some(count))
+}
+
+/// Takes a line by what was found of it before its turn, as `take_next`. It is read now where that told nothing, or where no place is
+/// left for its statement.
+fn take_ahead<'a>(
+    alloc: Global,
+    batching: &mut Batching,
+    bytes: &'a [u8],
+    ahead: &Ahead,
+    raw: &mut RawRoom<'a>,
+) -> Result<Option<usize>, EngineFault>
+    requires number { batching.old.number < 2 ^ 64 - 1 }
+    requires ahead { WasReadAhead (log_names batching.old) bytes.now ahead.now }
+    ensures ok { IfOk result (λ found. MatchOption found (batching.new ≡ batching.old)
+        (λ count. TakesAt bytes.now ahead.now.from count batching.old batching.new)) }
+    ensures pending { batching.new.pending.items ≡ batching.old.pending.items }
+    ensures err { IfErr result (λ f. f ≡ EngineFault.NoMemory) }
+{
+    match &ahead.found {
+        Found::Known(statement) => {
+            let _dropped = batching.engine.log().dropped();
+            if batching.engine.log().len() >= MOST_PLACES {
+                return take_next(alloc, batching, bytes, ahead.from, raw);
+            }
+            take_known(batching, statement)?;
+            Ok(Some(ahead.count))
+        }
+        Found::Faulty(fault) => {
+            take_faulty(batching, *fault)?;
+            Ok(Some(ahead.count))
+        }
+        Found::Unread => take_next(alloc, batching, bytes, ahead.from, raw),
+    }
+}
+
+/// Deals with the line that begins at an index of the bytes: it waits for the end of its batch, or its batch is reported. It returns the
+/// index before which all is dealt with then, which is the same where no line is whole there.
+fn report_next<'a, T: Threads + Wait + Sync>(
+    rt: &T,
+    alloc: Global,
+    batching: &mut Batching,
+    settings: &Settings,
+    history: History,
+    bytes: &'a [u8],
+    from: usize,
+    given: u64,
+    raw: &mut RawRoom<'a>,
+) -> Result<usize, EngineFault>
+    requires settings { are_within_limits settings.now ≡ true }
+    requires within { from < length bytes.now }
+    requires ready { IsBatchReady history settings.now batching.old (length bytes.now - from) given }
+    requires kept { batching.old.engine.dropped ≡ dropped_by history batching.old.engine }
+    ensures order { IfOk result (λ to. from ≤ to) }
+    ensures runs { Runs history settings.now bytes.now given from batching.old batching.new result }
+{
+    let Some(count) = take_next(alloc, batching, bytes, from, raw)? else {
+        return Ok(from);
+    };
+    let _dropped = batching.engine.log().dropped();
+    report_full(rt, alloc, batching, settings, history)?;
+    Ok(from + count)
+}
+
+/// Deals with a line that was read ahead, as `report_next`, if the lines before an index end where it begins.
+fn report_one<'a, T: Threads + Wait + Sync>(
+    rt: &T,
+    alloc: Global,
+    batching: &mut Batching,
+    settings: &Settings,
+    history: History,
+    bytes: &'a [u8],
+    ahead: &Ahead,
+    from: usize,
+    given: u64,
+    raw: &mut RawRoom<'a>,
+) -> Result<usize, EngineFault>
+    requires settings { are_within_limits settings.now ≡ true }
+    requires within { from ≤ length bytes.now }
+    requires ready { IsBatchReady history settings.now batching.old (length bytes.now - from) given }
+    requires kept { batching.old.engine.dropped ≡ dropped_by history batching.old.engine }
+    requires ahead { WasReadAhead (log_names batching.old) bytes.now ahead.now }
+    ensures { Runs history settings.now bytes.now given from batching.old batching.new result }
+{
+    if ahead.from != from {
+        return Ok(from);
+    }
+    let Some(count) = take_ahead(alloc, batching, bytes, ahead, raw)? else {
+        return Ok(from);
+    };
+    let _dropped = batching.engine.log().dropped();
+    report_full(rt, alloc, batching, settings, history)?;
+    Ok(from + count)
+}
+
+/// Deals with the lines that begin from one index of the bytes on and before another, as `report_next`.
+pub(crate) fn report_until<'a, T: Threads + Wait + Sync>(
+    rt: &T,
+    alloc: Global,
+    batching: &mut Batching,
+    settings: &Settings,
+    history: History,
+    bytes: &'a [u8],
+    from: usize,
+    to: usize,
+    given: u64,
+    raw: &mut RawRoom<'a>,
+) -> Result<usize, EngineFault>
+    requires settings { are_within_limits settings.now ≡ true }
+    requires within { from ≤ length bytes.now }
+    requires ready { IsBatchReady history settings.now batching.old (length bytes.now - from) given }
+    requires kept { batching.old.engine.dropped ≡ dropped_by history batching.old.engine }
+    requires to_within { to ≤ length bytes.now }
+    ensures { Runs history settings.now bytes.now given from batching.old batching.new result }
+{
+    let mut at = from;
+    'lines: while at < to {
+        let next = report_next(
+            rt, alloc, batching, settings, history, bytes, at, given, raw,
+        )?;
+        let is_stuck = next == at;
+        at = next;
+        if is_stuck {
+            break;
+        }
+    }
+    Ok(at)
+}
+
+/// Deals with lines from an index of the bytes on, up to the last of those that were read ahead and with it. A line among them that was
+/// not read ahead is read now, and one that was is passed over where it doesn't begin where the lines before it end. It returns the
+/// index before which all is dealt with then.
+pub(crate) fn report_foretold<'a, T: Threads + Wait + Sync>(
+    rt: &T,
+    alloc: Global,
+    batching: &mut Batching,
+    settings: &Settings,
+    history: History,
+    bytes: &'a [u8],
+    lines: &[Ahead],
+    from: usize,
+    given: u64,
+    raw: &mut RawRoom<'a>,
+) -> Result<usize, EngineFault>
+    requires settings { are_within_limits settings.now ≡ true }
+    requires within { from ≤ length bytes.now }
+    requires ready { IsBatchReady history settings.now batching.old (length bytes.now - from) given }
+    requires kept { batching.old.engine.dropped ≡ dropped_by history batching.old.engine }
+    requires ahead { WereReadAhead (log_names batching.old) bytes.now lines.now }
+    ensures { Runs history settings.now bytes.now given from batching.old batching.new result }
+{
+    let mut at = from;
+    'turns: for ahead in lines {
+        let next = report_until(
+            rt, alloc, batching, settings, history, bytes, at, ahead.from, given, raw,
+        )?;
+        at = report_one(
+            rt, alloc, batching, settings, history, bytes, ahead, next, given, raw,
+        )?;
+    }
+    Ok(at)
+}

@@ -1,0 +1,173 @@
+//! By what lines are read before their turn.
+
+ghost use Rattle.std.specs.Prelude.{◌≡◌, ◌≤◌, OnOk, length, true};
+ghost use Rattle.sequencer.specs.Catalog.{no_names};
+ghost use Rattle.sequencer.specs.Foretelling.{Begins};
+ghost use Rattle.batched_text.specs.Batching.{IsBatchReady};
+ghost use Rattle.batched_text.specs.Foretold.{Runs, log_names};
+ghost use Rattle.batched_text.specs.History.{dropped_by};
+ghost use Rattle.batched_text.specs.Settings.{are_within_limits};
+
+use crate::batching::Batching;
+use crate::history::History;
+use crate::settings::Settings;
+use crate::stretches::{Ran, run_ahead};
+use bohm_base::EngineFault;
+use read_ahead::Piece;
+use sequencer::Catalog;
+use std::alloc::Global;
+use std::marker::Brand;
+use std::mem;
+use std::sync::Wait;
+use std::thread::Threads;
+
+/// Bytes that the first stretch has at most.
+const FIRST_STRETCH_BYTES: usize = 65_536;
+
+/// How lines are read before their turn.
+#[derive(Clone, Copy, Debug, PartialEq, Eq)]
+pub struct ReadingAhead {
+    /// How many threads read, beside the one that runs. With 0 each line is read in its turn.
+    pub threads: usize,
+    /// Bytes of whole lines at hand below which each is read in its turn.
+    pub least: usize,
+    /// Bytes of a stretch at most: its lines are read by the names that stood when it began.
+    pub stretch: usize,
+    /// Bytes of a piece of a stretch, about, which one thread reads.
+    pub piece: usize,
+}
+
+impl ReadingAhead {
+    /// By so many threads, as it was measured to pay.
+    pub fn by(threads: usize) -> Self {
+        ReadingAhead {
+            threads,
+            least: 16_384,
+            stretch: 1 << 19,
+            piece: 16_384,
+        }
+    }
+}
+
+/// What reading lines before their turn goes by: the names of an earlier line, and how much is read.
+#[derive(Drop)]
+pub(crate) struct Lookahead {
+    pub(crate) names: Catalog,
+    ahead: ReadingAhead,
+    /// Bytes that the next stretch has at most.
+    stretch: usize,
+    /// Pieces that are of no more use, and are filled again.
+    spare: Vec<Piece>,
+}
+
+impl Lookahead {
+    /// No names yet. It takes no memory.
+    pub(crate) fn new(alloc: Global, ahead: ReadingAhead) -> Self
+        ensures { result.names ≡ no_names }
+    {
+        Lookahead {
+            names: Catalog::new(alloc),
+            ahead,
+            stretch: FIRST_STRETCH_BYTES.min(ahead.stretch),
+            spare: Vec::new(alloc),
+        }
+    }
+
+    /// Whether some of so many bytes of whole lines are read before their turn.
+    pub(crate) fn is_for(&self, bytes: usize) -> bool {
+        self.ahead.threads > 0 && bytes >= self.ahead.least
+    }
+
+    /// How many of so many bytes the next stretch has. The one after it may have twice as many.
+    fn next_stretch(&mut self, bytes: usize) -> usize
+        ensures within { result ≤ bytes }
+        ensures names { self.new.names ≡ self.old.names }
+    {
+        let stretch = self.stretch.min(bytes);
+        self.stretch = self.ahead.stretch.min(self.stretch.saturating_mul(2));
+        stretch
+    }
+
+    /// How many pieces a stretch of so many bytes has: some for each thread.
+    fn pieces_of(&self, bytes: usize) -> usize {
+        let least = self.ahead.threads.saturating_mul(2);
+        (bytes / self.ahead.piece.max(1)).max(least)
+    }
+
+    /// Learns what was named. Where memory is refused it learns less.
+    fn learn(&mut self, catalog: &Catalog)
+        requires { Begins self.old.names catalog.now }
+        ensures { Begins self.new.names catalog.now }
+    {
+        let _learned = self.names.catch_up(catalog);
+    }
+
+    /// Deals with a stretch of the bytes, as `run_ahead`.
+    fn run<T: Threads + Wait + Sync>(
+        &mut self,
+        rt: &T,
+        alloc: Global,
+        batching: Batching,
+        settings: &Settings,
+        history: History,
+        bytes: &[u8],
+        given: u64,
+    ) -> Ran
+        requires settings { are_within_limits settings.now ≡ true }
+        requires begins { Begins self.old.names (log_names batching) }
+        requires ready { IsBatchReady history settings.now batching (length bytes.now) given }
+        requires kept { batching.engine.dropped ≡ dropped_by history batching.engine }
+        ensures ran { Runs history settings.now bytes.now given 0 batching result.batching result.result }
+        ensures names { self.new.names ≡ self.old.names }
+    {
+        let to = self.next_stretch(bytes.len());
+        let count = self.pieces_of(to);
+        let spare = mem::replace(&mut self.spare, Vec::new(alloc));
+        let (ran, spare) = run_ahead::<Brand, T>(
+            rt,
+            alloc,
+            batching,
+            settings,
+            history,
+            &self.names,
+            bytes,
+            to,
+            count,
+            self.ahead.threads,
+            spare,
+            given,
+        );
+        self.spare = spare;
+        ran
+    }
+}
+
+/// Deals with whole lines at the front of the bytes, a stretch of them, with lines read before their turn. It returns how many bytes
+/// those lines are.
+pub(crate) fn report_stretch<T: Threads + Wait + Sync>(
+    rt: &T,
+    alloc: Global,
+    lookahead: &mut Lookahead,
+    batching: &mut Batching,
+    settings: &Settings,
+    history: History,
+    bytes: &[u8],
+    given: u64,
+) -> Result<usize, EngineFault>
+    requires settings { are_within_limits settings.now ≡ true }
+    requires begins { Begins lookahead.old.names (log_names batching.old) }
+    requires ready { IsBatchReady history settings.now batching.old (length bytes.now) given }
+    requires kept { batching.old.engine.dropped ≡ dropped_by history batching.old.engine }
+    ensures runs { Runs history settings.now bytes.now given 0 batching.old batching.new result }
+    ensures names { OnOk result (Begins lookahead.new.names (log_names batching.new)) }
+{
+    let before = mem::replace(batching, Batching::new(alloc));
+    let Ran {
+        batching: after,
+        result,
+    } = lookahead.run(rt, alloc, before, settings, history, bytes, given);
+    *batching = after;
+    let taken = result?;
+    lookahead.learn(batching.engine.log().catalog());
+    Ok(taken)
+}

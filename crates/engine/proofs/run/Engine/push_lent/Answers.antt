@@ -1,0 +1,16 @@
+use Rattle.std.proofs.Common.{◌++◌, ◌≡◌, None, subst}
+use Rattle.std.specs.Prelude.{OnOk}
+use Rattle.sequencer.specs.Refusal.{refusal}
+use Rattle.engine.specs.Engine.{Run}
+use Rattle.engine.proofs.Pushed.{pushed}
+use Rattle.engine.proofs.run.Engine.push_lent.Goals as goal
+
+pub invariant_of-self : goal.invariant_of-self
+invariant_of-self c =
+    let e = c.self.inside in
+    pushed e.log e.chains e.book (e.past.items ++ e.outcomes.items) c.self.invariant.is c.dropped-dropped.ensures.whole c.dropped-dropped.ensures.own_tables
+    e.past.items c.self.invariant.same c.args.statement c.push_lent.new.self c.push_lent.result c.push_lent.ensures.accepted c.push_lent.ensures.passes c.push_lent.ensures.err
+
+pub returns-clause-passes : goal.returns-clause-passes
+returns-clause-passes c =
+    subst (λ (run : Run). OnOk c.push_lent.result (refusal run.log.names c.args.statement ≡ None)) c.self.view_is c.push_lent.ensures.passes

@@ -1,3 +1,0 @@
-pub mod Leading
-pub mod Reading
-pub mod Refused
