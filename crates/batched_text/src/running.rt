@@ -423,8 +423,9 @@ fn engine_fault(fault: TextFault) -> EngineFault
     }
 }
 
-/// Reads a log to its end, runs it in batches, and writes its report: one line for each line. The report of a batch is written when
-/// the batch is done, and the writer is flushed once, at the end. The answer is the engine with the log, all of it finished.
+/// Reads a log to its end, runs it in batches, and writes its report: one line for each line. The report of the batches that are done
+/// is written each time that the whole lines at hand are taken, which are those of one read at most; the writer is flushed once, at the
+/// end. It returns the engine with the log, all of it finished.
 ///
 /// A batch is the next `batch` accepted statements, or what is left at the end of the input. After each batch the rows before the
 /// last `keep` batches aren't kept: the store's mark is the start of the `keep`-th batch from the last one, or the end if `keep`
@@ -528,7 +529,7 @@ pub fn report_text<T: Threads + Wait + Sync, R: Read, W: Write>(
 }
 
 /// Reads a log to its end, runs it in order on this thread, and writes its report: one line for each line. Nothing that is finished is
-/// kept. By so many further threads, `reading` says, lines are read before their turn.
+/// kept. Meanwhile as many further threads as `reading` says read lines before their turn.
 ///
 /// Where no whole line is at hand, what waits of the report is written before more is read: a line that comes alone is
 /// answered at once. While whole lines are at hand the report is gathered.
