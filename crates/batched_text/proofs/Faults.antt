@@ -1,10 +1,12 @@
 -- A fault that is told on tells the same failures.
-use Rattle.std.proofs.Common.{◌≡◌, ◌<◌, ◌≤◌, ◌+◌, ℕ, Result, Ok, Err, sym, ap, ◌∙◌, arith}
+use Rattle.std.proofs.Common.{◌≡◌, ◌<◌, ◌≤◌, ◌+◌, ℕ, Result, Ok, Err, refl, sym, ap, ◌∙◌, arith}
 use Rattle.std.specs.Prelude.{IsErrAnd, OnErr, OnOk}
 use Rattle.log_text_base.specs.Known.{raised}
 use Rattle.log_text_base.specs.declared.fault.ReadFault.{ReadFault}
 use Rattle.bohm_base.specs.Faults.{write_errors}
 use Rattle.bohm_base.specs.declared.fault.EngineFault.{EngineFault}
+use Rattle.engine.specs.declared.fault.EngineFault.{EngineFault as RunFault}
+use Rattle.batched_text.specs.Faults.{of_text}
 
 told_on : {B E : Type 0} (fault : E) (result : Result B E) → IsErrAnd result (λ other. other ≡ fault) → result ≡ Err fault
 told_on fault (Ok value) same = absurd same
@@ -31,3 +33,22 @@ write_counted A EngineFault.Write result written old mid new told is counted sam
 pub read_on : {A B : Type 0} (fault : ReadFault) (result : Result B ReadFault) → IsErrAnd result (λ other. other ≡ fault) → (first : Result A ReadFault) → first ≡ Err fault
     → first ≡ Err ReadFault.Read → result ≡ Err ReadFault.Read
 read_on fault result same first comes is = told_on fault result same ∙ ap Err (cc)
+
+-- what an engine's fault tells of a run
+pub read_told : {A : Type 0} (fault : EngineFault) (told : RunFault) (result : Result A RunFault) → told ≡ of_text fault → result ≡ Err told
+    → result ≡ Err RunFault.Read → fault ≡ EngineFault.Read
+read_told EngineFault.Read told result same comes is = refl
+read_told EngineFault.NoMemory told result same comes is = absurd (cc (ap Err (sym same) ∙ sym comes ∙ is))
+read_told EngineFault.Write told result same comes is = absurd (cc (ap Err (sym same) ∙ sym comes ∙ is))
+
+pub write_told : {A : Type 0} (fault : EngineFault) (told : RunFault) (result : Result A RunFault) → told ≡ of_text fault → result ≡ Err told
+    → result ≡ Err RunFault.Write → fault ≡ EngineFault.Write
+write_told EngineFault.Write told result same comes is = refl
+write_told EngineFault.NoMemory told result same comes is = absurd (cc (ap Err (sym same) ∙ sym comes ∙ is))
+write_told EngineFault.Read told result same comes is = absurd (cc (ap Err (sym same) ∙ sym comes ∙ is))
+
+pub never_bad : {A : Type 0} (fault : EngineFault) (told : RunFault) (result : Result A RunFault) → told ≡ of_text fault → result ≡ Err told
+    → result ≡ Err RunFault.BadSettings → ⊥
+never_bad EngineFault.NoMemory told result same comes is = cc (ap Err (sym same) ∙ sym comes ∙ is)
+never_bad EngineFault.Read told result same comes is = cc (ap Err (sym same) ∙ sym comes ∙ is)
+never_bad EngineFault.Write told result same comes is = cc (ap Err (sym same) ∙ sym comes ∙ is)

@@ -1,6 +1,6 @@
 -- What a line that was read before its turn comes to in its turn.
-use Rattle.std.proofs.Common.{◌≡◌, ℕ, ◌<◌, List, ◌++◌, ap, sym, ◌∙◌, subst}
-use Rattle.std.specs.Prelude.{All, Err, Ok, Option, Some, None}
+use Rattle.std.proofs.Common.{◌≡◌, ◌≢◌, ℕ, ◌<◌, ◌≤◌, ◌+◌, List, ◌++◌, ap, arith, get_or-set_other, length, length-set, sym, ◌∙◌, subst}
+use Rattle.std.specs.Prelude.{All, Err, Ok, Option, Some, None, slice_index_or, slice_set}
 use Rattle.model_base.specs.declared.limits.TheConstants.{MOST_PLACES}
 use Rattle.model_base.specs.declared.statement.Statement.{Statement}
 use Rattle.log_text.specs.Fault.{line_fault}
@@ -64,14 +64,27 @@ pub begins_dealt : (reading : Reading) (old new : Batching) → Deals reading ol
 begins_dealt reading old new deals =
     subst (λ (log : Accepted). Begins (log_names old) log.names) (sym deals.log) (begins_reading (log_names old) reading)
 
--- lines that were read ahead stay so
-pub still_ahead : (now later : Names) (bytes : List ℕ) (lines : List Ahead) → WereReadAhead now bytes lines → Begins now later → WereReadAhead later bytes lines
-still_ahead now later bytes lines were further = record {
+-- from an index on these lines were read before their turn, all by names with which those now begin
+pub record AreStillAhead (now : Names) (bytes : List ℕ) (from : ℕ) (lines : List Ahead) : Type 0 where
+  pub names : Names
+  pub begins : Begins names now
+  pub ahead : (k : ℕ) (other : Ahead) → from ≤ k → k < length lines → IsAhead names bytes (slice_index_or lines k other)
+
+pub all_ahead : (now : Names) (bytes : List ℕ) (lines : List Ahead) → WereReadAhead now bytes lines → AreStillAhead now bytes 0 lines
+all_ahead now bytes lines were = record {
   names = were.names;
-  begins = begins_further were.names now later were.begins further;
-  ahead = were.ahead;
+  begins = were.begins;
+  ahead = λ k other least within. were.ahead k other within;
 }
 
--- lines of a piece that was read by names with which these begin
-pub piece_ahead : (names now : Names) (bytes : List ℕ) (lines : List Ahead) → Begins names now → All (IsAhead names bytes) lines → WereReadAhead now bytes lines
-piece_ahead names now bytes lines begins ahead = record { names = names; begins = begins; ahead = ahead }
+-- those behind a line stay so, whatever is taken out of it and whatever names come
+pub still_ahead : (now later : Names) (bytes : List ℕ) (from : ℕ) (lines : List Ahead) (line : Ahead) → AreStillAhead now bytes from lines → Begins now later
+    → AreStillAhead later bytes (from + 1) (slice_set lines from line)
+still_ahead now later bytes from lines line were further = record {
+  names = were.names;
+  begins = begins_further were.names now later were.begins further;
+  ahead = λ k other least within.
+      let inside : k < length lines = subst (λ n. k < n) (length-set lines from line) within in
+      let differ : k ≢ from = omega (arith, least) in
+      subst (IsAhead were.names bytes) (sym (get_or-set_other lines from k line other differ)) (were.ahead k other (omega (arith, least)) inside);
+}

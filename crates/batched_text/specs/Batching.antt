@@ -1,6 +1,6 @@
 -- A text that is read, run and reported in batches.
 use Rattle.std.specs.Prelude.{◌≡◌, ◌≤◌, ◌<◌, ◌+◌, ◌++◌, ◌∷◌, [], ⊤, ℕ, Bool, true, false, Result, Ok, List, Option, Some, None, length}
-use Rattle.std.specs.Io.KnownBytes.{Appends, IsAtEnd}
+use Rattle.std.specs.Io.KnownBytes.{Appends, IsAtEnd, prepend_known}
 use Rattle.log_text_base.specs.declared.limits.TheConstants.{BUFFER_BYTES, MOST_GIVEN_BYTES}
 use Rattle.report.specs.Report.{Reading}
 use Rattle.sequencer.specs.Log.{Accepted, empty_log}
@@ -110,6 +110,16 @@ pub record BatchedStanding : Type 0 where
   pub given : ℕ
   pub out : Option (List ℕ)
   pub batching : Batching
+
+-- so it does where some bytes are ahead and others are still to be read
+abbrev pub standing_at : List ℕ → Option (List ℕ) → ℕ → Option (List ℕ) → Batching → BatchedStanding
+standing_at ahead remaining given out batching = record {
+  rest = prepend_known ahead remaining;
+  ahead = length ahead;
+  given = given;
+  out = out;
+  batching = batching;
+}
 
 -- the lines of the input up to where it is now are reported or wait, the end of the report still pending
 abbrev pub BatchedUpTo : Option (List ℕ) → Option (List ℕ) → Option (List ℕ) → Option (List ℕ) → Batching → Type 0

@@ -22,12 +22,12 @@ use std::alloc::Global;
 use std::sync::Wait;
 use std::thread::Threads;
 
-/// Takes a statement that was foretold into the log. Then its line waits.
-fn take_known(batching: &mut Batching, statement: &Statement) -> Result<(), EngineFault>
+/// Takes a statement that was foretold into the log, in exchange for one of no more use. Then its line waits.
+fn take_known(batching: &mut Batching, statement: &mut Statement) -> Result<(), EngineFault>
     requires number { batching.old.number < 2 ^ 64 - 1 }
     requires place { length batching.old.engine.log.statements < MOST_PLACES }
-    requires foretold { (sentence : Sentence) × (IsInGrammar sentence × IsForetold (log_names batching.old) sentence statement.now) }
-    ensures ok { OnOk result ((sentence : Sentence) → IsForetold (log_names batching.old) sentence statement.now
+    requires foretold { (sentence : Sentence) × (IsInGrammar sentence × IsForetold (log_names batching.old) sentence statement.old) }
+    ensures ok { OnOk result ((sentence : Sentence) → IsForetold (log_names batching.old) sentence statement.old
         → Takes (read sentence) batching.old batching.new) }
     ensures pending { batching.new.pending.items ≡ batching.old.pending.items }
     ensures err { IfErr result (λ f. f ≡ EngineFault.NoMemory) }
@@ -73,23 +73,23 @@ fn take_next<'a>(
     Ok(Some(count))
 }
 
-/// Takes a line by what was found of it before its turn, as `take_next`. It is read now where that told nothing, or where no place is
-/// left for its statement.
+/// Takes a line by what was found of it before its turn, as `take_next`; a statement that was found is moved out. The line is read now
+/// where that told nothing, or where no place is left for its statement.
 fn take_ahead<'a>(
     alloc: Global,
     batching: &mut Batching,
     bytes: &'a [u8],
-    ahead: &Ahead,
+    ahead: &mut Ahead,
     raw: &mut RawRoom<'a>,
 ) -> Result<Option<usize>, EngineFault>
     requires number { batching.old.number < 2 ^ 64 - 1 }
-    requires ahead { WasReadAhead (log_names batching.old) bytes.now ahead.now }
+    requires ahead { WasReadAhead (log_names batching.old) bytes.now ahead.old }
     ensures ok { IfOk result (λ found. MatchOption found (batching.new ≡ batching.old)
-        (λ count. TakesAt bytes.now ahead.now.from count batching.old batching.new)) }
+        (λ count. TakesAt bytes.now ahead.old.from count batching.old batching.new)) }
     ensures pending { batching.new.pending.items ≡ batching.old.pending.items }
     ensures err { IfErr result (λ f. f ≡ EngineFault.NoMemory) }
 {
-    match &ahead.found {
+    match &mut ahead.found {
         Found::Known(statement) => {
             let _dropped = batching.engine.log().dropped();
             if batching.engine.log().len() >= MOST_PLACES {
@@ -142,7 +142,7 @@ fn report_one<'a, T: Threads + Wait + Sync>(
     settings: &Settings,
     history: History,
     bytes: &'a [u8],
-    ahead: &Ahead,
+    ahead: &mut Ahead,
     from: usize,
     given: u64,
     raw: &mut RawRoom<'a>,
@@ -151,7 +151,7 @@ fn report_one<'a, T: Threads + Wait + Sync>(
     requires within { from ≤ length bytes.now }
     requires ready { IsBatchReady history settings.now batching.old (length bytes.now - from) given }
     requires kept { batching.old.engine.dropped ≡ dropped_by history batching.old.engine }
-    requires ahead { WasReadAhead (log_names batching.old) bytes.now ahead.now }
+    requires ahead { WasReadAhead (log_names batching.old) bytes.now ahead.old }
     ensures { Runs history settings.now bytes.now given from batching.old batching.new result }
 {
     if ahead.from != from {
@@ -209,7 +209,7 @@ pub(crate) fn report_foretold<'a, T: Threads + Wait + Sync>(
     settings: &Settings,
     history: History,
     bytes: &'a [u8],
-    lines: &[Ahead],
+    lines: &mut [Ahead],
     from: usize,
     given: u64,
     raw: &mut RawRoom<'a>,
@@ -218,11 +218,11 @@ pub(crate) fn report_foretold<'a, T: Threads + Wait + Sync>(
     requires within { from ≤ length bytes.now }
     requires ready { IsBatchReady history settings.now batching.old (length bytes.now - from) given }
     requires kept { batching.old.engine.dropped ≡ dropped_by history batching.old.engine }
-    requires ahead { WereReadAhead (log_names batching.old) bytes.now lines.now }
+    requires ahead { WereReadAhead (log_names batching.old) bytes.now lines.old }
     ensures { Runs history settings.now bytes.now given from batching.old batching.new result }
 {
     let mut at = from;
-    'turns: for ahead in lines {
+    'turns: for ahead in lines.iter_mut() {
         let next = report_until(
             rt, alloc, batching, settings, history, bytes, at, ahead.from, given, raw,
         )?;

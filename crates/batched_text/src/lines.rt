@@ -4,7 +4,7 @@ ghost use Rattle.std.specs.Prelude.{◌≡◌, ◌≢◌, ◌<◌, ◌-◌, ◌^
 ghost use Rattle.std.specs.Result.{ForOk};
 ghost use Rattle.log_text.specs.Statement.{IsInGrammar};
 ghost use Rattle.report.specs.Report.{Reading, read};
-ghost use Rattle.bohm_base.specs.Collecting.{ReadsAs, became, reading_of, with_reading};
+ghost use Rattle.bohm_base.specs.Collecting.{LineMayLackMemory, ReadsAs, became, reading_of, with_reading};
 ghost use Rattle.engine.specs.Engine.{finished};
 ghost use Rattle.batched_text.specs.Batching.{Deals, IsOpen, Takes};
 ghost use Rattle.batched_text.specs.History.{dropped_by};
@@ -20,7 +20,7 @@ use std::alloc::Global;
 use std::sync::Wait;
 use std::thread::Threads;
 
-/// Takes a statement into the log if it is not refused, and says what its line became.
+/// Takes a statement into the log if it is not refused, and says what its line became. After an error the statement is not refused.
 #[inline(always)]
 fn take_statement<'a>(
     engine: &mut Engine,
@@ -31,6 +31,7 @@ fn take_statement<'a>(
     ensures line { IfOk result (λ line. line ≡ became engine.old.log.names (read statement.entry)) }
     ensures engine { OnOk result (engine.new ≡ record engine.old { log = with_reading engine.old.log (read statement.entry) }) }
     ensures err { IfErr result (λ f. f ≡ EngineFault.NoMemory) }
+    ensures want { OnErr result (LineMayLackMemory (became engine.old.log.names (read statement.entry))) }
 {
     match engine.push_lent(statement, raw) {
         Ok(_) => Ok(Became::Accepted),
@@ -41,7 +42,8 @@ fn take_statement<'a>(
     }
 }
 
-/// Takes the statement that a line was read as into the log if it is one that is not refused, and says what the line became.
+/// Takes the statement that a line was read as into the log if it is one that is not refused, and says what the line became. After an
+/// error the line is neither a faulty nor a refused one.
 #[inline(always)]
 pub(crate) fn take_read<'a>(
     engine: &mut Engine,
@@ -53,6 +55,7 @@ pub(crate) fn take_read<'a>(
     ensures engine { OnOk result (engine.new ≡ record engine.old { log = with_reading engine.old.log (reading_of found.entry) }) }
     ensures told { OnOk result (found.entry ≢ Err LineFault.NoMemory) }
     ensures err { IfErr result (λ f. f ≡ EngineFault.NoMemory) }
+    ensures want { OnErr result (LineMayLackMemory (became engine.old.log.names (reading_of found.entry))) }
 {
     match found {
         Ok(statement) => {

@@ -9,7 +9,7 @@ ghost use Rattle.bohm_base.specs.Faults.{read_errors, write_errors};
 ghost use Rattle.bohm_base.specs.Pending.{HasBegunReport, HasReport};
 ghost use Rattle.sequencer.specs.Foretelling.{Begins};
 ghost use Rattle.engine.specs.Engine.{finished};
-ghost use Rattle.batched_text.specs.Batching.{BatchedTurn, EndsBatching, Gathers, IsBatchReady, IsFresh, IsLogOfText, IsOpen};
+ghost use Rattle.batched_text.specs.Batching.{BatchedTurn, EndsBatching, Gathers, IsBatchReady, IsFresh, IsLogOfText, IsOpen, standing_at};
 ghost use Rattle.batched_text.specs.Faults.{of_text};
 ghost use Rattle.batched_text.specs.Foretold.{Runs, log_names};
 ghost use Rattle.batched_text.specs.History.{IsTrimmedBy, NoneWait, dropped_by};
@@ -93,20 +93,8 @@ fn report_line<T: Threads + Wait + Sync, R: Read>(
     requires kept { batching.old.engine.dropped ≡ dropped_by history batching.old.engine }
     ensures kept { OnOk result (batching.new.engine.dropped ≡ dropped_by history batching.new.engine) }
     ensures turn { (held : Option (List ℕ)) → BatchedTurn history settings.now result
-        (record {
-          rest = prepend_known (ahead lines.old) (R.remaining reader.old.inner);
-          ahead = length (ahead lines.old);
-          given = reader.old.given;
-          out = held;
-          batching = batching.old;
-        })
-        (record {
-          rest = prepend_known (ahead lines.new) (R.remaining reader.new.inner);
-          ahead = length (ahead lines.new);
-          given = reader.new.given;
-          out = held;
-          batching = batching.new;
-        }) }
+        (standing_at (ahead lines.old) (R.remaining reader.old.inner) reader.old.given held batching.old)
+        (standing_at (ahead lines.new) (R.remaining reader.new.inner) reader.new.given held batching.new) }
     ensures reads { reader.new.errors ≡ read_errors result reader.old.errors }
     ensures begins { OnOk result (Begins (log_names batching.old) (log_names batching.new)) }
     ensures err { IfErr result (λ f. f ≢ TextFault.Write) }
@@ -151,18 +139,9 @@ fn deal_at_hand<T: Threads + Wait + Sync>(
             rt, alloc, lookahead, batching, settings, history, bytes, given,
         );
     }
-    let mut raw = RawRoom::new(alloc);
+    let (to, raw) = (bytes.len(), &mut RawRoom::new(alloc));
     report_until(
-        rt,
-        alloc,
-        batching,
-        settings,
-        history,
-        bytes,
-        0,
-        bytes.len(),
-        given,
-        &mut raw,
+        rt, alloc, batching, settings, history, bytes, 0, to, given, raw,
     )
 }
 
@@ -216,20 +195,8 @@ fn report_turn<T: Threads + Wait + Sync, R: Read, W: Write>(
     ensures nothing { result ≡ Ok true → batching.new.pending.items ≡ [] }
     ensures none { result ≡ Ok true → NoneWait history batching.new.waiting.items }
     ensures turn { BatchedTurn history settings.now result
-        (record {
-          rest = prepend_known (ahead lines.old) (R.remaining reader.old.inner);
-          ahead = length (ahead lines.old);
-          given = reader.old.given;
-          out = W.contents writer.old.inner;
-          batching = batching.old;
-        })
-        (record {
-          rest = prepend_known (ahead lines.new) (R.remaining reader.new.inner);
-          ahead = length (ahead lines.new);
-          given = reader.new.given;
-          out = W.contents writer.new.inner;
-          batching = batching.new;
-        }) }
+        (standing_at (ahead lines.old) (R.remaining reader.old.inner) reader.old.given (W.contents writer.old.inner) batching.old)
+        (standing_at (ahead lines.new) (R.remaining reader.new.inner) reader.new.given (W.contents writer.new.inner) batching.new) }
     ensures reads { reader.new.errors ≡ read_errors result reader.old.errors }
     ensures writes { writer.new.errors ≡ write_errors result writer.old.errors }
 {
@@ -272,13 +239,7 @@ fn report_rest<T: Threads + Wait + Sync, R: Read, W: Write>(
     requires begins { Begins lookahead.old.names (log_names batching.old) }
     ensures kept { OnOk result (batching.new.engine.dropped ≡ dropped_by history batching.new.engine) }
     ensures ends { EndsBatching history settings.now result
-        (record {
-          rest = prepend_known (ahead lines.old) (R.remaining reader.old.inner);
-          ahead = length (ahead lines.old);
-          given = reader.old.given;
-          out = W.contents writer.old.inner;
-          batching = batching.old;
-        })
+        (standing_at (ahead lines.old) (R.remaining reader.old.inner) reader.old.given (W.contents writer.old.inner) batching.old)
         (W.contents writer.new.inner) batching.new }
     ensures reads { reader.new.errors ≡ read_errors result reader.old.errors }
     ensures writes { writer.new.errors ≡ write_errors result writer.old.errors }
@@ -370,21 +331,23 @@ fn report_all<T: Threads + Wait + Sync, R: Read, W: Write>(
 }
 
 /// Reads a log to its end, runs it in batches, and writes its report, at a fault as much of it as was made; then the writer is
-/// flushed.
+/// flushed. No line was dealt with before.
 fn run_batches<T: Threads + Wait + Sync, R: Read, W: Write>(
     rt: &T,
     alloc: Global,
     reader: &mut Counted<R>,
     writer: &mut Counted<W>,
+    batching: &mut Batching,
     settings: &Settings,
     history: History,
     reading: ReadingAhead,
-) -> Result<Engine, TextFault>
-    requires { are_within_limits settings.now ≡ true }
-    ensures log { IfOk result (λ engine. IsLogOfText (R.remaining reader.old.inner) engine.log) }
-    ensures all { IfOk result (λ engine. finished engine ≡ length engine.log.statements) }
-    ensures trimmed { IfOk result (λ engine. IsTrimmedBy history settings.now engine) }
-    ensures kept { IfOk result (λ engine. engine.dropped ≡ dropped_by history engine) }
+) -> Result<(), TextFault>
+    requires settings { are_within_limits settings.now ≡ true }
+    requires first { IsFresh batching.old }
+    ensures log { OnOk result (IsLogOfText (R.remaining reader.old.inner) batching.new.engine.log) }
+    ensures all { OnOk result (finished batching.new.engine ≡ length batching.new.engine.log.statements) }
+    ensures trimmed { OnOk result (IsTrimmedBy history settings.now batching.new.engine) }
+    ensures kept { OnOk result (batching.new.engine.dropped ≡ dropped_by history batching.new.engine) }
     ensures done { OnOk result (IfSome (R.remaining reader.old.inner) (λ input. (text : List ℕ)
         × (IsReport input text × Appends (W.contents writer.old.inner) (W.contents writer.new.inner) text))) }
     ensures begun { IfSome (R.remaining reader.old.inner) (λ input. (text : List ℕ)
@@ -393,23 +356,14 @@ fn run_batches<T: Threads + Wait + Sync, R: Read, W: Write>(
     ensures write { result ≡ Err TextFault.Write → writer.old.errors < 2 ^ 64 - 1 → writer.old.errors < writer.new.errors }
     ensures whole { OnOk result ((reader.new.errors ≡ reader.old.errors) × (writer.new.errors ≡ writer.old.errors)) }
 {
-    let mut batching = Batching::new(alloc);
     let ended = report_all(
-        rt,
-        alloc,
-        reader,
-        writer,
-        &mut batching,
-        settings,
-        history,
-        reading,
+        rt, alloc, reader, writer, batching, settings, history, reading,
     );
     let written = write_out(writer, &batching.pending);
     ended?;
     written?;
     flush(writer)?;
-    let Batching { engine, .. } = batching;
-    Ok(engine)
+    Ok(())
 }
 
 /// The fault of a run, as one of an engine.
@@ -467,16 +421,18 @@ pub fn run_text<T: Threads + Wait + Sync, R: Read, W: Write>(
     if !are_within_limits(settings) {
         return Err(EngineFault::BadSettings);
     }
+    let mut batching = Batching::new(alloc);
     match run_batches(
         rt,
         alloc,
         reader,
         writer,
+        &mut batching,
         settings,
         History::Kept,
         NONE_AHEAD,
     ) {
-        Ok(engine) => Ok(engine),
+        Ok(()) => Ok(batching.engine),
         Err(fault) => Err(engine_fault(fault)),
     }
 }
@@ -514,16 +470,18 @@ pub fn report_text<T: Threads + Wait + Sync, R: Read, W: Write>(
     if !are_within_limits(settings) {
         return Err(EngineFault::BadSettings);
     }
+    let mut batching = Batching::new(alloc);
     match run_batches(
         rt,
         alloc,
         reader,
         writer,
+        &mut batching,
         settings,
         History::Dropped,
         NONE_AHEAD,
     ) {
-        Ok(_) => Ok(()),
+        Ok(()) => Ok(()),
         Err(fault) => Err(engine_fault(fault)),
     }
 }
@@ -557,14 +515,15 @@ pub fn report_in_order<T: Threads + Wait + Sync, R: Read, W: Write>(
     // Ok says that neither of them failed, in the flush at the end neither.
     ensures whole { OnOk result ((reader.new.errors ≡ reader.old.errors) × (writer.new.errors ≡ writer.old.errors)) }
 {
+    let mut batching = Batching::new(alloc);
     run_batches(
         rt,
         alloc,
         reader,
         writer,
+        &mut batching,
         &IN_ORDER,
         History::Dropped,
         reading,
-    )?;
-    Ok(())
+    )
 }

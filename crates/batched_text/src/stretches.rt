@@ -53,11 +53,12 @@ fn report_piece<'a, B: Basis, T: Threads + Wait + Sync>(
             rt, alloc, batching, settings, history, bytes, from, end, given, raw,
         );
     };
-    let lines = read.lines();
+    let (mut lines, count) = read.into_lines();
+    let found = &mut lines[..count];
     let at = report_foretold(
-        rt, alloc, batching, settings, history, bytes, lines, from, given, raw,
+        rt, alloc, batching, settings, history, bytes, found, from, given, raw,
     )?;
-    stretch.give_back(read);
+    stretch.give_back(Piece::over(lines));
     report_until(
         rt, alloc, batching, settings, history, bytes, at, end, given, raw,
     )

@@ -1,134 +1,155 @@
--- Entries that are left when those are dropped whose single version tells nothing.
-use Rattle.std.proofs.Common.{◌≡◌, ℕ, ◌+◌, Bool, true, false, ◌&&◌, not, cond, ltb, is_none, Option, Some, None, List, [], ◌∷◌, ◌++◌, filter, map, length, refl, sym, ◌∙◌, ap, subst, arith}
-use Rattle.std.specs.List.{AllByRecursion, IsDistinct}
-use Rattle.std.specs.Map.{keys_of, lookup}
+-- Entries that are left when others are dropped, each of which has a single version.
+use Rattle.std.proofs.Common.{◌≡◌, ℕ, ◌+◌, ◌<◌, Bool, true, false, ◌&&◌, not, cond, ltb, is_none, Option, Some, None, List, [], ◌∷◌, ◌++◌, filter, map, length, refl, sym, ◌∙◌, ap, subst, arith}
+use Rattle.std.specs.List.{AllByRecursion}
+use Rattle.std.specs.Map.{lookup}
+use Rattle.std.proofs.lemmas.Bool.{not-false}
+use Rattle.std.proofs.lemmas.Bool.Decides.{nat_tests}
 use Rattle.std.proofs.lemmas.List.{length-append}
+use Rattle.std.proofs.lemmas.List.Elements.{filter-append}
+use Rattle.std.proofs.lemmas.Map.Entries.{lookup-filter-values, option_filter}
 use Rattle.model_base.specs.declared.row.Key.{Key}
 use Rattle.body.specs.RowMap.{key_eq}
-use Rattle.body.proofs.Rows.{same_key-own}
 use Rattle.chains.specs.declared.replaced.Dated.{Dated}
 use Rattle.chains.specs.declared.replaced.Replaced.{Replaced}
 use Rattle.chains.specs.declared.writes.Written.{Written}
-use Rattle.chains.specs.Keyed.{AreBacked, held_in, replaced_of, version_at, versions_in, versions_of}
-use Rattle.chains.specs.Kept.{IsStoreKept}
-use Rattle.chains.specs.Store.{is_spent, of_key, swept}
-use Rattle.chains.proofs.Cutting.{later-is, none-else}
-use Rattle.chains.proofs.Entries.{Entries, absent-none, found, missing}
-use Rattle.chains.proofs.Keyed.{key-is}
-use Rattle.chains.proofs.Sweeping.{same-entry, spent-found, spent-single}
+use Rattle.chains.specs.Keyed.{AreBacked, held_below, held_in, replaced_of, replacing_write, version_at, versions_in, versions_of}
+use Rattle.chains.specs.Kept.{AreChained, AreWrittenBelow, IsStoreKept, replacing_of, written_by}
+use Rattle.chains.specs.Store.{AreBetween, is_spent, of_key, swept}
+use Rattle.chains.proofs.Cutting.{below-kept, low}
+use Rattle.chains.proofs.Entries.{Entries, all-found, keys-equiv, own-is, own_of}
+use Rattle.chains.proofs.Sweeping.{all-filter, spent-alone, spent-found}
 use Rattle.model_base.proofs.Replay.{by_cases}
 
--- what is found among the entries that pass a test
-module _ (test : Key × Dated → Bool) (key : Key) where
-  lookup-miss : (b : Bool) (entry : Key × Dated) (kept : Entries) → key_eq key entry.0 ≡ false → lookup (key_eq key) (cond b (entry ∷ kept) kept) ≡ lookup (key_eq key) kept
-  lookup-miss true entry kept miss = ap (λ b. cond b (Some entry.1) (lookup (key_eq key) kept)) miss
-  lookup-miss false entry kept miss = refl
+-- the entries whose newest version passes
+abbrev pub passing : (Dated → Bool) → Entries → Entries
+passing test entries = filter (λ (entry : Key × Dated). test entry.1) entries
 
-  filter-missing : (entries : Entries) → lookup (key_eq key) entries ≡ None → lookup (key_eq key) (filter test entries) ≡ None
-  filter-missing [] none = refl
-  filter-missing (entry ∷ entries) none =
-      let parts = missing (key_eq key entry.0) entry.1 (lookup (key_eq key) entries) none in
-      lookup-miss (test entry) entry (filter test entries) parts.0 ∙ filter-missing entries parts.1
-
-  filter-here : (dated : Dated) (entry : Key × Dated) (entries : Entries) → AllByRecursion (λ y. key_eq entry.0 y ≡ false) (keys_of entries)
-      → lookup (key_eq key) (entry ∷ entries) ≡ Some dated → key_eq key entry.0 ≡ true
-      → lookup (key_eq key) (cond (test entry) (entry ∷ filter test entries) (filter test entries)) ≡ cond (test (key, dated)) (Some dated) None
-  filter-here dated entry entries others is hit =
-      let some : Some entry.1 ≡ Some dated = sym (ap (λ b. cond b (Some entry.1) (lookup (key_eq key) entries)) hit) ∙ is in
-      let value : entry.1 ≡ dated = cc in
-      let name : entry.0 ≡ key = sym (key-is key entry.0 hit) in
-      let none : lookup (key_eq key) entries ≡ None = ap (λ (k : Key). lookup (key_eq k) entries) (sym name) ∙ none-else entry.0 entries others in
-      either (test entry) some none ∙ ap (λ (one : Key × Dated). cond (test one) (Some dated) None) (λ i. (name i, value i))
-    where
-      either : (b : Bool) → Some entry.1 ≡ Some dated → lookup (key_eq key) entries ≡ None
-          → lookup (key_eq key) (cond b (entry ∷ filter test entries) (filter test entries)) ≡ cond b (Some dated) None
-      either true some none = ap (λ b. cond b (Some entry.1) (lookup (key_eq key) (filter test entries))) hit ∙ some
-      either false some none = filter-missing entries none
-
-  filter-found : (dated : Dated) (entries : Entries) → IsDistinct key_eq (keys_of entries) → lookup (key_eq key) entries ≡ Some dated
-      → lookup (key_eq key) (filter test entries) ≡ cond (test (key, dated)) (Some dated) None
-  unfolding IsDistinct
-  filter-found dated [] distinct is = cc
-  filter-found dated (entry ∷ entries) distinct is =
-      by_cases (key_eq key entry.0)
-      (filter-here dated entry entries distinct.0 is)
-      (λ miss. lookup-miss (test entry) entry (filter test entries) miss ∙ filter-found dated entries distinct.1 (sym (ap (λ b. cond b (Some entry.1) (lookup (key_eq key) entries)) miss) ∙ is))
-
--- whether the entry's version tells a row, or isn't below the mark
-abbrev pub is_alive : ℕ → Key × Dated → Bool
-is_alive mark entry = not (ltb entry.1.place mark && is_none entry.1.row)
-
-module _ (mark end : ℕ) (older : List Replaced) (entries : Entries) (absent : List Written) (backed : AreBacked older entries) (kept : IsStoreKept (held_in older entries) absent mark end) where
-  abbrev alive : Entries
-  alive = filter (is_alive mark) entries
-
-  abbrev tells-nothing : Dated → Bool
-  tells-nothing dated = ltb dated.place mark && is_none dated.row
-
-  spent-is : (key : Key) (dated : Dated) → lookup (key_eq key) entries ≡ Some dated → is_spent mark (of_key key (versions_in older entries)) ≡ tells-nothing dated
-  spent-is key dated is = spent-found mark end older entries absent key dated kept (found key dated entries backed.distinct is)
-
-  single : (key : Key) (dated : Dated) → lookup (key_eq key) entries ≡ Some dated → tells-nothing dated ≡ true → replaced_of key older ≡ []
-  single key dated is nothing =
-      spent-single mark older entries key dated (found key dated entries backed.distinct is) (spent-is key dated is ∙ nothing)
-
-  pub alive-backed : (key : Key) → lookup (key_eq key) alive ≡ None → replaced_of key older ≡ []
-  alive-backed key none = by_lookup (lookup (key_eq key) entries) refl
-    where
-      by_lookup : (found_one : Option Dated) → lookup (key_eq key) entries ≡ found_one → replaced_of key older ≡ []
-      by_lookup None is = backed.backed key is
-      by_lookup (Some dated) is =
-          by_cases (tells-nothing dated)
-          (single key dated is)
-          (λ alive. let no : None ≡ Some dated = sym none ∙ filter-found (is_alive mark) key dated entries backed.distinct is ∙ ap (λ b. cond (not b) (Some dated) None) alive in cc)
-
-  pub alive-left : AreBacked older alive → (key : Key) → of_key key (versions_in older alive) ≡ swept mark (of_key key (versions_in older entries))
-  alive-left also key = by_lookup (lookup (key_eq key) entries) refl
-    where
-      by_lookup : (found_one : Option Dated) → lookup (key_eq key) entries ≡ found_one → of_key key (versions_in older alive) ≡ swept mark (of_key key (versions_in older entries))
-      by_lookup None is =
-          absent-none key older alive (filter-missing (is_alive mark) key entries is)
-          ∙ sym (ap (swept mark) (absent-none key older entries is))
-      by_lookup (Some dated) is =
-          by_cases (tells-nothing dated)
-          (λ nothing. absent-none key older alive (filter-found (is_alive mark) key dated entries backed.distinct is ∙ ap (λ b. cond (not b) (Some dated) None) nothing) ∙ sym (ap (λ b. cond b [] (of_key key (versions_in older entries))) (spent-is key dated is ∙ nothing)))
-          (λ tells. same-entry older entries alive key backed also (Some dated) is (filter-found (is_alive mark) key dated entries backed.distinct is ∙ ap (λ b. cond (not b) (Some dated) None) tells) ∙ sym (ap (λ b. cond b [] (of_key key (versions_in older entries))) (spent-is key dated is ∙ tells)))
-
--- how many versions are left
-count-alive : (mark : ℕ) (older : List Replaced) (entries : Entries) → IsDistinct key_eq (keys_of entries)
-    → ((key : Key) (dated : Dated) → lookup (key_eq key) entries ≡ Some dated → (ltb dated.place mark && is_none dated.row) ≡ true → replaced_of key older ≡ [])
-    → length (versions_in older entries) + length (filter (is_alive mark) entries) ≡ length (versions_in older (filter (is_alive mark) entries)) + length entries
-unfolding IsDistinct
-count-alive mark older [] distinct each = refl
-count-alive mark older (entry ∷ entries) distinct each =
-    let rest = count-alive mark older entries distinct.1 (λ key dated is. each key dated (later-is key dated entry entries distinct.0 is)) in
-    let own = each entry.0 entry.1 (ap (λ b. cond b (Some entry.1) (lookup (key_eq entry.0) entries)) (same_key-own entry.0.table entry.0.row)) in
-    by_cases (ltb entry.1.place mark && is_none entry.1.row) (gone rest own) (stays rest)
+-- a key whose entry was dropped has no replaced version
+pub passing-backed : (test : Dated → Bool) (older : List Replaced) (entries : Entries) → AreBacked older entries
+    → ((key : Key) (dated : Dated) → lookup (key_eq key) entries ≡ Some dated → test dated ≡ false → replaced_of key older ≡ [])
+    → (key : Key) → lookup (key_eq key) (passing test entries) ≡ None → replaced_of key older ≡ []
+passing-backed test older entries backed single key none = by_lookup (lookup (key_eq key) entries) refl
   where
-    kept : Entries
-    kept = filter (is_alive mark) entries
+    by_lookup : (one : Option Dated) → lookup (key_eq key) entries ≡ one → replaced_of key older ≡ []
+    by_lookup None is = backed.backed key is
+    by_lookup (Some dated) is =
+        let left : option_filter test (Some dated) ≡ None =
+        sym (lookup-filter-values keys-equiv test key entries backed.distinct ∙ ap (option_filter test) is) ∙ none in
+        single key dated is (by_cases (test dated) (λ hit. let no' = rw hit at left in cc) (λ miss. miss))
 
-    IsCounted : Entries → Type 0
-    IsCounted left = length (versions_in older (entry ∷ entries)) + length left ≡ length (versions_in older left) + length (entry ∷ entries)
+-- the versions of a key, none of which replaced another one from the place on: all are below it, but for a single one
+last-below : (first : ℕ) (key : Key) (chain : List Dated) (dated : Dated)
+    → AreWrittenBelow first (map written_by (map (version_at key) (chain ++ dated ∷ []))) → dated.place < first
+last-below first key [] dated each = each.0
+last-below first key (other ∷ chain) dated each = last-below first key chain dated each.1
 
-    gone : length (versions_in older entries) + length kept ≡ length (versions_in older kept) + length entries
-        → ((ltb entry.1.place mark && is_none entry.1.row) ≡ true → replaced_of entry.0 older ≡ []) → (ltb entry.1.place mark && is_none entry.1.row) ≡ true
-        → IsCounted (cond (is_alive mark entry) (entry ∷ kept) kept)
-    gone rest own nothing =
-        let one : length (versions_of older entry) ≡ 1 = ap (λ (chain : List Dated). length (map (version_at entry.0) (chain ++ entry.1 ∷ []))) (own nothing) in
-        let whole : length (versions_in older (entry ∷ entries)) ≡ length (versions_of older entry) + length (versions_in older entries) = length-append (versions_of older entry) (versions_in older entries) in
-        let left : IsCounted kept = omega (arith, rest, one, whole) in
-        subst (λ b. IsCounted (cond (not b) (entry ∷ kept) kept)) (sym nothing) left
+all-low : (first : ℕ) (key : Key) (chain : List Dated) → AreWrittenBelow first (map written_by (map (version_at key) chain))
+    → low first (map (version_at key) chain) ≡ map (version_at key) chain
+all-low first key [] each = refl
+all-low first key (dated ∷ chain) each =
+    let hit : ltb dated.place first ≡ true = grind (arith, nat_tests, each.0) in simp (hit, all-low first key chain each.1)
 
-    stays : length (versions_in older entries) + length kept ≡ length (versions_in older kept) + length entries → (ltb entry.1.place mark && is_none entry.1.row) ≡ false
-        → IsCounted (cond (is_alive mark entry) (entry ∷ kept) kept)
-    stays rest tells =
-        let whole : length (versions_in older (entry ∷ entries)) ≡ length (versions_of older entry) + length (versions_in older entries) = length-append (versions_of older entry) (versions_in older entries) in
-        let less : length (versions_in older (entry ∷ kept)) ≡ length (versions_of older entry) + length (versions_in older kept) = length-append (versions_of older entry) (versions_in older kept) in
-        let left : IsCounted (entry ∷ kept) = omega (arith, rest, whole, less) in
-        subst (λ b. IsCounted (cond (not b) (entry ∷ kept) kept)) (sym tells) left
+record OfOne (first : ℕ) (older : List Replaced) (key : Key) (dated : Dated) : Type 0 where
+  kept : low first (versions_of older (key, dated)) ≡ cond (ltb dated.place first) (versions_of older (key, dated)) []
+  single : ltb dated.place first ≡ false → replaced_of key older ≡ []
 
-pub alive-count : (mark end : ℕ) (older : List Replaced) (entries : Entries) (absent : List Written) → AreBacked older entries → IsStoreKept (held_in older entries) absent mark end
-    → length (versions_in older entries) + length (filter (is_alive mark) entries) ≡ length (versions_in older (filter (is_alive mark) entries)) + length entries
-alive-count mark end older entries absent backed kept =
-    count-alive mark older entries backed.distinct (single mark end older entries absent backed kept)
+of-one : (first end : ℕ) (older : List Replaced) (key : Key) (dated : Dated) (chain : List Dated) → replaced_of key older ≡ chain
+    → AreBetween 0 end (map (version_at key) (chain ++ dated ∷ []))
+    → AreWrittenBelow first (replacing_of (map (version_at key) (chain ++ dated ∷ []))) → OfOne first older key dated
+of-one first end older key dated [] is between each = record { kept = simp is; single = λ late. is }
+of-one first end older key dated (one ∷ chain) is between each =
+    let less : dated.place < first = last-below first key chain dated each in
+    let hit : ltb dated.place first ≡ true = grind (arith, nat_tests) in
+    record {
+      kept = rw (is, hit) (all-low first key (one ∷ chain ++ dated ∷ []) (before chain between.2 each, each));
+      single = λ late. let no' : true ≡ false = sym hit ∙ late in cc;
+    }
+  where
+    before : (chain : List Dated) → AreBetween one.place end (map (version_at key) (chain ++ dated ∷ []))
+        → AreWrittenBelow first (map written_by (map (version_at key) (chain ++ dated ∷ []))) → one.place < first
+    before [] between each = omega (arith, each.0, between.0)
+    before (other ∷ chain) between each = omega (arith, each.0, between.0)
+
+passing-low : (first : ℕ) (older : List Replaced) (entries : Entries)
+    → AllByRecursion (λ (entry : Key × Dated). OfOne first older entry.0 entry.1) entries
+    → versions_in older (passing (λ dated. ltb dated.place first) entries) ≡ low first (versions_in older entries)
+passing-low first older [] each = refl
+passing-low first older (entry ∷ entries) each =
+    let rest = passing-low first older entries each.1 in
+    by_cases (ltb entry.1.place first)
+    (λ hit. let own = rw hit at each.0.kept in rw (hit, filter-append) (λ i. sym own i ++ rest i))
+    (λ miss. let own = rw miss at each.0.kept in rw (miss, filter-append) (λ i. sym own i ++ rest i))
+
+-- what is left when only the entries are whose newest version is below the place
+pub record IsKeptBelow (first : ℕ) (older : List Replaced) (entries new : Entries) : Type 0 where
+  pub held : held_in older new ≡ held_below first (held_in older entries)
+  pub backed : (key : Key) → lookup (key_eq key) new ≡ None → replaced_of key older ≡ []
+
+pub keep-below : (first end : ℕ) (older : List Replaced) (entries : Entries) → AreBacked older entries → AreChained (held_in older entries) end
+    → AreWrittenBelow first (map replacing_write older) → IsKeptBelow first older entries (passing (λ dated. ltb dated.place first) entries)
+keep-below first end older entries backed chained each = record {
+  held =
+      let versions = passing-low first older entries (all-found (OfOne first older) entries backed.distinct one) in
+      let writes = sym (below-kept first (map replacing_write older) each) in
+      λ i. record { versions = versions i; replacing = writes i };
+  backed = passing-backed (λ dated. ltb dated.place first) older entries backed (λ key dated is late. (one key dated is).single late);
+}
+  where
+    one : (key : Key) (dated : Dated) → lookup (key_eq key) entries ≡ Some dated → OfOne first older key dated
+    one key dated is =
+        let own = own-is older key entries (Some dated) backed.distinct is in
+        of-one first end older key dated (replaced_of key older) refl
+        (subst (AreBetween 0 end) own (chained.ordered key))
+        (subst (AreWrittenBelow first) (chained.replacing key ∙ ap replacing_of own)
+        (all-filter (λ (write : Written). write.place < first) _ (map replacing_write older) each))
+
+-- so many versions go as entries do, where each of these has a single one
+count-passing : (test : Dated → Bool) (older : List Replaced) (entries : Entries)
+    → AllByRecursion (λ (entry : Key × Dated). test entry.1 ≡ false → replaced_of entry.0 older ≡ []) entries
+    → length (versions_in older entries) + length (passing test entries) ≡ length (versions_in older (passing test entries)) + length entries
+count-passing test older [] each = refl
+count-passing test older (entry ∷ entries) each =
+    let rest = count-passing test older entries each.1 in
+    let whole = length-append (versions_of older entry) (versions_in older entries) in
+    by_cases (test entry.1)
+    (λ hit. rw hit (omega (arith, rest, whole, length-append (versions_of older entry) (versions_in older (passing test entries)))))
+    (λ miss. let one : length (versions_of older entry) ≡ 1 = simp (each.0 miss) in rw miss (omega (arith, rest, whole, one)))
+
+-- whether the version tells a row, or isn't below the mark
+abbrev pub is_alive : ℕ → Dated → Bool
+is_alive mark dated = not (ltb dated.place mark && is_none dated.row)
+
+module _ (mark end : ℕ) (older : List Replaced) (entries : Entries) (absent : List Written) (backed : AreBacked older entries)
+    (kept : IsStoreKept (held_in older entries) absent mark end) where
+  single : (key : Key) (dated : Dated) → lookup (key_eq key) entries ≡ Some dated → is_alive mark dated ≡ false → replaced_of key older ≡ []
+  single key dated is nothing =
+      (spent-alone mark older entries key backed
+      (spent-found mark end older entries absent key dated kept backed is ∙ not-false (ltb dated.place mark && is_none dated.row) nothing)).2
+
+  pub alive-backed : (key : Key) → lookup (key_eq key) (passing (is_alive mark) entries) ≡ None → replaced_of key older ≡ []
+  alive-backed = passing-backed (is_alive mark) older entries backed single
+
+  pub alive-left : AreBacked older (passing (is_alive mark) entries)
+      → (key : Key) → of_key key (versions_in older (passing (is_alive mark) entries)) ≡ swept mark (of_key key (versions_in older entries))
+  alive-left also key =
+      let one = lookup (key_eq key) entries in
+      own-is older key (passing (is_alive mark) entries) (option_filter (is_alive mark) one) also.distinct
+      (lookup-filter-values keys-equiv (is_alive mark) key entries backed.distinct)
+      ∙ swept-own one refl
+      ∙ sym (ap (swept mark) (own-is older key entries one backed.distinct refl))
+    where
+      swept-own : (one : Option Dated) → lookup (key_eq key) entries ≡ one
+          → own_of older key (option_filter (is_alive mark) one) ≡ swept mark (own_of older key one)
+      swept-own None is = refl
+      swept-own (Some dated) is =
+          let spent : is_spent mark (own_of older key (Some dated)) ≡ (ltb dated.place mark && is_none dated.row) =
+          sym (ap (is_spent mark) (own-is older key entries (Some dated) backed.distinct is))
+          ∙ spent-found mark end older entries absent key dated kept backed is in
+          rw spent (by_cases (ltb dated.place mark && is_none dated.row) (λ nothing. rw nothing refl) (λ tells. rw tells refl))
+
+  -- how many versions are left
+  pub alive-count : length (versions_in older entries) + length (passing (is_alive mark) entries)
+      ≡ length (versions_in older (passing (is_alive mark) entries)) + length entries
+  alive-count =
+      count-passing (is_alive mark) older entries
+      (all-found (λ key dated. is_alive mark dated ≡ false → replaced_of key older ≡ []) entries backed.distinct single)

@@ -1,15 +1,10 @@
 pub mod Order
-pub mod Newest
 pub mod Serial
 pub mod Right
 pub mod Keyed
 pub mod Entries
-pub mod Changed
-pub mod Trimming
-pub mod Noting
 pub mod Sweeping
 pub mod Dropping
-pub mod Backed
 pub mod Cutting
 pub mod Keeping
 pub mod Placed

@@ -1,65 +1,55 @@
 -- The versions of a log's places tell the rows before each place.
-use Rattle.std.proofs.Common.{◌≡◌, ℕ, zero, suc, ◌+◌, ◌-◌, ◌<◌, ◌≤◌, Bool, true, false, Option, Some, None, List, ◌++◌, cond, refl, sym, ◌∙◌, ap, arith, inl, inr}
+use Rattle.std.proofs.Common.{◌≡◌, ℕ, zero, suc, ◌+◌, ◌-◌, ◌<◌, ◌≤◌, Option, Some, None, List, ◌++◌, refl, sym, ◌∙◌, ap, arith, inl, inr}
 use Rattle.std.specs.Prelude.{slice_get}
 use Rattle.std.specs.List.{flat_map, range_with_len}
-use Rattle.std.specs.Option.{option_map_or}
 use Rattle.std.proofs.lemmas.List.Sums.{fold-append}
 use Rattle.std.proofs.lemmas.Bool.{cases_lt}
 use Rattle.model_base.specs.declared.row.Key.{Key}
 use Rattle.model_base.specs.declared.statement.Statement.{Statement}
 use Rattle.model_base.specs.Outcomes.{rows_before}
 use Rattle.model_base.specs.References.{declares_write}
+use Rattle.model_base.specs.Rows.{Rows}
 use Rattle.model_base.specs.Versions.{accesses_of}
 use Rattle.chains.specs.declared.version.Version.{Version}
 use Rattle.chains.specs.Store.{AreBetween, Gains, IsRight, Store, newest_or, of_key, row_in, versions_at, versions_between}
 use Rattle.chains.proofs.Order.{between-range}
-use Rattle.chains.proofs.Newest.{newest-late, newest-early, newest-of_key, newest-one, stepped}
+use Rattle.chains.proofs.Keyed.{newest-late, newest-of_key, newest-one, newest-past, stepped}
 use Rattle.chains.proofs.Serial.{rows_before-unwritten}
+use Rattle.model_base.proofs.Replay.{by_cases}
 
 -- the row before a place and the place's versions give the row after it
 at-one : (log : List Statement) (at place : ℕ) (key : Key) → at < place
     → newest_or (rows_before log at key.table key.row) (versions_at log at) place key ≡ rows_before log (at + 1) key.table key.row
 at-one log at place key less = by_statement (slice_get log at) refl
   where
-    settled : (writes : Bool) → (writes ≡ false → rows_before log (at + 1) key.table key.row ≡ rows_before log at key.table key.row)
-        → cond writes (rows_before log (at + 1) key.table key.row) (rows_before log at key.table key.row) ≡ rows_before log (at + 1) key.table key.row
-    settled true keeps = refl
-    settled false keeps = sym (keeps refl)
-
     by_statement : (found : Option Statement) → slice_get log at ≡ found
         → newest_or (rows_before log at key.table key.row) (versions_at log at) place key ≡ rows_before log (at + 1) key.table key.row
-    by_statement None is =
-        rw is (sym (rows_before-unwritten log at key.table key.row (ap (λ (found : Option Statement). option_map_or (declares_write key.table key.row) found false) is)))
+    by_statement None is = rw is (sym (rows_before-unwritten log at key.table key.row (rw is refl)))
     by_statement (Some statement) is =
-        let whole = newest-one (rows_before log at key.table key.row) (rows_before log (at + 1)) at place key (accesses_of statement.form) less in
         rw is
-        (whole ∙ settled (declares_write key.table key.row statement)
-        (λ unwritten. rows_before-unwritten log at key.table key.row (ap (λ (found : Option Statement). option_map_or (declares_write key.table key.row) found false) is ∙ unwritten)))
+        (newest-one (rows_before log at key.table key.row) (rows_before log (at + 1)) at place key (accesses_of statement.form) less
+        ∙ by_cases (declares_write key.table key.row statement) (λ writes. rw writes refl)
+        (λ reads. rw reads (sym (rows_before-unwritten log at key.table key.row (rw is reads)))))
 
 -- the row before the first place and the versions of some places give the row before each place up to their end
 range-right : (log : List Statement) (first count place : ℕ) (key : Key) → first ≤ place → place ≤ first + count
-    → newest_or (rows_before log first key.table key.row) (flat_map (versions_at log) (range_with_len first count)) place key ≡ rows_before log place key.table key.row
+    → newest_or (rows_before log first key.table key.row) (flat_map (versions_at log) (range_with_len first count)) place key
+    ≡ rows_before log place key.table key.row
 range-right log first zero place key low high =
     let same : first ≡ place = omega arith in ap (λ (at : ℕ). rows_before log at key.table key.row) same
 range-right log first (suc count) place key low high =
+    let rest = flat_map (versions_at log) (range_with_len (first + 1) count) in
+    let before = rows_before log first key.table key.row in
     elim (cases_lt first place) [
-      | inl late ↦ behind late (range-right log (first + 1) count place key (omega arith) (omega arith))
-      | inr early ↦ at_first (omega arith)
+      | inl late ↦
+          fold-append (stepped place key) before (versions_at log first) rest
+          ∙ ap (λ row. newest_or row rest place key) (at-one log first place key late)
+          ∙ range-right log (first + 1) count place key (omega arith) (omega arith)
+      | inr early ↦
+          let same : first ≡ place = omega arith in
+          newest-late before first (first + suc count) place key (versions_at log first ++ rest) (between-range log first (suc count)) (omega arith)
+          ∙ ap (λ (at : ℕ). rows_before log at key.table key.row) same
     ]
-  where
-    at_first : first ≡ place → newest_or (rows_before log first key.table key.row) (flat_map (versions_at log) (range_with_len first (suc count))) place key ≡ rows_before log place key.table key.row
-    at_first same =
-        newest-late (rows_before log first key.table key.row) first (first + suc count) place key (flat_map (versions_at log) (range_with_len first (suc count)))
-        (between-range log first (suc count)) (omega arith)
-        ∙ ap (λ (at : ℕ). rows_before log at key.table key.row) same
-
-    behind : first < place → newest_or (rows_before log (first + 1) key.table key.row) (flat_map (versions_at log) (range_with_len (first + 1) count)) place key ≡ rows_before log place key.table key.row
-        → newest_or (rows_before log first key.table key.row) (flat_map (versions_at log) (range_with_len first (suc count))) place key ≡ rows_before log place key.table key.row
-    behind less later =
-        let rest = flat_map (versions_at log) (range_with_len (first + 1) count) in
-        fold-append (stepped place key) (rows_before log first key.table key.row) (versions_at log first) rest
-        ∙ ap (λ row. newest_or row rest place key) (at-one log first place key less)
-        ∙ later
 
 -- versions of each key behind its others are what a store gains
 pub append-gains : (store : Store) (new more : List Version) (new_end : ℕ)
@@ -72,12 +62,7 @@ append-gains store new more new_end before after added = record {
   kept = λ place key low high.
       both place key ∙ newest-late (row_in store place key) store.end new_end place key more after high;
   gained = λ place key low high.
-      let whole : store.end ≤ store.end = omega arith in
-      both place key
-      ∙ ap (λ row. newest_or row more place key)
-      (newest-of_key None place key store.versions
-      ∙ newest-early None 0 store.end place store.end key (of_key key store.versions) (before key) low whole
-      ∙ sym (newest-of_key None store.end key store.versions));
+      both place key ∙ ap (λ row. newest_or row more place key) (newest-past store.end place key store.versions (before key) low);
 }
   where
     both : (place : ℕ) (key : Key) → newest_or None new place key ≡ newest_or (row_in store place key) more place key
@@ -91,18 +76,27 @@ append-gains store new more new_end before after added = record {
 pub gains-right : (log : List Statement) (old new : Store) (cells : List Version) (new_end : ℕ) → old.mark ≤ old.end → old.end ≤ new_end
     → Gains old new cells new_end → IsRight log old → cells ≡ versions_between log old.end new_end → IsRight log new
 gains-right log old new cells new_end known further gains right are place key low high =
+    let from : old.mark ≤ place = omega (arith, low, gains.mark) in
     elim (cases_lt old.end place) [
-      | inl late ↦ behind late
+      | inl late ↦
+          gains.gained place key (omega arith) (omega (arith, high, gains.end))
+          ∙ ap (λ row. newest_or row cells place key) (right old.end key known (omega arith))
+          ∙ ap (λ (vs : List Version). newest_or (rows_before log old.end key.table key.row) vs place key) are
+          ∙ range-right log old.end (new_end - old.end) place key (omega arith) (omega (arith, high, gains.end))
       | inr early ↦ gains.kept place key from early ∙ right place key from early
     ]
-  where
-    from : old.mark ≤ place
-    from = omega (arith, low, gains.mark)
 
-    behind : old.end < place → row_in new place key ≡ rows_before log place key.table key.row
-    behind less =
-        let up_to : place ≤ new_end = omega (arith, high, gains.end) in
-        gains.gained place key (omega arith) up_to
-        ∙ ap (λ row. newest_or row cells place key) (right old.end key known (omega arith))
-        ∙ ap (λ (vs : List Version). newest_or (rows_before log old.end key.table key.row) vs place key) are
-        ∙ range-right log old.end (new_end - old.end) place key (omega arith) (omega arith)
+-- where a place leaves the rows as they are, a right store that passes it stays so
+pub pass-right : (log : List Statement) (store : Store) → store.mark ≤ store.end → ((key : Key) → AreBetween 0 store.end (of_key key store.versions))
+    → rows_before log (store.end + 1) ≡ rows_before log store.end → IsRight log store
+    → IsRight log (record { versions = store.versions; mark = store.mark; end = store.end + 1 })
+pass-right log store within ordered same right place key low high =
+    elim (cases_lt place (store.end + 1)) [
+      | inl before ↦ right place key low (omega arith)
+      | inr last ↦
+          let is : place ≡ store.end + 1 = omega arith in
+          newest-past store.end place key store.versions (ordered key) (omega arith)
+          ∙ right store.end key within (omega arith)
+          ∙ ap (λ (rows : Rows). rows key.table key.row) (sym same)
+          ∙ ap (λ (at : ℕ). rows_before log at key.table key.row) (sym is)
+    ]

@@ -1,9 +1,9 @@
 -- A place of a log changes no row that its statement doesn't declare to write.
-use Rattle.std.proofs.Common.{◌≡◌, ℕ, zero, suc, ◌+◌, ◌<◌, ◌≤◌, false, Option, Some, None, List, [], ◌∷◌, ◌++◌, take, length, get_or, refl, sym, ◌∙◌, ap, arith}
+use Rattle.std.proofs.Common.{inl, inr, ◌≡◌, ℕ, zero, suc, ◌+◌, ◌<◌, ◌≤◌, false, Option, Some, None, List, [], ◌∷◌, ◌++◌, take, length, get_or, refl, sym, ◌∙◌, ap, arith}
 use Rattle.std.specs.Prelude.{slice_get}
 use Rattle.std.specs.Option.{option_map_or}
 use Rattle.std.proofs.lemmas.List.{take_all, take_more, length-take-le}
-use Rattle.std.proofs.lemmas.Option.{slice_get_within, get_or_from_slice_get}
+use Rattle.std.proofs.lemmas.Option.{slice_get_cases, slice_get_within, get_or_from_slice_get}
 use Rattle.model_base.specs.declared.deed.Deed.{Deed}
 use Rattle.model_base.specs.declared.deed.Need.{Need}
 use Rattle.model_base.specs.declared.statement.Form.{Form}
@@ -14,8 +14,10 @@ use Rattle.model_base.specs.References.{declares_write}
 use Rattle.model_base.proofs.Growth.{world_after-snoc}
 use Rattle.body.proofs.Frame.{leaves_unwritten}
 
-module _ (own : List ℕ) (place : ℕ) (world : World) (statement : Statement) (table row : ℕ) (unwritten : declares_write table row statement ≡ false) where
-  kept-changed : (deed : Option Deed) (ending : Ending) → body world.rows statement.form ≡ ending → (changed world deed ending).rows table row ≡ world.rows table row
+module _ (own : List ℕ) (place : ℕ) (world : World) (statement : Statement) (table row : ℕ)
+    (unwritten : declares_write table row statement ≡ false) where
+  kept-changed : (deed : Option Deed) (ending : Ending) → body world.rows statement.form ≡ ending
+      → (changed world deed ending).rows table row ≡ world.rows table row
   kept-changed deed (completed rows outputs) ends = leaves_unwritten statement world.rows rows outputs table row ends unwritten
   kept-changed deed (aborted step reason) ends = refl
   kept-changed deed (undeclared step) ends = refl
@@ -38,7 +40,8 @@ pub world_before-more : (log : List Statement) (place : ℕ) (statement : Statem
 world_before-more log place statement is =
     let within : place < length log = slice_get_within log place statement is in
     let here : get_or log place statement ≡ statement = get_or_from_slice_get log place statement statement is in
-    let one : take (place + 1) log ≡ take place log ++ statement ∷ [] = take_more log place statement within ∙ ap (λ s. take place log ++ s ∷ []) here in
+    let one : take (place + 1) log ≡ take place log ++ statement ∷ [] =
+    take_more log place statement within ∙ ap (λ s. take place log ++ s ∷ []) here in
     let long : 0 + length (take place log) ≡ place = omega (arith, length-take-le place log (omega arith)) in
     ap (world_after (owners log) 0 empty_world) one
     ∙ world_after-snoc (owners log) 0 empty_world (take place log) statement
@@ -56,13 +59,13 @@ world_before-past log place past =
     ap (world_after (owners log) 0 empty_world) (take_all (place + 1) log next ∙ sym (take_all place log past))
 
 -- a place whose statement doesn't declare to write the row keeps it
-pub rows_before-unwritten : (log : List Statement) (place table row : ℕ) → option_map_or (declares_write table row) (slice_get log place) false ≡ false
+pub rows_before-unwritten : (log : List Statement) (place table row : ℕ)
+    → option_map_or (declares_write table row) (slice_get log place) false ≡ false
     → rows_before log (place + 1) table row ≡ rows_before log place table row
-rows_before-unwritten log place table row = by_statement (slice_get log place) refl
-  where
-    by_statement : (found : Option Statement) → slice_get log place ≡ found → option_map_or (declares_write table row) found false ≡ false
-        → rows_before log (place + 1) table row ≡ rows_before log place table row
-    by_statement None is unwritten = ap (λ (world : World). world.rows table row) (world_before-past log place (past-end log place is))
-    by_statement (Some statement) is unwritten =
-        ap (λ (world : World). world.rows table row) (world_before-more log place statement is)
-        ∙ kept-at_place (owners log) place (world_before log place) statement table row unwritten
+rows_before-unwritten log place table row unwritten =
+    elim (slice_get_cases log place).1 [
+      | inl at ↦
+          ap (λ (world : World). world.rows table row) (world_before-more log place at.0 at.2)
+          ∙ kept-at_place (owners log) place (world_before log place) at.0 table row (rw at.2 at unwritten)
+      | inr past ↦ ap (λ (world : World). world.rows table row) (world_before-past log place past.0)
+    ]

@@ -47,19 +47,20 @@ impl Rows {
     }
 
     /// Adds the version after the others of its key. On `Err` memory was refused, and the rows are as they were.
+    #[inline(always)]
     pub(crate) fn put(&mut self, version: &Version) -> Result<(), AllocError>
         ensures added { OnOk result ((key : RowKey) → of_key key self.new.versions ≡ of_key key (self.old.versions ++ version.now ∷ [])) }
         ensures replacing { OnOk result (self.new.replacing ≡ replacing_after self.old version.now) }
         ensures below { OnOk result ((first : ℕ) → first ≤ version.now.place → held_below first self.new ≡ held_below first self.old) }
         ensures err { OnErr result (self.new ≡ self.old) }
     {
-        let dated = Dated {
-            place: version.place,
-            row: version.row,
-        };
         self.older.reserve(1)?;
         match self.newest.get_mut(&version.key) {
             None => {
+                let dated = Dated {
+                    place: version.place,
+                    row: version.row,
+                };
                 self.newest.insert(version.key, dated)?;
             }
             Some(newest) => {
@@ -68,7 +69,8 @@ impl Rows {
                     key: version.key,
                     version: *newest,
                 });
-                *newest = dated;
+                newest.place = version.place;
+                newest.row = version.row;
             }
         }
         Ok(())
@@ -160,6 +162,7 @@ impl Rows {
 
     /// The row of the newest version of the key that is older than the place. Where that isn't the newest of all, it looks
     /// through the replaced versions of all keys.
+    #[inline(always)]
     pub(crate) fn newest_before(&self, place: Place, key: Key) -> Option<Row>
         ensures { result ≡ newest_or None self.now.versions place key }
     {

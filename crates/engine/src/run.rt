@@ -78,7 +78,7 @@ fn ran<T: Threads + Wait + Sync, G: Gate + Sync>(
 ) -> Result<Taken, AllocError>
     requires partitions { 0 < crew.partitions }
     requires kept { log.now.dropped ≤ range.start }
-    requires order { range.start ≤ range.end }
+    requires order { range.start < range.end }
     requires within { range.end ≤ length log.now.log.statements }
     requires stands { Stands log.now.log.statements range.start chains.now book.now }
     ensures outcomes { IfOk result (λ taken. AreOutcomes log.now.log.statements range.start
@@ -115,7 +115,7 @@ fn run_by_workers<T: Threads + Wait + Sync, G: Gate + Sync>(
     outcomes: &mut Vec<Outcome>,
 ) -> Result<(), AllocError>
     requires partitions { 0 < crew.partitions }
-    requires order { range.start ≤ range.end }
+    requires order { range.start < range.end }
     requires kept { log.now.dropped ≤ range.start }
     requires within { range.end ≤ length log.now.log.statements }
     requires known { AreKnown log.now.log.statements }
@@ -178,7 +178,7 @@ fn run_range<T: Threads + Wait + Sync, G: Gate + Sync>(
     ensures book { OnErr result (book.new ≡ book.old) }
     ensures outcomes { OnErr result (outcomes.new.items ≡ outcomes.old.items) }
 {
-    if crew.workers <= 1 {
+    if crew.workers <= 1 || range.start == range.end {
         return run_in_order(alloc, chains, book, log, range, gate, outcomes);
     }
     run_by_workers(rt, alloc, chains, book, log, range, crew, gate, outcomes)
@@ -278,14 +278,16 @@ impl Engine {
         self.log.push(statement)
     }
 
-    /// Takes a copy of a statement that was foretold as the next place. On `Err` memory was refused, and the engine is as it was.
-    pub fn push_foretold(&mut self, statement: &Statement) -> Result<Place, AllocError>
+    /// Takes a statement that was foretold as the next place. Nothing is told of the statement that it is exchanged for but that its
+    /// memory may be used again. On `Err` memory was refused, and engine and statement are as they were.
+    pub fn push_foretold(&mut self, statement: &mut Statement) -> Result<Place, AllocError>
         requires place { length self.old.log.statements < MOST_PLACES }
-        requires foretold { (sentence : Sentence) × (IsInGrammar sentence × IsForetold self.old.log.names sentence statement.now) }
+        requires foretold { (sentence : Sentence) × (IsInGrammar sentence × IsForetold self.old.log.names sentence statement.old) }
         ensures place { IfOk result (λ place. place ≡ length self.old.log.statements) }
-        ensures accepted { OnOk result ((sentence : Sentence) → IsForetold self.old.log.names sentence statement.now
+        ensures accepted { OnOk result ((sentence : Sentence) → IsForetold self.old.log.names sentence statement.old
             → self.new ≡ record self.old { log = with_accepted self.old.log sentence }) }
         ensures err { OnErr result (self.new ≡ self.old) }
+        ensures left { OnErr result (statement.new ≡ statement.old) }
     {
         let _dropped = self.log.dropped();
         self.log.push_foretold(statement)

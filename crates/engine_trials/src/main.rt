@@ -1,5 +1,6 @@
-//! Engines that are driven by hand: rows, grants and outcomes between batches, a log in parts, gates, limits of ranges, a log whose
-//! growths may be refused; and places that are explained. What is printed is compared with `stdout`.
+//! Engines that are driven by hand: rows, grants and outcomes between batches, a log in parts, crews that change from batch to batch,
+//! gates, limits of ranges, a log whose growths may be refused; and places that are explained. What is printed is compared with
+//! `stdout`.
 #![tactic(auto)]
 
 mod changed_chains;
@@ -14,6 +15,7 @@ mod refused;
 mod reporting;
 mod rows;
 mod stepping;
+mod switching;
 
 use bohm_base::arguments;
 use drawn_explained::tell_drawn_explained;
@@ -29,12 +31,14 @@ use std::process::ExitCode;
 use std::rt::Env;
 use std::sync::Wait;
 use std::thread::Threads;
+use switching::tell_switching;
 
 /// Makes all other trials in turn.
 fn tell_others<R: Threads + Wait + Print + Sync>(rt: &R, alloc: Global) -> Result<(), TrialFault> {
     tell_trimmed(rt, alloc)?;
     tell_books(rt, alloc)?;
     tell_parts(rt, alloc)?;
+    tell_switching(rt, alloc)?;
     tell_gates(rt, alloc)?;
     tell_ranges(rt, alloc)?;
     tell_explained_log(rt, alloc)?;

@@ -69,9 +69,9 @@ fn put_outcome(alloc: Global, text: &mut Vec<u8>, outcome: &Outcome) -> Result<(
 }
 
 /// The outcomes of all finished places, as a text.
-fn outcomes(alloc: Global, engine: &Engine) -> Result<Vec<u8>, TrialFault> {
+pub fn outcomes(alloc: Global, engine: &Engine) -> Result<Vec<u8>, TrialFault> {
     let mut text = Vec::new(alloc);
-    for place in 0..PLACES {
+    for place in 0..engine.finished() {
         if let Some(outcome) = engine.outcome(place) {
             put_outcome(alloc, &mut text, outcome)?;
         }

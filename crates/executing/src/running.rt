@@ -4,15 +4,17 @@ ghost use Rattle.std.specs.Prelude.{◌≡◌, ◌<◌, IfOk};
 
 use filling::RangeKey;
 use filling_base::Batch;
-use finishing::{Finished, finish, run_in_order};
+use finishing::{Finished, finish};
 use log_batch::LogBatch;
 use std::alloc::{AllocError, Global};
 use std::sync::Wait;
 use std::thread::Threads;
 use workers::{Gate, Worked, run_workers};
 
-/// Several workers on shared words. What they left, which is nothing once all places are done, is completed on this thread.
-fn execute_shared<'a, R: Threads + Wait + Sync, G: Gate + Sync>(
+/// Runs all places of a batch on shared words, by so many workers, of which this thread is the first: each has then what its place in
+/// the log comes to, and what its revocation ended, whatever the workers do in which order. What they left, which is nothing once all
+/// places are done, is completed on this thread. An error is want of memory, of any of the workers or of the batch itself.
+pub fn execute<'a, R: Threads + Wait + Sync, G: Gate + Sync>(
     rt: &R,
     alloc: Global,
     batch: LogBatch<'a>,
@@ -30,23 +32,4 @@ fn execute_shared<'a, R: Threads + Wait + Sync, G: Gate + Sync>(
         Worked::Done => finish(alloc, key.into_key(), &closed),
         Worked::NoMemory => Err(AllocError),
     }
-}
-
-/// Runs all places of a batch by so many workers, at least one: each has then what its place in the log comes to, and what its
-/// revocation ended, whatever the workers do in which order. One worker runs them in the order of the log, on this thread, and
-/// tells the gate nothing. Of several, this thread is the first. An error is want of memory, of any of the workers or of the
-/// batch itself.
-pub fn execute<'a, R: Threads + Wait + Sync, G: Gate + Sync>(
-    rt: &R,
-    alloc: Global,
-    batch: LogBatch<'a>,
-    gate: &G,
-    workers: usize,
-) -> Result<Finished<'a>, AllocError>
-    ensures { IfOk result (λ done. done ≡ record { log = batch.entry.log; first = batch.entry.first; size = batch.entry.size }) }
-{
-    if workers <= 1 || batch.size() == 0 {
-        return run_in_order(alloc, batch);
-    }
-    execute_shared(rt, alloc, batch, gate, workers)
 }

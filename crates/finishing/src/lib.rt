@@ -1,5 +1,4 @@
-//! A batch of a log completed on one thread: all its places run one after another, or those run that workers over shared words
-//! left, behind what these finished.
+//! A batch of a log completed on one thread: the places that workers over shared words left are run, behind what these finished.
 //!
 //! After J. M. Faleiro and D. J. Abadi, "Rethinking Serializable Multiversion Concurrency Control", PVLDB 8 (2015),
 //! section 3: the order of the log is that of the transactions, and a transaction is executed once the versions that it reads
@@ -16,4 +15,4 @@ mod running;
 mod standing;
 
 pub use finished::Finished;
-pub use running::{finish, run_in_order};
+pub use running::finish;

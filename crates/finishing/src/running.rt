@@ -1,4 +1,4 @@
-//! All places of a batch, one after another.
+//! The places that workers left, one after another.
 
 ghost use Rattle.std.specs.Prelude.{◌≡◌, IfOk, OnOk};
 ghost use Rattle.log_batch.specs.Supplied.{batch_in};
@@ -7,25 +7,12 @@ ghost use Rattle.finishing.specs.Standing.{HasDone, StandTo, TellsDone};
 
 use crate::copying::{complete, take_ends};
 use crate::finished::Finished;
-use crate::places::judge;
 use crate::standing::Standing;
 use log_batch::LogBatch;
 use log_words::LogKey;
 use own_words::OwnWords;
 use std::alloc::{AllocError, Global};
 use words::Closed;
-
-/// Runs all places.
-fn judge_all(alloc: Global, batch: &LogBatch<'_>, standing: &mut Standing) -> Result<(), AllocError>
-    requires { StandTo (batch_in batch.now) 0 standing.old }
-    ensures { OnOk result (StandTo (batch_in batch.now) batch.now.size standing.new) }
-{
-    let mut words = OwnWords::new();
-    for index in 0..batch.size() {
-        judge(alloc, batch, index, standing, &mut words)?;
-    }
-    Ok(())
-}
 
 /// Completes all places, behind what a closed batch has of those that are done.
 fn complete_all(
@@ -55,17 +42,6 @@ fn taken(alloc: Global, key: &LogKey<'_>, closed: &Closed) -> Result<Standing, A
     let mut standing = Standing::new(alloc);
     take_ends(key, closed, &mut standing.ends)?;
     Ok(standing)
-}
-
-/// Runs the places of a batch one after another, on this thread: each has then what its place in the log comes to, and what its
-/// revocation ended. An error is want of memory. A place costs what its body and its needs cost, and a revocation besides, for
-/// each grant that it ends, a time that grows with the logarithm of the number of those that the batch ends.
-pub fn run_in_order<'a>(alloc: Global, batch: LogBatch<'a>) -> Result<Finished<'a>, AllocError>
-    ensures { IfOk result (λ done. done ≡ record { log = batch.entry.log; first = batch.entry.first; size = batch.entry.size }) }
-{
-    let mut standing = Standing::new(alloc);
-    judge_all(alloc, &batch, &mut standing)?;
-    Finished::of(alloc, batch, standing)
 }
 
 /// Completes a batch that no worker can reach any more, on this thread: what its words have of each place that is done is kept,

@@ -57,19 +57,21 @@ fn tell_lines(rt: &impl Print, alloc: Global, log: &mut Log, lines: &[&str]) {
 fn tell_users(rt: &impl Print, log: &Log) {
     for number in 0..5_u32 {
         if (number as usize) < log.catalog().users().len() {
-            tell(rt, "user", &log.user_name(User(number)));
+            tell(rt, "user", &log.catalog().users().name(number));
         }
     }
 }
 
 /// Tells what a log knows of a table of this name.
 fn tell_table(rt: &impl Print, log: &Log, name: &str) {
-    let Some(table) = log.find_table(name) else {
+    let tables = log.catalog().tables();
+    let Some(number) = tables.find(name) else {
         tell(rt, "no table", &name);
         return;
     };
+    let table = Table(number);
     let (owner, columns) = (log.owner(table), log.columns(table));
-    tell(rt, log.table_name(table), &(table, owner, columns));
+    tell(rt, tables.name(number), &(table, owner, columns));
 }
 
 /// Tells the answers to lines, the names of the log that they make, and its statements with numbers.

@@ -1,4 +1,4 @@
-//! A log completed on one thread: run in order, and finished behind words of which nothing is stored.
+//! A log completed on one thread, behind words of which nothing is stored.
 
 ghost use Rattle.std.specs.Prelude.{◌≡◌, ◌<◌, IfOk, length};
 ghost use Rattle.machine_trials.specs.Before.{IsBefore};
@@ -6,7 +6,7 @@ ghost use Rattle.machine_trials.specs.Before.{IsBefore};
 use crate::batches::{Before, batch_of, log_of, nothing};
 use crate::ended::key_of;
 use crate::fault::TrialFault;
-use finishing::{Finished, finish, run_in_order};
+use finishing::{Finished, finish};
 use log_words::LogKey;
 use model_base::{Items, Place};
 use own_words::decoded;
@@ -48,37 +48,20 @@ fn tell_outcome(
     Ok(())
 }
 
-/// Tells how the log was completed, and the outcome of each place.
+/// Tells the outcome of each place.
 fn tell_outcomes(
     rt: &impl Print,
     alloc: Global,
-    how: &str,
     log: &LogTail,
     done: &Finished<'_>,
 ) -> Result<(), TrialFault>
     requires kept { log.now.dropped ≡ 0 }
     requires all { done.now.size ≡ length log.now.log.statements }
 {
-    println!(rt; "{how}")?;
     for index in 0..log.len() as usize {
         tell_outcome(rt, alloc, log, done, index)?;
     }
     Ok(())
-}
-
-/// Tells the log run in order.
-fn tell_in_order(
-    rt: &impl Print,
-    alloc: Global,
-    log: &LogTail,
-    before: &Before,
-) -> Result<(), TrialFault>
-    requires kept { log.now.dropped ≡ 0 }
-    requires before { IsBefore before.now log.now.log.statements 0 }
-{
-    let batch = batch_of(alloc, log, before, 0..log.len(), 1)?;
-    let done = run_in_order(alloc, batch)?;
-    tell_outcomes(rt, alloc, "a log run in order on one thread", log, &done)
 }
 
 /// Finishes a batch behind words of which nothing is stored.
@@ -105,12 +88,12 @@ fn tell_finished(
     let batch = batch_of(alloc, log, before, 0..log.len(), 1)?;
     let key = key_of(alloc, batch)?;
     let done = finish_unstored(alloc, key)?;
-    let how = "finished behind words of which nothing is stored";
-    tell_outcomes(rt, alloc, how, log, &done)
+    println!(rt; "finished behind words of which nothing is stored")?;
+    tell_outcomes(rt, alloc, log, &done)
 }
 
-/// Tells the log completed in both ways.
-fn tell_both(
+/// Tells the log completed, if it has a place.
+fn tell_some(
     rt: &impl Print,
     alloc: Global,
     log: &LogTail,
@@ -122,7 +105,6 @@ fn tell_both(
     if log.len() == 0 {
         return Err(TrialFault::OtherLog);
     }
-    tell_in_order(rt, alloc, log, before)?;
     tell_finished(rt, alloc, log, before)
 }
 
@@ -130,5 +112,5 @@ fn tell_both(
 pub fn tell_completed(rt: &impl Print, alloc: Global) -> Result<(), TrialFault> {
     let log = log_of(alloc, &LINES)?;
     let before = nothing(alloc);
-    tell_both(rt, alloc, &log, &before)
+    tell_some(rt, alloc, &log, &before)
 }

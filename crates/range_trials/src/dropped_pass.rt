@@ -5,13 +5,13 @@ ghost use Rattle.words.specs.Passes.{IsPassOf};
 ghost use Rattle.range_trials.specs.Whole.{IsNothing};
 
 use crate::asking::ask_round;
-use crate::batches::{Before, batch_of, finished, nothing, words_of};
+use crate::batches::{Before, finished, nothing, words_of};
 use crate::drawn_logs::push_drawn;
 use crate::fault::TrialFault;
 use crate::logs::WholeLog;
 use filling_base::{Batch, Fills};
-use finishing::{Finished, run_in_order};
-use std::alloc::{AllocError, Global};
+use finishing::Finished;
+use std::alloc::Global;
 use std::thread::Threads;
 use taking::{Closed, take};
 use trials_base::Generator;
@@ -104,18 +104,18 @@ fn run_beside<'a, R: Threads + Sync>(
     Ok(finished(alloc, batch, pass)?)
 }
 
-/// A log run in order.
+/// A log completed in order, on one thread, behind words of which nothing is stored.
 fn in_order<'a, R: Threads + Sync>(
     rt: &R,
     alloc: Global,
     log: &'a WholeLog,
     before: &'a Before,
-) -> Result<Finished<'a>, AllocError>
+) -> Result<Finished<'a>, TrialFault>
     requires { IsNothing before.now log.now.statements }
     ensures { IfOk result (λ done. done ≡ record { log = log.now; first = 0; size = length log.now.statements }) }
 {
-    let batch = batch_of(rt, alloc, log, before, 1)?;
-    run_in_order(alloc, batch)
+    let (batch, pass) = words_of(rt, alloc, log, before, 1)?;
+    Ok(finished(alloc, batch, pass)?)
 }
 
 /// Whether the same is taken from both.

@@ -43,7 +43,7 @@ impl Model for Piece {
 }
 
 impl Piece {
-    ghost use Rattle.std.specs.Prelude.{◌≡◌, ◌++◌, ◌∷◌, [], if◌then◌else◌, length};
+    ghost use Rattle.std.specs.Prelude.{◌≡◌, ◌++◌, ◌∷◌, ◌≤◌, [], if◌then◌else◌, length, take};
 
     /// No lines. It takes no memory.
     pub fn new(alloc: Global) -> Self
@@ -60,6 +60,26 @@ impl Piece {
         ensures { result.now ≡ self.now }
     {
         &self.lines[..self.len]
+    }
+
+    /// A piece without lines, the first of which take what these hold.
+    pub fn over(spare: Vec<Ahead>) -> Self
+        ensures { result ≡ [] }
+    {
+        let mut piece = Piece {
+            len: spare.len(),
+            lines: spare,
+        };
+        piece.clear();
+        piece
+    }
+
+    /// The lines, in order, and how many they are; behind them there may be lines of no more use.
+    pub fn into_lines(self) -> (Vec<Ahead>, usize)
+        ensures lines { take result.1 result.0.items ≡ self }
+        ensures within { result.1 ≤ length result.0.items }
+    {
+        (self.lines, self.len)
     }
 
     /// How many lines there are.

@@ -1,9 +1,10 @@
 -- No two accesses of a statement that the log takes name one row.
 use Rattle.std.proofs.Common.{◌≡◌, ℕ, pos, ◌<◌, ◌++◌, Bool, true, false, not, cond, List, [], ◌∷◌, length, map, Some, None, refl, ap, sym, ◌∙◌, subst}
-use Rattle.std.specs.Prelude.{bytes_eq, ◌==◌, ◌||◌, ◌&&◌, get_or}
+use Rattle.std.specs.Prelude.{bytes_eq, ◌==◌, ◌&&◌, get_or}
 use Rattle.std.specs.List.{find, list_any}
 use Rattle.std.specs.Ordering.{int_eq}
 use Rattle.std.proofs.lemmas.Bool.{and_parts, eq-eqb, eqb-true, false_from_ne_true, not-true, true≢false}
+use Rattle.std.proofs.Math.Bool.{or-true}
 use Rattle.std.proofs.lemmas.Bool.Decides.{Decides-int_eq}
 use Rattle.std.proofs.lemmas.List.Folds.{list_any-append}
 use Rattle.std.proofs.lemmas.List.Sums.{passes_at_first}
@@ -32,9 +33,6 @@ one_name names name other known same =
     name_at names name low ∙ ap (λ (number : ℕ). get_or names number []) same
     ∙ sym (name_at names other (subst (λ (number : ℕ). number < length names) same low))
 
-pos_same : (row other : ℕ) → pos row ≡ pos other → row ≡ other
-pos_same row other e = cc
-
 -- two accesses with one key are to one row, where the table of the first is known
 same_from_key : (names : Names) (users : List (List ℕ)) (access other : RawAccess) → is_known names.tables access.table ≡ true
     → is_of (number_of names.tables other.table) (pos other.row) (numbered_access (record names { users = users }) access) ≡ true → same_row access other ≡ true
@@ -42,7 +40,8 @@ same_from_key names users access other known e =
     let parts = and_parts (number_of names.tables access.table == number_of names.tables other.table) (int_eq (pos access.row) (pos other.row)) e in
     let number = eqb-true (number_of names.tables access.table) (number_of names.tables other.table) parts.0 in
     let table : access.table ≡ other.table = one_name names.tables access.table other.table known number in
-    let row : access.row ≡ other.row = pos_same access.row other.row ((Decides-int_eq (pos access.row) (pos other.row)).0 parts.1) in
+    let rows : pos access.row ≡ pos other.row = (Decides-int_eq (pos access.row) (pos other.row)).0 parts.1 in
+    let row : access.row ≡ other.row = cc in
     ap (λ (b : Bool). b && bytes_eq access.table other.table) (eq-eqb access.row other.row row)
     ∙ (bytes_eq-Decides access.table other.table).1 table
 
@@ -50,23 +49,12 @@ same_from_key names users access other known e =
 abbrev pub IsAmong : RawAccess → List RawAccess → Type 0
 IsAmong access earlier = (other : RawAccess) → same_row other access ≡ true → list_any (same_row other) earlier ≡ true
 
-true_or : (b c : Bool) → b ≡ true → (b || c) ≡ true
-true_or true c e = refl
-true_or false c e = cc
-
-or_last : (b c : Bool) → c ≡ true → (b || (c || false)) ≡ true
-or_last true c e = refl
-or_last false true e = refl
-or_last false false e = cc
-
 stays_among : (access next : RawAccess) (earlier : List RawAccess) → IsAmong access earlier → IsAmong access (earlier ++ next ∷ [])
-stays_among access next earlier among other same =
-    list_any-append (same_row other) earlier (next ∷ [])
-    ∙ true_or (list_any (same_row other) earlier) (list_any (same_row other) (next ∷ [])) (among other same)
+stays_among access next earlier among other same = rw (list_any-append (same_row other) earlier (next ∷ []), among other same) refl
 
 last_among : (access : RawAccess) (earlier : List RawAccess) → IsAmong access (earlier ++ access ∷ [])
 last_among access earlier other same =
-    list_any-append (same_row other) earlier (access ∷ []) ∙ or_last (list_any (same_row other) earlier) (same_row other access) same
+    rw (list_any-append (same_row other) earlier (access ∷ []), same, or-true (list_any (same_row other) earlier)) refl
 
 -- no access that the log takes is to the row of an earlier one
 others : (names : Names) (users : List (List ℕ)) (first : RawAccess) (earlier accesses : List RawAccess) → IsAmong first earlier
@@ -77,8 +65,8 @@ others names users first earlier (access ∷ accesses) among e =
     let named : Names = record names { users = users } in
     let test : Access → Bool = is_of (number_of names.tables first.table) (pos first.row) in
     let found : List Access = map (numbered_access named) accesses in
-    let parts = both_none (access_refusal names earlier access) (accesses_refusal names (earlier ++ access ∷ []) accesses) e in
-    let here = both_none (refuse_unless (is_known names.tables access.table) Refused.UnknownTable) (refuse_unless (not (list_any (same_row access) earlier)) Refused.DuplicateAccess) parts.0 in
+    let parts = both_none (access_refusal names earlier access) _ e in
+    let here = both_none (refuse_unless (is_known names.tables access.table) Refused.UnknownTable) _ parts.0 in
     let known = passes (is_known names.tables access.table) Refused.UnknownTable here.0 in
     let new = not-true (list_any (same_row access) earlier) (passes (not (list_any (same_row access) earlier)) Refused.DuplicateAccess here.1) in
     let other : test (numbered_access named access) ≡ false =
@@ -96,11 +84,9 @@ apart_from names users earlier (access ∷ accesses) e =
 
 form_apart : (names : Names) (users : List (List ℕ)) (form : RawForm) → form_refusal names form ≡ None
     → AreApart (accesses_of (numbered_form (record names { users = users }) form))
-form_apart names users (RawForm.Create table columns) e = tt
 form_apart names users (RawForm.Run accesses steps deed) e =
-    let first = both_none (accesses_refusal names [] accesses) _ e in
-    apart_from names users [] accesses first.0
-form_apart names users (RawForm.Deed deed) e = tt
+    apart_from names users [] accesses (both_none (accesses_refusal names [] accesses) _ e).0
+form_apart names users form e = tt
 
 pub apart_accesses : (names : Names) (sentence : Sentence) → refusal names sentence ≡ None → AreApart (accesses_of (numbered names sentence).form)
 apart_accesses names sentence e = form_apart names (with_name names.users sentence.user) sentence.form (form_passes names sentence e)

@@ -1,14 +1,15 @@
 -- What the names of a later place begin with.
-use Rattle.std.proofs.Common.{◌≡◌, ℕ, ◌≤◌, Bool, true, false, cond, List, [], ◌∷◌, ◌++◌, length, take, drop, Option, Some, None, ap, sym, ◌∙◌, arith}
+use Rattle.std.proofs.Common.{◌≡◌, ℕ, ◌≤◌, List, [], ◌∷◌, ◌++◌, length, take, drop, Option, Some, None, ap, sym, ◌∙◌, arith}
 use Rattle.std.proofs.Math.Seq.{take-length}
 use Rattle.std.proofs.lemmas.List.{length-take, take-append-drop, take-append-le}
+use Rattle.model_base.proofs.Replay.{by_cases}
 use Rattle.log_text.specs.Statement.{Sentence}
 use Rattle.log_text.specs.declared.statement.RawDeed.{RawDeed}
 use Rattle.log_text.specs.declared.statement.RawForm.{RawForm}
 use Rattle.log_text.specs.declared.statement.RawGrantee.{RawGrantee}
 use Rattle.sequencer.specs.Names.{is_known, number_of, with_name}
 use Rattle.sequencer.specs.Catalog.{Names, deed_in, grantee_of, with_form, with_grantee, with_named, with_statement}
-use Rattle.sequencer.specs.Foretelling.{Begins, with_one_place}
+use Rattle.sequencer.specs.Foretelling.{Begins}
 
 -- the first of a list are so many as they are
 first_within : {X : Type 0} (first all : List X) → take (length first) all ≡ first → length first ≤ length all
@@ -30,19 +31,16 @@ first_first {X} few some all e f =
     ∙ take-append-le (length few) some (drop (length some) all) (first_within few some e) ∙ e
 
 first_named : (first names : List (List ℕ)) (name : List ℕ) → take (length first) names ≡ first → take (length first) (with_name names name) ≡ first
-first_named first names name e = by (is_known names name)
-  where
-    by : (b : Bool) → take (length first) (cond b names (names ++ name ∷ [])) ≡ first
-    by true = e
-    by false = first_longer first names (name ∷ []) e
-
-first_party : (first users : List (List ℕ)) (grantee : RawGrantee) → take (length first) users ≡ first → take (length first) (with_named users grantee) ≡ first
-first_party first users (RawGrantee.Named name) e = first_named first users name e
-first_party first users RawGrantee.Public e = e
+first_named first names name e =
+    by_cases (is_known names name) (λ known. rw known e) (λ new. rw new (first_longer first names (name ∷ []) e))
 
 first_grantee : (first users : List (List ℕ)) (deed : Option RawDeed) → take (length first) users ≡ first → take (length first) (with_grantee users deed) ≡ first
 first_grantee first users None e = e
-first_grantee first users (Some deed) e = first_party first users (grantee_of deed) e
+first_grantee first users (Some deed) e = by_party (grantee_of deed)
+  where
+    by_party : (grantee : RawGrantee) → take (length first) (with_named users grantee) ≡ first
+    by_party (RawGrantee.Named name) = first_named first users name e
+    by_party RawGrantee.Public = e
 
 -- each list of names begins with itself
 pub begins_same : (names : Names) → Begins names names
@@ -61,15 +59,6 @@ begins_further names some later begins further = record {
   columns = first_first names.columns some.columns later.columns begins.columns further.columns;
 }
 
--- how many places there are says nothing
-pub begins_place : (names later : Names) → Begins names later → Begins names (with_one_place later)
-begins_place names later begins = record {
-  users = begins.users;
-  tables = begins.tables;
-  owners = begins.owners;
-  columns = begins.columns;
-}
-
 -- a statement only names behind
 begins_form : (names later : Names) (user : ℕ) (form : RawForm) → Begins names later → Begins names (with_form later user form)
 begins_form names later user (RawForm.Create table columns) begins = record {
@@ -78,8 +67,7 @@ begins_form names later user (RawForm.Create table columns) begins = record {
   owners = first_longer names.owners later.owners (user ∷ []) begins.owners;
   columns = first_longer names.columns later.columns (columns ∷ []) begins.columns;
 }
-begins_form names later user (RawForm.Run accesses steps deed) begins = begins
-begins_form names later user (RawForm.Deed deed) begins = begins
+begins_form names later user form begins = begins
 
 pub begins_with : (names later : Names) (sentence : Sentence) → Begins names later → Begins names (with_statement later sentence)
 begins_with names later sentence begins =

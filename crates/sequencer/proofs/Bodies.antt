@@ -1,14 +1,13 @@
 -- The body of a statement that the log takes: it fits a window and the columns of the tables, and has at most 64 steps.
-use Rattle.std.proofs.Common.{◌≡◌, ◌≤◌, ℕ, ◌+◌, ℤ, pos, negsuc, true, List, [], ◌∷◌, length, map, None, refl, ap, sym, ◌∙◌, arith}
-use Rattle.std.specs.Prelude.{IsTrue, ◌==◌}
+use Rattle.std.proofs.Common.{◌≡◌, ◌≤◌, ℕ, List, [], ◌∷◌, length, map, None, refl, sym, arith}
+use Rattle.std.specs.Prelude.{◌==◌}
 use Rattle.std.specs.List.{sum_by, AllByRecursion}
 use Rattle.std.proofs.lemmas.Bool.{eqb-true}
 use Rattle.std.proofs.lemmas.List.{length-map}
-use Rattle.std.proofs.lemmas.List.Elements.{All-from_recursion, All-weaker}
+use Rattle.std.proofs.lemmas.List.Elements.{All-from_recursion}
 use Rattle.std.proofs.lemmas.List.Sums.{sum_by-cons}
 use Rattle.model_base.specs.declared.statement.Form.{Form}
 use Rattle.model_base.specs.declared.statement.Step.{Step}
-use Rattle.model_base.specs.Body.{fits_64_bits}
 use Rattle.body.specs.Premises.{IsNarrow, IsRunnable, outputs_of_step}
 use Rattle.body.specs.Shape.{StepFits, FormFits}
 use Rattle.body.specs.Steps.{steps_of}
@@ -21,11 +20,6 @@ use Rattle.sequencer.specs.Refusal.{accesses_refusal, columns_of, deed_refusal, 
 use Rattle.sequencer.specs.Taken.{HasFilledRows, IsFilled, columns_by}
 use Rattle.sequencer.specs.declared.refused.Refused.{Refused}
 use Rattle.sequencer.proofs.Passed.{both_none, form_passes, passes}
-
--- a number of 64 bits as a line has it is one as a body has it
-const_fits : (value : ℤ) → IsTrue (fits_64_bits value) → fits_64_bits value ≡ true
-const_fits (pos n) h = h
-const_fits (negsuc n) h = h
 
 -- a step fits a window and the columns of the tables, and inserts no row without columns
 record IsSound (names : Names) (step : Step) : Type 0 where
@@ -40,16 +34,9 @@ width-is names table width e =
 
 step-sound : (names : Names) (users : List (List ℕ)) (later : ℕ) (step : RawStep) → IsStep step → step_refusal names later step ≡ None
     → IsSound names (numbered_step (record names { users = users }) step)
-step-sound names users later (RawStep.Const to value) h e = record { narrow = tt; fits = const_fits value h.1; filled = tt }
-step-sound names users later (RawStep.Compute operation to left right) h e = record { narrow = tt; fits = tt; filled = tt }
-step-sound names users later (RawStep.Has to table row) h e = record { narrow = tt; fits = tt; filled = tt }
-step-sound names users later (RawStep.Load to table row column) h e = record { narrow = tt; fits = tt; filled = tt }
-step-sound names users later (RawStep.Store table row column from) h e = record { narrow = tt; fits = tt; filled = tt }
+step-sound names users later (RawStep.Const to value) h e = record { narrow = tt; fits = h.1; filled = tt }
 step-sound names users later (RawStep.Insert table row from) h e = record { narrow = h.3; fits = width-is names table (length from) e; filled = h.2 }
-step-sound names users later (RawStep.Delete table row) h e = record { narrow = tt; fits = tt; filled = tt }
-step-sound names users later (RawStep.Check of) h e = record { narrow = tt; fits = tt; filled = tt }
-step-sound names users later (RawStep.Skip of steps) h e = record { narrow = tt; fits = tt; filled = tt }
-step-sound names users later (RawStep.Out of) h e = record { narrow = tt; fits = tt; filled = tt }
+step-sound names users later step h e = record { narrow = tt; fits = tt; filled = tt }
 
 steps-sound : (names : Names) (users : List (List ℕ)) (steps : List RawStep) → AllByRecursion IsStep steps → steps_refusal names steps ≡ None
     → AllByRecursion (IsSound names) (map (numbered_step (record names { users = users })) steps)
@@ -59,23 +46,14 @@ steps-sound names users (step ∷ steps) h e =
     (step-sound names users (length steps) step h.0 parts.0, steps-sound names users steps h.1 parts.1)
 
 step-outputs : (names : Names) (step : RawStep) → outputs_of_step (numbered_step names step) ≡ outs_of step
-step-outputs names (RawStep.Const to value) = refl
-step-outputs names (RawStep.Compute operation to left right) = refl
-step-outputs names (RawStep.Has to table row) = refl
-step-outputs names (RawStep.Load to table row column) = refl
-step-outputs names (RawStep.Store table row column from) = refl
-step-outputs names (RawStep.Insert table row from) = refl
-step-outputs names (RawStep.Delete table row) = refl
-step-outputs names (RawStep.Check of) = refl
-step-outputs names (RawStep.Skip of steps) = refl
 step-outputs names (RawStep.Out of) = refl
+step-outputs names step = refl
 
 steps-outputs : (names : Names) (steps : List RawStep) → sum_by outputs_of_step (map (numbered_step names) steps) ≡ sum_by outs_of steps
 steps-outputs names [] = refl
 steps-outputs names (step ∷ steps) =
-    sum_by-cons outputs_of_step (numbered_step names step) (map (numbered_step names) steps)
-    ∙ ap (λ (n : ℕ). n + sum_by outputs_of_step (map (numbered_step names) steps)) (step-outputs names step)
-    ∙ ap (λ (n : ℕ). outs_of step + n) (steps-outputs names steps) ∙ sym (sum_by-cons outs_of step steps)
+    rw (sum_by-cons outputs_of_step (numbered_step names step) (map (numbered_step names) steps), step-outputs names step, steps-outputs names steps)
+    (sym (sum_by-cons outs_of step steps))
 
 -- the body of a statement that the log takes
 pub record HasSoundBody (names : Names) (user : ℕ) (form : Form) : Type 0 where
@@ -86,7 +64,6 @@ pub record HasSoundBody (names : Names) (user : ℕ) (form : Form) : Type 0 wher
 
 form_sound : (names : Names) (users : List (List ℕ)) (user : ℕ) (form : RawForm) → IsFormInGrammar form → form_refusal names form ≡ None
     → HasSoundBody names user (numbered_form (record names { users = users }) form)
-form_sound names users user (RawForm.Create table columns) h e = record { runnable = tt; steps = omega arith; fits = tt; filled = tt }
 form_sound names users user (RawForm.Run accesses steps deed) h e =
     let named : Names = record names { users = users } in
     let found : List Step = map (numbered_step named) steps in
@@ -96,14 +73,14 @@ form_sound names users user (RawForm.Run accesses steps deed) h e =
     record {
       runnable = record {
         places = omega (arith, h, length-map accesses (numbered_access named));
-        columns = All-weaker (IsSound names) IsNarrow (λ step is. is.narrow) found sound;
+        columns = λ k d low. (sound k d low).narrow;
         outputs = omega (arith, h, steps-outputs named steps);
       };
       steps = omega (arith, h, length-map steps (numbered_step named));
-      fits = All-weaker (IsSound names) (StepFits (columns_by names)) (λ step is. is.fits) found sound;
-      filled = All-weaker (IsSound names) IsFilled (λ step is. is.filled) found sound;
+      fits = λ k d low. (sound k d low).fits;
+      filled = λ k d low. (sound k d low).filled;
     }
-form_sound names users user (RawForm.Deed deed) h e = record { runnable = tt; steps = omega arith; fits = tt; filled = tt }
+form_sound names users user form h e = record { runnable = tt; steps = omega arith; fits = tt; filled = tt }
 
 pub sound_body : (names : Names) (sentence : Sentence) → IsInGrammar sentence → refusal names sentence ≡ None
     → HasSoundBody names (numbered names sentence).user (numbered names sentence).form

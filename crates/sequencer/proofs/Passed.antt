@@ -1,20 +1,18 @@
 -- What a test that is passed tells.
-use Rattle.std.proofs.Common.{◌≡◌, ℕ, suc, ◌+◌, ◌<◌, Bool, true, false, not, cond, List, [], ◌∷◌, length, Option, Some, None, refl, arith}
-use Rattle.std.specs.Prelude.{bytes_eq, ◌||◌}
+use Rattle.std.proofs.Common.{◌≡◌, ℕ, ◌<◌, Bool, true, false, List, [], ◌∷◌, length, Option, Some, None, refl, arith}
+use Rattle.std.specs.Prelude.{bytes_eq}
+use Rattle.model_base.proofs.Replay.{by_cases}
 use Rattle.log_text.specs.Statement.{Sentence}
 use Rattle.sequencer.specs.Names.{is_known, number_of}
 use Rattle.sequencer.specs.Catalog.{Names}
 use Rattle.sequencer.specs.Refusal.{form_refusal, or_refused, refusal, refuse_unless}
 use Rattle.sequencer.specs.declared.refused.Refused.{Refused}
 
-by_head : (here behind : Bool) (number count : ℕ) → (behind ≡ true → number < count) → (here || behind) ≡ true → cond (not here) (1 + number) 0 < suc count
-by_head true behind number count low h = omega arith
-by_head false behind number count low h = omega (arith, low h)
-
 -- the number of a known name is that of a name
 pub known-below : (names : List (List ℕ)) (name : List ℕ) → is_known names name ≡ true → number_of names name < length names
 known-below [] name e = cc
-known-below (x ∷ xs) name e = by_head (bytes_eq name x) (is_known xs name) (number_of xs name) (length xs) (known-below xs name) e
+known-below (x ∷ xs) name e =
+    by_cases (bytes_eq name x) (λ here. rw here (omega arith)) (λ behind. rw behind (omega (arith, known-below xs name (rw behind at e))))
 
 pub both_none : (a b : Option Refused) → or_refused a b ≡ None → (a ≡ None) × (b ≡ None)
 both_none None b e = (refl, e)
@@ -30,7 +28,4 @@ known-table names table e = known-below names.tables table (passes (is_known nam
 
 -- a statement that passes the tests passes those of what it asks for
 pub form_passes : (names : Names) (sentence : Sentence) → refusal names sentence ≡ None → form_refusal names sentence.form ≡ None
-form_passes names sentence e =
-    let rest = both_none _ _ e in
-    let form = both_none _ _ rest.1 in
-    form.0
+form_passes names sentence e = (both_none _ _ (both_none _ _ e).1).0

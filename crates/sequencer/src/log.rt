@@ -28,7 +28,6 @@ impl Model for Log {
 impl Log {
     ghost use Rattle.std.specs.Prelude.{◌≡◌, ◌<◌, ◌≤◌, None, Some, length, slice_get, All, IfOk, IfErr, OnOk, OnErr};
     ghost use Rattle.model_base.specs.Growing.{NeedsOwnTables};
-    ghost use Rattle.sequencer.specs.Names.{known_number};
     ghost use Rattle.sequencer.specs.Refusal.{IsRefusal, refusal};
     ghost use Rattle.sequencer.specs.Log.{empty_log, with_accepted};
     ghost use Rattle.sequencer.specs.Taken.{IsWhole};
@@ -116,31 +115,5 @@ impl Log {
         ensures each { length self.now.names.columns ≡ length self.now.names.tables }
     {
         self.catalog.all_columns()
-    }
-
-    /// The name of a user of this log.
-    pub fn user_name(&self, user: User) -> &str
-        requires { user < length self.now.names.users }
-        ensures { slice_get self.now.names.users user ≡ Some result.now }
-    {
-        self.catalog.users().name(user.0)
-    }
-
-    /// The name of a table of this log.
-    pub fn table_name(&self, table: Table) -> &str
-        requires { table < length self.now.names.tables }
-        ensures { slice_get self.now.names.tables table ≡ Some result.now }
-    {
-        self.catalog.tables().name(table.0)
-    }
-
-    /// The table of this name, if an accepted statement created it.
-    pub fn find_table(&self, name: &str) -> Option<Table>
-        ensures { result ≡ known_number self.now.names.tables name.now }
-    {
-        match self.catalog.tables().find(name) {
-            Some(number) => Some(Table(number)),
-            None => None,
-        }
     }
 }

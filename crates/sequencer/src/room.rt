@@ -8,18 +8,8 @@ ghost use Rattle.model_base.specs.declared.statement.Step.{Step};
 ghost use Rattle.sequencer.specs.Known.{HasRoom};
 
 use log_text::RawForm;
-use model_base::{Access, DeedForm, Form, Items, Statement, Step};
+use model_base::{Access, Form, Statement, Step};
 use std::alloc::{AllocError, Global};
-use std::mem;
-
-/// Makes a list of the same items, in the memory of an earlier one. On `Err` memory was refused.
-fn copy_into<T: Copy>(list: &mut Vec<T>, items: &[T]) -> Result<(), AllocError>
-    ensures { OnOk result (list.new.items ≡ items.now) }
-{
-    list.clear();
-    list.extend_from_slice(items)?;
-    Ok(())
-}
 
 /// Where the accesses and the steps of a statement go when they are numbered. `admit` takes what a statement needs out of
 /// it, and `take_back` puts it back from a statement that is of no more use: so one after another needs no memory.
@@ -75,47 +65,5 @@ impl Room {
             self.accesses = accesses.into_vec();
             self.steps = steps.into_vec();
         }
-    }
-
-    /// A copy of a RUN, as `copy_of`.
-    fn copy_of_run(
-        self,
-        accesses: &[Access],
-        steps: &[Step],
-        deed: Option<DeedForm>,
-    ) -> Result<Form, AllocError>
-        ensures { IfOk result (λ form. form ≡ Form.Run accesses.now steps.now deed) }
-    {
-        let Room {
-            accesses: mut copied,
-            steps: mut copied_steps,
-        } = self;
-        copy_into(&mut copied, accesses)?;
-        copy_into(&mut copied_steps, steps)?;
-        Ok(Form::Run {
-            accesses: Items::new(copied),
-            steps: Items::new(copied_steps),
-            deed,
-        })
-    }
-
-    /// A copy of a statement, which takes the room, and memory only where that isn't enough. On `Err` memory was refused.
-    pub(crate) fn copy_of(self, statement: &Statement) -> Result<Statement, AllocError>
-        ensures { IfOk result (λ copy. copy ≡ statement.now) }
-    {
-        let user = statement.user;
-        let form = match &statement.form {
-            Form::Create { table, columns } => Form::Create {
-                table: *table,
-                columns: *columns,
-            },
-            Form::Run {
-                accesses,
-                steps,
-                deed,
-            } => self.copy_of_run(accesses.as_slice(), steps.as_slice(), *deed)?,
-            Form::Deed(deed) => Form::Deed(*deed),
-        };
-        Ok(Statement { user, form })
     }
 }

@@ -70,11 +70,17 @@ fn room_for(spare: &mut Vec<Statement>, room: Room, form: &RawForm<'_>) -> Room 
     }
 }
 
-/// Room for a copy of a statement, as `room_for`.
-fn room_to_copy(spare: &mut Vec<Statement>, room: Room, form: &Form) -> Room {
-    match form {
-        Form::Run { .. } => lend(spare, room),
-        Form::Create { .. } | Form::Deed(_) => room,
+/// A statement that was dropped, or another one that holds no memory where there is none.
+fn any_dropped(spare: &mut Vec<Statement>) -> Statement {
+    match spare.pop() {
+        Some(statement) => statement,
+        None => Statement {
+            user: User(0),
+            form: Form::Create {
+                table: Table(0),
+                columns: 0,
+            },
+        },
     }
 }
 
@@ -134,23 +140,22 @@ impl LogTail {
         self.push_lent(statement, &mut raw)
     }
 
-    /// Takes a copy of a statement that was foretold as the next place, which is the length until then. On `Err` memory was refused,
-    /// and the log is as it was.
-    pub fn push_foretold(&mut self, statement: &Statement) -> Result<Place, AllocError>
+    /// Takes a statement that was foretold as the next place, which is the length until then. Nothing is told of the statement that it
+    /// is exchanged for but that its memory may be used again. On `Err` memory was refused, and log and statement are as they were.
+    pub fn push_foretold(&mut self, statement: &mut Statement) -> Result<Place, AllocError>
         requires place { length self.old.log.statements < MOST_PLACES }
-        requires foretold { (sentence : Sentence) × (IsInGrammar sentence × IsForetold self.old.log.names sentence statement.now) }
+        requires foretold { (sentence : Sentence) × (IsInGrammar sentence × IsForetold self.old.log.names sentence statement.old) }
         ensures place { IfOk result (λ place. place ≡ length self.old.log.statements) }
-        ensures accepted { OnOk result ((sentence : Sentence) → IsForetold self.old.log.names sentence statement.now
+        ensures accepted { OnOk result ((sentence : Sentence) → IsForetold self.old.log.names sentence statement.old
             → self.new ≡ record self.old { log = with_accepted self.old.log sentence }) }
         ensures err { OnErr result (self.new ≡ self.old) }
+        ensures left { OnErr result (statement.new ≡ statement.old) }
     {
         self.kept.reserve(1)?;
         let place = self.catalog.places();
-        let none = self.catalog.no_room();
-        let room = room_to_copy(&mut self.spare, none, &statement.form);
-        let copy = room.copy_of(statement)?;
+        let taken = mem::replace(statement, any_dropped(&mut self.spare));
         self.catalog.take_foretold();
-        self.kept.push_reserved(copy);
+        self.kept.push_reserved(taken);
         Ok(place)
     }
 

@@ -1,6 +1,21 @@
+use Rattle.std.proofs.Common.{◌∙◌, ap, refl, sym}
+use Rattle.std.specs.Prelude.{Err}
 use Rattle.bohm_base.proofs.Beginnings.{nothing_written}
 use Rattle.log_text.proofs.Total.{total}
+use Rattle.batched_text.proofs.Faults.{never_bad, read_told, write_told}
 use Rattle.batched_text.proofs.running.run_text.Goals as goal
 
 pub returns-then-not-are_within_limits-clause-begun : goal.returns-then-not-are_within_limits-clause-begun
 returns-then-not-are_within_limits-clause-begun g c = nothing_written total _ _
+
+pub returns-in-Err-clause-read : goal.returns-in-Err-clause-read
+returns-in-Err-clause-read g c = λ is small. c.run_batches.ensures.read (c.in-Err.is ∙ ap Err (read_told c.in-Err.fault c.engine_fault.result (Err c.engine_fault.result) c.engine_fault.ensures refl is)) small
+
+pub returns-in-Err-clause-write : goal.returns-in-Err-clause-write
+returns-in-Err-clause-write g c = λ is small. c.run_batches.ensures.write (c.in-Err.is ∙ ap Err (write_told c.in-Err.fault c.engine_fault.result (Err c.engine_fault.result) c.engine_fault.ensures refl is)) small
+
+pub returns-in-Err-clause-bad : goal.returns-in-Err-clause-bad
+returns-in-Err-clause-bad g c = (λ is. absurd (never_bad c.in-Err.fault c.engine_fault.result (Err c.engine_fault.result) c.engine_fault.ensures refl is), λ outside. absurd (cc (sym outside ∙ sym c.if-not-are_within_limits.ensures)))
+
+pub returns-in-Err-clause-nothing : goal.returns-in-Err-clause-nothing
+returns-in-Err-clause-nothing g c = λ is. absurd (never_bad c.in-Err.fault c.engine_fault.result (Err c.engine_fault.result) c.engine_fault.ensures refl is)

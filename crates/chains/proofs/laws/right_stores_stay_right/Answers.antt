@@ -1,32 +1,32 @@
-use Rattle.std.proofs.Common.{◌≡◌, ℕ, zero, suc, ◌+◌, ◌-◌, ◌++◌, ◌<◌, ◌≤◌, List, [], Option, map, length, ap, sym, ◌∙◌, refl, arith}
-use Rattle.std.specs.Prelude.{slice_get}
+use Rattle.std.proofs.Common.{◌≡◌, ℕ, zero, suc, ◌+◌, ◌-◌, ◌++◌, ◌<◌, ◌≤◌, List, [], map, length, ap, sym, ◌∙◌, refl, arith}
 use Rattle.std.specs.List.{flat_map, range_with_len}
 use Rattle.std.specs.Option.{option_map_or}
 use Rattle.model_base.specs.declared.statement.Access.{Access}
 use Rattle.model_base.specs.declared.statement.Statement.{Statement}
 use Rattle.model_base.specs.Growing.{NeedsOwnTables}
-use Rattle.model_base.specs.Outcomes.{World, world_before}
+use Rattle.model_base.specs.Outcomes.{World}
 use Rattle.model_base.specs.Versions.{writes_of}
 use Rattle.model_base.proofs.Growing.{get-front, world-stands}
-use Rattle.chains.specs.declared.version.Version.{Version}
 use Rattle.chains.specs.Store.{versions_at}
 use Rattle.chains.proofs.laws.right_stores_stay_right.Goals as goal
 
 -- the versions of the same accesses and the same rows
-at-stands : (log more : List Statement) (place : ℕ) → NeedsOwnTables log → place < length log → versions_at (log ++ more) place ≡ versions_at log place
+at-stands : (log more : List Statement) (place : ℕ) → NeedsOwnTables log → place < length log
+    → versions_at (log ++ more) place ≡ versions_at log place
 at-stands log more place own low =
-    let left : World → Option Statement → List Version = λ world found.
-    map (λ (access : Access). record { place = place; key = access.key; row = world.rows access.key.table access.key.row }) (option_map_or writes_of found []) in
-    ap (λ world. left world (slice_get (log ++ more) place)) (world-stands log more (place + 1) own (omega arith))
-    ∙ ap (left (world_before log (place + 1))) (get-front log more place low)
+    let world = world-stands log more (place + 1) own (omega arith) in
+    let found = get-front log more place low in
+    λ i. map (λ (access : Access). record { place = place; key = access.key; row = (world i).rows access.key.table access.key.row })
+    (option_map_or writes_of (found i) [])
 
 range-stands : (log more : List Statement) (first count end : ℕ) → NeedsOwnTables log → end ≤ length log → (0 < count → first + count ≤ end)
     → flat_map (versions_at (log ++ more)) (range_with_len first count) ≡ flat_map (versions_at log) (range_with_len first count)
 range-stands log more first zero end own low within = refl
 range-stands log more first (suc count) end own low within =
     let until : first + suc count ≤ end = within (omega arith) in
-    ap (λ here. here ++ flat_map (versions_at (log ++ more)) (range_with_len (first + 1) count)) (at-stands log more first own (omega arith))
-    ∙ ap (λ rest. versions_at log first ++ rest) (range-stands log more (first + 1) count end own low (λ some. omega arith))
+    let here = at-stands log more first own (omega arith) in
+    let rest = range-stands log more (first + 1) count end own low (λ some. omega arith) in
+    λ i. here i ++ rest i
 
 pub returns : goal.returns
 returns c = record {

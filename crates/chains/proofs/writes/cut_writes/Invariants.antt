@@ -1,14 +1,13 @@
-use Rattle.std.proofs.Common.{◌≡◌, ℕ, filter}
-use Rattle.std.specs.Prelude.{nat_lt}
+use Rattle.std.proofs.Common.{◌≡◌, ℕ}
 use Rattle.std.specs.VecDeque.{deque_len}
 use Rattle.chains.specs.Kept.{AreWrittenInOrder}
-use Rattle.chains.specs.declared.writes.Written.{Written}
+use Rattle.chains.proofs.Cutting.{low_writes}
 use Rattle.chains.proofs.writes.cut_writes.Given as goal
 
 -- the writes below the place stay
 abbrev pub invariant-loop-write : goal.invariant-loop-write
 invariant-loop-write l = record {
-  below : filter (λ (write : Written). nat_lt write.place l.first) l.writes.items ≡ filter (λ (write : Written). nat_lt write.place l.first) l.initial.writes.items;
+  below : low_writes l.first l.writes.items ≡ low_writes l.first l.initial.writes.items;
   rising : (from end : ℕ) → AreWrittenInOrder from end l.initial.writes.items → AreWrittenInOrder from end l.writes.items;
 }
 

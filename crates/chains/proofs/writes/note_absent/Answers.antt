@@ -3,7 +3,7 @@ use Rattle.std.proofs.lemmas.List.{take_more}
 use Rattle.chains.specs.declared.version.Version.{Version}
 use Rattle.chains.specs.declared.writes.Written.{Written}
 use Rattle.chains.specs.Kept.{is_absent, written_by}
-use Rattle.chains.proofs.Noting.{none-asked, noted, noted-absent}
+use Rattle.chains.proofs.Placed.{none-asked, noted, noted-absent}
 use Rattle.chains.proofs.writes.note_absent.Goals as goal
 
 pub loop-version-preserved : goal.loop-version-preserved

@@ -1,6 +1,8 @@
-use Rattle.std.proofs.Common.{◌≡◌, ap, sym, ◌∙◌}
+use Rattle.std.proofs.Common.{sym, ◌∙◌}
 use Rattle.model_base.specs.Outcomes.{deeds_before, owners}
-use Rattle.standing.proofs.Running.{book-stays, covers-needs, created-leads, denied-leads, lacks, lacks-none, pass-stands, shows-past}
+use Rattle.standing.proofs.Making.{shows-past}
+use Rattle.standing.proofs.Running.{covers-needs, denied-leads, lacks-none, pass-stands, same-stands}
+use Rattle.standing.proofs.Stepping.{created-leads}
 use Rattle.standing.proofs.in_order.run_place.Goals as goal
 
 pub returns-then-creates-clause-stands : goal.returns-then-creates-clause-stands
@@ -21,19 +23,16 @@ admit-requires c = record {
 pub run_admitted-requires-clause-admitted : goal.run_admitted-requires-clause-admitted
 run_admitted-requires-clause-admitted c =
     let log = c.args.log.now.log.statements in
-    let statement = c.statement-statement.result.now in
-    let shows = shows-past log c.args.place statement c.statement-statement.ensures.at c.args.book.now c.requires.stands.booked c.at.ensures.shows in
     let value = rw (c.at.ensures.book, c.at.ensures.place) at c.admit.ensures.value in
-    lacks-none (owners log) (deeds_before log c.args.place) statement.user _ (sym c.in-Admitted.is ∙ value (owners log) (deeds_before log c.args.place) shows)
+    let is = sym c.in-Admitted.is ∙ value (owners log) (deeds_before log c.args.place) (shows-past log c.args.place c.args.book.now c.requires.stands.booked) in
+    lacks-none (owners log) (deeds_before log c.args.place) c.statement-statement.result.now.user _ is
 
 pub returns-in-Denied-clause-came : goal.returns-in-Denied-clause-came
 returns-in-Denied-clause-came c =
     let log = c.args.log.now.log.statements in
-    let statement = c.statement-statement.result.now in
-    let shows = shows-past log c.args.place statement c.statement-statement.ensures.at c.args.book.now c.requires.stands.booked c.at.ensures.shows in
     let value = rw (c.at.ensures.book, c.at.ensures.place) at c.admit.ensures.value in
-    let first = lacks (owners log) (deeds_before log c.args.place) statement.user _ c.in-Denied.need c.in-Denied.cause (sym c.in-Denied.is ∙ value (owners log) (deeds_before log c.args.place) shows) in
-    (denied-leads log c.args.place statement c.statement-statement.ensures.at (sym c.creates.ensures ∙ c.if-creates.false) c.in-Denied.need c.in-Denied.cause first.0 first.1).0
+    let is = sym c.in-Denied.is ∙ value (owners log) (deeds_before log c.args.place) (shows-past log c.args.place c.args.book.now c.requires.stands.booked) in
+    (denied-leads log c.args.place c.statement-statement.result.now c.statement-statement.ensures.at (sym c.creates.ensures ∙ c.if-creates.false) c.in-Denied.need c.in-Denied.cause is).0
 
 pub returns-in-Denied-clause-stands : goal.returns-in-Denied-clause-stands
 returns-in-Denied-clause-stands c =
@@ -41,9 +40,8 @@ returns-in-Denied-clause-stands c =
     let statement = c.statement-statement.result.now in
     let at = c.statement-statement.ensures.at in
     let other = sym c.creates.ensures ∙ c.if-creates.false in
-    let shows = shows-past log c.args.place statement at c.args.book.now c.requires.stands.booked c.at.ensures.shows in
     let value = rw (c.at.ensures.book, c.at.ensures.place) at c.admit.ensures.value in
-    let first = lacks (owners log) (deeds_before log c.args.place) statement.user _ c.in-Denied.need c.in-Denied.cause (sym c.in-Denied.is ∙ value (owners log) (deeds_before log c.args.place) shows) in
-    let leads = denied-leads log c.args.place statement at other c.in-Denied.need c.in-Denied.cause first.0 first.1 in
-    pass-stands log c.args.place c.args.chains.now c.pass-in-Denied.new.self c.args.book.now c.args.book.now c.requires.stands c.pass-in-Denied.ensures.store c.pass-in-Denied.ensures.right leads.1
-    (book-stays log c.args.place statement at c.args.book.now c.requires.stands.booked c.requires.known other leads.1)
+    let is = sym c.in-Denied.is ∙ value (owners log) (deeds_before log c.args.place) (shows-past log c.args.place c.args.book.now c.requires.stands.booked) in
+    let leads = denied-leads log c.args.place statement at other c.in-Denied.need c.in-Denied.cause is in
+    same-stands log c.args.place statement at c.args.chains.now c.pass-in-Denied.new.self c.args.book.now c.requires.stands c.requires.known other
+    c.pass-in-Denied.ensures.store c.pass-in-Denied.ensures.right leads.1

@@ -1,4 +1,4 @@
-use Rattle.std.proofs.Common.{◌≡◌, ◌+◌, ◌≤◌, ◌++◌, ◌∷◌, [], ℕ, List, ap, sym, ◌∙◌, subst, arith, append_assoc}
+use Rattle.std.proofs.Common.{◌≡◌, ◌+◌, ◌≤◌, ◌++◌, ◌∷◌, [], ℕ, List, ap, ◌∙◌, subst, arith, append_assoc}
 use Rattle.model_base.specs.declared.outcome.Outcome.{Outcome}
 use Rattle.standing.specs.Stands.{Stands}
 use Rattle.taking.proofs.Ranges.{outcomes_more}

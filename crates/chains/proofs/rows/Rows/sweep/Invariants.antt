@@ -9,7 +9,7 @@ use Rattle.chains.proofs.rows.Rows.sweep.Given as goal
 abbrev pub invariant-loop-write : goal.invariant-loop-write
 invariant-loop-write l = record {
   left : (key : Key) → swept l.mark (of_key key l.self.versions) ≡ swept l.mark (of_key key l.initial.self.versions);
-  newest : (place : ℕ) (key : Key) → newest_or None (of_key key l.self.versions) place key ≡ newest_or None (of_key key l.initial.self.versions) place key;
+  newest : (place : ℕ) (key : Key) → newest_or None l.self.versions place key ≡ newest_or None l.initial.self.versions place key;
   kept :
       (end : ℕ) → IsStoreKept l.initial.self l.initial.absent.items l.mark end
       → IsStoreKept l.self l.absent.items l.mark end;

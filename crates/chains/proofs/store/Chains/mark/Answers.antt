@@ -7,8 +7,7 @@ use Rattle.chains.proofs.store.Chains.mark.Goals as goal
 
 pub returns-clause-whole : goal.returns-clause-whole
 returns-clause-whole c =
-    let inside = c.self.inside in
-    let below = whole-below inside.end inside.rows (kept-chained inside.rows inside.absent.items inside.mark inside.end c.self.invariant.0) in
+    let below = whole-below c.self.inside.end c.self.inside.rows (kept-chained c.self.invariant.0) in
     ap (λ (store : Store). cut_store store.end store) (sym c.self.view_is)
-    ∙ ap (λ (held : Held). record { versions = held.versions; mark = inside.mark; end = inside.end }) below
+    ∙ ap (λ (held : Held). record { versions = held.versions; mark = c.self.inside.mark; end = c.self.inside.end }) below
     ∙ c.self.view_is

@@ -1,13 +1,12 @@
 use Rattle.std.proofs.Common.{◌≡◌, ◌+◌, subst, sym}
 use Rattle.model_base.specs.Outcomes.{rows_before}
 use Rattle.chains.specs.Store.{IsRight, Store}
-use Rattle.chains.proofs.Placed.{pass-right, passed}
+use Rattle.chains.proofs.Placed.{passed}
+use Rattle.chains.proofs.Right.{pass-right}
 use Rattle.chains.proofs.store.Chains.pass.Goals as goal
 
 pub invariant_of-self : goal.invariant_of-self
-invariant_of-self c =
-    let inside = c.self.inside in
-    (passed inside.rows inside.absent.items inside.mark inside.end c.self.invariant.0, c.self.invariant.1)
+invariant_of-self c = (passed c.self.invariant.0, c.self.invariant.1)
 
 pub returns-clause-right : goal.returns-clause-right
 returns-clause-right c = λ log same right.

@@ -3,8 +3,7 @@ use Rattle.chains.specs.declared.version.Version.{Version}
 use Rattle.chains.specs.declared.writes.Written.{Written}
 use Rattle.chains.specs.Kept.{AreNoted, IsStoreKept, is_absent}
 use Rattle.chains.specs.Store.{Store}
-use Rattle.chains.proofs.Noting.{none-asked, noted}
-use Rattle.chains.proofs.Placed.{put-kept, put-noted}
+use Rattle.chains.proofs.Placed.{none-asked, noted, put-kept, put-noted}
 use Rattle.chains.proofs.store.Chains.put.Goals as goal
 
 pub invariant_of-self-2 : goal.invariant_of-self-2
@@ -17,4 +16,11 @@ invariant_of-self-2 c =
     let is : asked ≡ is_absent version = none-asked version.row asked c.is_none.ensures in
     let last : c.args.place + 1 ≡ inside.end = c.requires.last ∙ sym (ap (λ (store : Store). store.end) c.self.view_is) in
     let least : inside.mark ≤ c.args.place = subst (λ (store : Store). store.mark ≤ c.args.place) (sym c.self.view_is) c.requires.mark in
-    (subst (λ (notes : List Written). IsStoreKept c.put.new.self notes inside.mark inside.end) (sym items) (put-kept inside.rows c.put.new.self inside.absent.items inside.mark inside.end version asked is c.in_ok-put.ensures.added c.self.invariant.0 least last c.in_ok-put.ensures.replacing), λ noted_all. subst (AreNoted c.put.new.self) (sym items) (put-noted inside.rows c.put.new.self inside.absent.items inside.mark inside.end version asked is c.in_ok-put.ensures.added c.self.invariant.0 (c.self.invariant.1 noted_all)))
+    let old = inside.absent.items in
+    let added = c.in_ok-put.ensures.added in (
+      subst (λ (notes : List Written). IsStoreKept c.put.new.self notes inside.mark inside.end) (sym items)
+          (put-kept inside.rows c.put.new.self old inside.mark inside.end version asked is added c.self.invariant.0 least last
+          c.in_ok-put.ensures.replacing),
+      λ all. subst (AreNoted c.put.new.self) (sym items)
+          (put-noted inside.rows c.put.new.self old inside.mark inside.end version asked is added c.self.invariant.0 (c.self.invariant.1 all)),
+    )

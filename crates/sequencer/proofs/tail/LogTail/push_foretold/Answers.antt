@@ -13,11 +13,12 @@ invariant_of-self-2 c =
     let past : List Statement = c.self.inside.past.items in
     let log : Accepted = record { names = c.self.inside.catalog; statements = past ++ c.self.inside.kept.items } in
     let sentence = c.requires.foretold.0 in
-    let statements = ap (λ (ss : List Statement). past ++ ss) (c.push_reserved.ensures.items ∙ ap (λ (ss : List Statement). ss ++ c.in_ok-copy.copy ∷ []) c.reserve.ensures.items)
-    ∙ sym (append_assoc past c.self.inside.kept.items (c.in_ok-copy.copy ∷ []))
-    ∙ ap (λ (s : Statement). log.statements ++ s ∷ []) c.in_ok-copy.ensures in
+    let foretold : Statement = c.args.statement.now in
+    let statements = ap (λ (ss : List Statement). past ++ ss) (c.push_reserved.ensures.items ∙ ap (λ (ss : List Statement). ss ++ c.replace-taken.result ∷ []) c.reserve.ensures.items)
+    ∙ sym (append_assoc past c.self.inside.kept.items (c.replace-taken.result ∷ []))
+    ∙ ap (λ (s : Statement). log.statements ++ s ∷ []) c.replace-taken.ensures.value in
     subst (λ (ss : List Statement). IsKept record { names = c.take_foretold.new.self; statements = ss }) (sym statements)
-    (subst (λ (ns : Names). IsKept record { names = ns; statements = log.statements ++ c.args.statement.now ∷ [] }) (sym c.take_foretold.ensures)
-    (kept_foretold log sentence c.args.statement.now
-    (subst (λ (tail : Tail). IsForetold tail.log.names sentence c.args.statement.now) (sym c.self.view_is) c.requires.foretold.1.1)
+    (subst (λ (ns : Names). IsKept record { names = ns; statements = log.statements ++ foretold ∷ [] }) (sym c.take_foretold.ensures)
+    (kept_foretold log sentence foretold
+    (subst (λ (tail : Tail). IsForetold tail.log.names sentence foretold) (sym c.self.view_is) c.requires.foretold.1.1)
     c.self.invariant c.requires.foretold.1.0))
