@@ -42,33 +42,60 @@ fn push_accepted(alloc: Global, engine: &mut Engine, log: &[u8]) {
     }
 }
 
-/// The outcomes of a log that is run in order, as one batch.
-fn outcomes_in_order<R: Threads + Wait + Sync>(
+/// Takes a log, runs it in order, as one batch, and returns its outcomes.
+fn run_at_once<R: Threads + Wait + Sync>(
     rt: &R,
     alloc: Global,
+    engine: &mut Engine,
     log: &[u8],
 ) -> Result<Vec<u8>, TrialFault> {
-    let mut engine = Engine::new(alloc);
-    push_accepted(alloc, &mut engine, log);
+    push_accepted(alloc, engine, log);
     let end = engine.log().len();
-    run_up_to(rt, alloc, &mut engine, end, crew_of(1, 1))?;
-    outcomes(alloc, &engine)
+    run_up_to(rt, alloc, engine, end, crew_of(1, 1))?;
+    outcomes(alloc, engine)
 }
 
-/// The outcomes of a log whose batches are run by other crews in turn.
-fn outcomes_in_turn<R: Threads + Wait + Sync>(
+/// Takes a log, runs its batches by other crews in turn, and returns its outcomes.
+fn run_in_turn<R: Threads + Wait + Sync>(
     rt: &R,
     alloc: Global,
+    engine: &mut Engine,
     log: &[u8],
 ) -> Result<Vec<u8>, TrialFault> {
-    let mut engine = Engine::new(alloc);
-    push_accepted(alloc, &mut engine, log);
+    push_accepted(alloc, engine, log);
     let end = engine.log().len();
     for batch in 0..end.div_ceil(PLACES) {
         let to = end.min(engine.finished().saturating_add(PLACES));
-        run_up_to(rt, alloc, &mut engine, to, crew_in_turn(batch))?;
+        run_up_to(rt, alloc, engine, to, crew_in_turn(batch))?;
     }
-    outcomes(alloc, &engine)
+    outcomes(alloc, engine)
+}
+
+/// The outcomes of a log that is run at once, or in turn.
+fn outcomes_of<R: Threads + Wait + Sync>(
+    rt: &R,
+    alloc: Global,
+    log: &[u8],
+    at_once: bool,
+) -> Result<Vec<u8>, TrialFault> {
+    let mut engine = Engine::new(alloc);
+    if at_once {
+        run_at_once(rt, alloc, &mut engine, log)
+    } else {
+        run_in_turn(rt, alloc, &mut engine, log)
+    }
+}
+
+/// Whether the outcomes of one more drawn log are the same at once and in turn.
+fn is_same<R: Threads + Wait + Sync>(
+    rt: &R,
+    alloc: Global,
+    generator: &mut Generator,
+) -> Result<bool, TrialFault> {
+    let log = drawn_log(alloc, generator, DRAWING)?;
+    let wanted = outcomes_of(rt, alloc, &log, true)?;
+    let found = outcomes_of(rt, alloc, &log, false)?;
+    Ok(compared(&found, &wanted) == "same")
 }
 
 /// Tells of how many drawn logs the outcomes are the same where the crew changes from batch to batch.
@@ -79,10 +106,7 @@ pub fn tell_switching<R: Threads + Wait + Print + Sync>(
     let mut generator = Generator::new(2015);
     let mut same: u32 = 0;
     for _ in 0..LOGS {
-        let log = drawn_log(alloc, &mut generator, DRAWING)?;
-        let wanted = outcomes_in_order(rt, alloc, &log)?;
-        let found = outcomes_in_turn(rt, alloc, &log)?;
-        if compared(&found, &wanted) == "same" {
+        if is_same(rt, alloc, &mut generator)? {
             same = same.saturating_add(1);
         }
     }
