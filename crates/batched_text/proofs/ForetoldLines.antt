@@ -1,5 +1,7 @@
 -- What a line that was read before its turn comes to in its turn.
 use Rattle.std.proofs.Common.{◌≡◌, ◌≢◌, ℕ, ◌<◌, ◌≤◌, ◌+◌, List, ◌++◌, ap, arith, get_or-set_other, length, length-set, sym, ◌∙◌, subst}
+use Rattle.std.proofs.Math.Seq.{drop-append_seam, take-append_seam}
+use Rattle.std.proofs.lemmas.List.Elements.{All-drop, All-take}
 use Rattle.std.specs.Prelude.{All, Err, Ok, Option, Some, None, slice_index_or, slice_set}
 use Rattle.model_base.specs.declared.limits.TheConstants.{MOST_PLACES}
 use Rattle.model_base.specs.declared.statement.Statement.{Statement}
@@ -88,3 +90,25 @@ still_ahead now later bytes from lines line were further = record {
       let differ : k ≢ from = omega (arith, least) in
       subst (IsAhead were.names bytes) (sym (get_or-set_other lines from k line other differ)) (were.ahead k other (omega (arith, least)) inside);
 }
+
+-- so were the first of these lines
+pub were_front : (now : Names) (bytes : List ℕ) (lines front others : List Ahead) → lines ≡ front ++ others → WereReadAhead now bytes lines
+    → WereReadAhead now bytes front
+were_front now bytes lines front others same were =
+    let P = IsAhead were.names bytes in
+    record {
+      names = were.names;
+      begins = were.begins;
+      ahead = subst (All P) (take-append_seam front others) (All-take P (length front) (front ++ others) (subst (All P) same were.ahead));
+    }
+
+-- and the others, whatever names come
+pub were_others : (now later : Names) (bytes : List ℕ) (lines front others : List Ahead) → lines ≡ front ++ others → WereReadAhead now bytes lines
+    → Begins now later → WereReadAhead later bytes others
+were_others now later bytes lines front others same were further =
+    let P = IsAhead were.names bytes in
+    record {
+      names = were.names;
+      begins = begins_further were.names now later were.begins further;
+      ahead = subst (All P) (drop-append_seam front others) (All-drop P (length front) (front ++ others) (subst (All P) same were.ahead));
+    }

@@ -9,11 +9,12 @@ ghost use Rattle.batched_text.specs.Foretold.{Runs, TakesAt, WasReadAhead, WereR
 ghost use Rattle.batched_text.specs.History.{dropped_by};
 ghost use Rattle.batched_text.specs.Settings.{are_within_limits};
 
-use crate::batching::{Batching, report_full};
+use crate::batching::{Batching, report_early, report_full};
 use crate::history::History;
 use crate::lines::take_line;
 use crate::settings::Settings;
 use bohm_base::{Became, EngineFault};
+use engine::Engine;
 use log_text::{LineFault, RawRoom};
 use log_text_base::cut_line;
 use model_base::{MOST_PLACES, Statement};
@@ -199,10 +200,22 @@ pub(crate) fn report_until<'a, T: Threads + Wait + Sync>(
     Ok(at)
 }
 
+/// Gives the statements that were dropped back to the lines from which they came, the last one first, so that the next lines that are
+/// read there take their memory.
+fn give_back(engine: &mut Engine, lines: &mut [Ahead])
+    ensures { engine.new ≡ engine.old }
+{
+    'lines: for line in lines.iter_mut().rev() {
+        if let Found::Known(statement) = &mut line.found {
+            engine.give_dropped(statement);
+        }
+    }
+}
+
 /// Deals with lines from an index of the bytes on, up to the last of those that were read ahead and with it. A line among them that was
 /// not read ahead is read now, and one that was is passed over where it doesn't begin where the lines before it end. It returns the
 /// index before which all is dealt with then.
-pub(crate) fn report_foretold<'a, T: Threads + Wait + Sync>(
+fn report_each<'a, T: Threads + Wait + Sync>(
     rt: &T,
     alloc: Global,
     batching: &mut Batching,
@@ -228,6 +241,65 @@ pub(crate) fn report_foretold<'a, T: Threads + Wait + Sync>(
         )?;
         at = report_one(
             rt, alloc, batching, settings, history, bytes, ahead, next, given, raw,
+        )?;
+    }
+    Ok(at)
+}
+
+/// Deals with lines that were read ahead, as `report_each`. Then it reports the lines that wait, unless all is kept, and gives back what
+/// was dropped.
+fn report_group<'a, T: Threads + Wait + Sync>(
+    rt: &T,
+    alloc: Global,
+    batching: &mut Batching,
+    settings: &Settings,
+    history: History,
+    bytes: &'a [u8],
+    lines: &mut [Ahead],
+    from: usize,
+    given: u64,
+    raw: &mut RawRoom<'a>,
+) -> Result<usize, EngineFault>
+    requires settings { are_within_limits settings.now ≡ true }
+    requires within { from ≤ length bytes.now }
+    requires ready { IsBatchReady history settings.now batching.old (length bytes.now - from) given }
+    requires kept { batching.old.engine.dropped ≡ dropped_by history batching.old.engine }
+    requires ahead { WereReadAhead (log_names batching.old) bytes.now lines.old }
+    ensures { Runs history settings.now bytes.now given from batching.old batching.new result }
+{
+    let at = report_each(
+        rt, alloc, batching, settings, history, bytes, lines, from, given, raw,
+    )?;
+    report_early(rt, alloc, batching, settings, history)?;
+    give_back(&mut batching.engine, lines);
+    Ok(at)
+}
+
+/// Deals with lines that were read ahead, as `report_group`, so many at a time as a batch has places: a statement stays with its line
+/// but for that time. So what a piece's statements hold lies in memory in the order in which it is read and filled again.
+pub(crate) fn report_foretold<'a, T: Threads + Wait + Sync>(
+    rt: &T,
+    alloc: Global,
+    batching: &mut Batching,
+    settings: &Settings,
+    history: History,
+    bytes: &'a [u8],
+    lines: &mut [Ahead],
+    from: usize,
+    given: u64,
+    raw: &mut RawRoom<'a>,
+) -> Result<usize, EngineFault>
+    requires settings { are_within_limits settings.now ≡ true }
+    requires within { from ≤ length bytes.now }
+    requires ready { IsBatchReady history settings.now batching.old (length bytes.now - from) given }
+    requires kept { batching.old.engine.dropped ≡ dropped_by history batching.old.engine }
+    requires ahead { WereReadAhead (log_names batching.old) bytes.now lines.old }
+    ensures { Runs history settings.now bytes.now given from batching.old batching.new result }
+{
+    let mut at = from;
+    'groups: for group in lines.chunks_mut(settings.batch as usize) {
+        at = report_group(
+            rt, alloc, batching, settings, history, bytes, group, at, given, raw,
         )?;
     }
     Ok(at)

@@ -278,8 +278,8 @@ impl Engine {
         self.log.push(statement)
     }
 
-    /// Takes a statement that was foretold as the next place. Nothing is told of the statement that it is exchanged for but that its
-    /// memory may be used again. On `Err` memory was refused, and engine and statement are as they were.
+    /// Takes a statement that was foretold as the next place, and leaves another one, of which nothing is told. On `Err` memory was
+    /// refused, and engine and statement are as they were.
     pub fn push_foretold(&mut self, statement: &mut Statement) -> Result<Place, AllocError>
         requires place { length self.old.log.statements < MOST_PLACES }
         requires foretold { (sentence : Sentence) × (IsInGrammar sentence × IsForetold self.old.log.names sentence statement.old) }
@@ -291,6 +291,15 @@ impl Engine {
     {
         let _dropped = self.log.dropped();
         self.log.push_foretold(statement)
+    }
+
+    /// Exchanges a statement of no more use for the last one that was dropped, if there is one, whose memory may be used again. Nothing
+    /// is told of it.
+    pub fn give_dropped(&mut self, statement: &mut Statement)
+        ensures { self.new ≡ self.old }
+    {
+        let _dropped = self.log.dropped();
+        self.log.give_dropped(statement)
     }
 
     /// Runs the next places of the log, up to this one, as a batch, by so many workers and placers: by one worker in order, on this

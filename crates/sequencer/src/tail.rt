@@ -70,16 +70,13 @@ fn room_for(spare: &mut Vec<Statement>, room: Room, form: &RawForm<'_>) -> Room 
     }
 }
 
-/// A statement that was dropped, or another one that holds no memory where there is none.
-fn any_dropped(spare: &mut Vec<Statement>) -> Statement {
-    match spare.pop() {
-        Some(statement) => statement,
-        None => Statement {
-            user: User(0),
-            form: Form::Create {
-                table: Table(0),
-                columns: 0,
-            },
+/// A statement that holds no memory.
+fn no_statement() -> Statement {
+    Statement {
+        user: User(0),
+        form: Form::Create {
+            table: Table(0),
+            columns: 0,
         },
     }
 }
@@ -140,8 +137,8 @@ impl LogTail {
         self.push_lent(statement, &mut raw)
     }
 
-    /// Takes a statement that was foretold as the next place, which is the length until then. Nothing is told of the statement that it
-    /// is exchanged for but that its memory may be used again. On `Err` memory was refused, and log and statement are as they were.
+    /// Takes a statement that was foretold as the next place, which is the length until then, and leaves another one, of which nothing is
+    /// told. On `Err` memory was refused, and log and statement are as they were.
     pub fn push_foretold(&mut self, statement: &mut Statement) -> Result<Place, AllocError>
         requires place { length self.old.log.statements < MOST_PLACES }
         requires foretold { (sentence : Sentence) × (IsInGrammar sentence × IsForetold self.old.log.names sentence statement.old) }
@@ -153,10 +150,20 @@ impl LogTail {
     {
         self.kept.reserve(1)?;
         let place = self.catalog.places();
-        let taken = mem::replace(statement, any_dropped(&mut self.spare));
+        let taken = mem::replace(statement, no_statement());
         self.catalog.take_foretold();
         self.kept.push_reserved(taken);
         Ok(place)
+    }
+
+    /// Exchanges a statement of no more use for the last one that was dropped, if there is one, whose memory may be used again. Nothing
+    /// is told of it.
+    pub fn give_dropped(&mut self, statement: &mut Statement)
+        ensures { self.new ≡ self.old }
+    {
+        if let Some(dropped) = self.spare.pop() {
+            *statement = dropped;
+        }
     }
 
     /// How many statements were accepted, which is the place of the next one.

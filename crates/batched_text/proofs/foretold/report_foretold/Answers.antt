@@ -1,32 +1,32 @@
-use Rattle.std.proofs.Common.{arith}
+use Rattle.std.proofs.Common.{◌<◌, rules, subst, sym, ◌∙◌, ap}
 use Rattle.std.specs.Prelude.{Ok}
-use Rattle.sequencer.proofs.Beginnings.{begins_further}
-use Rattle.batched_text.specs.Foretold.{log_names}
-use Rattle.batched_text.proofs.ForetoldLines.{all_ahead, still_ahead}
+use Rattle.std.specs.Slice.Iter.{chunks_mut_rest}
+use Rattle.batched_text.specs.Foretold.{WereReadAhead, log_names}
+use Rattle.batched_text.proofs.ForetoldLines.{were_front, were_others}
 use Rattle.batched_text.proofs.RunLines.{runs_none, runs_then}
 use Rattle.batched_text.proofs.foretold.report_foretold.Goals as goal
 
-pub turns-init : goal.turns-init
-turns-init g c = record {
+pub groups-init : goal.groups-init
+groups-init g c = record {
+  can_next = search rules;
+  is_finite = tt;
   runs = runs_none c.args.history c.args.settings.now c.args.bytes.now c.args.given c.args.from c.args.batching.now c.requires.within c.requires.ready c.requires.kept;
-  ahead = all_ahead (log_names c.args.batching.now) c.args.bytes.now c.args.lines.now c.requires.ahead;
+  ahead = subst (WereReadAhead (log_names c.args.batching.now) c.args.bytes.now)
+      (sym (ap chunks_mut_rest c.into_iter-group-iterator.ensures.into_iter_gives ∙ c.chunks_mut-group-items.ensures.rest)) c.requires.ahead;
 }
 
-pub report_one-requires-clause-ahead : goal.report_one-requires-clause-ahead
-report_one-requires-clause-ahead g c κs within =
-    let still = c.turns.invariant.ahead in
-    record {
-      names = still.names;
-      begins = begins_further still.names (log_names c.turns.batching) (log_names c.report_until.new.batching) still.begins c.in_ok-next.ensures.begins;
-      ahead = still.ahead c.turns.ahead-index c.ahead-item.result (omega arith) (omega (arith, c.turns-test.true, c.turns.auto.lines));
-    }
+pub report_group-requires-clause-ahead : goal.report_group-requires-clause-ahead
+report_group-requires-clause-ahead g c κs within =
+    were_front (log_names c.groups.batching) c.args.bytes.now (chunks_mut_rest c.groups.group-iterator) c.in-Some.group.now (chunks_mut_rest c.next.new.self)
+    c.in-Some.ensures.steps.1.0 c.groups.invariant.ahead
 
-pub turns-preserved : goal.turns-preserved
-turns-preserved g c =
-    let first = c.in_ok-next.ensures in
+pub groups-preserved : goal.groups-preserved
+groups-preserved g c =
     let second = c.in_ok-at.ensures in
-    let both = runs_then c.args.history c.args.settings.now c.args.bytes.now c.args.given c.turns.at c.in_ok-next.next c.turns.batching c.report_until.new.batching c.report_one.new.batching (Ok c.in_ok-at.at) first second in
     record {
-      runs = runs_then c.args.history c.args.settings.now c.args.bytes.now c.args.given c.args.from c.turns.at c.args.batching.now c.turns.batching c.report_one.new.batching (Ok c.in_ok-at.at) c.turns.invariant.runs both;
-      ahead = still_ahead (log_names c.turns.batching) (log_names c.report_one.new.batching) c.args.bytes.now c.turns.ahead-index c.turns.lines c.report_one.new.ahead c.turns.invariant.ahead both.begins;
+      can_next = subst (λ n. 0 < n) (sym c.in-Some.ensures.steps.0) c.groups.invariant.can_next;
+      is_finite = tt;
+      runs = runs_then c.args.history c.args.settings.now c.args.bytes.now c.args.given c.args.from c.groups.at c.args.batching.now c.groups.batching c.report_group.new.batching (Ok c.in_ok-at.at) c.groups.invariant.runs second;
+      ahead = were_others (log_names c.groups.batching) (log_names c.report_group.new.batching) c.args.bytes.now (chunks_mut_rest c.groups.group-iterator) c.in-Some.group.now (chunks_mut_rest c.next.new.self)
+          c.in-Some.ensures.steps.1.0 c.groups.invariant.ahead second.begins;
     }

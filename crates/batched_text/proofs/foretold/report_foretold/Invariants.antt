@@ -1,10 +1,12 @@
 use Rattle.std.specs.Prelude.{Ok}
-use Rattle.batched_text.proofs.ForetoldLines.{AreStillAhead}
-use Rattle.batched_text.specs.Foretold.{Runs, log_names}
+use Rattle.std.specs.Slice.Iter.{chunks_mut_rest}
+use Rattle.batched_text.specs.Foretold.{Runs, WereReadAhead, log_names}
 use Rattle.batched_text.proofs.foretold.report_foretold.Given as goal
 
-abbrev pub invariant-turns : goal.invariant-turns
-invariant-turns g l = record {
+abbrev pub invariant-groups : goal.invariant-groups
+invariant-groups g l = record {
+  can_next : (goal.iterator-groups g).can_next l.group-iterator;
+  is_finite : (goal.iterator-groups g).is_finite l.group-iterator;
   runs : Runs l.history l.settings l.bytes l.given l.initial.at l.initial.batching l.batching (Ok l.at);
-  ahead : AreStillAhead (log_names l.batching) l.bytes l.ahead-index l.lines;
+  ahead : WereReadAhead (log_names l.batching) l.bytes (chunks_mut_rest l.group-iterator);
 }
