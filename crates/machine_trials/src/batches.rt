@@ -27,15 +27,23 @@ pub struct Before {
     pub book: Book,
 }
 
+/// Appends the statements of these lines.
+fn push_lines(alloc: Global, log: &mut LogTail, lines: &[&str]) -> Result<(), TrialFault>
+    ensures { log.new.dropped ≡ log.old.dropped }
+{
+    for line in lines {
+        let statement = parse_line(alloc, line.as_bytes())?;
+        log.push(statement)?;
+    }
+    Ok(())
+}
+
 /// The log of these lines.
 pub fn log_of(alloc: Global, lines: &[&str]) -> Result<LogTail, TrialFault>
     ensures { IfOk result (λ log. log.dropped ≡ 0) }
 {
     let mut log = LogTail::new(alloc);
-    for line in lines {
-        let statement = parse_line(alloc, line.as_bytes())?;
-        log.push(statement)?;
-    }
+    push_lines(alloc, &mut log, lines)?;
     Ok(log)
 }
 

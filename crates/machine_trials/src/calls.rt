@@ -3,7 +3,7 @@
 ghost use Rattle.std.specs.Prelude.{◌≡◌};
 ghost use Rattle.machine_trials.specs.Before.{IsBefore};
 
-use crate::batches::{Before, batch_of, log_of, nothing};
+use crate::batches::{batch_of, log_of, nothing};
 use crate::fault::TrialFault;
 use log_batch::LogBatch;
 use model_base::{Form, Key, Table};
@@ -80,16 +80,11 @@ pub fn tell_batch(rt: &impl Print, batch: &LogBatch<'_>) -> Result<(), TrialFaul
 }
 
 /// Tells the calls of a whole log as a batch that three partitions place.
-fn tell_whole_batch(
-    rt: &impl Print,
-    alloc: Global,
-    log: &LogTail,
-    before: &Before,
-) -> Result<(), TrialFault>
-    requires kept { log.now.dropped ≡ 0 }
-    requires before { IsBefore before.now log.now.log.statements 0 }
+fn tell_whole_batch(rt: &impl Print, alloc: Global, log: &LogTail) -> Result<(), TrialFault>
+    requires { log.now.dropped ≡ 0 }
 {
-    let batch = batch_of(alloc, log, before, 0..log.len(), 3)?;
+    let before = nothing(alloc);
+    let batch = batch_of(alloc, log, &before, 0..log.len(), 3)?;
     tell_batch(rt, &batch)
 }
 
@@ -97,6 +92,5 @@ fn tell_whole_batch(
 pub fn tell_calls(rt: &impl Print, alloc: Global) -> Result<(), TrialFault> {
     println!(rt; "the calls of a batch")?;
     let log = log_of(alloc, &LINES)?;
-    let before = nothing(alloc);
-    tell_whole_batch(rt, alloc, &log, &before)
+    tell_whole_batch(rt, alloc, &log)
 }

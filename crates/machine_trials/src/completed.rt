@@ -74,7 +74,23 @@ fn finish_unstored<'a>(alloc: Global, key: LogKey<'a>) -> Result<Finished<'a>, A
     finish(alloc, key, &closed)
 }
 
-/// Tells the log finished behind words of which nothing is stored.
+/// The log finished behind words of which nothing is stored.
+fn finished<'a>(
+    alloc: Global,
+    log: &'a LogTail,
+    before: &'a Before,
+) -> Result<Finished<'a>, AllocError>
+    requires kept { log.now.dropped ≡ 0 }
+    requires before { IsBefore before.now log.now.log.statements 0 }
+    requires some { 0 < length log.now.log.statements }
+    ensures { IfOk result (λ done. done.size ≡ length log.now.log.statements) }
+{
+    let batch = batch_of(alloc, log, before, 0..log.len(), 1)?;
+    let key = key_of(alloc, batch)?;
+    finish_unstored(alloc, key)
+}
+
+/// Tells the log finished, as `finished`.
 fn tell_finished(
     rt: &impl Print,
     alloc: Global,
@@ -85,32 +101,24 @@ fn tell_finished(
     requires before { IsBefore before.now log.now.log.statements 0 }
     requires some { 0 < length log.now.log.statements }
 {
-    let batch = batch_of(alloc, log, before, 0..log.len(), 1)?;
-    let key = key_of(alloc, batch)?;
-    let done = finish_unstored(alloc, key)?;
     println!(rt; "finished behind words of which nothing is stored")?;
+    let done = finished(alloc, log, before)?;
     tell_outcomes(rt, alloc, log, &done)
 }
 
 /// Tells the log completed, if it has a place.
-fn tell_some(
-    rt: &impl Print,
-    alloc: Global,
-    log: &LogTail,
-    before: &Before,
-) -> Result<(), TrialFault>
-    requires kept { log.now.dropped ≡ 0 }
-    requires before { IsBefore before.now log.now.log.statements 0 }
+fn tell_some(rt: &impl Print, alloc: Global, log: &LogTail) -> Result<(), TrialFault>
+    requires { log.now.dropped ≡ 0 }
 {
     if log.len() == 0 {
         return Err(TrialFault::OtherLog);
     }
-    tell_finished(rt, alloc, log, before)
+    let before = nothing(alloc);
+    tell_finished(rt, alloc, log, &before)
 }
 
 /// Tells a log completed on one thread.
 pub fn tell_completed(rt: &impl Print, alloc: Global) -> Result<(), TrialFault> {
     let log = log_of(alloc, &LINES)?;
-    let before = nothing(alloc);
-    tell_some(rt, alloc, &log, &before)
+    tell_some(rt, alloc, &log)
 }

@@ -12,10 +12,9 @@ use crate::outcome::outcome_at;
 use bohm_core::{Machine, State};
 use bohm_core_base::Event;
 use log_machine::OfLog;
-use log_text::parse_line;
 use model::serial;
 use model_base::{DeedDone, Outcome, Place};
-use sequencer::{Log, LogTail};
+use sequencer::LogTail;
 use std::alloc::{AllocError, Global};
 use trials_base::Generator;
 
@@ -211,27 +210,19 @@ fn compare_lists(
     Ok(all)
 }
 
-/// The log with all of its statements.
-fn whole_log(alloc: Global) -> Result<Log, TrialFault> {
-    let mut log = Log::new(alloc);
-    for line in LINES {
-        let statement = parse_line(alloc, line.as_bytes())?;
-        log.push(statement)?;
-    }
-    Ok(log)
-}
-
 /// The outcomes of the slow serial run.
-fn serial_outcomes(alloc: Global) -> Result<Vec<Outcome>, TrialFault> {
-    let whole = whole_log(alloc)?;
-    Ok(serial(alloc, whole.statements())?)
+fn serial_outcomes(alloc: Global, log: &LogTail) -> Result<Vec<Outcome>, AllocError>
+    requires { log.now.dropped ≡ 0 }
+{
+    let _dropped = log.dropped();
+    serial(alloc, log.kept_statements())
 }
 
 /// What all lists of the log come to.
 fn compare_with_serial(rt: &impl Print, alloc: Global, log: &LogTail) -> Result<Counts, TrialFault>
     requires { log.now.dropped ≡ 0 }
 {
-    let outcomes = serial_outcomes(alloc)?;
+    let outcomes = serial_outcomes(alloc, log)?;
     let before = nothing(alloc);
     compare_lists(rt, alloc, log, &before, &outcomes)
 }

@@ -3,7 +3,7 @@
 ghost use Rattle.std.specs.Prelude.{◌≡◌, ◌<◌, IfOk};
 ghost use Rattle.machine_trials.specs.Before.{IsBefore};
 
-use crate::batches::{Before, batch_of, log_of, nothing};
+use crate::batches::{batch_of, log_of, nothing};
 use crate::fault::TrialFault;
 use log_batch::LogBatch;
 use log_words::{LogKey, ended_slots};
@@ -40,22 +40,16 @@ fn tell_slots(rt: &impl Print, alloc: Global, batch: &LogBatch<'_>) -> Result<()
 }
 
 /// Tells those of the whole log as one batch.
-fn tell_whole(
-    rt: &impl Print,
-    alloc: Global,
-    log: &LogTail,
-    before: &Before,
-) -> Result<(), TrialFault>
-    requires kept { log.now.dropped ≡ 0 }
-    requires before { IsBefore before.now log.now.log.statements 0 }
+fn tell_whole(rt: &impl Print, alloc: Global, log: &LogTail) -> Result<(), TrialFault>
+    requires { log.now.dropped ≡ 0 }
 {
-    let batch = batch_of(alloc, log, before, 0..log.len(), 1)?;
+    let before = nothing(alloc);
+    let batch = batch_of(alloc, log, &before, 0..log.len(), 1)?;
     tell_slots(rt, alloc, &batch)
 }
 
 /// Tells the slots whose records the whole log may end.
 pub fn tell_ended(rt: &impl Print, alloc: Global) -> Result<(), TrialFault> {
     let log = log_of(alloc, &LINES)?;
-    let before = nothing(alloc);
-    tell_whole(rt, alloc, &log, &before)
+    tell_whole(rt, alloc, &log)
 }

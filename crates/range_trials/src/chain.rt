@@ -4,10 +4,10 @@ ghost use Rattle.std.specs.Prelude.{◌≡◌};
 ghost use Rattle.words.specs.Passes.{IsPassOf};
 
 use crate::asking::{ask, ask_round};
-use crate::batches::{nothing, words_of};
 use crate::fault::TrialFault;
 use crate::logs::WholeLog;
 use crate::telling::told;
+use crate::trial::{Trial, try_words};
 use filling::RangeKey;
 use filling_base::Batch;
 use std::alloc::Global;
@@ -74,20 +74,26 @@ fn tell_last(rt: &impl Print, batch: &Batch<RangeKey<'_>>, pass: Pass) -> Result
     tell_again(rt, batch, pass)
 }
 
-/// Tells of a log that is asked for from its end.
-fn tell_log<R: Threads + Print + Sync>(
-    rt: &R,
-    alloc: Global,
-    log: &WholeLog,
-) -> Result<(), TrialFault> {
-    let before = nothing(alloc, log);
-    let (batch, pass) = words_of(rt, alloc, log, &before, 1)?;
-    tell_last(rt, &batch, pass)
+/// A log that is asked for from its end.
+#[derive(Drop)]
+struct FromItsEnd;
+
+impl Trial for FromItsEnd {
+    fn run<R: Threads + Print + Sync>(
+        &mut self,
+        rt: &R,
+        _alloc: Global,
+        batch: &Batch<RangeKey<'_>>,
+        pass: Pass,
+        _wanted: &[String],
+    ) -> Result<(), TrialFault> {
+        tell_last(rt, batch, pass)
+    }
 }
 
 /// Tells of a long chain that is asked for from its end.
 pub fn tell_chain<R: Threads + Print + Sync>(rt: &R, alloc: Global) -> Result<(), TrialFault> {
     let mut log = WholeLog::new(alloc);
     push_chain(alloc, &mut log)?;
-    tell_log(rt, alloc, &log)
+    try_words(rt, alloc, &log, 1, &[], &mut FromItsEnd)
 }

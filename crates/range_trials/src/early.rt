@@ -2,10 +2,9 @@
 
 ghost use Rattle.words.specs.Passes.{IsPassOf};
 
-use crate::batches::{nothing, words_of};
 use crate::fault::TrialFault;
-use crate::logs::{WholeLog, log_of};
-use crate::telling::{tell_asked, tell_outcome, wanted};
+use crate::telling::{tell_asked, tell_outcome};
+use crate::trial::{Trial, try_lines};
 use filling::RangeKey;
 use filling_base::Batch;
 use std::alloc::Global;
@@ -66,31 +65,25 @@ fn tell_order(
     tell_outcomes(rt, alloc, batch, last, wanted)
 }
 
-/// Tells of a log whose outcomes by the serial run are these.
-fn tell_wanted<R: Threads + Print + Sync>(
-    rt: &R,
-    alloc: Global,
-    log: &WholeLog,
-    wanted: &[String],
-) -> Result<(), TrialFault> {
-    let before = nothing(alloc, log);
-    let (batch, pass) = words_of(rt, alloc, log, &before, 2)?;
-    tell_order(rt, alloc, &batch, pass, wanted)
-}
+/// A revocation that is run before earlier readers.
+#[derive(Drop)]
+struct EarlyRevocation;
 
-/// Tells of a log beside the serial run.
-fn tell_log<R: Threads + Print + Sync>(
-    rt: &R,
-    alloc: Global,
-    log: &WholeLog,
-) -> Result<(), TrialFault> {
-    let wanted = wanted(alloc, log)?;
-    tell_wanted(rt, alloc, log, wanted.as_slice())
+impl Trial for EarlyRevocation {
+    fn run<R: Threads + Print + Sync>(
+        &mut self,
+        rt: &R,
+        alloc: Global,
+        batch: &Batch<RangeKey<'_>>,
+        pass: Pass,
+        wanted: &[String],
+    ) -> Result<(), TrialFault> {
+        tell_order(rt, alloc, batch, pass, wanted)
+    }
 }
 
 /// Tells of a revocation that is run before earlier readers.
 pub fn tell_early<R: Threads + Print + Sync>(rt: &R, alloc: Global) -> Result<(), TrialFault> {
     println!(rt; "a revocation first, and then who reads behind it and before it")?;
-    let log = log_of(alloc, &LINES)?;
-    tell_log(rt, alloc, &log)
+    try_lines(rt, alloc, &LINES, 2, &mut EarlyRevocation)
 }

@@ -3,11 +3,11 @@
 ghost use Rattle.words.specs.Passes.{IsPassOf};
 
 use crate::asking::{ask_by, ask_round};
-use crate::batches::{nothing, words_of};
 use crate::drawn_logs::push_drawn;
 use crate::fault::TrialFault;
 use crate::logs::WholeLog;
-use crate::telling::{count_wanted, wanted};
+use crate::telling::count_wanted;
+use crate::trial::{Trial, try_log};
 use filling::RangeKey;
 use filling_base::Batch;
 use model_base::{Cause, DeedDone, Outcome};
@@ -84,48 +84,24 @@ struct Found {
     busy: usize,
 }
 
-/// Asks for all places by eight threads, and counts how many are told with the outcomes that are wanted.
-fn ask_wanted<R: Threads + Sync>(
-    rt: &R,
-    alloc: Global,
-    batch: &Batch<RangeKey<'_>>,
-    pass: Pass,
-    wanted: &[String],
-) -> Result<Found, TrialFault>
-    requires { IsPassOf batch.now pass }
-{
-    let (pass, busy) = ask_by(rt, batch, pass, LAST_THREAD);
-    let (pass, _) = ask_round(batch, pass, 0);
-    let same = count_wanted(alloc, batch, pass, wanted)?;
-    Ok(Found {
-        places: wanted.len(),
-        same,
-        busy,
-    })
-}
-
-/// Runs a log by eight threads, and counts how many places are told with the outcomes that are wanted.
-fn run_wanted<R: Threads + Sync>(
-    rt: &R,
-    alloc: Global,
-    log: &WholeLog,
-    wanted: &[String],
-) -> Result<Found, TrialFault> {
-    let before = nothing(alloc, log);
-    let (batch, pass) = words_of(rt, alloc, log, &before, 3)?;
-    ask_wanted(rt, alloc, &batch, pass, wanted)
-}
-
-/// Runs a log by eight threads, and counts what places come to, and how many are told with the outcomes of the serial run.
-fn run_log<R: Threads + Sync>(
-    rt: &R,
-    alloc: Global,
-    log: &WholeLog,
-    kinds: &mut Kinds,
-) -> Result<Found, TrialFault> {
-    count_kinds(alloc, log, kinds)?;
-    let wanted = wanted(alloc, log)?;
-    run_wanted(rt, alloc, log, wanted.as_slice())
+impl Trial for Found {
+    /// Asks for all places by eight threads, and counts how many are told with the outcomes that are wanted.
+    fn run<R: Threads + Print + Sync>(
+        &mut self,
+        rt: &R,
+        alloc: Global,
+        batch: &Batch<RangeKey<'_>>,
+        pass: Pass,
+        wanted: &[String],
+    ) -> Result<(), TrialFault> {
+        let (pass, busy) = ask_by(rt, batch, pass, LAST_THREAD);
+        let (pass, _) = ask_round(batch, pass, 0);
+        let same = count_wanted(alloc, batch, pass, wanted)?;
+        add(&mut self.places, wanted.len());
+        add(&mut self.same, same);
+        add(&mut self.busy, busy);
+        Ok(())
+    }
 }
 
 /// Tells what the places of the drawn logs came to.
@@ -150,16 +126,29 @@ fn tell_kinds(rt: &impl Print, kinds: Kinds) -> Result<(), TrialFault> {
     Ok(())
 }
 
+/// Counts what the places of a log come to by the serial run, and runs it.
+fn run_log<R: Threads + Print + Sync>(
+    rt: &R,
+    alloc: Global,
+    log: &WholeLog,
+    kinds: &mut Kinds,
+    found: &mut Found,
+) -> Result<(), TrialFault> {
+    count_kinds(alloc, log, kinds)?;
+    try_log(rt, alloc, log, 3, found)
+}
+
 /// Runs one more drawn log.
-fn run_drawn<R: Threads + Sync>(
+fn run_drawn<R: Threads + Print + Sync>(
     rt: &R,
     alloc: Global,
     generator: &mut Generator,
     kinds: &mut Kinds,
-) -> Result<Found, TrialFault> {
+    found: &mut Found,
+) -> Result<(), TrialFault> {
     let mut log = WholeLog::new(alloc);
     push_drawn(alloc, &mut log, generator)?;
-    run_log(rt, alloc, &log, kinds)
+    run_log(rt, alloc, &log, kinds, found)
 }
 
 /// Tells how the drawn logs come out; how often a place was found held, on standard error, since that differs from run to run.
@@ -171,10 +160,7 @@ pub fn tell_drawn<R: Threads + Print + Eprint + Sync>(
     let mut kinds = Kinds::default();
     let mut all = Found::default();
     for _ in 0..LOGS {
-        let found = run_drawn(rt, alloc, &mut generator, &mut kinds)?;
-        add(&mut all.places, found.places);
-        add(&mut all.same, found.same);
-        add(&mut all.busy, found.busy);
+        run_drawn(rt, alloc, &mut generator, &mut kinds, &mut all)?;
     }
     let Found { places, same, busy } = all;
     println!(rt;

@@ -4,10 +4,9 @@ ghost use Rattle.std.specs.Prelude.{◌≡◌, ◌<◌, [], IfOk};
 ghost use Rattle.words.specs.Passes.{IsPassOf};
 ghost use Rattle.words.specs.Views.{Holds};
 
-use crate::batches::{nothing, words_of};
 use crate::fault::TrialFault;
-use crate::logs::{WholeLog, log_of};
-use crate::telling::{tell_asked, tell_outcome, wanted};
+use crate::telling::{tell_asked, tell_outcome};
+use crate::trial::{Trial, try_lines};
 use filling::RangeKey;
 use filling_base::Batch;
 use std::alloc::Global;
@@ -96,31 +95,25 @@ fn tell_parts(
     Ok(())
 }
 
-/// Tells of a log whose outcomes by the serial run are these.
-fn tell_wanted<R: Threads + Print + Sync>(
-    rt: &R,
-    alloc: Global,
-    log: &WholeLog,
-    wanted: &[String],
-) -> Result<(), TrialFault> {
-    let before = nothing(alloc, log);
-    let (batch, pass) = words_of(rt, alloc, log, &before, 1)?;
-    tell_parts(rt, alloc, &batch, pass, wanted)
-}
+/// A place that is given back, and then run by the pass that found it held.
+#[derive(Drop)]
+struct GivenBack;
 
-/// Tells of a log beside the serial run.
-fn tell_log<R: Threads + Print + Sync>(
-    rt: &R,
-    alloc: Global,
-    log: &WholeLog,
-) -> Result<(), TrialFault> {
-    let wanted = wanted(alloc, log)?;
-    tell_wanted(rt, alloc, log, wanted.as_slice())
+impl Trial for GivenBack {
+    fn run<R: Threads + Print + Sync>(
+        &mut self,
+        rt: &R,
+        alloc: Global,
+        batch: &Batch<RangeKey<'_>>,
+        pass: Pass,
+        wanted: &[String],
+    ) -> Result<(), TrialFault> {
+        tell_parts(rt, alloc, batch, pass, wanted)
+    }
 }
 
 /// Tells of a place that is given back, and then run by the pass that found it held.
 pub fn tell_given_back<R: Threads + Print + Sync>(rt: &R, alloc: Global) -> Result<(), TrialFault> {
     println!(rt; "a place is found held, given back, and run by who found it held")?;
-    let log = log_of(alloc, &LINES)?;
-    tell_log(rt, alloc, &log)
+    try_lines(rt, alloc, &LINES, 1, &mut GivenBack)
 }

@@ -3,10 +3,9 @@
 ghost use Rattle.std.specs.Prelude.{◌≡◌, ◌<◌, IfOk};
 ghost use Rattle.words.specs.Passes.{IsPassOf};
 
-use crate::batches::{nothing, words_of};
 use crate::fault::TrialFault;
-use crate::logs::{WholeLog, log_of};
 use crate::telling::tell_asked;
+use crate::trial::{Trial, try_lines};
 use filling::RangeKey;
 use filling_base::Batch;
 use std::alloc::Global;
@@ -133,19 +132,24 @@ fn tell_parts(rt: &impl Print, batch: &Batch<RangeKey<'_>>, pass: Pass) -> Resul
     tell_calls(rt, batch, holder, asker, other, finisher)
 }
 
-/// Tells of a log of which another pass holds a place.
-fn tell_log<R: Threads + Print + Sync>(
-    rt: &R,
-    alloc: Global,
-    log: &WholeLog,
-) -> Result<(), TrialFault> {
-    let before = nothing(alloc, log);
-    let (batch, pass) = words_of(rt, alloc, log, &before, 1)?;
-    tell_parts(rt, &batch, pass)
+/// A place that another pass holds.
+#[derive(Drop)]
+struct HeldPlace;
+
+impl Trial for HeldPlace {
+    fn run<R: Threads + Print + Sync>(
+        &mut self,
+        rt: &R,
+        _alloc: Global,
+        batch: &Batch<RangeKey<'_>>,
+        pass: Pass,
+        _wanted: &[String],
+    ) -> Result<(), TrialFault> {
+        tell_parts(rt, batch, pass)
+    }
 }
 
 /// Tells of a place that another pass holds.
 pub fn tell_held<R: Threads + Print + Sync>(rt: &R, alloc: Global) -> Result<(), TrialFault> {
-    let log = log_of(alloc, &LINES)?;
-    tell_log(rt, alloc, &log)
+    try_lines(rt, alloc, &LINES, 1, &mut HeldPlace)
 }

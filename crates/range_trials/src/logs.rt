@@ -1,4 +1,4 @@
-//! Logs, beside which all of their statements are kept for the serial run.
+//! Logs of which nothing is dropped.
 
 ghost use Rattle.std.specs.Prelude.{◌≡◌, ◌≤◌, length};
 
@@ -6,7 +6,7 @@ use crate::fault::TrialFault;
 use log_text::parse_line;
 use model::serial;
 use model_base::{Outcome, Place};
-use sequencer::{Log, LogTail};
+use sequencer::LogTail;
 use std::alloc::{AllocError, Global};
 use std::marker::Model;
 
@@ -14,8 +14,6 @@ use std::marker::Model;
 #[derive(Drop)]
 pub struct WholeLog {
     tail: LogTail,
-    /// The same statements, in one list.
-    listed: Log,
 }
 
 impl Model for WholeLog {
@@ -34,14 +32,11 @@ impl WholeLog {
     pub fn new(alloc: Global) -> Self {
         WholeLog {
             tail: LogTail::new(alloc),
-            listed: Log::new(alloc),
         }
     }
 
-    /// Appends the statement of a line. After an error the log is as it was, unless memory was refused.
+    /// Appends the statement of a line. After an error the log is as it was.
     pub fn push_line(&mut self, alloc: Global, line: &[u8]) -> Result<(), TrialFault> {
-        let again = parse_line(alloc, line)?;
-        self.listed.push(again)?;
         let statement = parse_line(alloc, line)?;
         self.tail.push(statement)?;
         Ok(())
@@ -65,7 +60,8 @@ impl WholeLog {
 
     /// The outcomes of its places by the serial run.
     pub fn outcomes(&self, alloc: Global) -> Result<Vec<Outcome>, AllocError> {
-        serial(alloc, self.listed.statements())
+        let _dropped = self.tail.dropped();
+        serial(alloc, self.tail.kept_statements())
     }
 }
 

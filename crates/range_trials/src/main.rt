@@ -17,6 +17,7 @@ mod held;
 mod logs;
 mod refused;
 mod telling;
+mod trial;
 
 use chain::tell_chain;
 use dropped_pass::tell_dropped;

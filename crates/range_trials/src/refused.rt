@@ -3,10 +3,9 @@
 ghost use Rattle.words.specs.Passes.{IsPassOf};
 
 use crate::asking::ask;
-use crate::batches::{nothing, words_of};
 use crate::fault::TrialFault;
-use crate::logs::{WholeLog, log_of};
-use crate::telling::{is_wanted, told, wanted};
+use crate::telling::{is_wanted, told};
+use crate::trial::{Trial, try_lines};
 use filling::RangeKey;
 use filling_base::{Batch, Tried};
 use model_base::Outcome;
@@ -122,30 +121,24 @@ fn tell_told(
     Ok(())
 }
 
-/// Runs a log whose outcomes by the serial run are these.
-fn tell_wanted<R: Threads + Print + Sync>(
-    rt: &R,
-    alloc: Global,
-    log: &WholeLog,
-    wanted: &[String],
-) -> Result<(), TrialFault> {
-    let before = nothing(alloc, log);
-    let (batch, pass) = words_of(rt, alloc, log, &before, 1)?;
-    tell_told(rt, alloc, &batch, pass, wanted)
-}
+/// A log of which every growth may be refused once.
+#[derive(Drop)]
+struct RefusedOnce;
 
-/// Runs a log beside the serial run.
-fn tell_log<R: Threads + Print + Sync>(
-    rt: &R,
-    alloc: Global,
-    log: &WholeLog,
-) -> Result<(), TrialFault> {
-    let wanted = wanted(alloc, log)?;
-    tell_wanted(rt, alloc, log, wanted.as_slice())
+impl Trial for RefusedOnce {
+    fn run<R: Threads + Print + Sync>(
+        &mut self,
+        rt: &R,
+        alloc: Global,
+        batch: &Batch<RangeKey<'_>>,
+        pass: Pass,
+        wanted: &[String],
+    ) -> Result<(), TrialFault> {
+        tell_told(rt, alloc, batch, pass, wanted)
+    }
 }
 
 /// Runs the log.
 pub fn tell_refused<R: Threads + Print + Sync>(rt: &R, alloc: Global) -> Result<(), TrialFault> {
-    let log = log_of(alloc, &LINES)?;
-    tell_log(rt, alloc, &log)
+    try_lines(rt, alloc, &LINES, 1, &mut RefusedOnce)
 }

@@ -1,0 +1,74 @@
+//! Trials on the shared words of a log.
+
+ghost use Rattle.std.specs.Prelude.{◌<◌};
+ghost use Rattle.std.specs.Thread.{IsSync};
+ghost use Rattle.words.specs.Passes.{IsPassOf};
+
+use crate::batches::{nothing, words_of};
+use crate::fault::TrialFault;
+use crate::logs::{WholeLog, log_of};
+use crate::telling::wanted;
+use filling::RangeKey;
+use filling_base::Batch;
+use std::alloc::Global;
+use std::thread::Threads;
+use words::Pass;
+
+/// What is tried on the shared words of a log.
+pub trait Trial {
+    /// Makes the trial by the first pass; these are the outcomes that the serial run tells, as text.
+    fn run<R: Threads + Print + Sync>(
+        &mut self,
+        rt: &R,
+        alloc: Global,
+        batch: &Batch<RangeKey<'_>>,
+        pass: Pass,
+        wanted: &[String],
+    ) -> Result<(), TrialFault>
+        requires sync { IsSync R.row }
+        requires pass { IsPassOf batch.now pass };
+}
+
+/// Makes a trial on the words of all places of a log, found by so many placers.
+pub fn try_words<R: Threads + Print + Sync, T: Trial>(
+    rt: &R,
+    alloc: Global,
+    log: &WholeLog,
+    placers: usize,
+    wanted: &[String],
+    trial: &mut T,
+) -> Result<(), TrialFault>
+    requires { 0 < placers }
+{
+    let before = nothing(alloc, log);
+    let (batch, pass) = words_of(rt, alloc, log, &before, placers)?;
+    trial.run(rt, alloc, &batch, pass, wanted)
+}
+
+/// Makes a trial, as `try_words`, beside the serial run.
+pub fn try_log<R: Threads + Print + Sync, T: Trial>(
+    rt: &R,
+    alloc: Global,
+    log: &WholeLog,
+    placers: usize,
+    trial: &mut T,
+) -> Result<(), TrialFault>
+    requires { 0 < placers }
+{
+    let wanted = wanted(alloc, log)?;
+    try_words(rt, alloc, log, placers, wanted.as_slice(), trial)
+}
+
+/// Makes a trial, as `try_log`, on the log of these lines.
+pub fn try_lines<R: Threads + Print + Sync, T: Trial>(
+    rt: &R,
+    alloc: Global,
+    lines: &[&str],
+    placers: usize,
+    trial: &mut T,
+) -> Result<(), TrialFault>
+    requires { 0 < placers }
+{
+    let log = log_of(alloc, lines)?;
+    try_log(rt, alloc, &log, placers, trial)
+}
