@@ -11,12 +11,14 @@ use Rattle.bohm_base.specs.Collecting.{became, with_reading}
 use Rattle.bohm_base.specs.declared.collecting.Became.{Became}
 use Rattle.engine.specs.Engine.{Run, finished}
 use Rattle.batched_text.specs.Batching.{Deals, IsCounted, IsFilling, IsFresh, IsOpen, ReportsLines, Takes, lines_text}
-use Rattle.batched_text.specs.History.{IsCutBy, IsTrimmedBy}
-use Rattle.batched_text.specs.Settings.{IsTrimmed, are_within_limits, mark_behind}
+use Rattle.batched_text.specs.History.{IsCutBy, IsTrimmedBy, dropped_by}
+use Rattle.batched_text.specs.Settings.{IsCut, IsTrimmed, are_within_limits, mark_behind}
 use Rattle.batched_text.specs.declared.batching.Batching.{Batching}
 use Rattle.batched_text.specs.declared.history.History.{History}
+use Rattle.batched_text.specs.declared.history.Plan.{Plan}
 use Rattle.batched_text.specs.declared.settings.Settings.{Settings}
 use Rattle.batched_text.proofs.Ended.{counted_more, counted_start, one_more}
+use Rattle.batched_text.proofs.Histories.{kept_first, kept_longer}
 
 -- the mark by the number of batches that are kept
 abbrev mark_by : ℕ → ℕ → ℕ → ℕ → ℕ
@@ -102,9 +104,9 @@ mark_so_far History.Kept settings run cut less =
 mark_so_far History.Dropped settings run cut less =
     omega (arith, cut, mark_longer settings.keep settings.batch (finished run) (length run.log.statements) less)
 
-pub waits_for : (history : History) (settings : Settings) (batching : Batching) → IsFilling history settings batching
-    → batching.engine.store.mark ≤ mark_behind settings (finished batching.engine) (length batching.engine.log.statements)
-waits_for history settings batching filling = mark_so_far history settings batching.engine filling.cut (omega (arith, filling.counted))
+pub waits_for : (plan : Plan) (batching : Batching) → IsFilling plan batching
+    → batching.engine.store.mark ≤ mark_behind plan.settings (finished batching.engine) (length batching.engine.log.statements)
+waits_for plan batching filling = mark_so_far plan.history plan.settings batching.engine filling.cut (omega (arith, filling.counted))
 
 -- what a batch is reported as: the engine has run all that waited
 pub record IsReported (settings : Settings) (old new : Batching) : Type 0 where
@@ -127,97 +129,102 @@ pub due : (history : History) (settings : Settings) (run : Run) (waiting : ℕ) 
 due History.Dropped settings run waiting full all = tt
 due History.Kept settings run waiting full all = omega (arith, full, all)
 
-module _ (settings : Settings) (old new : Batching) (reported : IsReported settings old new) where
+module _ (plan : Plan) (old new : Batching) (reported : IsReported plan.settings old new) where
   abbrev count : ℕ
   count = length old.engine.log.statements
 
   counts : length new.engine.log.statements ≡ count
   counts = ap (λ (log : Accepted). length log.statements) reported.log
 
-  marked : finished old.engine < count → new.engine.store.mark ≡ mark_behind settings (finished old.engine) count
+  marked : finished old.engine < count → new.engine.store.mark ≡ mark_behind plan.settings (finished old.engine) count
   marked more =
       reported.mark
-      ∙ ap (λ (b : Bool). if b then mark_behind settings (finished old.engine) count else old.engine.store.mark) (lt-ltb (finished old.engine) count more)
+      ∙ ap (λ (b : Bool). if b then mark_behind plan.settings (finished old.engine) count else old.engine.store.mark) (lt-ltb (finished old.engine) count more)
 
   unmarked : count ≤ finished old.engine → new.engine.store.mark ≡ old.engine.store.mark
   unmarked none =
       reported.mark
-      ∙ ap (λ (b : Bool). if b then mark_behind settings (finished old.engine) count else old.engine.store.mark) (le-ltb (finished old.engine) count none)
+      ∙ ap (λ (b : Bool). if b then mark_behind plan.settings (finished old.engine) count else old.engine.store.mark) (le-ltb (finished old.engine) count none)
 
   -- the cut behind one more batch
-  cut_next : (history : History) → IsCutBy history settings old.engine → finished old.engine ≤ count → count ≤ finished old.engine + settings.batch
-      → 0 < settings.batch → IsDue history settings old.engine → IsCutBy history settings new.engine
+  cut_next : (history : History) → IsCutBy history plan.settings old.engine → finished old.engine ≤ count → count ≤ finished old.engine + plan.settings.batch
+      → 0 < plan.settings.batch → IsDue history plan.settings old.engine → IsCutBy history plan.settings new.engine
   cut_next History.Kept cut within most some full =
-      let whole : count ≡ finished old.engine + settings.batch = omega (arith, most, full) in
+      let whole : count ≡ finished old.engine + plan.settings.batch = omega (arith, most, full) in
       record {
         batches = cut.batches + 1;
         full = omega (arith, reported.all, whole, cut.full);
-        mark = marked (omega (arith, some, full)) ∙ ap (mark_behind settings (finished old.engine)) whole
-            ∙ mark_full settings.keep settings.batch cut.batches (finished old.engine) cut.full;
+        mark = marked (omega (arith, some, full)) ∙ ap (mark_behind plan.settings (finished old.engine)) whole
+            ∙ mark_full plan.settings.keep plan.settings.batch cut.batches (finished old.engine) cut.full;
       }
   cut_next History.Dropped cut within most some may =
-      let there : mark_behind settings (finished new.engine) (finished new.engine) ≡ mark_behind settings count count =
-      ap (λ (n : ℕ). mark_behind settings n n) reported.all in
+      let there : mark_behind plan.settings (finished new.engine) (finished new.engine) ≡ mark_behind plan.settings count count =
+      ap (λ (n : ℕ). mark_behind plan.settings n n) reported.all in
       elim (cases_lt (finished old.engine) count) [
-        | inl more ↦ omega (arith, marked more, there, mark_after settings.keep settings.batch (finished old.engine) count within)
+        | inl more ↦ omega (arith, marked more, there, mark_after plan.settings.keep plan.settings.batch (finished old.engine) count within)
         | inr none ↦
-            let here : mark_behind settings count count ≡ mark_behind settings (finished old.engine) (finished old.engine) =
-            (let same : count ≡ finished old.engine = omega (arith, none, within) in ap (λ (n : ℕ). mark_behind settings n n) same) in
+            let here : mark_behind plan.settings count count ≡ mark_behind plan.settings (finished old.engine) (finished old.engine) =
+            (let same : count ≡ finished old.engine = omega (arith, none, within) in ap (λ (n : ℕ). mark_behind plan.settings n n) same) in
             omega (arith, unmarked none, cut, there, here)
       ]
 
   -- the next batch, behind one that is due
-  pub open_next : (history : History) → IsFilling history settings old → 0 < settings.batch → IsDue history settings old.engine
-      → IsOpen history settings new
-  open_next history filling some due =
+  pub open_next : IsFilling plan old → IsDue plan.history plan.settings old.engine → new.engine.dropped ≡ dropped_by plan.history new.engine
+      → IsOpen plan new
+  open_next filling due kept =
+      let some : 0 < plan.settings.batch = (limits plan.settings filling.within).batch_some in
       record {
         filling = record {
+          within = filling.within;
           whole = subst IsWhole (sym reported.log) filling.whole;
           counted = subst (λ (ls : List Became). IsCounted new.engine ls) (sym reported.left) (omega (arith, counts, reported.all));
           few = subst (λ (ls : List Became). length ls < new.number) (sym reported.left) (omega (arith, filling.few, reported.number));
-          cut = cut_next history filling.cut (omega (arith, filling.counted)) filling.most some due;
+          kept = kept;
+          cut = cut_next plan.history filling.cut (omega (arith, filling.counted)) filling.most some due;
           most = omega (arith, counts, reported.all);
         };
         less = omega (arith, counts, reported.all, some);
       }
 
   -- what is left at the end
-  trimmed_last : IsFilling History.Kept settings old → finished old.engine < count → IsTrimmed settings new.engine
-  trimmed_last filling more =
-      let cut = filling.cut in
-      record {
-        batches = cut.batches + 1;
-        most = omega (arith, reported.all, filling.most, cut.full);
-        least = omega (arith, reported.all, cut.full, more);
-        mark = marked more ∙ mark_last settings.keep settings.batch cut.batches (finished old.engine) count cut.full more filling.most
-            ∙ ap (λ (n : ℕ). min n (settings.batch * ((cut.batches + 1) - settings.keep))) (sym reported.all);
-      }
+  trimmed_last : IsCut plan.settings old.engine → count ≤ finished old.engine + plan.settings.batch → finished old.engine < count → IsTrimmed plan.settings new.engine
+  trimmed_last cut most more = record {
+    batches = cut.batches + 1;
+    most = omega (arith, reported.all, most, cut.full);
+    least = omega (arith, reported.all, cut.full, more);
+    mark = marked more ∙ mark_last plan.settings.keep plan.settings.batch cut.batches (finished old.engine) count cut.full more most
+        ∙ ap (λ (n : ℕ). min n (plan.settings.batch * ((cut.batches + 1) - plan.settings.keep))) (sym reported.all);
+  }
 
-  trimmed_none : IsFilling History.Kept settings old → 0 < settings.batch → count ≡ finished old.engine → IsTrimmed settings new.engine
-  trimmed_none filling some none =
-      let cut = filling.cut in
+  trimmed_none : IsCut plan.settings old.engine → 0 < plan.settings.batch → count ≡ finished old.engine → IsTrimmed plan.settings new.engine
+  trimmed_none cut some none =
       let same : finished new.engine ≡ finished old.engine = reported.all ∙ none in
       record {
         batches = cut.batches;
         most = omega (arith, same, cut.full);
         least = omega (arith, same, cut.full, some);
-        mark = unmarked (omega (arith, none)) ∙ mark_none settings.keep settings.batch cut.batches (finished old.engine) old.engine.store.mark cut.full cut.mark
-            ∙ ap (λ (n : ℕ). min n (settings.batch * (cut.batches - settings.keep))) (sym same);
+        mark = unmarked (omega (arith, none)) ∙ mark_none plan.settings.keep plan.settings.batch cut.batches (finished old.engine) old.engine.store.mark cut.full cut.mark
+            ∙ ap (λ (n : ℕ). min n (plan.settings.batch * (cut.batches - plan.settings.keep))) (sym same);
       }
 
-  pub trimmed_all : (history : History) → IsFilling history settings old → 0 < settings.batch → IsTrimmedBy history settings new.engine
-  trimmed_all History.Kept filling some =
+  trimmed_by : (history : History) → IsCutBy history plan.settings old.engine → finished old.engine ≤ count → count ≤ finished old.engine + plan.settings.batch
+      → 0 < plan.settings.batch → IsTrimmedBy history plan.settings new.engine
+  trimmed_by History.Kept cut within most some =
       elim (cases_lt (finished old.engine) count) [
-        | inl more ↦ trimmed_last filling more
-        | inr none ↦ trimmed_none filling some (omega (arith, none, filling.counted))
+        | inl more ↦ trimmed_last cut most more
+        | inr none ↦ trimmed_none cut some (omega (arith, none, within))
       ]
-  trimmed_all History.Dropped filling some = tt
+  trimmed_by History.Dropped cut within most some = tt
+
+  pub trimmed_all : IsFilling plan old → IsTrimmedBy plan.history plan.settings new.engine
+  trimmed_all filling =
+      trimmed_by plan.history filling.cut (omega (arith, filling.counted)) filling.most (limits plan.settings filling.within).batch_some
 
   -- all lines that waited are reported
-  pub reports_all : (history : History) → IsFilling history settings old
+  pub reports_all : IsFilling plan old
       → new.pending.items ≡ old.pending.items ++ lines_text old.engine.log (old.number - length old.waiting.items) (finished old.engine) old.waiting.items
       → ReportsLines old.engine.log (finished old.engine) (finished new.engine) old.waiting.items new.waiting.items old.number old.pending.items new.pending.items
-  reports_all history filling told = record {
+  reports_all filling told = record {
     out = old.waiting.items;
     all = sym (append-nil old.waiting.items) ∙ ap (λ (ls : List Became). old.waiting.items ++ ls) (sym reported.left);
     first = old.number - length old.waiting.items;
@@ -245,18 +252,19 @@ cut_longer History.Kept settings run log cut = record { batches = cut.batches; f
 cut_longer History.Dropped settings run log cut = cut
 
 -- a line that was taken fills the batch by one statement at most
-pub filled : (history : History) (settings : Settings) (old new : Batching) (reading : Reading) → IsOpen history settings old → Takes reading old new
-    → IsWhole new.engine.log → IsFilling history settings new
-filled history settings old new reading room takes whole =
+pub filled : (plan : Plan) (old new : Batching) (reading : Reading) → IsOpen plan old → Takes reading old new → IsWhole new.engine.log → IsFilling plan new
+filled plan old new reading room takes whole =
     let log : Accepted = old.engine.log in
     let was = room.filling in
     let line : Became = became log.names reading in
     record {
+      within = was.within;
       whole = whole;
       counted = counted_more old new reading was.counted takes;
       few = omega (arith, was.few, takes.number, ap length takes.waiting, length-append old.waiting.items (line ∷ []));
-      cut = subst (IsCutBy history settings) (sym takes.engine) (cut_longer history settings old.engine (with_reading log reading) was.cut);
-      most = subst (λ (run : Run). length run.log.statements ≤ finished run + settings.batch) (sym takes.engine)
+      kept = kept_longer plan.history old.engine new.engine (ap (λ (run : Run). run.dropped) takes.engine) (ap finished takes.engine) was.kept;
+      cut = subst (IsCutBy plan.history plan.settings) (sym takes.engine) (cut_longer plan.history plan.settings old.engine (with_reading log reading) was.cut);
+      most = subst (λ (run : Run). length run.log.statements ≤ finished run + plan.settings.batch) (sym takes.engine)
           (omega (arith, room.less, one_more log.names reading, length-append log.statements (accepted log.names reading)));
     }
 
@@ -292,16 +300,18 @@ cut_first History.Kept settings batching first =
 cut_first History.Dropped settings batching first = omega (arith, first.mark)
 
 -- at first
-pub open_first : (history : History) (settings : Settings) (batching : Batching) → 0 < settings.batch → IsFresh batching → IsOpen history settings batching
-open_first history settings batching some first =
+pub open_first : (plan : Plan) (batching : Batching) → are_within_limits plan.settings ≡ true → IsFresh batching → IsOpen plan batching
+open_first plan batching within first =
     let none : length batching.engine.log.statements ≡ 0 = ap (λ (log : Accepted). length log.statements) first.log in
     record {
       filling = record {
+        within = within;
         whole = first.whole;
         counted = counted_start batching.engine batching.waiting.items first.log first.none first.nobody;
         few = omega (arith, ap length first.nobody, first.number);
-        cut = cut_first history settings batching first;
+        kept = kept_first plan.history batching.engine first.kept first.none;
+        cut = cut_first plan.history plan.settings batching first;
         most = omega (arith, none);
       };
-      less = omega (arith, none, some);
+      less = omega (arith, none, (limits plan.settings within).batch_some);
     }

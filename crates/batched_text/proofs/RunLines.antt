@@ -1,5 +1,5 @@
 -- Runs of lines, one behind the other.
-use Rattle.std.proofs.Common.{◌≡◌, ◌≤◌, ◌+◌, ◌-◌, ℕ, List, length, ap, sym, subst, arith}
+use Rattle.std.proofs.Common.{◌≡◌, ◌≤◌, ◌+◌, ◌-◌, ℕ, List, length, sym, subst, arith}
 use Rattle.std.specs.Prelude.{Err, IsErrAnd, Ok, Result, drop}
 use Rattle.std.specs.Io.KnownBytes.{prepend_known}
 use Rattle.log_text.proofs.Total.{total}
@@ -9,29 +9,19 @@ use Rattle.sequencer.proofs.Beginnings.{begins_further, begins_same}
 use Rattle.read_ahead.proofs.Cut.{took_at}
 use Rattle.bohm_base.specs.Pending.{HasBegunReport}
 use Rattle.bohm_base.specs.declared.fault.EngineFault.{EngineFault}
-use Rattle.engine.specs.Engine.{Run, finished}
-use Rattle.batched_text.specs.Batching.{Deals, IsBatchReady, IsOpen, ReportsLines, Takes}
+use Rattle.engine.specs.Engine.{finished}
+use Rattle.batched_text.specs.Batching.{Deals, IsBatchReady, IsOpen, ReportsLines}
 use Rattle.batched_text.specs.Foretold.{BeginsFrom, Runs, TakesAt, TakesFrom, log_names}
-use Rattle.batched_text.specs.History.{dropped_by}
 use Rattle.batched_text.specs.declared.batching.Batching.{Batching}
-use Rattle.batched_text.specs.declared.history.History.{History}
-use Rattle.batched_text.specs.declared.settings.Settings.{Settings}
-use Rattle.report.specs.Report.{Reading}
+use Rattle.batched_text.specs.declared.history.Plan.{Plan}
 use Rattle.batched_text.proofs.Cutting.{dealt}
 use Rattle.batched_text.proofs.ForetoldLines.{begins_dealt}
-use Rattle.batched_text.proofs.Histories.{kept_longer}
 use Rattle.batched_text.proofs.Sofar.{batched_early, batched_step, begun_batched}
 
 -- what an open batch holds lies in the log
-within_open : (history : History) (settings : Settings) (batching : Batching) → IsOpen history settings batching
+within_open : (plan : Plan) (batching : Batching) → IsOpen plan batching
     → finished batching.engine ≤ length batching.engine.log.statements
-within_open history settings batching room = omega (arith, room.filling.counted)
-
--- a line that was taken drops nothing
-pub kept_taken : (history : History) (reading : Reading) (old new : Batching) → Takes reading old new → old.engine.dropped ≡ dropped_by history old.engine
-    → new.engine.dropped ≡ dropped_by history new.engine
-kept_taken history reading old new takes kept =
-    kept_longer history old.engine new.engine (ap (λ (run : Run). run.dropped) takes.engine) (ap finished takes.engine) kept
+within_open plan batching room = omega (arith, room.filling.counted)
 
 -- what is reported or waits makes a beginning of the report
 taken_begun : (bytes : List ℕ) (from to : ℕ) (old new : Batching) → TakesFrom bytes from to old new → BeginsFrom bytes from old new
@@ -42,34 +32,32 @@ pending_begun : (bytes : List ℕ) (from : ℕ) (old new : Batching) → new.pen
 pending_begun bytes from old new same = λ behind input out held so.
     subst (HasBegunReport input out held) (sym same) (begun_batched total input (prepend_known (drop from bytes) behind) out held _ _ _ _ _ so)
 
-module _ (history : History) (settings : Settings) (bytes : List ℕ) (given : ℕ) where
+module _ (plan : Plan) (bytes : List ℕ) (given : ℕ) where
   -- no line
-  pub runs_none : (from : ℕ) (batching : Batching) → from ≤ length bytes → IsBatchReady history settings batching (length bytes - from) given
-      → batching.engine.dropped ≡ dropped_by history batching.engine → Runs history settings bytes given from batching batching (Ok from)
-  runs_none from batching within ready kept = record {
+  pub runs_none : (from : ℕ) (batching : Batching) → from ≤ length bytes → IsBatchReady plan batching (length bytes - from) given
+      → Runs plan bytes given from batching batching (Ok from)
+  runs_none from batching within ready = record {
     within = within;
     ready = ready;
-    kept = kept;
     taken = λ behind input out held so. so;
     begun = taken_begun bytes from from batching batching (λ behind input out held so. so);
     begins = begins_same (log_names batching);
     err = tt;
   }
 
-  pub runs_start : (batching : Batching) → IsBatchReady history settings batching (length bytes) given → batching.engine.dropped ≡ dropped_by history batching.engine
-      → Runs history settings bytes given 0 batching batching (Ok 0)
-  runs_start batching ready kept =
+  pub runs_start : (batching : Batching) → IsBatchReady plan batching (length bytes) given
+      → Runs plan bytes given 0 batching batching (Ok 0)
+  runs_start batching ready =
       runs_none 0 batching (omega arith)
-      (record { room = ready.room; bounded = λ left. ready.bounded (omega (arith, left)); numbered = omega (arith, ready.numbered) }) kept
+      (record { room = ready.room; bounded = λ left. ready.bounded (omega (arith, left)); numbered = omega (arith, ready.numbered) })
 
   -- memory was refused, and what was pending is
   pub runs_fault : (from : ℕ) (old new : Batching) (result : Result ℕ EngineFault) → new.pending.items ≡ old.pending.items
-      → IsErrAnd result (λ fault. fault ≡ EngineFault.NoMemory) → Runs history settings bytes given from old new result
+      → IsErrAnd result (λ fault. fault ≡ EngineFault.NoMemory) → Runs plan bytes given from old new result
   runs_fault from old new (Ok to) same is = absurd is
   runs_fault from old new (Err fault) same is = record {
     within = tt;
     ready = tt;
-    kept = tt;
     taken = tt;
     begun = pending_begun bytes from old new same;
     begins = tt;
@@ -77,17 +65,17 @@ module _ (history : History) (settings : Settings) (bytes : List ℕ) (given : �
   }
 
   -- one line, which was taken, and then its batch was reported if that is full
-  pub runs_line : (from count : ℕ) (old mid new : Batching) → IsBatchReady history settings old (length bytes - from) given → TakesAt bytes from count old mid
+  pub runs_line : (from count : ℕ) (old mid new : Batching) → IsBatchReady plan old (length bytes - from) given → TakesAt bytes from count old mid
       → new.engine.log ≡ mid.engine.log → new.number ≡ mid.number
       → ReportsLines mid.engine.log (finished mid.engine) (finished new.engine) mid.waiting.items new.waiting.items mid.number mid.pending.items new.pending.items
-      → IsOpen history settings new → new.engine.dropped ≡ dropped_by history new.engine → Runs history settings bytes given from old new (Ok (from + count))
-  runs_line from count old mid new ready taken log number reports room kept =
+      → IsOpen plan new → Runs plan bytes given from old new (Ok (from + count))
+  runs_line from count old mid new ready taken log number reports room =
       let deals : Deals taken.reading old new = dealt taken.reading old mid new taken.takes log number reports in
       let takes : TakesFrom bytes from (from + count) old new =
       λ behind input out held so.
       batched_step input (prepend_known (drop from bytes) behind) (prepend_known (drop (from + count) bytes) behind) out held taken.line taken.reading old new so
-      (took_at bytes from count taken.line taken.at behind) taken.reads deals (within_open history settings old ready.room)
-      (record { whole = room.filling.whole; within = within_open history settings new room }) in
+      (took_at bytes from count taken.line taken.at behind) taken.reads deals (within_open plan old ready.room)
+      (record { whole = room.filling.whole; within = within_open plan new room }) in
       record {
         within = taken.at.within;
         ready = record {
@@ -95,7 +83,6 @@ module _ (history : History) (settings : Settings) (bytes : List ℕ) (given : �
           bounded = λ left. ready.bounded (omega (arith, left));
           numbered = omega (arith, taken.at.some, taken.at.within, deals.number, ready.numbered);
         };
-        kept = kept;
         taken = takes;
         begun = taken_begun bytes from (from + count) old new takes;
         begins = begins_dealt taken.reading old new deals;
@@ -103,12 +90,11 @@ module _ (history : History) (settings : Settings) (bytes : List ℕ) (given : �
       }
 
   -- one run of lines, and then another
-  pub runs_then : (from at : ℕ) (old mid new : Batching) (result : Result ℕ EngineFault) → Runs history settings bytes given from old mid (Ok at)
-      → Runs history settings bytes given at mid new result → Runs history settings bytes given from old new result
+  pub runs_then : (from at : ℕ) (old mid new : Batching) (result : Result ℕ EngineFault) → Runs plan bytes given from old mid (Ok at)
+      → Runs plan bytes given at mid new result → Runs plan bytes given from old new result
   runs_then from at old mid new (Ok to) first second = record {
     within = second.within;
     ready = second.ready;
-    kept = second.kept;
     taken = λ behind input out held so. second.taken behind input out held (first.taken behind input out held so);
     begun = λ behind input out held so. second.begun behind input out held (first.taken behind input out held so);
     begins = begins_further (log_names old) (log_names mid) (log_names new) first.begins second.begins;
@@ -117,7 +103,6 @@ module _ (history : History) (settings : Settings) (bytes : List ℕ) (given : �
   runs_then from at old mid new (Err fault) first second = record {
     within = tt;
     ready = tt;
-    kept = tt;
     taken = tt;
     begun = λ behind input out held so. second.begun behind input out held (first.taken behind input out held so);
     begins = tt;
@@ -125,39 +110,37 @@ module _ (history : History) (settings : Settings) (bytes : List ℕ) (given : �
   }
 
   -- a fault that is told on
-  pub runs_told : (from : ℕ) (old new : Batching) (fault : EngineFault) (result : Result ℕ EngineFault) → Runs history settings bytes given from old new (Err fault)
-      → IsErrAnd result (λ other. other ≡ fault) → Runs history settings bytes given from old new result
+  pub runs_told : (from : ℕ) (old new : Batching) (fault : EngineFault) (result : Result ℕ EngineFault) → Runs plan bytes given from old new (Err fault)
+      → IsErrAnd result (λ other. other ≡ fault) → Runs plan bytes given from old new result
   runs_told from old new fault (Ok to) runs is = absurd is
   runs_told from old new fault (Err other) runs is =
-      subst (λ (f : EngineFault). Runs history settings bytes given from old new (Err f)) (sym is) runs
+      subst (λ (f : EngineFault). Runs plan bytes given from old new (Err f)) (sym is) runs
 
   -- the lines that wait are reported though their batch isn't full
-  pub runs_early : (from to : ℕ) (old mid new : Batching) → Runs history settings bytes given from old mid (Ok to) → new.engine.log ≡ mid.engine.log
+  pub runs_early : (from to : ℕ) (old mid new : Batching) → Runs plan bytes given from old mid (Ok to) → new.engine.log ≡ mid.engine.log
       → new.number ≡ mid.number
       → ReportsLines mid.engine.log (finished mid.engine) (finished new.engine) mid.waiting.items new.waiting.items mid.number mid.pending.items new.pending.items
-      → IsOpen history settings new → new.engine.dropped ≡ dropped_by history new.engine → Runs history settings bytes given from old new (Ok to)
-  runs_early from to old mid new runs log number reports room kept =
+      → IsOpen plan new → Runs plan bytes given from old new (Ok to)
+  runs_early from to old mid new runs log number reports room =
       let taken : TakesFrom bytes from to old new =
       λ behind input out held so.
       batched_early input (prepend_known (drop to bytes) behind) out held mid new (runs.taken behind input out held so) log number reports
-      (record { whole = room.filling.whole; within = within_open history settings new room }) in
+      (record { whole = room.filling.whole; within = within_open plan new room }) in
       record {
         within = runs.within;
         ready = record { room = room; bounded = runs.ready.bounded; numbered = omega (arith, runs.ready.numbered, number) };
-        kept = kept;
         taken = taken;
         begun = taken_begun bytes from to old new taken;
         begins = subst (λ (l : Accepted). Begins (log_names old) l.names) (sym log) runs.begins;
         err = tt;
       }
 
-  pub runs_early_fault : (from to : ℕ) (old mid new : Batching) (result : Result ℕ EngineFault) → Runs history settings bytes given from old mid (Ok to)
-      → new.pending.items ≡ mid.pending.items → IsErrAnd result (λ fault. fault ≡ EngineFault.NoMemory) → Runs history settings bytes given from old new result
+  pub runs_early_fault : (from to : ℕ) (old mid new : Batching) (result : Result ℕ EngineFault) → Runs plan bytes given from old mid (Ok to)
+      → new.pending.items ≡ mid.pending.items → IsErrAnd result (λ fault. fault ≡ EngineFault.NoMemory) → Runs plan bytes given from old new result
   runs_early_fault from to old mid new (Ok other) runs same is = absurd is
   runs_early_fault from to old mid new (Err fault) runs same is = record {
     within = tt;
     ready = tt;
-    kept = tt;
     taken = tt;
     begun = λ behind input out held so.
         subst (HasBegunReport input out held) (sym same)

@@ -11,10 +11,10 @@ use Rattle.bohm_base.specs.declared.collecting.Became.{Became}
 use Rattle.bohm_base.specs.declared.fault.EngineFault.{EngineFault}
 use Rattle.engine.specs.Engine.{Run, finished}
 use Rattle.batched_text.specs.Places.{places_in}
-use Rattle.batched_text.specs.History.{IsCutBy}
+use Rattle.batched_text.specs.History.{IsCutBy, dropped_by}
+use Rattle.batched_text.specs.Settings.{are_within_limits}
 use Rattle.batched_text.specs.declared.batching.Batching.{Batching}
-use Rattle.batched_text.specs.declared.history.History.{History}
-use Rattle.batched_text.specs.declared.settings.Settings.{Settings}
+use Rattle.batched_text.specs.declared.history.Plan.{Plan}
 
 -- the report's lines for some lines from this number on, the first of which with a place has this one
 abbrev pub lines_text : Accepted → ℕ → ℕ → List Became → List ℕ
@@ -51,19 +51,21 @@ pub record Deals (reading : Reading) (old new : Batching) : Type 0 where
       ++ became old.engine.log.names reading ∷ [])
       new.waiting.items new.number old.pending.items new.pending.items
 
--- the lines that wait are counted, the batches that are finished are full, but where nothing is kept, and the next one isn't
--- larger than a batch may be
-pub record IsFilling (history : History) (settings : Settings) (batching : Batching) : Type 0 where
+-- the lines that wait are counted, what is finished is kept or dropped as it is to be, the batches that are finished are full, but
+-- where nothing is kept, and the next one isn't larger than a batch may be
+pub record IsFilling (plan : Plan) (batching : Batching) : Type 0 where
+  pub within : are_within_limits plan.settings ≡ true
   pub whole : IsWhole batching.engine.log
   pub counted : IsCounted batching.engine batching.waiting.items
   pub few : length batching.waiting.items < batching.number
-  pub cut : IsCutBy history settings batching.engine
-  pub most : length batching.engine.log.statements ≤ finished batching.engine + settings.batch
+  pub kept : batching.engine.dropped ≡ dropped_by plan.history batching.engine
+  pub cut : IsCutBy plan.history plan.settings batching.engine
+  pub most : length batching.engine.log.statements ≤ finished batching.engine + plan.settings.batch
 
 -- and it is smaller
-pub record IsOpen (history : History) (settings : Settings) (batching : Batching) : Type 0 where
-  pub filling : IsFilling history settings batching
-  pub less : length batching.engine.log.statements < finished batching.engine + settings.batch
+pub record IsOpen (plan : Plan) (batching : Batching) : Type 0 where
+  pub filling : IsFilling plan batching
+  pub less : length batching.engine.log.statements < finished batching.engine + plan.settings.batch
 
 -- no line was taken yet
 pub record IsFresh (batching : Batching) : Type 0 where
@@ -77,8 +79,8 @@ pub record IsFresh (batching : Batching) : Type 0 where
   pub nothing : batching.pending.items ≡ []
 
 -- a further line can be dealt with
-pub record IsBatchReady (history : History) (settings : Settings) (batching : Batching) (ahead given : ℕ) : Type 0 where
-  pub room : IsOpen history settings batching
+pub record IsBatchReady (plan : Plan) (batching : Batching) (ahead given : ℕ) : Type 0 where
+  pub room : IsOpen plan batching
   pub bounded : 0 < ahead → given ≤ MOST_GIVEN_BYTES + BUFFER_BYTES
   pub numbered : batching.number + ahead ≤ given + 1
 
@@ -132,8 +134,8 @@ abbrev pub BatchedTo : Option (List ℕ) → Option (List ℕ) → BatchedStandi
 BatchedTo input out now = BatchedUpTo input now.rest out now.out now.batching
 
 -- one more line was taken, and further ones perhaps
-pub record TakesBatchedLine (history : History) (settings : Settings) (old new : BatchedStanding) : Type 0 where
-  pub ready : IsBatchReady history settings new.batching new.ahead new.given
+pub record TakesBatchedLine (plan : Plan) (old new : BatchedStanding) : Type 0 where
+  pub ready : IsBatchReady plan new.batching new.ahead new.given
   pub forward : old.given + new.ahead < new.given + old.ahead
   pub most : new.given ≤ MOST_GIVEN_BYTES + BUFFER_BYTES
   pub batched : (input out : Option (List ℕ)) → BatchedTo input out old → BatchedTo input out new
@@ -145,17 +147,17 @@ Gathers input out_old out_now batching =
 
 -- what a turn came to by its answer, whatever input is batched: one more line was taken, or there was none; and in any case a
 -- beginning of the report stands
-pub record BatchedTurn (history : History) (settings : Settings) (result : Result Bool EngineFault)
+pub record BatchedTurn (plan : Plan) (result : Result Bool EngineFault)
     (old new : BatchedStanding) : Type 0 where
-  pub taken : result ≡ Ok true → TakesBatchedLine history settings old new
-  pub room : result ≡ Ok false → IsOpen history settings new.batching
+  pub taken : result ≡ Ok true → TakesBatchedLine plan old new
+  pub room : result ≡ Ok false → IsOpen plan new.batching
   pub ended : result ≡ Ok false → (input out : Option (List ℕ)) → BatchedTo input out old → Gathers input out new.out new.batching
   pub begun : (input out : Option (List ℕ)) → BatchedTo input out old → HasBegunReport input out new.out new.batching.pending.items
 
 -- what the turns to the end of the input came to, whatever input is batched
-pub record EndsBatching (history : History) (settings : Settings) (result : Result (Unit {0}) EngineFault)
+pub record EndsBatching (plan : Plan) (result : Result (Unit {0}) EngineFault)
     (old : BatchedStanding) (out_now : Option (List ℕ)) (batching : Batching) : Type 0 where
-  pub room : result ≡ Ok tt → IsOpen history settings batching
+  pub room : result ≡ Ok tt → IsOpen plan batching
   pub done : result ≡ Ok tt → (input out : Option (List ℕ)) → BatchedTo input out old → Gathers input out out_now batching
   pub begun : (input out : Option (List ℕ)) → BatchedTo input out old → HasBegunReport input out out_now batching.pending.items
 

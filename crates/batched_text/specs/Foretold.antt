@@ -10,10 +10,8 @@ use Rattle.bohm_base.specs.Collecting.{ReadsAs}
 use Rattle.bohm_base.specs.Pending.{HasBegunReport}
 use Rattle.bohm_base.specs.declared.fault.EngineFault.{EngineFault}
 use Rattle.batched_text.specs.Batching.{BatchedUpTo, IsBatchReady, Takes}
-use Rattle.batched_text.specs.History.{dropped_by}
 use Rattle.batched_text.specs.declared.batching.Batching.{Batching}
-use Rattle.batched_text.specs.declared.history.History.{History}
-use Rattle.batched_text.specs.declared.settings.Settings.{Settings}
+use Rattle.batched_text.specs.declared.history.Plan.{Plan}
 
 -- the names of the log
 abbrev pub log_names : Batching → Names
@@ -55,11 +53,10 @@ BeginsFrom bytes from old new =
 
 -- what a run of lines from an index of the bytes on came to, whose answer is the index before which all is dealt with: further
 -- lines can be dealt with, and the names begin as they did; and in any case a beginning of the report stands
-pub record Runs (history : History) (settings : Settings) (bytes : List ℕ) (given from : ℕ) (old new : Batching)
+pub record Runs (plan : Plan) (bytes : List ℕ) (given from : ℕ) (old new : Batching)
     (result : Result ℕ EngineFault) : Type 0 where
   pub within : IfOk result (λ to. to ≤ length bytes)
-  pub ready : IfOk result (λ to. IsBatchReady history settings new (length bytes - to) given)
-  pub kept : OnOk result (new.engine.dropped ≡ dropped_by history new.engine)
+  pub ready : IfOk result (λ to. IsBatchReady plan new (length bytes - to) given)
   pub taken : IfOk result (λ to. TakesFrom bytes from to old new)
   pub begun : BeginsFrom bytes from old new
   pub begins : OnOk result (Begins (log_names old) (log_names new))

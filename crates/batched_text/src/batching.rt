@@ -6,7 +6,7 @@ ghost use Rattle.batched_text.specs.Batching.{IsFilling, IsOpen, ReportsLines, l
 ghost use Rattle.batched_text.specs.History.{KeepsAll, NoneWait, dropped_by};
 ghost use Rattle.batched_text.specs.Settings.{are_within_limits, mark_behind};
 
-use crate::history::History;
+use crate::history::{History, Plan};
 use crate::reporting::put_lines;
 use crate::settings::{Settings, mark_behind};
 use bohm_base::Became;
@@ -114,13 +114,10 @@ pub(crate) fn report_batch<T: Threads + Wait + Sync>(
     rt: &T,
     alloc: Global,
     batching: &mut Batching,
-    settings: &Settings,
-    history: History,
+    plan: &Plan,
 ) -> Result<(), AllocError>
-    requires settings { are_within_limits settings.now ≡ true }
-    requires filling { IsFilling history settings.now batching.old }
-    requires kept { batching.old.engine.dropped ≡ dropped_by history batching.old.engine }
-    ensures kept { OnOk result (batching.new.engine.dropped ≡ dropped_by history batching.new.engine) }
+    requires filling { IsFilling plan.now batching.old }
+    ensures kept { OnOk result (batching.new.engine.dropped ≡ dropped_by plan.now.history batching.new.engine) }
     ensures told { OnOk result (batching.new.pending.items ≡ batching.old.pending.items ++ lines_text batching.old.engine.log
         (batching.old.number - length batching.old.waiting.items) (finished batching.old.engine) batching.old.waiting.items) }
     ensures err { OnErr result (batching.new.pending.items ≡ batching.old.pending.items) }
@@ -130,11 +127,11 @@ pub(crate) fn report_batch<T: Threads + Wait + Sync>(
     ensures all { OnOk result (finished batching.new.engine ≡ length batching.old.engine.log.statements) }
     ensures mark { OnOk result (batching.new.engine.store.mark
         ≡ (if nat_lt (finished batching.old.engine) (length batching.old.engine.log.statements)
-        then mark_behind settings.now (finished batching.old.engine) (length batching.old.engine.log.statements)
+        then mark_behind plan.now.settings (finished batching.old.engine) (length batching.old.engine.log.statements)
         else batching.old.engine.store.mark)) }
 {
     let place = batching.engine.finished();
-    run_waiting(rt, alloc, &mut batching.engine, settings)?;
+    run_waiting(rt, alloc, &mut batching.engine, &plan.settings)?;
     let first = batching.number - batching.waiting.len() as u64;
     batching.text.clear();
     put_lines(
@@ -146,7 +143,7 @@ pub(crate) fn report_batch<T: Threads + Wait + Sync>(
     )?;
     batching.pending.extend_from_slice(&batching.text)?;
     batching.waiting.clear();
-    forget_finished(&mut batching.engine, history);
+    forget_finished(&mut batching.engine, plan.history);
     Ok(())
 }
 
@@ -155,23 +152,19 @@ pub(crate) fn report_full<T: Threads + Wait + Sync>(
     rt: &T,
     alloc: Global,
     batching: &mut Batching,
-    settings: &Settings,
-    history: History,
+    plan: &Plan,
 ) -> Result<(), AllocError>
-    requires settings { are_within_limits settings.now ≡ true }
-    requires filling { IsFilling history settings.now batching.old }
-    requires kept { batching.old.engine.dropped ≡ dropped_by history batching.old.engine }
+    requires filling { IsFilling plan.now batching.old }
     ensures reports { OnOk result (ReportsLines batching.old.engine.log (finished batching.old.engine) (finished batching.new.engine)
         batching.old.waiting.items batching.new.waiting.items batching.old.number batching.old.pending.items batching.new.pending.items) }
     ensures log { OnOk result (batching.new.engine.log ≡ batching.old.engine.log) }
     ensures number { OnOk result (batching.new.number ≡ batching.old.number) }
-    ensures room { OnOk result (IsOpen history settings.now batching.new) }
-    ensures kept { OnOk result (batching.new.engine.dropped ≡ dropped_by history batching.new.engine) }
+    ensures room { OnOk result (IsOpen plan.now batching.new) }
     ensures err { OnErr result (batching.new.pending.items ≡ batching.old.pending.items) }
 {
     let waiting = batching.engine.log().len() - batching.engine.finished();
-    if waiting >= settings.batch {
-        report_batch(rt, alloc, batching, settings, history)?;
+    if waiting >= plan.settings.batch {
+        report_batch(rt, alloc, batching, plan)?;
     }
     Ok(())
 }
@@ -181,23 +174,19 @@ pub(crate) fn report_early<T: Threads + Wait + Sync>(
     rt: &T,
     alloc: Global,
     batching: &mut Batching,
-    settings: &Settings,
-    history: History,
+    plan: &Plan,
 ) -> Result<(), AllocError>
-    requires settings { are_within_limits settings.now ≡ true }
-    requires room { IsOpen history settings.now batching.old }
-    requires kept { batching.old.engine.dropped ≡ dropped_by history batching.old.engine }
+    requires room { IsOpen plan.now batching.old }
     ensures reports { OnOk result (ReportsLines batching.old.engine.log (finished batching.old.engine) (finished batching.new.engine)
         batching.old.waiting.items batching.new.waiting.items batching.old.number batching.old.pending.items batching.new.pending.items) }
     ensures log { OnOk result (batching.new.engine.log ≡ batching.old.engine.log) }
     ensures number { OnOk result (batching.new.number ≡ batching.old.number) }
-    ensures room { OnOk result (IsOpen history settings.now batching.new) }
-    ensures kept { OnOk result (batching.new.engine.dropped ≡ dropped_by history batching.new.engine) }
-    ensures none { OnOk result (NoneWait history batching.new.waiting.items) }
+    ensures room { OnOk result (IsOpen plan.now batching.new) }
+    ensures none { OnOk result (NoneWait plan.now.history batching.new.waiting.items) }
     ensures err { OnErr result (batching.new.pending.items ≡ batching.old.pending.items) }
 {
-    match history {
+    match plan.history {
         History::Kept => Ok(()),
-        History::Dropped => report_batch(rt, alloc, batching, settings, history),
+        History::Dropped => report_batch(rt, alloc, batching, plan),
     }
 }

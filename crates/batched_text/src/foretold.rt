@@ -6,13 +6,10 @@ ghost use Rattle.sequencer.specs.Foretelling.{IsForetold};
 ghost use Rattle.report.specs.Report.{faulty, read};
 ghost use Rattle.batched_text.specs.Batching.{IsBatchReady, Takes};
 ghost use Rattle.batched_text.specs.Foretold.{Runs, TakesAt, WasReadAhead, WereReadAhead, log_names};
-ghost use Rattle.batched_text.specs.History.{dropped_by};
-ghost use Rattle.batched_text.specs.Settings.{are_within_limits};
 
 use crate::batching::{Batching, report_early, report_full};
-use crate::history::History;
+use crate::history::Plan;
 use crate::lines::take_line;
-use crate::settings::Settings;
 use bohm_base::{Became, EngineFault};
 use engine::Engine;
 use log_text::{LineFault, RawRoom};
@@ -113,25 +110,22 @@ fn report_next<'a, T: Threads + Wait + Sync>(
     rt: &T,
     alloc: Global,
     batching: &mut Batching,
-    settings: &Settings,
-    history: History,
+    plan: &Plan,
     bytes: &'a [u8],
     from: usize,
     given: u64,
     raw: &mut RawRoom<'a>,
 ) -> Result<usize, EngineFault>
-    requires settings { are_within_limits settings.now ≡ true }
     requires within { from < length bytes.now }
-    requires ready { IsBatchReady history settings.now batching.old (length bytes.now - from) given }
-    requires kept { batching.old.engine.dropped ≡ dropped_by history batching.old.engine }
+    requires ready { IsBatchReady plan.now batching.old (length bytes.now - from) given }
     ensures order { IfOk result (λ to. from ≤ to) }
-    ensures runs { Runs history settings.now bytes.now given from batching.old batching.new result }
+    ensures runs { Runs plan.now bytes.now given from batching.old batching.new result }
 {
     let Some(count) = take_next(alloc, batching, bytes, from, raw)? else {
         return Ok(from);
     };
     let _dropped = batching.engine.log().dropped();
-    report_full(rt, alloc, batching, settings, history)?;
+    report_full(rt, alloc, batching, plan)?;
     Ok(from + count)
 }
 
@@ -140,20 +134,17 @@ fn report_one<'a, T: Threads + Wait + Sync>(
     rt: &T,
     alloc: Global,
     batching: &mut Batching,
-    settings: &Settings,
-    history: History,
+    plan: &Plan,
     bytes: &'a [u8],
     ahead: &mut Ahead,
     from: usize,
     given: u64,
     raw: &mut RawRoom<'a>,
 ) -> Result<usize, EngineFault>
-    requires settings { are_within_limits settings.now ≡ true }
     requires within { from ≤ length bytes.now }
-    requires ready { IsBatchReady history settings.now batching.old (length bytes.now - from) given }
-    requires kept { batching.old.engine.dropped ≡ dropped_by history batching.old.engine }
+    requires ready { IsBatchReady plan.now batching.old (length bytes.now - from) given }
     requires ahead { WasReadAhead (log_names batching.old) bytes.now ahead.old }
-    ensures { Runs history settings.now bytes.now given from batching.old batching.new result }
+    ensures { Runs plan.now bytes.now given from batching.old batching.new result }
 {
     if ahead.from != from {
         return Ok(from);
@@ -162,7 +153,7 @@ fn report_one<'a, T: Threads + Wait + Sync>(
         return Ok(from);
     };
     let _dropped = batching.engine.log().dropped();
-    report_full(rt, alloc, batching, settings, history)?;
+    report_full(rt, alloc, batching, plan)?;
     Ok(from + count)
 }
 
@@ -171,26 +162,21 @@ pub(crate) fn report_until<'a, T: Threads + Wait + Sync>(
     rt: &T,
     alloc: Global,
     batching: &mut Batching,
-    settings: &Settings,
-    history: History,
+    plan: &Plan,
     bytes: &'a [u8],
     from: usize,
     to: usize,
     given: u64,
     raw: &mut RawRoom<'a>,
 ) -> Result<usize, EngineFault>
-    requires settings { are_within_limits settings.now ≡ true }
     requires within { from ≤ length bytes.now }
-    requires ready { IsBatchReady history settings.now batching.old (length bytes.now - from) given }
-    requires kept { batching.old.engine.dropped ≡ dropped_by history batching.old.engine }
+    requires ready { IsBatchReady plan.now batching.old (length bytes.now - from) given }
     requires to_within { to ≤ length bytes.now }
-    ensures { Runs history settings.now bytes.now given from batching.old batching.new result }
+    ensures { Runs plan.now bytes.now given from batching.old batching.new result }
 {
     let mut at = from;
     'lines: while at < to {
-        let next = report_next(
-            rt, alloc, batching, settings, history, bytes, at, given, raw,
-        )?;
+        let next = report_next(rt, alloc, batching, plan, bytes, at, given, raw)?;
         let is_stuck = next == at;
         at = next;
         if is_stuck {
@@ -219,29 +205,22 @@ fn report_each<'a, T: Threads + Wait + Sync>(
     rt: &T,
     alloc: Global,
     batching: &mut Batching,
-    settings: &Settings,
-    history: History,
+    plan: &Plan,
     bytes: &'a [u8],
     lines: &mut [Ahead],
     from: usize,
     given: u64,
     raw: &mut RawRoom<'a>,
 ) -> Result<usize, EngineFault>
-    requires settings { are_within_limits settings.now ≡ true }
     requires within { from ≤ length bytes.now }
-    requires ready { IsBatchReady history settings.now batching.old (length bytes.now - from) given }
-    requires kept { batching.old.engine.dropped ≡ dropped_by history batching.old.engine }
+    requires ready { IsBatchReady plan.now batching.old (length bytes.now - from) given }
     requires ahead { WereReadAhead (log_names batching.old) bytes.now lines.old }
-    ensures { Runs history settings.now bytes.now given from batching.old batching.new result }
+    ensures { Runs plan.now bytes.now given from batching.old batching.new result }
 {
     let mut at = from;
     'turns: for ahead in lines.iter_mut() {
-        let next = report_until(
-            rt, alloc, batching, settings, history, bytes, at, ahead.from, given, raw,
-        )?;
-        at = report_one(
-            rt, alloc, batching, settings, history, bytes, ahead, next, given, raw,
-        )?;
+        let next = report_until(rt, alloc, batching, plan, bytes, at, ahead.from, given, raw)?;
+        at = report_one(rt, alloc, batching, plan, bytes, ahead, next, given, raw)?;
     }
     Ok(at)
 }
@@ -252,25 +231,20 @@ fn report_group<'a, T: Threads + Wait + Sync>(
     rt: &T,
     alloc: Global,
     batching: &mut Batching,
-    settings: &Settings,
-    history: History,
+    plan: &Plan,
     bytes: &'a [u8],
     lines: &mut [Ahead],
     from: usize,
     given: u64,
     raw: &mut RawRoom<'a>,
 ) -> Result<usize, EngineFault>
-    requires settings { are_within_limits settings.now ≡ true }
     requires within { from ≤ length bytes.now }
-    requires ready { IsBatchReady history settings.now batching.old (length bytes.now - from) given }
-    requires kept { batching.old.engine.dropped ≡ dropped_by history batching.old.engine }
+    requires ready { IsBatchReady plan.now batching.old (length bytes.now - from) given }
     requires ahead { WereReadAhead (log_names batching.old) bytes.now lines.old }
-    ensures { Runs history settings.now bytes.now given from batching.old batching.new result }
+    ensures { Runs plan.now bytes.now given from batching.old batching.new result }
 {
-    let at = report_each(
-        rt, alloc, batching, settings, history, bytes, lines, from, given, raw,
-    )?;
-    report_early(rt, alloc, batching, settings, history)?;
+    let at = report_each(rt, alloc, batching, plan, bytes, lines, from, given, raw)?;
+    report_early(rt, alloc, batching, plan)?;
     give_back(&mut batching.engine, lines);
     Ok(at)
 }
@@ -281,26 +255,21 @@ pub(crate) fn report_foretold<'a, T: Threads + Wait + Sync>(
     rt: &T,
     alloc: Global,
     batching: &mut Batching,
-    settings: &Settings,
-    history: History,
+    plan: &Plan,
     bytes: &'a [u8],
     lines: &mut [Ahead],
     from: usize,
     given: u64,
     raw: &mut RawRoom<'a>,
 ) -> Result<usize, EngineFault>
-    requires settings { are_within_limits settings.now ≡ true }
     requires within { from ≤ length bytes.now }
-    requires ready { IsBatchReady history settings.now batching.old (length bytes.now - from) given }
-    requires kept { batching.old.engine.dropped ≡ dropped_by history batching.old.engine }
+    requires ready { IsBatchReady plan.now batching.old (length bytes.now - from) given }
     requires ahead { WereReadAhead (log_names batching.old) bytes.now lines.old }
-    ensures { Runs history settings.now bytes.now given from batching.old batching.new result }
+    ensures { Runs plan.now bytes.now given from batching.old batching.new result }
 {
     let mut at = from;
-    'groups: for group in lines.chunks_mut(settings.batch as usize) {
-        at = report_group(
-            rt, alloc, batching, settings, history, bytes, group, at, given, raw,
-        )?;
+    'groups: for group in lines.chunks_mut(plan.settings.batch as usize) {
+        at = report_group(rt, alloc, batching, plan, bytes, group, at, given, raw)?;
     }
     Ok(at)
 }

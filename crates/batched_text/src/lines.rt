@@ -7,12 +7,9 @@ ghost use Rattle.report.specs.Report.{Reading, read};
 ghost use Rattle.bohm_base.specs.Collecting.{LineMayLackMemory, ReadsAs, became, reading_of, with_reading};
 ghost use Rattle.engine.specs.Engine.{finished};
 ghost use Rattle.batched_text.specs.Batching.{Deals, IsOpen, Takes};
-ghost use Rattle.batched_text.specs.History.{dropped_by};
-ghost use Rattle.batched_text.specs.Settings.{are_within_limits};
 
 use crate::batching::{Batching, report_full};
-use crate::history::History;
-use crate::settings::Settings;
+use crate::history::Plan;
 use bohm_base::{Became, EngineFault, faulty_line, refused_line};
 use engine::Engine;
 use log_text::{LineFault, RawRoom, RawStatement, read_line};
@@ -96,23 +93,19 @@ pub(crate) fn deal<'a, T: Threads + Wait + Sync>(
     rt: &T,
     alloc: Global,
     batching: &mut Batching,
-    settings: &Settings,
-    history: History,
+    plan: &Plan,
     line: &'a [u8],
     raw: &mut RawRoom<'a>,
 ) -> Result<(), EngineFault>
-    requires settings { are_within_limits settings.now ≡ true }
-    requires room { IsOpen history settings.now batching.old }
-    requires kept { batching.old.engine.dropped ≡ dropped_by history batching.old.engine }
+    requires room { IsOpen plan.now batching.old }
     requires number { batching.old.number < 2 ^ 64 - 1 }
     ensures dealt { OnOk result ((reading : Reading) × (ReadsAs line.now reading × Deals reading batching.old batching.new)) }
-    ensures room { OnOk result (IsOpen history settings.now batching.new) }
-    ensures kept { OnOk result (batching.new.engine.dropped ≡ dropped_by history batching.new.engine) }
+    ensures room { OnOk result (IsOpen plan.now batching.new) }
     ensures pending { OnErr result (batching.new.pending.items ≡ batching.old.pending.items) }
     ensures err { IfErr result (λ f. f ≡ EngineFault.NoMemory) }
 {
     take_line(alloc, batching, line, raw)?;
     let _dropped = batching.engine.log().dropped();
-    report_full(rt, alloc, batching, settings, history)?;
+    report_full(rt, alloc, batching, plan)?;
     Ok(())
 }

@@ -5,12 +5,9 @@ ghost use Rattle.sequencer.specs.Catalog.{no_names};
 ghost use Rattle.sequencer.specs.Foretelling.{Begins};
 ghost use Rattle.batched_text.specs.Batching.{IsBatchReady};
 ghost use Rattle.batched_text.specs.Foretold.{Runs, log_names};
-ghost use Rattle.batched_text.specs.History.{dropped_by};
-ghost use Rattle.batched_text.specs.Settings.{are_within_limits};
 
 use crate::batching::Batching;
-use crate::history::History;
-use crate::settings::Settings;
+use crate::history::Plan;
 use crate::stretches::{Ran, run_ahead};
 use bohm_base::EngineFault;
 use read_ahead::Piece;
@@ -108,16 +105,13 @@ impl Lookahead {
         rt: &T,
         alloc: Global,
         batching: Batching,
-        settings: &Settings,
-        history: History,
+        plan: &Plan,
         bytes: &[u8],
         given: u64,
     ) -> Ran
-        requires settings { are_within_limits settings.now ≡ true }
         requires begins { Begins self.old.names (log_names batching) }
-        requires ready { IsBatchReady history settings.now batching (length bytes.now) given }
-        requires kept { batching.engine.dropped ≡ dropped_by history batching.engine }
-        ensures ran { Runs history settings.now bytes.now given 0 batching result.batching result.result }
+        requires ready { IsBatchReady plan.now batching (length bytes.now) given }
+        ensures ran { Runs plan.now bytes.now given 0 batching result.batching result.result }
         ensures names { self.new.names ≡ self.old.names }
     {
         let to = self.next_stretch(bytes.len());
@@ -127,8 +121,7 @@ impl Lookahead {
             rt,
             alloc,
             batching,
-            settings,
-            history,
+            plan,
             &self.names,
             bytes,
             to,
@@ -149,23 +142,20 @@ pub(crate) fn report_stretch<T: Threads + Wait + Sync>(
     alloc: Global,
     lookahead: &mut Lookahead,
     batching: &mut Batching,
-    settings: &Settings,
-    history: History,
+    plan: &Plan,
     bytes: &[u8],
     given: u64,
 ) -> Result<usize, EngineFault>
-    requires settings { are_within_limits settings.now ≡ true }
     requires begins { Begins lookahead.old.names (log_names batching.old) }
-    requires ready { IsBatchReady history settings.now batching.old (length bytes.now) given }
-    requires kept { batching.old.engine.dropped ≡ dropped_by history batching.old.engine }
-    ensures runs { Runs history settings.now bytes.now given 0 batching.old batching.new result }
+    requires ready { IsBatchReady plan.now batching.old (length bytes.now) given }
+    ensures runs { Runs plan.now bytes.now given 0 batching.old batching.new result }
     ensures names { OnOk result (Begins lookahead.new.names (log_names batching.new)) }
 {
     let before = mem::replace(batching, Batching::new(alloc));
     let Ran {
         batching: after,
         result,
-    } = lookahead.run(rt, alloc, before, settings, history, bytes, given);
+    } = lookahead.run(rt, alloc, before, plan, bytes, given);
     *batching = after;
     let taken = result?;
     lookahead.learn(batching.engine.log().catalog());

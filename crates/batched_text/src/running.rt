@@ -17,7 +17,7 @@ ghost use Rattle.batched_text.specs.Settings.{IsTrimmed, are_within_limits};
 
 use crate::batching::{Batching, report_batch, report_early};
 use crate::foretold::report_until;
-use crate::history::History;
+use crate::history::{History, Plan};
 use crate::lines::deal;
 use crate::lookahead::{Lookahead, ReadingAhead, report_stretch};
 use crate::settings::{Settings, are_within_limits};
@@ -41,11 +41,14 @@ const NONE_AHEAD: ReadingAhead = ReadingAhead {
 };
 
 /// Batches that are run in order, of which nothing is kept.
-const IN_ORDER: Settings = Settings {
-    workers: 1,
-    partitions: 1,
-    batch: 64,
-    keep: 0,
+const IN_ORDER: Plan = Plan {
+    settings: Settings {
+        workers: 1,
+        partitions: 1,
+        batch: 64,
+        keep: 0,
+    },
+    history: History::Dropped,
 };
 
 /// Finds the next line, as `LineReader::next_line`. It is called only while nothing of the report is pending and, where nothing is
@@ -83,35 +86,29 @@ fn report_line<T: Threads + Wait + Sync, R: Read>(
     reader: &mut Counted<R>,
     lines: &mut LineReader,
     batching: &mut Batching,
-    settings: &Settings,
-    history: History,
+    plan: &Plan,
 ) -> Result<bool, TextFault>
-    requires settings { are_within_limits settings.now ≡ true }
-    requires ready { IsBatchReady history settings.now batching.old (length (ahead lines.old)) reader.old.given }
+    requires ready { IsBatchReady plan.now batching.old (length (ahead lines.old)) reader.old.given }
     requires nothing { batching.old.pending.items ≡ [] }
-    requires none { NoneWait history batching.old.waiting.items }
-    requires kept { batching.old.engine.dropped ≡ dropped_by history batching.old.engine }
-    ensures kept { OnOk result (batching.new.engine.dropped ≡ dropped_by history batching.new.engine) }
-    ensures turn { (held : Option (List ℕ)) → BatchedTurn history settings.now result
+    requires none { NoneWait plan.now.history batching.old.waiting.items }
+    ensures turn { (held : Option (List ℕ)) → BatchedTurn plan.now result
         (standing_at (ahead lines.old) (R.remaining reader.old.inner) reader.old.given held batching.old)
         (standing_at (ahead lines.new) (R.remaining reader.new.inner) reader.new.given held batching.new) }
     ensures reads { reader.new.errors ≡ read_errors result reader.old.errors }
     ensures begins { OnOk result (Begins (log_names batching.old) (log_names batching.new)) }
     ensures err { IfErr result (λ f. f ≢ TextFault.Write) }
 {
-    if !next_line(reader, lines, history, &batching.waiting, &batching.pending)? {
+    if !next_line(
+        reader,
+        lines,
+        plan.history,
+        &batching.waiting,
+        &batching.pending,
+    )? {
         return Ok(false);
     }
     let mut raw = RawRoom::new(alloc);
-    deal(
-        rt,
-        alloc,
-        batching,
-        settings,
-        history,
-        lines.line(),
-        &mut raw,
-    )?;
+    deal(rt, alloc, batching, plan, lines.line(), &mut raw)?;
     Ok(true)
 }
 
@@ -122,27 +119,20 @@ fn deal_at_hand<T: Threads + Wait + Sync>(
     alloc: Global,
     lookahead: &mut Lookahead,
     batching: &mut Batching,
-    settings: &Settings,
-    history: History,
+    plan: &Plan,
     bytes: &[u8],
     given: u64,
 ) -> Result<usize, TextFault>
-    requires settings { are_within_limits settings.now ≡ true }
     requires begins { Begins lookahead.old.names (log_names batching.old) }
-    requires ready { IsBatchReady history settings.now batching.old (length bytes.now) given }
-    requires kept { batching.old.engine.dropped ≡ dropped_by history batching.old.engine }
-    ensures runs { Runs history settings.now bytes.now given 0 batching.old batching.new result }
+    requires ready { IsBatchReady plan.now batching.old (length bytes.now) given }
+    ensures runs { Runs plan.now bytes.now given 0 batching.old batching.new result }
     ensures names { OnOk result (Begins lookahead.new.names (log_names batching.new)) }
 {
     if lookahead.is_for(bytes.len()) {
-        return report_stretch(
-            rt, alloc, lookahead, batching, settings, history, bytes, given,
-        );
+        return report_stretch(rt, alloc, lookahead, batching, plan, bytes, given);
     }
     let (to, raw) = (bytes.len(), &mut RawRoom::new(alloc));
-    report_until(
-        rt, alloc, batching, settings, history, bytes, 0, to, given, raw,
-    )
+    report_until(rt, alloc, batching, plan, bytes, 0, to, given, raw)
 }
 
 /// Deals with whole lines at the front of the bytes, as `deal_at_hand`. Then it reports the lines that wait, unless all is kept.
@@ -151,23 +141,18 @@ fn report_at_hand<T: Threads + Wait + Sync>(
     alloc: Global,
     lookahead: &mut Lookahead,
     batching: &mut Batching,
-    settings: &Settings,
-    history: History,
+    plan: &Plan,
     bytes: &[u8],
     given: u64,
 ) -> Result<usize, TextFault>
-    requires settings { are_within_limits settings.now ≡ true }
     requires begins { Begins lookahead.old.names (log_names batching.old) }
-    requires ready { IsBatchReady history settings.now batching.old (length bytes.now) given }
-    requires kept { batching.old.engine.dropped ≡ dropped_by history batching.old.engine }
-    ensures runs { Runs history settings.now bytes.now given 0 batching.old batching.new result }
+    requires ready { IsBatchReady plan.now batching.old (length bytes.now) given }
+    ensures runs { Runs plan.now bytes.now given 0 batching.old batching.new result }
     ensures names { OnOk result (Begins lookahead.new.names (log_names batching.new)) }
-    ensures none { OnOk result (NoneWait history batching.new.waiting.items) }
+    ensures none { OnOk result (NoneWait plan.now.history batching.new.waiting.items) }
 {
-    let taken = deal_at_hand(
-        rt, alloc, lookahead, batching, settings, history, bytes, given,
-    )?;
-    report_early(rt, alloc, batching, settings, history)?;
+    let taken = deal_at_hand(rt, alloc, lookahead, batching, plan, bytes, given)?;
+    report_early(rt, alloc, batching, plan)?;
     Ok(taken)
 }
 
@@ -181,39 +166,26 @@ fn report_turn<T: Threads + Wait + Sync, R: Read, W: Write>(
     lines: &mut LineReader,
     lookahead: &mut Lookahead,
     batching: &mut Batching,
-    settings: &Settings,
-    history: History,
+    plan: &Plan,
 ) -> Result<bool, TextFault>
-    requires settings { are_within_limits settings.now ≡ true }
-    requires ready { IsBatchReady history settings.now batching.old (length (ahead lines.old)) reader.old.given }
+    requires ready { IsBatchReady plan.now batching.old (length (ahead lines.old)) reader.old.given }
     requires nothing { batching.old.pending.items ≡ [] }
-    requires none { NoneWait history batching.old.waiting.items }
-    requires kept { batching.old.engine.dropped ≡ dropped_by history batching.old.engine }
+    requires none { NoneWait plan.now.history batching.old.waiting.items }
     requires begins { Begins lookahead.old.names (log_names batching.old) }
-    ensures kept { OnOk result (batching.new.engine.dropped ≡ dropped_by history batching.new.engine) }
     ensures names { result ≡ Ok true → Begins lookahead.new.names (log_names batching.new) }
     ensures nothing { result ≡ Ok true → batching.new.pending.items ≡ [] }
-    ensures none { result ≡ Ok true → NoneWait history batching.new.waiting.items }
-    ensures turn { BatchedTurn history settings.now result
+    ensures none { result ≡ Ok true → NoneWait plan.now.history batching.new.waiting.items }
+    ensures turn { BatchedTurn plan.now result
         (standing_at (ahead lines.old) (R.remaining reader.old.inner) reader.old.given (W.contents writer.old.inner) batching.old)
         (standing_at (ahead lines.new) (R.remaining reader.new.inner) reader.new.given (W.contents writer.new.inner) batching.new) }
     ensures reads { reader.new.errors ≡ read_errors result reader.old.errors }
     ensures writes { writer.new.errors ≡ write_errors result writer.old.errors }
 {
-    if !report_line(rt, alloc, reader, lines, batching, settings, history)? {
+    if !report_line(rt, alloc, reader, lines, batching, plan)? {
         return Ok(false);
     }
     let bytes = lines.bytes_ahead();
-    let taken = report_at_hand(
-        rt,
-        alloc,
-        lookahead,
-        batching,
-        settings,
-        history,
-        bytes,
-        reader.given,
-    )?;
+    let taken = report_at_hand(rt, alloc, lookahead, batching, plan, bytes, reader.given)?;
     lines.take_ahead(taken);
     write_pending(writer, &mut batching.pending)?;
     Ok(true)
@@ -228,25 +200,19 @@ fn report_rest<T: Threads + Wait + Sync, R: Read, W: Write>(
     lines: &mut LineReader,
     lookahead: &mut Lookahead,
     batching: &mut Batching,
-    settings: &Settings,
-    history: History,
+    plan: &Plan,
 ) -> Result<(), TextFault>
-    requires settings { are_within_limits settings.now ≡ true }
-    requires ready { IsBatchReady history settings.now batching.old (length (ahead lines.old)) reader.old.given }
+    requires ready { IsBatchReady plan.now batching.old (length (ahead lines.old)) reader.old.given }
     requires nothing { batching.old.pending.items ≡ [] }
-    requires none { NoneWait history batching.old.waiting.items }
-    requires kept { batching.old.engine.dropped ≡ dropped_by history batching.old.engine }
+    requires none { NoneWait plan.now.history batching.old.waiting.items }
     requires begins { Begins lookahead.old.names (log_names batching.old) }
-    ensures kept { OnOk result (batching.new.engine.dropped ≡ dropped_by history batching.new.engine) }
-    ensures ends { EndsBatching history settings.now result
+    ensures ends { EndsBatching plan.now result
         (standing_at (ahead lines.old) (R.remaining reader.old.inner) reader.old.given (W.contents writer.old.inner) batching.old)
         (W.contents writer.new.inner) batching.new }
     ensures reads { reader.new.errors ≡ read_errors result reader.old.errors }
     ensures writes { writer.new.errors ≡ write_errors result writer.old.errors }
 {
-    'lines: while report_turn(
-        rt, alloc, reader, writer, lines, lookahead, batching, settings, history,
-    )? {}
+    'lines: while report_turn(rt, alloc, reader, writer, lines, lookahead, batching, plan)? {}
     Ok(())
 }
 
@@ -267,15 +233,12 @@ fn report_lines<T: Threads + Wait + Sync, R: Read, W: Write>(
     reader: &mut Counted<R>,
     writer: &mut Counted<W>,
     batching: &mut Batching,
-    settings: &Settings,
-    history: History,
+    plan: &Plan,
     reading: ReadingAhead,
 ) -> Result<(), TextFault>
-    requires settings { are_within_limits settings.now ≡ true }
+    requires within { are_within_limits plan.now.settings ≡ true }
     requires first { IsFresh batching.old }
-    requires kept { batching.old.engine.dropped ≡ dropped_by history batching.old.engine }
-    ensures kept { OnOk result (batching.new.engine.dropped ≡ dropped_by history batching.new.engine) }
-    ensures room { OnOk result (IsOpen history settings.now batching.new) }
+    ensures room { OnOk result (IsOpen plan.now batching.new) }
     ensures done { OnOk result (Gathers (R.remaining reader.old.inner) (W.contents writer.old.inner)
         (W.contents writer.new.inner) batching.new) }
     ensures begun { HasBegunReport (R.remaining reader.old.inner) (W.contents writer.old.inner) (W.contents writer.new.inner)
@@ -293,8 +256,7 @@ fn report_lines<T: Threads + Wait + Sync, R: Read, W: Write>(
         &mut lines,
         &mut lookahead,
         batching,
-        settings,
-        history,
+        plan,
     )
 }
 
@@ -305,17 +267,15 @@ fn report_all<T: Threads + Wait + Sync, R: Read, W: Write>(
     reader: &mut Counted<R>,
     writer: &mut Counted<W>,
     batching: &mut Batching,
-    settings: &Settings,
-    history: History,
+    plan: &Plan,
     reading: ReadingAhead,
 ) -> Result<(), TextFault>
-    requires settings { are_within_limits settings.now ≡ true }
+    requires within { are_within_limits plan.now.settings ≡ true }
     requires first { IsFresh batching.old }
-    requires kept { batching.old.engine.dropped ≡ dropped_by history batching.old.engine }
-    ensures kept { OnOk result (batching.new.engine.dropped ≡ dropped_by history batching.new.engine) }
+    ensures kept { OnOk result (batching.new.engine.dropped ≡ dropped_by plan.now.history batching.new.engine) }
     ensures log { OnOk result (IsLogOfText (R.remaining reader.old.inner) batching.new.engine.log) }
     ensures all { OnOk result (finished batching.new.engine ≡ length batching.new.engine.log.statements) }
-    ensures trimmed { OnOk result (IsTrimmedBy history settings.now batching.new.engine) }
+    ensures trimmed { OnOk result (IsTrimmedBy plan.now.history plan.now.settings batching.new.engine) }
     ensures done { OnOk result (HasReport (R.remaining reader.old.inner) (W.contents writer.old.inner) (W.contents writer.new.inner)
         batching.new.pending.items) }
     ensures begun { HasBegunReport (R.remaining reader.old.inner) (W.contents writer.old.inner) (W.contents writer.new.inner)
@@ -323,10 +283,8 @@ fn report_all<T: Threads + Wait + Sync, R: Read, W: Write>(
     ensures reads { reader.new.errors ≡ read_errors result reader.old.errors }
     ensures writes { writer.new.errors ≡ write_errors result writer.old.errors }
 {
-    report_lines(
-        rt, alloc, reader, writer, batching, settings, history, reading,
-    )?;
-    report_batch(rt, alloc, batching, settings, history)?;
+    report_lines(rt, alloc, reader, writer, batching, plan, reading)?;
+    report_batch(rt, alloc, batching, plan)?;
     Ok(())
 }
 
@@ -338,16 +296,15 @@ fn run_batches<T: Threads + Wait + Sync, R: Read, W: Write>(
     reader: &mut Counted<R>,
     writer: &mut Counted<W>,
     batching: &mut Batching,
-    settings: &Settings,
-    history: History,
+    plan: &Plan,
     reading: ReadingAhead,
 ) -> Result<(), TextFault>
-    requires settings { are_within_limits settings.now ≡ true }
+    requires within { are_within_limits plan.now.settings ≡ true }
     requires first { IsFresh batching.old }
     ensures log { OnOk result (IsLogOfText (R.remaining reader.old.inner) batching.new.engine.log) }
     ensures all { OnOk result (finished batching.new.engine ≡ length batching.new.engine.log.statements) }
-    ensures trimmed { OnOk result (IsTrimmedBy history settings.now batching.new.engine) }
-    ensures kept { OnOk result (batching.new.engine.dropped ≡ dropped_by history batching.new.engine) }
+    ensures trimmed { OnOk result (IsTrimmedBy plan.now.history plan.now.settings batching.new.engine) }
+    ensures kept { OnOk result (batching.new.engine.dropped ≡ dropped_by plan.now.history batching.new.engine) }
     ensures done { OnOk result (IfSome (R.remaining reader.old.inner) (λ input. (text : List ℕ)
         × (IsReport input text × Appends (W.contents writer.old.inner) (W.contents writer.new.inner) text))) }
     ensures begun { IfSome (R.remaining reader.old.inner) (λ input. (text : List ℕ)
@@ -356,9 +313,7 @@ fn run_batches<T: Threads + Wait + Sync, R: Read, W: Write>(
     ensures write { result ≡ Err TextFault.Write → writer.old.errors < 2 ^ 64 - 1 → writer.old.errors < writer.new.errors }
     ensures whole { OnOk result ((reader.new.errors ≡ reader.old.errors) × (writer.new.errors ≡ writer.old.errors)) }
 {
-    let ended = report_all(
-        rt, alloc, reader, writer, batching, settings, history, reading,
-    );
+    let ended = report_all(rt, alloc, reader, writer, batching, plan, reading);
     let written = write_out(writer, &batching.pending);
     ended?;
     written?;
@@ -421,17 +376,12 @@ pub fn run_text<T: Threads + Wait + Sync, R: Read, W: Write>(
     if !are_within_limits(settings) {
         return Err(EngineFault::BadSettings);
     }
+    let plan = Plan {
+        settings: *settings,
+        history: History::Kept,
+    };
     let mut batching = Batching::new(alloc);
-    match run_batches(
-        rt,
-        alloc,
-        reader,
-        writer,
-        &mut batching,
-        settings,
-        History::Kept,
-        NONE_AHEAD,
-    ) {
+    match run_batches(rt, alloc, reader, writer, &mut batching, &plan, NONE_AHEAD) {
         Ok(()) => Ok(batching.engine),
         Err(fault) => Err(engine_fault(fault)),
     }
@@ -470,17 +420,12 @@ pub fn report_text<T: Threads + Wait + Sync, R: Read, W: Write>(
     if !are_within_limits(settings) {
         return Err(EngineFault::BadSettings);
     }
+    let plan = Plan {
+        settings: *settings,
+        history: History::Dropped,
+    };
     let mut batching = Batching::new(alloc);
-    match run_batches(
-        rt,
-        alloc,
-        reader,
-        writer,
-        &mut batching,
-        settings,
-        History::Dropped,
-        NONE_AHEAD,
-    ) {
+    match run_batches(rt, alloc, reader, writer, &mut batching, &plan, NONE_AHEAD) {
         Ok(()) => Ok(()),
         Err(fault) => Err(engine_fault(fault)),
     }
@@ -516,14 +461,5 @@ pub fn report_in_order<T: Threads + Wait + Sync, R: Read, W: Write>(
     ensures whole { OnOk result ((reader.new.errors ≡ reader.old.errors) × (writer.new.errors ≡ writer.old.errors)) }
 {
     let mut batching = Batching::new(alloc);
-    run_batches(
-        rt,
-        alloc,
-        reader,
-        writer,
-        &mut batching,
-        &IN_ORDER,
-        History::Dropped,
-        reading,
-    )
+    run_batches(rt, alloc, reader, writer, &mut batching, &IN_ORDER, reading)
 }

@@ -1,17 +1,14 @@
 //! A stretch of the bytes at hand: its lines are dealt with in order, while further threads read those of its later pieces.
 
-ghost use Rattle.std.specs.Prelude.{◌≡◌, ◌≤◌, ◌-◌, length, true};
+ghost use Rattle.std.specs.Prelude.{◌≡◌, ◌≤◌, ◌-◌, length};
 ghost use Rattle.std.specs.Thread.{IsSync};
 ghost use Rattle.sequencer.specs.Foretelling.{Begins};
 ghost use Rattle.batched_text.specs.Batching.{IsBatchReady};
 ghost use Rattle.batched_text.specs.Foretold.{Runs, log_names};
-ghost use Rattle.batched_text.specs.History.{dropped_by};
-ghost use Rattle.batched_text.specs.Settings.{are_within_limits};
 
 use crate::batching::Batching;
 use crate::foretold::{report_foretold, report_until};
-use crate::history::History;
-use crate::settings::Settings;
+use crate::history::Plan;
 use bohm_base::EngineFault;
 use log_text::RawRoom;
 use read_ahead::{Basis, Piece, Stretch};
@@ -30,8 +27,7 @@ fn report_piece<'a, B: Basis, T: Threads + Wait + Sync>(
     rt: &T,
     alloc: Global,
     batching: &mut Batching,
-    settings: &Settings,
-    history: History,
+    plan: &Plan,
     bytes: &'a [u8],
     stretch: &Stretch<B>,
     piece: usize,
@@ -39,29 +35,21 @@ fn report_piece<'a, B: Basis, T: Threads + Wait + Sync>(
     given: u64,
     raw: &mut RawRoom<'a>,
 ) -> Result<usize, EngineFault>
-    requires settings { are_within_limits settings.now ≡ true }
     requires bytes { bytes.now ≡ B.bytes }
     requires names { Begins B.names (log_names batching.old) }
     requires within { from ≤ length bytes.now }
-    requires ready { IsBatchReady history settings.now batching.old (length bytes.now - from) given }
-    requires kept { batching.old.engine.dropped ≡ dropped_by history batching.old.engine }
-    ensures { Runs history settings.now bytes.now given from batching.old batching.new result }
+    requires ready { IsBatchReady plan.now batching.old (length bytes.now - from) given }
+    ensures { Runs plan.now bytes.now given from batching.old batching.new result }
 {
     let end = stretch.end_of(piece);
     let Some(read) = stretch.take(piece) else {
-        return report_until(
-            rt, alloc, batching, settings, history, bytes, from, end, given, raw,
-        );
+        return report_until(rt, alloc, batching, plan, bytes, from, end, given, raw);
     };
     let (mut lines, count) = read.into_lines();
     let found = &mut lines[..count];
-    let at = report_foretold(
-        rt, alloc, batching, settings, history, bytes, found, from, given, raw,
-    )?;
+    let at = report_foretold(rt, alloc, batching, plan, bytes, found, from, given, raw)?;
     stretch.give_back(Piece::over(lines));
-    report_until(
-        rt, alloc, batching, settings, history, bytes, at, end, given, raw,
-    )
+    report_until(rt, alloc, batching, plan, bytes, at, end, given, raw)
 }
 
 /// Deals with the lines of a stretch, piece by piece, as `report_piece`. Where a piece isn't read yet it reads others by these names,
@@ -70,21 +58,18 @@ fn report_pieces<'a, B: Basis, T: Threads + Wait + Sync>(
     rt: &T,
     alloc: Global,
     batching: &mut Batching,
-    settings: &Settings,
-    history: History,
+    plan: &Plan,
     names: &Catalog,
     bytes: &'a [u8],
     stretch: &Stretch<B>,
     given: u64,
     raw: &mut RawRoom<'a>,
 ) -> Result<usize, EngineFault>
-    requires settings { are_within_limits settings.now ≡ true }
     requires names { names.now ≡ B.names }
     requires bytes { bytes.now ≡ B.bytes }
     requires begins { Begins B.names (log_names batching.old) }
-    requires ready { IsBatchReady history settings.now batching.old (length bytes.now) given }
-    requires kept { batching.old.engine.dropped ≡ dropped_by history batching.old.engine }
-    ensures { Runs history settings.now bytes.now given 0 batching.old batching.new result }
+    requires ready { IsBatchReady plan.now batching.old (length bytes.now) given }
+    ensures { Runs plan.now bytes.now given 0 batching.old batching.new result }
 {
     let mut at = 0;
     'turns: for piece in 0..stretch.len() {
@@ -94,7 +79,7 @@ fn report_pieces<'a, B: Basis, T: Threads + Wait + Sync>(
         stretch.pass(piece);
         stretch.read_until(names, bytes, piece);
         at = report_piece(
-            rt, alloc, batching, settings, history, bytes, stretch, piece, at, given, raw,
+            rt, alloc, batching, plan, bytes, stretch, piece, at, given, raw,
         )?;
     }
     stretch.pass(stretch.len());
@@ -113,28 +98,24 @@ fn run_stretch<B: Basis, T: Threads + Wait + Sync>(
     rt: &T,
     alloc: Global,
     mut batching: Batching,
-    settings: &Settings,
-    history: History,
+    plan: &Plan,
     names: &Catalog,
     bytes: &[u8],
     stretch: &Stretch<B>,
     given: u64,
 ) -> Ran
-    requires settings { are_within_limits settings.now ≡ true }
     requires names { names.now ≡ B.names }
     requires bytes { bytes.now ≡ B.bytes }
     requires begins { Begins B.names (log_names batching) }
-    requires ready { IsBatchReady history settings.now batching (length bytes.now) given }
-    requires kept { batching.engine.dropped ≡ dropped_by history batching.engine }
-    ensures { Runs history settings.now bytes.now given 0 batching result.batching result.result }
+    requires ready { IsBatchReady plan.now batching (length bytes.now) given }
+    ensures { Runs plan.now bytes.now given 0 batching result.batching result.result }
 {
     let mut raw = RawRoom::new(alloc);
     let result = report_pieces(
         rt,
         alloc,
         &mut batching,
-        settings,
-        history,
+        plan,
         names,
         bytes,
         stretch,
@@ -150,26 +131,21 @@ fn run_beside<B: Basis + Send + Sync, T: Threads + Wait + Sync>(
     rt: &T,
     alloc: Global,
     batching: Batching,
-    settings: &Settings,
-    history: History,
+    plan: &Plan,
     names: &Catalog,
     bytes: &[u8],
     stretch: &Stretch<B>,
     threads: usize,
     given: u64,
 ) -> Ran
-    requires settings { are_within_limits settings.now ≡ true }
     requires names { names.now ≡ B.names }
     requires bytes { bytes.now ≡ B.bytes }
     requires begins { Begins B.names (log_names batching) }
-    requires ready { IsBatchReady history settings.now batching (length bytes.now) given }
-    requires kept { batching.engine.dropped ≡ dropped_by history batching.engine }
-    ensures { Runs history settings.now bytes.now given 0 batching result.batching result.result }
+    requires ready { IsBatchReady plan.now batching (length bytes.now) given }
+    ensures { Runs plan.now bytes.now given 0 batching result.batching result.result }
 {
     if threads == 0 {
-        return run_stretch(
-            rt, alloc, batching, settings, history, names, bytes, stretch, given,
-        );
+        return run_stretch(rt, alloc, batching, plan, names, bytes, stretch, given);
     }
     let fewer = threads - 1;
     let (_, ran) = thread::join(
@@ -178,13 +154,12 @@ fn run_beside<B: Basis + Send + Sync, T: Threads + Wait + Sync>(
             requires { (names.now ≡ B.names) × (bytes.now ≡ B.bytes) }
         { stretch.read_all(names, bytes) },
         move || -> Ran
-            requires { IsSync T.row × (are_within_limits settings.now ≡ true) × (names.now ≡ B.names) × (bytes.now ≡ B.bytes)
-                × Begins B.names (log_names batching) × IsBatchReady history settings.now batching (length bytes.now) given
-                × (batching.engine.dropped ≡ dropped_by history batching.engine) }
-            ensures { Runs history settings.entry.now bytes.entry.now given 0 batching result.batching result.result }
+            requires { IsSync T.row × (names.now ≡ B.names) × (bytes.now ≡ B.bytes)
+                × Begins B.names (log_names batching) × IsBatchReady plan.now batching (length bytes.now) given }
+            ensures { Runs plan.entry.now bytes.entry.now given 0 batching result.batching result.result }
         {
             run_beside(
-                rt, alloc, batching, settings, history, names, bytes, stretch, fewer, given,
+                rt, alloc, batching, plan, names, bytes, stretch, fewer, given,
             )
         },
     );
@@ -197,8 +172,7 @@ pub(crate) fn run_ahead<B: Basis + Send + Sync, T: Threads + Wait + Sync>(
     rt: &T,
     alloc: Global,
     batching: Batching,
-    settings: &Settings,
-    history: History,
+    plan: &Plan,
     names: &Catalog,
     bytes: &[u8],
     to: usize,
@@ -208,13 +182,11 @@ pub(crate) fn run_ahead<B: Basis + Send + Sync, T: Threads + Wait + Sync>(
     given: u64,
 ) -> (Ran, Vec<Piece>)
     requires within { to ≤ length bytes.now }
-    requires settings { are_within_limits settings.now ≡ true }
     requires names { names.now ≡ B.names }
     requires bytes { bytes.now ≡ B.bytes }
     requires begins { Begins B.names (log_names batching) }
-    requires ready { IsBatchReady history settings.now batching (length bytes.now) given }
-    requires kept { batching.engine.dropped ≡ dropped_by history batching.engine }
-    ensures { Runs history settings.now bytes.now given 0 batching result.0.batching result.0.result }
+    requires ready { IsBatchReady plan.now batching (length bytes.now) given }
+    ensures { Runs plan.now bytes.now given 0 batching result.0.batching result.0.result }
 {
     let Ok(stretch) = Stretch::<B>::new(alloc, bytes, to, count, spare) else {
         let ran = Ran {
@@ -224,7 +196,7 @@ pub(crate) fn run_ahead<B: Basis + Send + Sync, T: Threads + Wait + Sync>(
         return (ran, Vec::new(alloc));
     };
     let ran = run_beside(
-        rt, alloc, batching, settings, history, names, bytes, &stretch, threads, given,
+        rt, alloc, batching, plan, names, bytes, &stretch, threads, given,
     );
     (ran, stretch.into_spare())
 }

@@ -1,15 +1,15 @@
 use Rattle.std.proofs.Common.{◌≡◌, ℕ, ◌+◌, ◌-◌, length, ap, arith}
 use Rattle.engine.specs.Engine.{finished}
 use Rattle.sequencer.specs.Log.{Accepted}
-use Rattle.batched_text.proofs.Cutting.{due, limits, open_next, reports_all, reports_none}
+use Rattle.batched_text.proofs.Cutting.{due, open_next, reports_all, reports_none}
 use Rattle.batched_text.proofs.batching.report_full.Goals as goal
 
 pub returns-in_ok-report_batch-clause-reports : goal.returns-in_ok-report_batch-clause-reports
 returns-in_ok-report_batch-clause-reports g c =
     let put = c.in_ok-report_batch.ensures in
-    reports_all c.args.settings.now c.args.batching.now c.report_batch.new.batching
+    reports_all c.args.plan.now c.args.batching.now c.report_batch.new.batching
     (record { log = put.log; left = put.left; number = put.number; all = put.all; mark = put.mark })
-    c.args.history c.requires.filling put.told
+    c.requires.filling put.told
 
 pub returns-in_ok-report_batch-clause-room : goal.returns-in_ok-report_batch-clause-room
 returns-in_ok-report_batch-clause-room g c =
@@ -20,17 +20,16 @@ returns-in_ok-report_batch-clause-room g c =
     let waiting : ℕ = c.len.result - c.finished.result in
     let all : waiting + finished old.engine ≡ length old.engine.log.statements =
     omega (arith, count, c.finished.ensures.count, c.requires.filling.counted) in
-    open_next c.args.settings.now old c.report_batch.new.batching
+    open_next c.args.plan.now old c.report_batch.new.batching
     (record { log = put.log; left = put.left; number = put.number; all = put.all; mark = put.mark })
-    c.args.history c.requires.filling (limits c.args.settings.now c.requires.settings).batch_some
-    (due c.args.history c.args.settings.now old.engine waiting (omega (arith, c.if-waiting-settings.true)) all)
+    c.requires.filling (due c.args.plan.now.history c.args.plan.now.settings old.engine waiting (omega (arith, c.if-waiting-plan.true)) all) put.kept
 
-pub returns-else-waiting-settings-clause-reports : goal.returns-else-waiting-settings-clause-reports
-returns-else-waiting-settings-clause-reports g c = reports_none c.args.batching.now c.requires.filling.few
+pub returns-else-waiting-plan-clause-reports : goal.returns-else-waiting-plan-clause-reports
+returns-else-waiting-plan-clause-reports g c = reports_none c.args.batching.now c.requires.filling.few
 
-pub returns-else-waiting-settings-clause-room : goal.returns-else-waiting-settings-clause-room
-returns-else-waiting-settings-clause-room g c =
+pub returns-else-waiting-plan-clause-room : goal.returns-else-waiting-plan-clause-room
+returns-else-waiting-plan-clause-room g c =
     let old = c.args.batching.now in
     let count : c.len.result ≡ length old.engine.log.statements =
     omega (arith, c.len.ensures.count, ap (λ (log : Accepted). length log.statements) c.log.ensures.value) in
-    record { filling = c.requires.filling; less = omega (arith, c.if-waiting-settings.false, count, c.finished.ensures.count, c.requires.filling.counted) }
+    record { filling = c.requires.filling; less = omega (arith, c.if-waiting-plan.false, count, c.finished.ensures.count, c.requires.filling.counted) }

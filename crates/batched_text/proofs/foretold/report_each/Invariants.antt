@@ -5,6 +5,6 @@ use Rattle.batched_text.proofs.foretold.report_each.Given as goal
 
 abbrev pub invariant-turns : goal.invariant-turns
 invariant-turns g l = record {
-  runs : Runs l.history l.settings l.bytes l.given l.initial.at l.initial.batching l.batching (Ok l.at);
+  runs : Runs l.plan l.bytes l.given l.initial.at l.initial.batching l.batching (Ok l.at);
   ahead : AreStillAhead (log_names l.batching) l.bytes l.ahead-index l.lines;
 }

@@ -1,19 +1,13 @@
 use Rattle.sequencer.specs.Taken.{IsWhole}
 use Rattle.std.proofs.Common.{subst}
 use Rattle.batched_text.proofs.Cutting.{dealt, filled}
-use Rattle.batched_text.proofs.Histories.{kept_longer}
 use Rattle.batched_text.proofs.lines.deal.Goals as goal
 
 pub report_full-requires-clause-filling : goal.report_full-requires-clause-filling
 report_full-requires-clause-filling g c κs within =
     let took = c.in_ok-take_line.ensures.ok in
-    filled c.args.history c.args.settings.now c.args.batching.now c.take_line.new.batching took.0 c.requires.room took.1.1
+    filled c.args.plan.now c.args.batching.now c.take_line.new.batching took.0 c.requires.room took.1.1
     (subst IsWhole c.log.ensures.value c.dropped-dropped.ensures.whole)
-
-pub report_full-requires-clause-kept : goal.report_full-requires-clause-kept
-report_full-requires-clause-kept g c κs within =
-    let kept = c.in_ok-take_line.ensures.kept in
-    kept_longer c.args.history c.args.batching.now.engine c.take_line.new.batching.engine kept.0 kept.1 c.requires.kept
 
 pub returns-clause-dealt : goal.returns-clause-dealt
 returns-clause-dealt g c =

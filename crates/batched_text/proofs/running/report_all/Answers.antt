@@ -1,7 +1,7 @@
 use Rattle.std.proofs.Common.{◌∙◌, length, ap, sym, subst}
 use Rattle.sequencer.specs.Log.{Accepted}
 use Rattle.batched_text.specs.Batching.{IsLogOfText}
-use Rattle.batched_text.proofs.Cutting.{limits, trimmed_all}
+use Rattle.batched_text.proofs.Cutting.{trimmed_all}
 use Rattle.batched_text.proofs.Ended.{begun_whole, ended_batched, log_ended}
 use Rattle.batched_text.proofs.running.report_all.Goals as goal
 
@@ -21,10 +21,9 @@ returns-clause-all g c = c.in_ok-report_batch.ensures.all ∙ ap (λ (log : Acce
 pub returns-clause-trimmed : goal.returns-clause-trimmed
 returns-clause-trimmed g c =
     let put = c.in_ok-report_batch.ensures in
-    trimmed_all c.args.settings.now c.report_lines.new.batching c.report_batch.new.batching
+    trimmed_all c.args.plan.now c.report_lines.new.batching c.report_batch.new.batching
     (record { log = put.log; left = put.left; number = put.number; all = put.all; mark = put.mark })
-    c.args.history c.in_ok-report_lines.ensures.room.filling
-    (limits c.args.settings.now c.requires.settings).batch_some
+    c.in_ok-report_lines.ensures.room.filling
 
 pub returns-clause-done : goal.returns-clause-done
 returns-clause-done g c =

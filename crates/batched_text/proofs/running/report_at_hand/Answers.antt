@@ -4,5 +4,5 @@ use Rattle.batched_text.proofs.running.report_at_hand.Goals as goal
 pub returns-clause-runs : goal.returns-clause-runs
 returns-clause-runs g c =
     let put = c.in_ok-report_early.ensures in
-    runs_early c.args.history c.args.settings.now c.args.bytes.now c.args.given 0 c.in_ok-taken.taken c.args.batching.now c.deal_at_hand.new.batching c.report_early.new.batching c.in_ok-taken.ensures.runs put.log put.number
-    put.reports put.room put.kept
+    runs_early c.args.plan.now c.args.bytes.now c.args.given 0 c.in_ok-taken.taken c.args.batching.now c.deal_at_hand.new.batching c.report_early.new.batching c.in_ok-taken.ensures.runs put.log put.number
+    put.reports put.room

@@ -4,7 +4,7 @@ use Rattle.sequencer.specs.Catalog.{no_names}
 use Rattle.sequencer.specs.Log.{Accepted}
 use Rattle.bohm_base.proofs.Reached.{begun_start, on_ok}
 use Rattle.log_text.proofs.Total.{total}
-use Rattle.batched_text.proofs.Cutting.{limits, open_first}
+use Rattle.batched_text.proofs.Cutting.{open_first}
 use Rattle.batched_text.proofs.Ended.{batched_start}
 use Rattle.batched_text.proofs.Histories.{none_wait}
 use Rattle.batched_text.proofs.running.report_lines.Goals as goal
@@ -14,7 +14,7 @@ returns-in_err-lines-clause-begun g c = begun_start total _ _ _ c.requires.first
 
 pub report_rest-requires-clause-ready : goal.report_rest-requires-clause-ready
 report_rest-requires-clause-ready g c κs within = record {
-  room = open_first c.args.history c.args.settings.now c.args.batching.now (limits c.args.settings.now c.requires.settings).batch_some c.requires.first;
+  room = open_first c.args.plan.now c.args.batching.now c.requires.within c.requires.first;
   bounded = search rules;
   numbered = search rules;
 }
@@ -30,7 +30,7 @@ pub returns-clause-begun : goal.returns-clause-begun
 returns-clause-begun g c = c.report_rest.ensures.ends.begun _ _ (batched_start _ _ _ c.args.batching.now c.in_ok-lines.ensures c.requires.first)
 
 pub report_rest-requires-clause-none : goal.report_rest-requires-clause-none
-report_rest-requires-clause-none g c κs within = none_wait c.args.history _ c.requires.first.nobody
+report_rest-requires-clause-none g c κs within = none_wait c.args.plan.now.history _ c.requires.first.nobody
 
 pub report_rest-requires-clause-begins : goal.report_rest-requires-clause-begins
 report_rest-requires-clause-begins g c κs within =

@@ -4,17 +4,16 @@ use Rattle.log_text_base.specs.Ahead.{ahead}
 use Rattle.sequencer.specs.Foretelling.{Begins}
 use Rattle.batched_text.specs.Batching.{BatchedUpTo, IsBatchReady}
 use Rattle.batched_text.specs.Foretold.{log_names}
-use Rattle.batched_text.specs.History.{NoneWait, dropped_by}
+use Rattle.batched_text.specs.History.{NoneWait}
 use Rattle.log_text_base.specs.declared.limits.TheConstants.{BUFFER_BYTES, MOST_GIVEN_BYTES}
 use Rattle.batched_text.proofs.running.report_rest.Given as goal
 
 abbrev pub invariant-lines : goal.invariant-lines
 invariant-lines g l = record {
-  kept : l.batching.engine.dropped ≡ dropped_by l.history l.batching.engine;
   names : Begins l.lookahead.names (log_names l.batching);
   nothing : l.batching.pending.items ≡ [];
-  none : NoneWait l.history l.batching.waiting.items;
-  ready : IsBatchReady l.history l.settings l.batching (length (ahead l.lines)) l.reader.given;
+  none : NoneWait l.plan.history l.batching.waiting.items;
+  ready : IsBatchReady l.plan l.batching (length (ahead l.lines)) l.reader.given;
   batched : (input out : Option (List ℕ))
       → BatchedUpTo input (prepend_known (ahead l.initial.lines) (g.R.Read.remaining l.initial.reader.inner)) out (g.W.Write.contents l.initial.writer.inner) l.initial.batching
       → BatchedUpTo input (prepend_known (ahead l.lines) (g.R.Read.remaining l.reader.inner)) out (g.W.Write.contents l.writer.inner) l.batching;

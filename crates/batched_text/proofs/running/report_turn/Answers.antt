@@ -57,7 +57,7 @@ returns-clause-turn g c =
       taken = λ _. record {
         ready = record {
           room = record {
-            filling = record { whole = still.whole; counted = still.counted; few = still.few; cut = still.cut; most = still.most };
+            filling = record { within = still.within; whole = still.whole; counted = still.counted; few = still.few; kept = still.kept; cut = still.cut; most = still.most };
             less = runs.ready.room.less;
           };
           bounded = λ some. runs.ready.bounded (omega (arith, some, left));

@@ -1,10 +1,6 @@
 use Rattle.bohm_base.proofs.Reached.{all_written, front_kept_written, front_written}
 use Rattle.batched_text.proofs.Faults.{write_counted}
-use Rattle.batched_text.proofs.Histories.{kept_first}
 use Rattle.batched_text.proofs.running.run_batches.Goals as goal
-
-pub report_all-ended-requires-clause-kept : goal.report_all-ended-requires-clause-kept
-report_all-ended-requires-clause-kept g c κs within = kept_first c.args.history c.args.batching.now.engine c.requires.first.kept c.requires.first.none
 
 pub returns-in_err-ended-clause-begun : goal.returns-in_err-ended-clause-begun
 returns-in_err-ended-clause-begun g c =
