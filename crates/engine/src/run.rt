@@ -21,7 +21,7 @@ use model_base::{
 use past::{Past, forget_first};
 use placers::references_of;
 use sequencer::{LogTail, Refused};
-use standing::{advance, run_in_order};
+use standing::{RememberingBook, advance, run_in_order};
 use std::alloc::{AllocError, Global};
 use std::marker::Model;
 use std::ops::Range;
@@ -36,7 +36,7 @@ use workers::Gate;
 pub struct Engine {
     log: LogTail,
     chains: Chains,
-    book: Book,
+    book: RememberingBook,
     past: Past<Outcome>,
     outcomes: Vec<Outcome>,
 }
@@ -107,7 +107,7 @@ fn run_by_workers<T: Threads + Wait + Sync, G: Gate + Sync>(
     rt: &T,
     alloc: Global,
     chains: &mut Chains,
-    book: &mut Book,
+    book: &mut RememberingBook,
     log: &LogTail,
     range: Range<Place>,
     crew: Crew,
@@ -132,7 +132,7 @@ fn run_by_workers<T: Threads + Wait + Sync, G: Gate + Sync>(
     let Taken {
         outcomes: mut came,
         versions,
-    } = ran(rt, alloc, log, chains, book, start..end, crew, gate)?;
+    } = ran(rt, alloc, log, chains, book.book(), start..end, crew, gate)?;
     let before = outcomes.len();
     outcomes.append(&mut came)?;
     let moved = advance(
@@ -156,7 +156,7 @@ fn run_range<T: Threads + Wait + Sync, G: Gate + Sync>(
     rt: &T,
     alloc: Global,
     chains: &mut Chains,
-    book: &mut Book,
+    book: &mut RememberingBook,
     log: &LogTail,
     range: Range<Place>,
     crew: Crew,
@@ -206,7 +206,7 @@ impl Engine {
         Engine {
             log: LogTail::new(alloc),
             chains: Chains::new(alloc),
-            book: Book::new(alloc),
+            book: RememberingBook::new(alloc),
             past: Past::new(),
             outcomes: Vec::new(alloc),
         }
@@ -228,7 +228,7 @@ impl Engine {
         ensures shows { ShowsBook self.now.book (owners self.now.log.statements)
             (deeds_before self.now.log.statements (finished self.now)) }
     {
-        &self.book
+        self.book.book()
     }
 
     /// How many places are finished: all below this one. Outcomes, rows and book are those of the log so far.

@@ -4,7 +4,7 @@
 //! transaction is executed once the versions that it reads are there, and what it writes are versions of its place. In the order
 //! of the log the versions that it reads are the newest.
 
-ghost use Rattle.std.specs.Prelude.{◌≡◌, ◌<◌, ◌≤◌, ◌+◌, ◌-◌, ◌++◌, ℕ, false, IfOk, List, None, OnErr, OnOk, Some, length, slice_get, take};
+ghost use Rattle.std.specs.Prelude.{◌≡◌, ◌<◌, ◌≤◌, ◌+◌, ◌-◌, ◌++◌, ◌∷◌, [], ℕ, false, List, None, OnErr, OnOk, Some, length, slice_get, take, vec_capacity, vec_len};
 ghost use Rattle.model_base.specs.declared.outcome.Outcome.{Outcome as Came};
 ghost use Rattle.model_base.specs.Outcomes.{missing, outcome, owners, world_before};
 ghost use Rattle.chains.specs.Store.{cut_store};
@@ -15,34 +15,39 @@ ghost use Rattle.standing.specs.Stands.{Stands};
 ghost use Rattle.taking.specs.Span.{AreOutcomes};
 
 use crate::booking::{create, creates, make};
+use crate::remembering::RememberingBook;
 use body::{BodyEnd, Window, fill, run, shows_rows};
 use chains::Chains;
-use checker::{Admission, admit};
-use grants::Book;
+use checker::Admission;
 use model_base::{Outcome, Place, Statement};
 use sequencer::LogTail;
 use std::alloc::{AllocError, Global};
 use std::ops::Range;
 use workers::Gate;
 
-/// Runs the body of a statement whose needs are all held, and makes its deed if the body completes. On `Err` memory was refused,
-/// and all that was added to rows and grants is of this place.
+/// Runs the body of a statement whose needs are all held, and makes its deed if the body completes. The outcome is appended, where there
+/// is room for it. On `Err` memory was refused, all that was added to rows and grants is of this place, and no outcome is appended.
 fn run_admitted(
     alloc: Global,
     chains: &mut Chains,
-    book: &mut Book,
+    book: &mut RememberingBook,
     window: &mut Window,
     log: &LogTail,
     place: Place,
     statement: &Statement,
-) -> Result<Outcome, AllocError>
+    outcomes: &mut Vec<Outcome>,
+) -> Result<(), AllocError>
+    requires room { vec_len outcomes.old < vec_capacity outcomes.old }
     requires known { AreKnown log.now.log.statements }
     requires stands { Stands log.now.log.statements place chains.old book.old }
     requires at { slice_get log.now.log.statements place ≡ Some statement.now }
     requires form { creates statement.now.form ≡ false }
     requires admitted { missing (owners log.now.log.statements) (world_before log.now.log.statements place)
         statement.now.user statement.now.form ≡ None }
-    ensures came { IfOk result (λ found. outcome log.now.log.statements place ≡ Some found) }
+    ensures came { OnOk result ((found : Came) × (outcome log.now.log.statements place ≡ Some found)
+        × (outcomes.new.items ≡ outcomes.old.items ++ found ∷ [])) }
+    ensures none { OnErr result (outcomes.new.items ≡ outcomes.old.items) }
+    ensures capacity { vec_capacity outcomes.new ≡ vec_capacity outcomes.old }
     ensures stands { OnOk result (Stands log.now.log.statements (place + 1) chains.new book.new) }
     ensures mark { chains.new.mark ≡ chains.old.mark }
     ensures end { chains.old.end ≤ chains.new.end }
@@ -61,35 +66,41 @@ fn run_admitted(
             chains.put_place(statement.accesses(), window)?;
             let deed = make(alloc, book, log, place, statement.deed_at(place))?;
             let outputs = window.outputs();
-            Ok(Outcome::Done { outputs, deed })
+            outcomes.push_reserved(Outcome::Done { outputs, deed });
         }
         BodyEnd::Aborted { step, reason } => {
             chains.pass();
-            Ok(Outcome::Aborted { step, reason })
+            outcomes.push_reserved(Outcome::Aborted { step, reason });
         }
         BodyEnd::Undeclared { step } => {
             chains.pass();
-            Ok(Outcome::Undeclared { step })
+            outcomes.push_reserved(Outcome::Undeclared { step });
         }
     }
+    Ok(())
 }
 
-/// Runs a place over the rows and the grants before it; then they are those before the next place. On `Err` memory was refused,
-/// and all that was added to rows and grants is of this place.
+/// Runs a place over the rows and the grants before it, and appends its outcome, where there is room for it; then they are those before
+/// the next place. On `Err` memory was refused, all that was added to rows and grants is of this place, and no outcome is appended.
 fn run_place(
     alloc: Global,
     chains: &mut Chains,
-    book: &mut Book,
+    book: &mut RememberingBook,
     window: &mut Window,
     log: &LogTail,
     place: Place,
-) -> Result<Outcome, AllocError>
+    outcomes: &mut Vec<Outcome>,
+) -> Result<(), AllocError>
+    requires room { vec_len outcomes.old < vec_capacity outcomes.old }
     requires kept { log.now.dropped ≤ place }
     requires within { place < length log.now.log.statements }
     requires known { AreKnown log.now.log.statements }
     requires named { AreNamed log.now.log.statements }
     requires stands { Stands log.now.log.statements place chains.old book.old }
-    ensures came { IfOk result (λ found. outcome log.now.log.statements place ≡ Some found) }
+    ensures came { OnOk result ((found : Came) × (outcome log.now.log.statements place ≡ Some found)
+        × (outcomes.new.items ≡ outcomes.old.items ++ found ∷ [])) }
+    ensures none { OnErr result (outcomes.new.items ≡ outcomes.old.items) }
+    ensures capacity { vec_capacity outcomes.new ≡ vec_capacity outcomes.old }
     ensures stands { OnOk result (Stands log.now.log.statements (place + 1) chains.new book.new) }
     ensures mark { chains.new.mark ≡ chains.old.mark }
     ensures end { chains.old.end ≤ chains.new.end }
@@ -101,14 +112,18 @@ fn run_place(
     if creates(&statement.form) {
         create(book, log, place, statement)?;
         chains.pass();
-        return Ok(Outcome::Created);
+        outcomes.push_reserved(Outcome::Created);
+        return Ok(());
     }
-    match admit(statement, &mut book.at(place)) {
+    match book.admit(statement, place) {
         Admission::Denied { need, cause } => {
             chains.pass();
-            Ok(Outcome::Denied { need, cause })
+            outcomes.push_reserved(Outcome::Denied { need, cause });
+            Ok(())
         }
-        Admission::Admitted => { run_admitted(alloc, chains, book, window, log, place, statement) }
+        Admission::Admitted => run_admitted(
+            alloc, chains, book, window, log, place, statement, outcomes,
+        ),
     }
 }
 
@@ -117,7 +132,7 @@ fn run_place(
 fn run_places<G: Gate>(
     alloc: Global,
     chains: &mut Chains,
-    book: &mut Book,
+    book: &mut RememberingBook,
     log: &LogTail,
     range: Range<Place>,
     gate: &G,
@@ -140,12 +155,12 @@ fn run_places<G: Gate>(
     let _len = log.len();
     let mut window = Window::new();
     let size = (range.end - range.start) as usize;
+    outcomes.reserve(size)?;
     for index in 0..size {
         let place = range.start + index as u64;
         gate.before(index);
-        let outcome = run_place(alloc, chains, book, &mut window, log, place)?;
+        run_place(alloc, chains, book, &mut window, log, place, outcomes)?;
         gate.after(index);
-        outcomes.push(outcome)?;
     }
     Ok(())
 }
@@ -156,7 +171,7 @@ fn run_places<G: Gate>(
 pub fn run_in_order<G: Gate>(
     alloc: Global,
     chains: &mut Chains,
-    book: &mut Book,
+    book: &mut RememberingBook,
     log: &LogTail,
     range: Range<Place>,
     gate: &G,

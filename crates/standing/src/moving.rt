@@ -7,8 +7,8 @@ ghost use Rattle.standing.specs.Stands.{Stands};
 ghost use Rattle.taking.specs.Span.{AreOutcomes};
 
 use crate::booking::book_places;
+use crate::remembering::RememberingBook;
 use chains::{Chains, Version};
-use grants::Book;
 use model_base::{Outcome, Place};
 use sequencer::LogTail;
 use std::alloc::{AllocError, Global};
@@ -19,7 +19,7 @@ use std::ops::Range;
 pub fn advance(
     alloc: Global,
     chains: &mut Chains,
-    book: &mut Book,
+    book: &mut RememberingBook,
     log: &LogTail,
     outcomes: &[Outcome],
     versions: Vec<Version>,

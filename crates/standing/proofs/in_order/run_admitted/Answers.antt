@@ -44,8 +44,11 @@ returns-in_ok-deed-in-Completed-clause-came c =
     let leads = ended-leads c.args.log.now.log.statements c.args.place c.args.statement.now c.requires.at c.requires.form c.requires.admitted
     c.args.chains.now c.mark-mark.ensures.within c.args.book.now c.requires.stands c.fill.new.window c.run.new.window
     c.fill.ensures.shows c.run.result BodyEnd.Completed c.in-Completed.is c.run.ensures.ends in
-    let made = c.in_ok-deed-in-Completed.ensures.told ∙ ap (deed_done (owners log) (world_before log c.args.place)) c.deed_at.ensures in
-    leads.0 ∙ (λ i. Some (Outcome.Done (sym c.outputs-outputs.ensures i) (sym made i)))
+    let made = c.in_ok-deed-in-Completed.ensures.told ∙ ap (deed_done (owners log) (world_before log c.args.place)) c.deed_at.ensures in (
+      Outcome.Done c.outputs-outputs.result c.in_ok-deed-in-Completed.deed,
+      leads.0 ∙ (λ i. Some (Outcome.Done (sym c.outputs-outputs.ensures i) (sym made i))),
+      c.push_reserved.ensures.items,
+    )
 
 pub returns-in_ok-deed-in-Completed-clause-stands : goal.returns-in_ok-deed-in-Completed-clause-stands
 returns-in_ok-deed-in-Completed-clause-stands c =
@@ -70,9 +73,11 @@ returns-in_ok-deed-in-Completed-clause-stands c =
 
 pub returns-in-Aborted-clause-came : goal.returns-in-Aborted-clause-came
 returns-in-Aborted-clause-came c =
-    (ended-leads c.args.log.now.log.statements c.args.place c.args.statement.now c.requires.at c.requires.form c.requires.admitted
+    let leads =
+    ended-leads c.args.log.now.log.statements c.args.place c.args.statement.now c.requires.at c.requires.form c.requires.admitted
     c.args.chains.now c.mark-mark.ensures.within c.args.book.now c.requires.stands c.fill.new.window c.run.new.window
-    c.fill.ensures.shows c.run.result (BodyEnd.Aborted c.in-Aborted.step c.in-Aborted.reason) c.in-Aborted.is c.run.ensures.ends).0
+    c.fill.ensures.shows c.run.result (BodyEnd.Aborted c.in-Aborted.step c.in-Aborted.reason) c.in-Aborted.is c.run.ensures.ends in
+    (Outcome.Aborted c.in-Aborted.step c.in-Aborted.reason, leads.0, c.push_reserved-in-Aborted.ensures.items)
 
 pub returns-in-Aborted-clause-stands : goal.returns-in-Aborted-clause-stands
 returns-in-Aborted-clause-stands c =
@@ -84,9 +89,11 @@ returns-in-Aborted-clause-stands c =
 
 pub returns-in-Undeclared-clause-came : goal.returns-in-Undeclared-clause-came
 returns-in-Undeclared-clause-came c =
-    (ended-leads c.args.log.now.log.statements c.args.place c.args.statement.now c.requires.at c.requires.form c.requires.admitted
+    let leads =
+    ended-leads c.args.log.now.log.statements c.args.place c.args.statement.now c.requires.at c.requires.form c.requires.admitted
     c.args.chains.now c.mark-mark.ensures.within c.args.book.now c.requires.stands c.fill.new.window c.run.new.window
-    c.fill.ensures.shows c.run.result (BodyEnd.Undeclared c.in-Undeclared.step) c.in-Undeclared.is c.run.ensures.ends).0
+    c.fill.ensures.shows c.run.result (BodyEnd.Undeclared c.in-Undeclared.step) c.in-Undeclared.is c.run.ensures.ends in
+    (Outcome.Undeclared c.in-Undeclared.step, leads.0, c.push_reserved-in-Undeclared.ensures.items)
 
 pub returns-in-Undeclared-clause-stands : goal.returns-in-Undeclared-clause-stands
 returns-in-Undeclared-clause-stands c =

@@ -1,4 +1,5 @@
-use Rattle.std.proofs.Common.{◌≡◌, ◌+◌, ◌≤◌, ◌++◌, List}
+use Rattle.std.proofs.Common.{◌≡◌, ◌+◌, ◌-◌, ◌≤◌, ◌++◌, List}
+use Rattle.std.specs.Prelude.{vec_capacity, vec_len}
 use Rattle.model_base.specs.declared.outcome.Outcome.{Outcome}
 use Rattle.chains.specs.Store.{cut_store}
 use Rattle.grants_base.specs.Book.{cut_book}
@@ -15,4 +16,5 @@ invariant-loop-index g l = record {
   came : (found : List Outcome) × (l.outcomes.items ≡ l.initial.outcomes.items ++ found) × AreOutcomes l.log.log.statements l.range.start l.index found;
   chains : cut_store l.range.start l.chains ≡ cut_store l.range.start l.initial.chains;
   book : cut_book l.range.start l.book ≡ cut_book l.range.start l.initial.book;
+  room : vec_len l.outcomes + (l.size - l.index) ≤ vec_capacity l.outcomes;
 }
