@@ -30,7 +30,9 @@ fn take_statement<'a>(
     ensures err { IfErr result (λ f. f ≡ EngineFault.NoMemory) }
     ensures want { OnErr result (LineMayLackMemory (became engine.old.log.names (read statement.entry))) }
 {
-    match engine.push_lent(statement, raw) {
+    let pushed = engine.push(&statement);
+    raw.take_back(statement);
+    match pushed {
         Ok(_) => Ok(Became::Accepted),
         Err(refused) => {
             let line = refused_line(refused)?;

@@ -92,7 +92,7 @@ fn take_statement(log: &mut Log, statement: RawStatement<'_>) -> Result<Became, 
     ensures err { IfErr result (λ f. f ≡ EngineFault.NoMemory) }
     ensures want { OnErr result (LineMayLackMemory (became log.old.names (read statement.entry))) }
 {
-    match log.push(statement) {
+    match log.push(&statement) {
         Ok(_) => Ok(Became::Accepted),
         Err(refused) => {
             let line = refused_line(refused)?;

@@ -46,31 +46,35 @@ impl Rows {
         }
     }
 
-    /// Adds the version after the others of its key. On `Err` memory was refused, and the rows are as they were.
+    /// Adds the version of a place after the others of its key. On `Err` memory was refused, and the rows are as they were.
     #[inline(always)]
-    pub(crate) fn put(&mut self, version: &Version) -> Result<(), AllocError>
-        ensures added { OnOk result ((key : RowKey) → of_key key self.new.versions ≡ of_key key (self.old.versions ++ version.now ∷ [])) }
-        ensures replacing { OnOk result (self.new.replacing ≡ replacing_after self.old version.now) }
-        ensures below { OnOk result ((first : ℕ) → first ≤ version.now.place → held_below first self.new ≡ held_below first self.old) }
+    pub(crate) fn put(
+        &mut self,
+        place: Place,
+        key: Key,
+        row: &Option<Row>,
+    ) -> Result<(), AllocError>
+        ensures added { OnOk result ((other : RowKey) → of_key other self.new.versions
+            ≡ of_key other (self.old.versions ++ record { place = place; key = key; row = row.now } ∷ [])) }
+        ensures replacing { OnOk result (self.new.replacing
+            ≡ replacing_after self.old (record { place = place; key = key; row = row.now })) }
+        ensures below { OnOk result ((first : ℕ) → first ≤ place → held_below first self.new ≡ held_below first self.old) }
         ensures err { OnErr result (self.new ≡ self.old) }
     {
         self.older.reserve(1)?;
-        match self.newest.get_mut(&version.key) {
+        match self.newest.get_mut(&key) {
             None => {
-                let dated = Dated {
-                    place: version.place,
-                    row: version.row,
-                };
-                self.newest.insert(version.key, dated)?;
+                let dated = Dated { place, row: *row };
+                self.newest.insert(key, dated)?;
             }
             Some(newest) => {
                 self.older.push_back_reserved(Replaced {
-                    by: version.place,
-                    key: version.key,
+                    by: place,
+                    key,
                     version: *newest,
                 });
-                newest.place = version.place;
-                newest.row = version.row;
+                newest.place = place;
+                newest.row = *row;
             }
         }
         Ok(())
@@ -138,7 +142,7 @@ impl Rows {
         ensures err { OnErr result (self.new ≡ self.old) }
     {
         for version in versions {
-            if let Err(refused) = self.put(version) {
+            if let Err(refused) = self.put(version.place, version.key, &version.row) {
                 self.cut(first);
                 return Err(refused);
             }

@@ -176,14 +176,9 @@ impl Chains {
         if !access.is_writing() {
             return Ok(());
         }
-        let version = Version {
-            place,
-            key: access.key,
-            row: *row,
-        };
         self.absent.reserve(1)?;
-        self.rows.put(&version)?;
-        note_if(&mut self.absent, version.row.is_none(), &version);
+        self.rows.put(place, access.key, row)?;
+        note_if(&mut self.absent, row.is_none(), place, access.key);
         Ok(())
     }
 

@@ -31,18 +31,15 @@ pub(crate) fn take_write_below(writes: &mut VecDeque<Written>, mark: Place) -> O
     if below { writes.pop_front() } else { None }
 }
 
-/// Adds the version's place after the others, where that is asked for.
-pub(crate) fn note_if(writes: &mut VecDeque<Written>, asked: bool, version: &Version)
+/// Adds the place of a version after the others, where that is asked for.
+pub(crate) fn note_if(writes: &mut VecDeque<Written>, asked: bool, place: Place, key: Key)
     requires { deque_len writes.old < deque_capacity writes.old }
-    ensures items { writes.new.items ≡ (if asked then writes.old.items ++ written_by version.now ∷ [] else writes.old.items) }
+    ensures items { writes.new.items ≡ (if asked then writes.old.items ++ record { place = place; key = key } ∷ [] else writes.old.items) }
     ensures len { deque_len writes.new ≤ deque_len writes.old + 1 }
     ensures capacity { deque_capacity writes.new ≡ deque_capacity writes.old }
 {
     if asked {
-        writes.push_back_reserved(Written {
-            place: version.place,
-            key: version.key,
-        });
+        writes.push_back_reserved(Written { place, key });
     }
 }
 
@@ -52,7 +49,7 @@ pub(crate) fn note_absent(writes: &mut VecDeque<Written>, versions: &[Version])
     ensures { writes.new.items ≡ writes.old.items ++ map written_by (filter is_absent versions.now) }
 {
     for version in versions {
-        note_if(writes, version.row.is_none(), version);
+        note_if(writes, version.row.is_none(), version.place, version.key);
     }
 }
 

@@ -13,7 +13,7 @@ use chains::{BadMark, Chains, Trimmed};
 use executing::execute;
 use grants::Book;
 use log_batch::LogBatch;
-use log_text::{RawRoom, RawStatement};
+use log_text::RawStatement;
 use model_base::{
     Key, MOST_BATCH_STATEMENTS, MOST_PARTITIONS, MOST_PLACES, MOST_WORKERS, Outcome, Place, Row,
     Statement,
@@ -248,30 +248,14 @@ impl Engine {
         self.chains.mark()
     }
 
-    /// Takes a statement as the next place, as the log does. After a refusal the engine is as it was. What it was read into goes back
-    /// to where lines are read, and its accesses and steps take the memory of a statement that was forgotten, where that is enough.
+    /// Takes a statement as the next place, as the log does. After a refusal the engine is as it was. Its accesses and steps take the
+    /// memory of a statement that was forgotten, where that is enough.
     #[inline(always)]
-    pub fn push_lent<'a>(
-        &mut self,
-        statement: RawStatement<'a>,
-        raw: &mut RawRoom<'a>,
-    ) -> Result<Place, Refused>
+    pub fn push(&mut self, statement: &RawStatement<'_>) -> Result<Place, Refused>
         ensures place { IfOk result (λ place. place ≡ length self.old.log.statements) }
-        ensures accepted { OnOk result (self.new ≡ record self.old { log = with_accepted self.old.log statement.entry }) }
-        ensures passes { OnOk result (refusal self.old.log.names statement.entry ≡ None) }
-        ensures refused { IfErr result (λ r. IsRefusal r (refusal self.old.log.names statement.entry)) }
-        ensures err { OnErr result (self.new ≡ self.old) }
-    {
-        let _dropped = self.log.dropped();
-        self.log.push_lent(statement, raw)
-    }
-
-    /// Takes a statement as the next place, as `push_lent`, with memory of its own for what it was read into.
-    pub fn push(&mut self, statement: RawStatement<'_>) -> Result<Place, Refused>
-        ensures place { IfOk result (λ place. place ≡ length self.old.log.statements) }
-        ensures accepted { OnOk result (self.new ≡ record self.old { log = with_accepted self.old.log statement.entry }) }
-        ensures passes { OnOk result (refusal self.old.log.names statement.entry ≡ None) }
-        ensures refused { IfErr result (λ r. IsRefusal r (refusal self.old.log.names statement.entry)) }
+        ensures accepted { OnOk result (self.new ≡ record self.old { log = with_accepted self.old.log statement.now }) }
+        ensures passes { OnOk result (refusal self.old.log.names statement.now ≡ None) }
+        ensures refused { IfErr result (λ r. IsRefusal r (refusal self.old.log.names statement.now)) }
         ensures err { OnErr result (self.new ≡ self.old) }
     {
         let _dropped = self.log.dropped();

@@ -35,7 +35,7 @@ pub fn push_line(alloc: Global, engine: &mut Engine, line: &str) -> Result<(), T
     let Ok(statement) = parse_line(alloc, line.as_bytes()) else {
         return Err(TrialFault::Line);
     };
-    match engine.push(statement) {
+    match engine.push(&statement) {
         Ok(_place) => Ok(()),
         Err(_refused) => Err(TrialFault::Line),
     }

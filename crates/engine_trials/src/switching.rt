@@ -37,7 +37,7 @@ fn crew_in_turn(batch: u64) -> Crew {
 fn push_accepted(alloc: Global, engine: &mut Engine, log: &[u8]) {
     for line in log.split(|byte| *byte == b'\n') {
         if let Ok(statement) = parse_line(alloc, line) {
-            let _pushed = engine.push(statement);
+            let _pushed = engine.push(&statement);
         }
     }
 }

@@ -2,7 +2,7 @@
 //! all has to be as it was.
 
 use crate::telling::tell;
-use log_text::{LineFault, RawRoom, RawStatement, parse_line};
+use log_text::{LineFault, RawStatement, parse_line};
 use model_base::{Place, Table, User};
 use sequencer::{Catalog, Log, NameTable, Refused, Room};
 use std::alloc::Global;
@@ -20,7 +20,7 @@ fn push(alloc: Global, log: &mut Log, line: &str) -> Result<Place, Refused> {
     let Ok(statement) = parsed(alloc, line) else {
         return Err(Refused::NoMemory);
     };
-    log.push(statement)
+    log.push(&statement)
 }
 
 /// How many users, tables and places a catalog has.
@@ -126,11 +126,10 @@ fn admitted(alloc: Global, catalog: &mut Catalog, line: &str) -> Result<User, Re
         return Err(Refused::NoMemory);
     };
     catalog.test(&statement)?;
-    let mut room = Room::new(alloc);
-    let statement = catalog.admit(statement, &mut room, &mut RawRoom::new(alloc))?;
-    let user = statement.user;
-    room.take_back(statement);
-    Ok(user)
+    let mut kept = Vec::new(alloc);
+    kept.reserve(1)?;
+    catalog.admit(&statement, &mut Room::new(alloc), &mut kept)?;
+    Ok(kept[kept.len() - 1].user)
 }
 
 /// The catalog's answer to a line, which is put again if memory was refused and nothing has changed.

@@ -23,7 +23,7 @@ fn parsed<'a>(alloc: Global, line: &'a str) -> Result<RawStatement<'a>, LineFaul
 fn put_line(alloc: Global, log: &mut LogTail, line: &str) -> Result<(), TrialFault> {
     for _ in 0..2 {
         if let Ok(statement) = parsed(alloc, line) {
-            if log.push(statement).is_ok() {
+            if log.push(&statement).is_ok() {
                 return Ok(());
             }
         }

@@ -26,8 +26,10 @@ fn admit(alloc: Global, catalog: &mut Catalog, line: &[u8]) -> Result<(), TrialF
     let Ok(statement) = read_line(alloc, line, &mut raw) else {
         return Err(TrialFault::Line);
     };
-    match catalog.admit(statement, &mut Room::new(alloc), &mut raw) {
-        Ok(_) => Ok(()),
+    let mut kept = Vec::new(alloc);
+    kept.reserve(1)?;
+    match catalog.admit(&statement, &mut Room::new(alloc), &mut kept) {
+        Ok(()) => Ok(()),
         Err(_) => Err(TrialFault::Line),
     }
 }

@@ -141,6 +141,13 @@ impl<'a> RawStatement<'a> {
         self.user.as_str()
     }
 
+    /// That user's name, as the line has it.
+    pub fn name(&self) -> &Name<'a>
+        ensures { result.now ≡ self.now.user }
+    {
+        &self.user
+    }
+
     /// What it asks for.
     pub fn form(&self) -> &RawForm<'a>
         ensures value { result.now ≡ self.now.form }

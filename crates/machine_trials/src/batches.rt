@@ -33,7 +33,7 @@ fn push_lines(alloc: Global, log: &mut LogTail, lines: &[&str]) -> Result<(), Tr
 {
     for line in lines {
         let statement = parse_line(alloc, line.as_bytes())?;
-        log.push(statement)?;
+        log.push(&statement)?;
     }
     Ok(())
 }

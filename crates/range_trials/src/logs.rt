@@ -38,7 +38,7 @@ impl WholeLog {
     /// Appends the statement of a line. After an error the log is as it was.
     pub fn push_line(&mut self, alloc: Global, line: &[u8]) -> Result<(), TrialFault> {
         let statement = parse_line(alloc, line)?;
-        self.tail.push(statement)?;
+        self.tail.push(&statement)?;
         Ok(())
     }
 

@@ -53,11 +53,14 @@ pub(crate) fn found_of<'a>(
 ) -> Found
     ensures { IsFoundOf catalog.now line.now result }
 {
-    match read_line(alloc, line, raw) {
-        Ok(statement) => match catalog.foretell(recent, statement, room, raw) {
-            Some(statement) => Found::Known(statement),
-            None => Found::Unread,
-        },
-        Err(fault) => found_faulty(fault),
+    let statement = match read_line(alloc, line, raw) {
+        Ok(statement) => statement,
+        Err(fault) => return found_faulty(fault),
+    };
+    let foretold = catalog.foretell(recent, &statement, room);
+    raw.take_back(statement);
+    match foretold {
+        Some(statement) => Found::Known(statement),
+        None => Found::Unread,
     }
 }

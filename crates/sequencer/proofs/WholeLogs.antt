@@ -1,6 +1,6 @@
 -- What holds of each log stays so where a statement is taken.
 use Rattle.std.proofs.Common.{◌≡◌, ℕ, ◌≤◌, List, [], ◌∷◌, ◌++◌, length, None, refl, ap, sym, ◌∙◌, subst, arith, inl, inr, length-append}
-use Rattle.std.specs.Prelude.{All, IfOk, OnOk, Result, Ok, Err, nat_le, ◌&&◌, not, slice_index_or}
+use Rattle.std.specs.Prelude.{All, OnOk, Result, Ok, Err, nat_le, ◌&&◌, not, slice_index_or}
 use Rattle.std.proofs.lemmas.Bool.{and_parts, cases_lt, leb-true}
 use Rattle.std.proofs.lemmas.Grind.{flat_map-append}
 use Rattle.std.proofs.lemmas.List.{append-nil, get_or_append_left, get_or_past}
@@ -90,14 +90,15 @@ taken_after names sentence h e =
     })
 
 -- so it is with the answer that takes it
-pub taken_parts : (names after : Names) (sentence : Sentence) (user : List ℕ) (form : RawForm) (result : Result Statement Refused) → IsInGrammar sentence
-    → user ≡ sentence.user → form ≡ sentence.form → IfOk result (λ s. s ≡ numbered names (record { user = user; form = form }))
-    → OnOk result (refusal names (record { user = user; form = form }) ≡ None) → OnOk result (after ≡ with_statement names (record { user = user; form = form }))
-    → IfOk result (λ s. IsTaken after s) × IfOk result (λ s. HasFilledRows s.form)
-taken_parts names after sentence user form (Ok statement) h users forms is e new =
-    let grammar = subst IsInGrammar (λ i. record { user = sym users i; form = sym forms i }) h in
-    rw (is, new) (taken_after names (record { user = user; form = form }) grammar e, filled_rows names (record { user = user; form = form }) grammar e)
-taken_parts names after sentence user form (Err refused) h users forms is e new = (tt, tt)
+pub taken_parts : {X : Type 0} (names after : Names) (sentence : Sentence) (user : List ℕ) (form : RawForm) (result : Result X Refused) → IsInGrammar sentence
+    → user ≡ sentence.user → form ≡ sentence.form → OnOk result (refusal names (record { user = user; form = form }) ≡ None)
+    → OnOk result (after ≡ with_statement names (record { user = user; form = form }))
+    → OnOk result (IsTaken after (numbered names sentence)) × OnOk result (HasFilledRows (numbered names sentence).form)
+taken_parts names after sentence user form (Ok value) h users forms e new =
+    let told : record { user = user; form = form } ≡ sentence = λ i. record { user = users i; form = forms i } in
+    let passes = subst (λ (s : Sentence). refusal names s ≡ None) told e in
+    rw (subst (λ (s : Sentence). after ≡ with_statement names s) told new) (taken_after names sentence h passes, filled_rows names sentence h passes)
+taken_parts names after sentence user form (Err refused) h users forms e new = (tt, tt)
 
 -- a new table has at most eight columns
 few_columns : (names : Names) (table : List ℕ) (columns : ℕ) → create_refusal names table columns ≡ None → columns ≤ 8

@@ -1,5 +1,5 @@
 -- What the statements of src/admitting.rt ask for, what entering their users asks of names, and what is taken out of a step.
-use Rattle.std.specs.Prelude.{ℕ, Option, List}
+use Rattle.std.specs.Prelude.{◌≡◌, ◌≢◌, ◌++◌, ◌∷◌, [], ℕ, MatchResult, None, Option, Result, Some, List}
 use Rattle.log_text.specs.Statement.{Sentence}
 use Rattle.line_words.specs.declared.access.RawAccess.{RawAccess}
 use Rattle.log_text.specs.declared.statement.RawDeed.{RawDeed}
@@ -9,6 +9,12 @@ use Rattle.sequencer.specs.Names.{with_name}
 use Rattle.sequencer.specs.Catalog.{Names, with_grantee}
 use Rattle.sequencer.specs.Refusal.{deed_refusal, or_refused, users_refusal}
 use Rattle.sequencer.specs.declared.refused.Refused.{Refused}
+use Rattle.sequencer.specs.declared.refused.Refused.TheVariants.{NoMemory}
+
+-- a value is appended where nothing is refused
+abbrev pub Appends : {X Y : Type 0} → Result X Refused → Option Refused → List Y → List Y → Y → Type 0
+Appends result found old new value =
+    MatchResult result (λ _. (found ≡ None) × (new ≡ old ++ value ∷ [])) (λ refused. (found ≡ Some refused) × (refused ≢ NoMemory))
 
 -- a user asks for a table of this name with so many columns
 abbrev pub create_by : List ℕ → List ℕ → ℕ → Sentence

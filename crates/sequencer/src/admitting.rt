@@ -1,6 +1,6 @@
 //! How a statement is taken.
 
-ghost use Rattle.std.specs.Prelude.{◌≡◌, ◌<◌, None, Some, option_map, IfOk, IfErr, OnOk, OnErr};
+ghost use Rattle.std.specs.Prelude.{◌≡◌, ◌<◌, ◌++◌, ◌∷◌, [], None, Some, option_map, IfOk, IfErr, OnOk, OnErr, vec_capacity, vec_len};
 ghost use Rattle.sequencer.specs.Names.{number_of};
 ghost use Rattle.sequencer.specs.Catalog.{numbered, numbered_deed, with_statement, with_user};
 ghost use Rattle.sequencer.specs.Admitting.{create_by, deed_by, entry_refusal, run_by, with_users};
@@ -13,7 +13,7 @@ use crate::numbering::deed_form;
 use crate::refused::Refused;
 use crate::room::Room;
 use crate::testing::{names_in, test_name};
-use log_text::{Name, RawAccess, RawDeed, RawForm, RawRoom, RawStatement, RawStep};
+use log_text::{Name, RawAccess, RawDeed, RawForm, RawStatement, RawStep};
 use model_base::{DeedForm, Form, MOST_PLACES, Statement, Table, User};
 use std::mem;
 
@@ -65,7 +65,8 @@ impl Catalog {
         }
     }
 
-    /// Takes a RUN, as `admit`, where a place is left. Its accesses and steps go where room was made, and take it.
+    /// Takes a RUN, as `admit`, where a place is left. Its accesses and steps go where room was made, and take it, and the statement goes
+    /// where there is room for it.
     #[tactic(auto, using(crate::proofs::RefusalLemmas::refusal_of_test))]
     fn admit_run(
         &mut self,
@@ -74,14 +75,18 @@ impl Catalog {
         steps: &[RawStep<'_>],
         deed: &Option<RawDeed<'_>>,
         room: &mut Room,
-    ) -> Result<Statement, Refused>
+        kept: &mut Vec<Statement>,
+    ) -> Result<(), Refused>
+        requires kept { vec_len kept.old < vec_capacity kept.old }
         requires place { self.old.places < MOST_PLACES }
         requires room { HasRoom room.old (RawForm.Run accesses.now steps.now deed.now) }
-        ensures ok { IfOk result (λ s. s ≡ numbered self.old (run_by user.now accesses.now steps.now deed.now)) }
+        ensures ok { OnOk result (kept.new.items ≡ kept.old.items
+            ++ numbered self.old (run_by user.now accesses.now steps.now deed.now) ∷ []) }
         ensures passes { OnOk result (refusal self.old (run_by user.now accesses.now steps.now deed.now) ≡ None) }
         ensures names { OnOk result (self.new ≡ with_statement self.old (run_by user.now accesses.now steps.now deed.now)) }
         ensures refused { IfErr result (λ r. IsRefusal r (refusal self.old (run_by user.now accesses.now steps.now deed.now))) }
         ensures err { OnErr result (self.new ≡ self.old) }
+        ensures none { OnErr result (kept.new.items ≡ kept.old.items) }
     {
         let mut recent = self.recent;
         let found = mem::replace(&mut room.accesses, Vec::new(self.alloc));
@@ -91,29 +96,38 @@ impl Catalog {
         self.recent = recent;
         let (user, deed) = self.enter_users(user, deed)?;
         self.places += 1;
-        Ok(Statement {
+        kept.push_reserved(Statement {
             user,
             form: Form::Run {
                 accesses,
                 steps,
                 deed,
             },
-        })
+        });
+        Ok(())
     }
 
     /// Takes a deed by itself, as `admit`, where a place is left.
-    fn admit_deed(&mut self, user: &Name<'_>, deed: &RawDeed<'_>) -> Result<Statement, Refused>
-        requires { self.old.places < MOST_PLACES }
-        ensures ok { IfOk result (λ s. s ≡ numbered self.old (deed_by user.now deed.now)) }
+    fn admit_deed(
+        &mut self,
+        user: &Name<'_>,
+        deed: &RawDeed<'_>,
+        kept: &mut Vec<Statement>,
+    ) -> Result<(), Refused>
+        requires kept { vec_len kept.old < vec_capacity kept.old }
+        requires place { self.old.places < MOST_PLACES }
+        ensures ok { OnOk result (kept.new.items ≡ kept.old.items ++ numbered self.old (deed_by user.now deed.now) ∷ []) }
         ensures passes { OnOk result (refusal self.old (deed_by user.now deed.now) ≡ None) }
         ensures names { OnOk result (self.new ≡ with_statement self.old (deed_by user.now deed.now)) }
         ensures refused { IfErr result (λ r. IsRefusal r (refusal self.old (deed_by user.now deed.now))) }
         ensures err { OnErr result (self.new ≡ self.old) }
+        ensures none { OnErr result (kept.new.items ≡ kept.old.items) }
     {
         let (user, deed) = self.enter_deed(user, deed)?;
         self.places += 1;
         let form = Form::Deed(deed);
-        Ok(Statement { user, form })
+        kept.push_reserved(Statement { user, form });
+        Ok(())
     }
 
     /// Takes a CREATE that passes the tests. It is refused only for want of memory, and then nothing has changed.
@@ -122,12 +136,15 @@ impl Catalog {
         user: &Name<'_>,
         table: &Name<'_>,
         columns: u32,
-    ) -> Result<Statement, Refused>
-        requires { refusal self.old (create_by user.now table.now columns) ≡ None }
-        ensures ok { IfOk result (λ s. s ≡ numbered self.old (create_by user.now table.now columns)) }
+        kept: &mut Vec<Statement>,
+    ) -> Result<(), Refused>
+        requires kept { vec_len kept.old < vec_capacity kept.old }
+        requires passes { refusal self.old (create_by user.now table.now columns) ≡ None }
+        ensures ok { OnOk result (kept.new.items ≡ kept.old.items ++ numbered self.old (create_by user.now table.now columns) ∷ []) }
         ensures names { OnOk result (self.new ≡ with_statement self.old (create_by user.now table.now columns)) }
         ensures refused { IfErr result (λ r. r ≡ Refused.NoMemory) }
         ensures err { OnErr result (self.new ≡ self.old) }
+        ensures none { OnErr result (kept.new.items ≡ kept.old.items) }
     {
         self.owners.reserve(1)?;
         self.columns.reserve(1)?;
@@ -149,7 +166,8 @@ impl Catalog {
             table: Table(number),
             columns: columns as u8,
         };
-        Ok(Statement { user: owner, form })
+        kept.push_reserved(Statement { user: owner, form });
+        Ok(())
     }
 
     /// Takes a CREATE, as `admit`, where a place is left.
@@ -159,59 +177,67 @@ impl Catalog {
         user: &Name<'_>,
         table: &Name<'_>,
         columns: u32,
-    ) -> Result<Statement, Refused>
-        requires { self.old.places < MOST_PLACES }
-        ensures ok { IfOk result (λ s. s ≡ numbered self.old (create_by user.now table.now columns)) }
+        kept: &mut Vec<Statement>,
+    ) -> Result<(), Refused>
+        requires kept { vec_len kept.old < vec_capacity kept.old }
+        requires place { self.old.places < MOST_PLACES }
+        ensures ok { OnOk result (kept.new.items ≡ kept.old.items ++ numbered self.old (create_by user.now table.now columns) ∷ []) }
         ensures passes { OnOk result (refusal self.old (create_by user.now table.now columns) ≡ None) }
         ensures names { OnOk result (self.new ≡ with_statement self.old (create_by user.now table.now columns)) }
         ensures refused { IfErr result (λ r. IsRefusal r (refusal self.old (create_by user.now table.now columns))) }
         ensures err { OnErr result (self.new ≡ self.old) }
+        ensures none { OnErr result (kept.new.items ≡ kept.old.items) }
     {
         self.test_create(table, columns)?;
         test_name(&self.users, user.as_str())?;
         test_name(&self.tables, table.as_str())?;
-        self.create_table(user, table, columns)
+        self.create_table(user, table, columns, kept)
     }
 
     /// Takes a statement as the next place of the log: its users and tables are numbered, the names that it is the
     /// first to name are entered, and a CREATE makes its table known. The first test that it doesn't pass refuses it, as
-    /// in `test`; one that passes is refused only for want of memory. After a refusal nothing has changed. Its accesses and
-    /// steps take the room that is lent, and memory only where it isn't enough; the lists as they were read go back to where
-    /// lines are read.
+    /// in `test`; one that passes is refused only for want of memory. After a refusal nothing has changed. The statement is appended
+    /// to those that are kept, where there is room for it. Its accesses and steps take the room that is lent, and memory only where it
+    /// isn't enough.
     #[tactic(auto, using(crate::proofs::RefusalLemmas::refusal_of_test))]
-    pub fn admit<'a>(
+    pub fn admit(
         &mut self,
-        statement: RawStatement<'a>,
+        statement: &RawStatement<'_>,
         room: &mut Room,
-        raw: &mut RawRoom<'a>,
-    ) -> Result<Statement, Refused>
-        ensures ok { IfOk result (λ s. s ≡ numbered self.old statement.entry) }
-        ensures taken { IfOk result (λ s. IsTaken self.new s) }
-        ensures filled { IfOk result (λ s. HasFilledRows s.form) }
-        ensures passes { OnOk result (refusal self.old statement.entry ≡ None) }
-        ensures names { OnOk result (self.new ≡ with_statement self.old statement.entry) }
-        ensures refused { IfErr result (λ r. IsRefusal r (refusal self.old statement.entry)) }
+        kept: &mut Vec<Statement>,
+    ) -> Result<(), Refused>
+        requires { vec_len kept.old < vec_capacity kept.old }
+        ensures ok { OnOk result (kept.new.items ≡ kept.old.items ++ numbered self.old statement.now ∷ []) }
+        ensures taken { OnOk result (IsTaken self.new (numbered self.old statement.now)) }
+        ensures filled { OnOk result (HasFilledRows (numbered self.old statement.now).form) }
+        ensures passes { OnOk result (refusal self.old statement.now ≡ None) }
+        ensures names { OnOk result (self.new ≡ with_statement self.old statement.now) }
+        ensures refused { IfErr result (λ r. IsRefusal r (refusal self.old statement.now)) }
         ensures err { OnErr result (self.new ≡ self.old) }
+        ensures none { OnErr result (kept.new.items ≡ kept.old.items) }
     {
         if self.places() >= MOST_PLACES {
             return Err(Refused::LogFull);
         }
         if room.reserve(statement.form()).is_err() {
-            return Err(self.refused(&statement));
+            return Err(self.refused(statement));
         }
-        let (user, form) = statement.into_parts();
-        match form {
-            RawForm::Create { table, columns } => self.admit_create(&user, &table, columns),
+        let user = statement.name();
+        match statement.form() {
+            RawForm::Create { table, columns } => self.admit_create(user, table, *columns, kept),
             RawForm::Run {
                 accesses,
                 steps,
                 deed,
-            } => {
-                raw.accesses = accesses.into_vec();
-                raw.steps = steps.into_vec();
-                self.admit_run(&user, &raw.accesses, &raw.steps, &deed, room)
-            }
-            RawForm::Deed(deed) => self.admit_deed(&user, &deed),
+            } => self.admit_run(
+                user,
+                accesses.as_slice(),
+                steps.as_slice(),
+                deed,
+                room,
+                kept,
+            ),
+            RawForm::Deed(deed) => self.admit_deed(user, deed, kept),
         }
     }
 }

@@ -2,7 +2,6 @@
 
 use crate::names::NameTable;
 use crate::room::Room;
-use log_text::RawRoom;
 use model_base::{MOST_COLUMNS, MOST_PLACES, Table, User};
 use std::alloc::Global;
 use std::marker::Model;
@@ -60,11 +59,6 @@ impl Catalog {
         ensures steps { result.steps.items ≡ [] }
     {
         Room::new(self.alloc)
-    }
-
-    /// Room for what a line reads as, as `no_room`.
-    pub(crate) fn no_raw_room<'a>(&self) -> RawRoom<'a> {
-        RawRoom::new(self.alloc)
     }
 
     /// How many statements were accepted, which is the place of the next one.

@@ -149,33 +149,35 @@ impl Catalog {
     /// The statement that a sentence becomes at any later place of the log, whatever is accepted before: it passes the tests,
     /// makes no table, and names nobody new. Nothing is answered where a test refuses it by these names, where it makes a
     /// table or names somebody new, or where memory is refused; that promises nothing of it. It leaves the catalog as it is,
-    /// so several threads may ask one catalog. Rooms are lent as to `admit`.
-    pub fn foretell<'a>(
+    /// so several threads may ask one catalog. Room is lent as to `admit`.
+    pub fn foretell(
         &self,
         recent: &mut Recent,
-        statement: RawStatement<'a>,
+        statement: &RawStatement<'_>,
         room: &mut Room,
-        raw: &mut RawRoom<'a>,
     ) -> Option<Statement>
-        ensures { IfSome result (λ s. Foretells self.now statement.entry s) }
+        ensures { IfSome result (λ s. Foretells self.now statement.now s) }
     {
         let _tables = self.tables();
         if room.reserve(statement.form()).is_err() {
             return None;
         }
-        let (user, form) = statement.into_parts();
-        match form {
+        let user = statement.name();
+        match statement.form() {
             RawForm::Create { .. } => None,
             RawForm::Run {
                 accesses,
                 steps,
                 deed,
-            } => {
-                raw.accesses = accesses.into_vec();
-                raw.steps = steps.into_vec();
-                self.foretell_run(recent, &user, &raw.accesses, &raw.steps, &deed, room)
-            }
-            RawForm::Deed(deed) => self.foretell_deed(recent, &user, &deed),
+            } => self.foretell_run(
+                recent,
+                user,
+                accesses.as_slice(),
+                steps.as_slice(),
+                deed,
+                room,
+            ),
+            RawForm::Deed(deed) => self.foretell_deed(recent, user, deed),
         }
     }
 

@@ -45,26 +45,21 @@ impl Log {
 
     /// Takes a statement as the next place, which is the length until then. The first test that it doesn't pass refuses
     /// it; one that passes is refused only for want of memory. After a refusal the log is as it was.
-    pub fn push(&mut self, statement: RawStatement<'_>) -> Result<Place, Refused>
+    pub fn push(&mut self, statement: &RawStatement<'_>) -> Result<Place, Refused>
         ensures place { IfOk result (λ place. place ≡ length self.old.statements) }
-        ensures accepted { OnOk result (self.new ≡ with_accepted self.old statement.entry) }
-        ensures passes { OnOk result (refusal self.old.names statement.entry ≡ None) }
-        ensures refused { IfErr result (λ r. IsRefusal r (refusal self.old.names statement.entry)) }
+        ensures accepted { OnOk result (self.new ≡ with_accepted self.old statement.now) }
+        ensures passes { OnOk result (refusal self.old.names statement.now ≡ None) }
+        ensures refused { IfErr result (λ r. IsRefusal r (refusal self.old.names statement.now)) }
         ensures err { OnErr result (self.new ≡ self.old) }
     {
         if self.statements.reserve(1).is_err() {
-            return Err(self.catalog.refused(&statement));
+            return Err(self.catalog.refused(statement));
         }
         let place = self.catalog.places();
         let mut room = self.catalog.no_room();
-        let mut raw = self.catalog.no_raw_room();
-        match self.catalog.admit(statement, &mut room, &mut raw) {
-            Ok(statement) => {
-                self.statements.push_reserved(statement);
-                Ok(place)
-            }
-            Err(refused) => Err(refused),
-        }
+        self.catalog
+            .admit(statement, &mut room, &mut self.statements)?;
+        Ok(place)
     }
 
     /// How many statements were accepted, which is the place of the next one.

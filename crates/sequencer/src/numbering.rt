@@ -1,16 +1,16 @@
 //! Names become numbers, where they pass the tests.
 
-ghost use Rattle.std.specs.Prelude.{◌≡◌, ◌≤◌, [], length, map, vec_capacity};
+ghost use Rattle.std.specs.Prelude.{◌≡◌, ◌<◌, ◌≤◌, [], length, map, vec_capacity, vec_len};
 ghost use Rattle.sequencer.specs.Catalog.{Names, grantee_of, numbered_access, numbered_deed, numbered_grantee, numbered_step, named_table_of};
 ghost use Rattle.sequencer.specs.Names.{number_of};
-ghost use Rattle.sequencer.specs.Refusal.{IsAnswerOf, access_refusal, accesses_refusal, column_refusal, step_refusal, steps_refusal};
-ghost use Rattle.model_base.specs.declared.statement.Step.{Step};
+ghost use Rattle.sequencer.specs.Admitting.{Appends};
+ghost use Rattle.sequencer.specs.Refusal.{IsAnswerOf, access_refusal, accesses_refusal, step_refusal, steps_refusal};
 
 use crate::catalog::Catalog;
 use crate::refused::Refused;
 use crate::testing::{is_repeated, test_skip};
-use log_text::{Name, RawAccess, RawDeed, RawStep};
-use model_base::{Access, DeedForm, Grantee, Items, Key, Register, RowName, Step, Table};
+use log_text::{RawAccess, RawDeed, RawStep};
+use model_base::{Access, DeedForm, Grantee, Items, Key, Step, Table};
 
 /// The deed with its table and its grantee by number.
 pub(crate) fn deed_form(deed: &RawDeed<'_>, table: Table, grantee: Grantee) -> DeedForm
@@ -74,60 +74,23 @@ impl Catalog {
         Ok(Items::new(found))
     }
 
-    /// A LOAD with its table by number. The table has to be known, and to have the column.
-    fn numbered_load(
-        &self,
-        recent: &mut Table,
-        to: Register,
-        table: &Name<'_>,
-        row: RowName,
-        column: u32,
-    ) -> Result<Step, Refused>
-        ensures { IsAnswerOf result (column_refusal self.now table.now column)
-            (Step.Load to (number_of self.now.tables table.now) row column) }
-    {
-        let table = self.table_with_column(recent, table, column)?;
-        Ok(Step::Load {
-            to,
-            table,
-            row,
-            column,
-        })
-    }
-
-    /// A STORE with its table by number. The table has to be known, and to have the column.
-    fn numbered_store(
-        &self,
-        recent: &mut Table,
-        table: &Name<'_>,
-        row: RowName,
-        column: u32,
-        from: Register,
-    ) -> Result<Step, Refused>
-        ensures { IsAnswerOf result (column_refusal self.now table.now column)
-            (Step.Store (number_of self.now.tables table.now) row column from) }
-    {
-        let table = self.table_with_column(recent, table, column)?;
-        Ok(Step::Store {
-            table,
-            row,
-            column,
-            from,
-        })
-    }
-
-    /// The step with its table by number, where so many steps come later. It has to fit the table, and to pass over no
+    /// Appends the step with its table by number, where so many steps come later. It has to fit the table, and to pass over no
     /// more steps than there are.
-    fn numbered_step(
+    #[inline(always)]
+    fn number_step(
         &self,
         recent: &mut Table,
         later: usize,
         step: &RawStep<'_>,
-    ) -> Result<Step, Refused>
-        ensures { IsAnswerOf result (step_refusal self.now later step.now) (numbered_step self.now step.now) }
+        found: &mut Vec<Step>,
+    ) -> Result<(), Refused>
+        requires { vec_len found.old < vec_capacity found.old }
+        ensures appended { Appends result (step_refusal self.now later step.now)
+            found.old.items found.new.items (numbered_step self.now step.now) }
+        ensures capacity { vec_capacity found.new ≡ vec_capacity found.old }
     {
         match step {
-            RawStep::Const { to, value } => Ok(Step::Const {
+            RawStep::Const { to, value } => found.push_reserved(Step::Const {
                 to: *to,
                 value: *value,
             }),
@@ -136,7 +99,7 @@ impl Catalog {
                 to,
                 left,
                 right,
-            } => Ok(Step::Compute {
+            } => found.push_reserved(Step::Compute {
                 operation: *operation,
                 to: *to,
                 left: *left,
@@ -144,46 +107,63 @@ impl Catalog {
             }),
             RawStep::Has { to, table, row } => {
                 let table = self.known_table(recent, table)?;
-                Ok(Step::Has {
+                found.push_reserved(Step::Has {
                     to: *to,
                     table,
                     row: *row,
-                })
+                });
             }
             RawStep::Load {
                 to,
                 table,
                 row,
                 column,
-            } => self.numbered_load(recent, *to, table, *row, *column),
+            } => {
+                let table = self.table_with_column(recent, table, *column)?;
+                found.push_reserved(Step::Load {
+                    to: *to,
+                    table,
+                    row: *row,
+                    column: *column,
+                });
+            }
             RawStep::Store {
                 table,
                 row,
                 column,
                 from,
-            } => self.numbered_store(recent, table, *row, *column, *from),
+            } => {
+                let table = self.table_with_column(recent, table, *column)?;
+                found.push_reserved(Step::Store {
+                    table,
+                    row: *row,
+                    column: *column,
+                    from: *from,
+                });
+            }
             RawStep::Insert { table, row, from } => {
                 let table = self.table_of_width(recent, table, from.len())?;
-                Ok(Step::Insert {
+                found.push_reserved(Step::Insert {
                     table,
                     row: *row,
                     from: *from,
-                })
+                });
             }
             RawStep::Delete { table, row } => {
                 let table = self.known_table(recent, table)?;
-                Ok(Step::Delete { table, row: *row })
+                found.push_reserved(Step::Delete { table, row: *row });
             }
-            RawStep::Check { of } => Ok(Step::Check { of: *of }),
+            RawStep::Check { of } => found.push_reserved(Step::Check { of: *of }),
             RawStep::Skip { of, steps } => {
                 test_skip(*steps, later)?;
-                Ok(Step::Skip {
+                found.push_reserved(Step::Skip {
                     of: *of,
                     steps: *steps,
-                })
+                });
             }
-            RawStep::Out { of } => Ok(Step::Out { of: *of }),
+            RawStep::Out { of } => found.push_reserved(Step::Out { of: *of }),
         }
+        Ok(())
     }
 
     /// The steps with their tables by number, from left to right. They go where room was made.
@@ -200,7 +180,7 @@ impl Catalog {
         let mut later = steps.len();
         for step in steps.iter() {
             later -= 1;
-            found.push_reserved(self.numbered_step(recent, later, step)?);
+            self.number_step(recent, later, step, &mut found)?;
         }
         Ok(Items::new(found))
     }

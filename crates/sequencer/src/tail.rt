@@ -11,7 +11,7 @@ ghost use Rattle.sequencer.specs.Taken.{IsWhole};
 use crate::catalog::Catalog;
 use crate::refused::Refused;
 use crate::room::Room;
-use log_text::{RawForm, RawRoom, RawStatement};
+use log_text::{RawForm, RawStatement};
 use model_base::{Form, MOST_COLUMNS, MOST_PLACES, Place, Statement, Table, User};
 use past::{Past, forget_first};
 use std::alloc::{AllocError, Global};
@@ -96,45 +96,24 @@ impl LogTail {
     }
 
     /// Takes a statement as the next place, which is the length until then. The first test that it doesn't pass refuses
-    /// it; one that passes is refused only where memory is refused. After a refusal the log is as it was. What it was read into goes
-    /// back to where lines are read, and its accesses and steps take the memory of a dropped statement where that is enough.
+    /// it; one that passes is refused only where memory is refused. After a refusal the log is as it was. Its accesses and steps take
+    /// the memory of a dropped statement where that is enough.
     #[inline(always)]
-    pub fn push_lent<'a>(
-        &mut self,
-        statement: RawStatement<'a>,
-        raw: &mut RawRoom<'a>,
-    ) -> Result<Place, Refused>
+    pub fn push(&mut self, statement: &RawStatement<'_>) -> Result<Place, Refused>
         ensures place { IfOk result (λ place. place ≡ length self.old.log.statements) }
-        ensures accepted { OnOk result (self.new ≡ record self.old { log = with_accepted self.old.log statement.entry }) }
-        ensures passes { OnOk result (refusal self.old.log.names statement.entry ≡ None) }
-        ensures refused { IfErr result (λ r. IsRefusal r (refusal self.old.log.names statement.entry)) }
+        ensures accepted { OnOk result (self.new ≡ record self.old { log = with_accepted self.old.log statement.now }) }
+        ensures passes { OnOk result (refusal self.old.log.names statement.now ≡ None) }
+        ensures refused { IfErr result (λ r. IsRefusal r (refusal self.old.log.names statement.now)) }
         ensures err { OnErr result (self.new ≡ self.old) }
     {
         if self.kept.reserve(1).is_err() {
-            return Err(self.catalog.refused(&statement));
+            return Err(self.catalog.refused(statement));
         }
         let place = self.catalog.places();
         let none = self.catalog.no_room();
         let mut room = room_for(&mut self.spare, none, statement.form());
-        match self.catalog.admit(statement, &mut room, raw) {
-            Ok(statement) => {
-                self.kept.push_reserved(statement);
-                Ok(place)
-            }
-            Err(refused) => Err(refused),
-        }
-    }
-
-    /// Takes a statement as the next place, as `push_lent`, with memory of its own for what it was read into.
-    pub fn push(&mut self, statement: RawStatement<'_>) -> Result<Place, Refused>
-        ensures place { IfOk result (λ place. place ≡ length self.old.log.statements) }
-        ensures accepted { OnOk result (self.new ≡ record self.old { log = with_accepted self.old.log statement.entry }) }
-        ensures passes { OnOk result (refusal self.old.log.names statement.entry ≡ None) }
-        ensures refused { IfErr result (λ r. IsRefusal r (refusal self.old.log.names statement.entry)) }
-        ensures err { OnErr result (self.new ≡ self.old) }
-    {
-        let mut raw = self.catalog.no_raw_room();
-        self.push_lent(statement, &mut raw)
+        self.catalog.admit(statement, &mut room, &mut self.kept)?;
+        Ok(place)
     }
 
     /// Takes a statement that was foretold as the next place, which is the length until then, and leaves another one, of which nothing is

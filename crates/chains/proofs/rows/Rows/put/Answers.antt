@@ -21,7 +21,7 @@ pub invariant_of-self-in_ok-insert-in-None : goal.invariant_of-self-in_ok-insert
 invariant_of-self-in_ok-insert-in-None c =
     let inside = c.self.inside in
     let older = inside.older.items in
-    let version = c.args.version.now in
+    let version : Version = record { place = c.args.place; key = c.args.key; row = c.args.row.now } in
     let dated = dated_of version in
     record {
       distinct = c.in_ok-insert-in-None.ensures.unique;
@@ -38,7 +38,7 @@ pub returns-in_ok-insert-in-None : goal.returns-in_ok-insert-in-None
 returns-in_ok-insert-in-None c =
     let entries = c.self.inside.newest.entries in
     let older = c.self.inside.older.items in
-    let version = c.args.version.now in
+    let version : Version = record { place = c.args.place; key = c.args.key; row = c.args.row.now } in
     let absent : lookup (key_eq version.key) entries ≡ None = sym c.in-None.ensures.value in
     let is : c.insert.new.self.entries ≡ entries ++ (version.key, dated_of version) ∷ [] =
     c.in_ok-insert-in-None.ensures.entries
@@ -52,7 +52,7 @@ pub returns-in-Some : goal.returns-in-Some
 returns-in-Some c =
     let entries = c.self.inside.newest.entries in
     let older = c.self.inside.older.items in
-    let version = c.args.version.now in
+    let version : Version = record { place = c.args.place; key = c.args.key; row = c.args.row.now } in
     let old = c.in-Some.newest.now in
     let new = (c.get_mut.follows.lender (dated_of version)).entries in
     let same : c.push_back_reserved.new.self.items ≡ older ++ replaced_by version old ∷ [] =

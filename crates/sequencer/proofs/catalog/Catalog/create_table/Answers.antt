@@ -11,6 +11,6 @@ invariant_of-self-2 c =
       columns = grind (arith, common_steps);
       narrow = rw (c.push_reserved-2.ensures.items, c.in_ok-reserve-2.ensures.items)
           (All-push (λ count. count ≤ 8) c.self.inside.columns.items c.args.columns c.self.invariant.narrow
-          (narrow_create c.args.self.now c.args.user.now c.args.table.now c.args.columns c.requires));
+          (narrow_create c.args.self.now c.args.user.now c.args.table.now c.args.columns c.requires.passes));
       places = grind (arith, common_steps);
     }
