@@ -4,7 +4,7 @@ use Rattle.bohm_core_base.specs.Batch.{Batch}
 use Rattle.words.specs.declared.view.View.{View}
 use Rattle.words.specs.Passes.{Passing}
 use Rattle.filling_base.specs.declared.run.Tried.{Tried}
-use Rattle.filling_base.specs.declared.run.Tried.TheVariants.{Done, Busy, NoMemory}
+use Rattle.filling_base.specs.declared.run.Tried.TheVariants.{Done, Busy, NotPlaced, NoMemory}
 use Rattle.filling_base.specs.Counting.{CountsBodies}
 use Rattle.filling_base.specs.Goings.{NoPlace, OnlyLearns}
 use Rattle.filling_base.specs.Tries.{IsToldDone, TriedTells}
@@ -30,6 +30,7 @@ pub ran-done : (ranged : Ranged) (index : ℕ) (v u w : View) (answer : Tried) (
 ran-done ranged index v u w answer (ran.Done outcome) is tells told =
     (done-learnt (batch_in ranged) index v u w (subst (λ (t : Tried). TriedTells (batch_in ranged) index v t u) is tells) told.0, told.1)
 ran-done ranged index v u w answer (ran.Busy place) is tells told = absurd told
+ran-done ranged index v u w answer (ran.NotPlaced partition) is tells told = absurd told
 ran-done ranged index v u w answer ran.NoMemory is tells told =
     inr (done-learnt (batch_in ranged) index v u w (subst (λ (t : Tried). TriedTells (batch_in ranged) index v t u) is tells) told.0, told.1)
 
@@ -44,6 +45,14 @@ pub ran-busy : (ranged : Ranged) (index other place : ℕ) (v w : View) (answer 
 ran-busy ranged index other place v w answer is told tells there =
     (other, there, ((λ known. done-busy other (sym (told known) ∙ is)), subst (λ (t : Tried). TriedTells (batch_in ranged) index v t w) is tells))
 
+done-unplaced : (partition : ℕ) → Done ≡ NotPlaced partition → ⊥
+done-unplaced partition is = cc
+
+pub ran-unplaced : (ranged : Ranged) (index partition : ℕ) (v w : View) (answer : Tried) → answer ≡ NotPlaced partition → (IsToldDone (batch_in ranged) v index → answer ≡ Done)
+    → TriedTells (batch_in ranged) index v answer w → RanTells ranged index v (ran.NotPlaced partition) w
+ran-unplaced ranged index partition v w answer is told tells =
+    ((λ known. done-unplaced partition (sym (told known) ∙ is)), subst (λ (t : Tried). TriedTells (batch_in ranged) index v t w) is tells)
+
 pub ran-lacking : (ranged : Ranged) (index : ℕ) (v w : View) (answer : Tried) → answer ≡ NoMemory → (IsToldDone (batch_in ranged) v index → answer ≡ Done)
     → TriedTells (batch_in ranged) index v answer w → RanTells ranged index v ran.NoMemory w
 ran-lacking ranged index v w answer is told tells =
@@ -52,4 +61,5 @@ ran-lacking ranged index v w answer is told tells =
 pub only-learnt : (ranged : Ranged) (index : ℕ) (v w : View) (found : Ran) → DoneTells ranged index v found w → OnlyLearns v w
 only-learnt ranged index v w (ran.Done outcome) told = told.0
 only-learnt ranged index v w (ran.Busy place) told = absurd told
+only-learnt ranged index v w (ran.NotPlaced partition) told = absurd told
 only-learnt ranged index v w ran.NoMemory told = told.0

@@ -2,7 +2,6 @@ pub mod Lists
 pub mod InOrder
 pub mod Numbered
 pub mod Telling
-pub mod Referring
 pub mod Endings
 pub mod Decoding
 pub mod Admitting

@@ -53,6 +53,7 @@ reading-found words key pass after index other named known is reading =
       ours = reading.ours;
       key = reading.key;
       within = reading.within;
+      past = reading.past;
       ready = λ one has. in-front one pass.view.known (other ∷ []) (reading.ready one has);
       named = reading.named;
       knows = λ one has. in-front one pass.view.known (other ∷ []) (reading.knows one has);
@@ -84,6 +85,10 @@ only-learns pass after knows work =
         gives_back = λ actor index has. absurd has;
         kept = ap (λ (w : Work). w.taken) work;
         sole = ap (λ (w : Work). w.sole) work;
+        fronts = (
+          (λ all. ap (λ (w : Work). w.placed) work ∙ all),
+          (λ partition count has. subst (λ (l : List (ℕ × ℕ)). In (partition, count) l) (sym (ap (λ (w : Work). w.fronts) work)) has),
+        );
       };
       events = events;
       sightings = ap (λ (w : Work). w.sightings) work;

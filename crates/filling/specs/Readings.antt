@@ -8,7 +8,7 @@ use Rattle.log_words.specs.Keys.{Key}
 use Rattle.reading.specs.Told.{Reader, Work}
 use Rattle.words.specs.declared.view.View.{View}
 use Rattle.words.specs.Passes.{IsPassOf, Passing, Words}
-use Rattle.words.specs.Views.{In, KnowsReferences}
+use Rattle.words.specs.Views.{In, KnowsPast, KnowsReferences}
 
 -- all of a pass but what it knows
 abbrev pub work_of : Passing → Work
@@ -20,6 +20,8 @@ work_of pass = record {
   bodies = pass.bodies;
   sole = pass.view.sole;
   spent = pass.view.spent;
+  fronts = pass.view.fronts;
+  placed = pass.view.placed;
 }
 
 -- a place of a log's range, by its index, and what the pass did that reads for it
@@ -43,13 +45,14 @@ IsEndBelow batch view slot end =
 abbrev pub KeepsKnown : List ℕ → List ℕ → Type 0
 KeepsKnown known after = (index : ℕ) → In index known → In index after
 
--- the pass is one of the words, which are those of the key, and knows done all that the place is referred to. The words are
--- those that were named before it began, and all is known that was known then
+-- the pass is one of the words, which are those of the key, and knows the place placed and all done that it is referred to. The
+-- words are those that were named before it began, and all is known that was known then
 pub record IsReadingPass (words : Words Key) (mine : Key) (pass : Passing) (at : ℕ) (first : Option (Words Key))
     (old : List ℕ) : Type 0 where
   pub ours : IsPassOf words pass
   pub key : words.key ≡ mine
   pub within : at < mine.batch.size
+  pub past : KnowsPast (batch_in mine.batch) pass.view at
   pub ready : KnowsReferences (batch_in mine.batch) pass.view at
   pub named : Some words ≡ first
   pub knows : KeepsKnown old pass.view.known

@@ -8,26 +8,28 @@ use Rattle.filling_base.specs.Goings.{OnlyLearns}
 use Rattle.filling_base.specs.References.{IsRevocation}
 use Rattle.filling_base.specs.Tries.{IsToldDone, TriedTells}
 use Rattle.filling.specs.declared.running.Ran.{Ran}
-use Rattle.filling.specs.declared.running.Ran.TheVariants.{Done, Busy, NoMemory}
+use Rattle.filling.specs.declared.running.Ran.TheVariants.{Done, Busy, NotPlaced, NoMemory}
 use Rattle.filling.specs.Outcomes.{outcome_in}
 
 -- of a place that is known done, the outcome in the log; or memory was wanting, for what a revocation ended
 abbrev pub DoneTells : Ranged → ℕ → View → Ran → View → Type 0
 DoneTells ranged index view (Done found) after = OnlyLearns view after × (outcome_in ranged index ≡ Some found)
 DoneTells ranged index view (Busy place) after = ⊥
+DoneTells ranged index view (NotPlaced partition) after = ⊥
 DoneTells ranged index view NoMemory after = OnlyLearns view after × IsRevocation (batch_in ranged) index
 
 -- the place was run, and nothing told before that it is done
 abbrev pub RunTells : Ranged → ℕ → View → Tried → View → Type 0
 RunTells ranged index view answer after = ¬ (IsToldDone (batch_in ranged) view index) × TriedTells (batch_in ranged) index view answer after
 
--- what came of a place, by its index. It is done, with the outcome of the log; or a place was held, or memory was wanting, as it is
+-- what came of a place, by its index. It is done, with the outcome of the log; or a place was held, or not placed, or memory was wanting, as it is
 -- told of what was tried, and that it is done wasn't told before; or it is done, and memory was wanting for what it ended
 abbrev pub RanTells : Ranged → ℕ → View → Ran → View → Type 0
 RanTells ranged index view (Done found) after = TriedTells (batch_in ranged) index view tried.Done after
     × (outcome_in ranged index ≡ Some found)
 RanTells ranged index view (Busy place) after = (other : ℕ) × (place ≡ ranged.first + other)
     × RunTells ranged index view (tried.Busy other) after
+RanTells ranged index view (NotPlaced partition) after = RunTells ranged index view (tried.NotPlaced partition) after
 RanTells ranged index view NoMemory after =
     RunTells ranged index view tried.NoMemory after
     ⊎ (TriedTells (batch_in ranged) index view tried.Done after × IsRevocation (batch_in ranged) index)

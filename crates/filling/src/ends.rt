@@ -9,7 +9,7 @@ ghost use Rattle.bohm_core_base.specs.Batch.{batch_slots, was_done};
 ghost use Rattle.bohm_core_base.specs.Serial.{serial_ends, serial_words};
 ghost use Rattle.log_batch.specs.Supplied.{batch_in};
 ghost use Rattle.words.specs.Passes.{IsPassOf};
-ghost use Rattle.words.specs.Views.{KnowsReferences};
+ghost use Rattle.words.specs.Views.{KnowsPast, KnowsReferences};
 ghost use Rattle.filling_base.specs.Goings.{IsSamePass, OnlyLearns};
 ghost use Rattle.filling_base.specs.References.{IsRevocation};
 ghost use Rattle.filling_base.specs.Storing.{IsEnding};
@@ -106,6 +106,7 @@ fn judge_places<'b, 'a, N: Named>(
     requires ours { IsPassOf words.now holding }
     requires key { words.now.key ≡ key.now }
     requires within { index < key.now.batch.size }
+    requires past { KnowsPast (batch_in key.now.batch) holding.view index }
     requires ready { KnowsReferences (batch_in key.now.batch) holding.view index }
     requires named { Some words.now ≡ N.words }
     requires knows { KeepsKnown N.known holding.view.known }
@@ -135,7 +136,7 @@ fn judge_places<'b, 'a, N: Named>(
     (places, holding)
 }
 
-// The places of the grants that a done place ends, in rising order, by a pass that knows done all that it is referred to; it
+// The places of the grants that a done place ends, in rising order, by a pass that knows the place placed and all done that it is referred to; it
 // only learns. An error is want of memory.
 pub(crate) fn places_told<'b, 'a>(
     key: &'b RangeKey<'a>,
@@ -146,6 +147,7 @@ pub(crate) fn places_told<'b, 'a>(
     requires ours { IsPassOf words.now holding }
     requires key { words.now.key ≡ key.now }
     requires within { index < key.now.batch.size }
+    requires past { KnowsPast (batch_in key.now.batch) holding.view index }
     requires ready { KnowsReferences (batch_in key.now.batch) holding.view index }
     requires done { was_done (serial_words (batch_in key.now.batch) index) ≡ true }
     ensures ends { IfOk result.0 (λ places. (slot : ℕ) (grant : Grant) → slice_get (batch_slots (batch_in key.now.batch)) slot ≡ Some grant
@@ -188,6 +190,7 @@ pub(crate) fn ends_of<'b, 'a>(
     requires ours { IsPassOf words.now holding }
     requires key { words.now.key ≡ key.now }
     requires within { index < key.now.batch.size }
+    requires past { KnowsPast (batch_in key.now.batch) holding.view index }
     requires ready { KnowsReferences (batch_in key.now.batch) holding.view index }
     requires done { done ≡ was_done (serial_words (batch_in key.now.batch) index) }
     ensures ends { IfOk result.0 (λ ends. IsEnding (batch_in key.now.batch) key.now.slots index ends.items) }

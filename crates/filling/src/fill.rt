@@ -1,15 +1,12 @@
 //! Fills a place of a batch of a log.
 
-ghost use Rattle.std.specs.Prelude.{◌≡◌, ◌<◌, [], length, slice_index_or};
-ghost use Rattle.model_base.specs.declared.reference.Reference.TheVariants.{Base};
+ghost use Rattle.std.specs.Prelude.{◌≡◌, ◌<◌, []};
 ghost use Rattle.bohm_core_base.specs.Batch.{was_done};
 ghost use Rattle.bohm_core_base.specs.Serial.{serial_words};
-ghost use Rattle.log_batch.specs.Laws.{word_of};
 ghost use Rattle.log_batch.specs.Supplied.{batch_in};
 ghost use Rattle.words.specs.Passes.{IsPassOf};
 ghost use Rattle.words.specs.Views.{Holds, KnowsReferences};
 ghost use Rattle.filling_base.specs.Goings.{Finishes, IsSamePass};
-ghost use Rattle.filling_base.specs.References.{reference_word};
 ghost use Rattle.filling_base.specs.Storing.{IsEnding};
 
 use crate::bodies::count_run;
@@ -17,28 +14,9 @@ use crate::ends::ends_of;
 use crate::key::RangeKey;
 use crate::own::own_told;
 use filling_base::{Fills, learning_comes_before_storing, store};
-use model_base::{Place, Reference};
 use own_words::OwnWords;
 use std::alloc::AllocError;
-use words::{BatchWords, Holding, Placed};
-
-// The reference of this number.
-fn reference_at(references: &[Reference], number: usize) -> Reference
-    requires { number < length references.now }
-    ensures { result ≡ slice_index_or references.now number Base }
-{
-    references[number]
-}
-
-// The index of the place of a reference in the batch that begins here, if it is to a place.
-fn index_of(reference: Reference, first: Place) -> Option<usize>
-    ensures { reference_word result ≡ word_of first reference }
-{
-    match reference {
-        Reference::Base => None,
-        Reference::At(place) => Some(place.saturating_sub(first) as usize),
-    }
-}
+use words::{BatchWords, Holding, Placed, passes_keep_the_fronts_that_they_know};
 
 // Whether own words say that their place was done.
 #[tactic(auto, unfolding(bohm_core_base::specs::Batch::was_done))]
@@ -82,16 +60,6 @@ impl Fills for RangeKey<'_> {
 
     ghost runs = { λ key. runs_at key.batch };
 
-    fn references_length(&self, index: usize) -> usize {
-        self.batch().references_at(index).len()
-    }
-
-    fn reference(&self, index: usize, number: usize) -> Option<usize> {
-        let references = self.batch().references_at(index);
-        let first = self.batch().first_place();
-        index_of(reference_at(references, number), first)
-    }
-
     fn fill(
         &self,
         words: &BatchWords<Self>,
@@ -99,6 +67,7 @@ impl Fills for RangeKey<'_> {
         index: usize,
     ) -> (Holding, Result<(), AllocError>) {
         learning_comes_before_storing();
+        passes_keep_the_fronts_that_they_know();
         let mut own = OwnWords::new();
         let holding = own_told(self, words, holding, index, &mut own);
         let (ends, holding) = ends_of(self, words, holding, index, says_done(&own));

@@ -1,6 +1,6 @@
 //! The constant data of a batch of a log, by which its places are filled.
 
-ghost use Rattle.std.specs.Prelude.{◌≡◌, ◌<◌, IfOk, length};
+ghost use Rattle.std.specs.Prelude.{◌≡◌, ◌<◌, IfOk, length, true};
 ghost use Rattle.std.specs.List.Sorted.{IsStrictlyIncreasing};
 ghost use Rattle.std.specs.Option.{MatchOption};
 ghost use Rattle.words.specs.Layout.{listed_slot_at};
@@ -94,12 +94,26 @@ impl Placed for RangeKey<'_> {
 
     ghost listed = { λ key. key.slots };
 
+    ghost placed = { λ _. true };
+
     fn places(&self) -> usize {
         self.key.places()
     }
 
     fn words_length(&self, index: usize) -> usize {
         self.key.words_length(index)
+    }
+
+    fn partitions(&self) -> usize {
+        self.key.partitions()
+    }
+
+    fn references_length(&self, index: usize) -> usize {
+        self.key.references_length(index)
+    }
+
+    fn reference_word(&self, index: usize, number: usize) -> u64 {
+        self.key.reference_word(index, number)
     }
 
     fn ends(&self) -> usize {

@@ -4,7 +4,7 @@ ghost use Rattle.std.specs.Prelude.{◌≡◌, ◌<◌, Some};
 ghost use Rattle.bohm_core_base.specs.Serial.{serial_words};
 ghost use Rattle.log_batch.specs.Supplied.{batch_in};
 ghost use Rattle.words.specs.Passes.{IsPassOf};
-ghost use Rattle.words.specs.Views.{KnowsReferences};
+ghost use Rattle.words.specs.Views.{KnowsPast, KnowsReferences};
 ghost use Rattle.filling_base.specs.Goings.{IsSamePass, OnlyLearns};
 ghost use Rattle.filling.specs.Readings.{KeepsKnown, work_of};
 
@@ -27,6 +27,7 @@ fn judge_words<'b, 'a, N: Named>(
     requires ours { IsPassOf words.now holding }
     requires key { words.now.key ≡ key.now }
     requires within { index < key.now.batch.size }
+    requires past { KnowsPast (batch_in key.now.batch) holding.view index }
     requires ready { KnowsReferences (batch_in key.now.batch) holding.view index }
     requires named { Some words.now ≡ N.words }
     requires knows { KeepsKnown N.known holding.view.known }
@@ -53,7 +54,7 @@ fn judge_words<'b, 'a, N: Named>(
     holding
 }
 
-// Puts all own words of a place in the place of those that were there, by a pass that knows done all that it is referred to; it
+// Puts all own words of a place in the place of those that were there, by a pass that knows the place placed and all done that it is referred to; it
 // only learns. It takes no memory.
 pub(crate) fn own_told<'b, 'a>(
     key: &'b RangeKey<'a>,
@@ -65,6 +66,7 @@ pub(crate) fn own_told<'b, 'a>(
     requires ours { IsPassOf words.now holding }
     requires key { words.now.key ≡ key.now }
     requires within { index < key.now.batch.size }
+    requires past { KnowsPast (batch_in key.now.batch) holding.view index }
     requires ready { KnowsReferences (batch_in key.now.batch) holding.view index }
     ensures value { own.new ≡ serial_words (batch_in key.now.batch) index }
     ensures same { IsSamePass holding result }

@@ -1,7 +1,8 @@
 //! A pass, as it reads for a place that it is about to fill.
 
-ghost use Rattle.std.specs.Prelude.{[], ℕ, List, None, Option};
+ghost use Rattle.std.specs.Prelude.{◌≡◌, [], ℕ, List, None, Option};
 ghost use Rattle.log_words.specs.Keys.{Key};
+ghost use Rattle.reading.specs.Told.{referred_word};
 ghost use Rattle.words.specs.Passes.{Words};
 
 use crate::key::RangeKey;
@@ -24,7 +25,7 @@ impl Named for Brand {
     ghost known = { [] };
 }
 
-/// A pass that knows done all that a place is referred to, and reads for it.
+/// A pass that knows a place placed and all done that it is referred to, and reads for it.
 pub(crate) struct PassReader<'b, 'a, N: Named> {
     pub(crate) key: &'b RangeKey<'a>,
     pub(crate) words: &'b BatchWords<RangeKey<'a>>,
@@ -43,6 +44,17 @@ impl<'b, 'a, N: Named> Model for PassReader<'b, 'a, N> {
     ghost invariant = { λ reader. IsReadingPass reader.words.now reader.key.now reader.holding reader.index N.words N.known };
 }
 
+/// The index of the place that a reference word is to, if it is to one.
+fn index_of(word: u64) -> Option<usize>
+    ensures { referred_word result ≡ word }
+{
+    if word == 0 {
+        None
+    } else {
+        Some((word - 1) as usize)
+    }
+}
+
 impl<N: Named> Told for PassReader<'_, '_, N> {
     ghost use Rattle.filling.specs.Readings.{PlaceReading, reader_in};
 
@@ -53,6 +65,11 @@ impl<N: Named> Told for PassReader<'_, '_, N> {
     fn reader(&self) -> usize {
         let _places = self.key.places();
         self.index
+    }
+
+    fn reference(&mut self, number: usize) -> Option<usize> {
+        let _places = self.key.places();
+        index_of(self.words.reference(&mut self.holding, self.index, number))
     }
 
     fn own(&mut self, index: usize, number: usize) -> u64 {

@@ -21,6 +21,8 @@ pub enum Ran {
     Done(Outcome),
     /// This place was held by another pass.
     Busy(Place),
+    /// This partition hasn't placed the place.
+    NotPlaced(usize),
     /// Memory was wanting.
     NoMemory,
 }
@@ -61,6 +63,7 @@ pub fn run_place(batch: &Batch<RangeKey<'_>>, pass: Pass, place: Place) -> (Pass
     match tried {
         Tried::Done => tell_done(batch, pass, index),
         Tried::Busy(other) => (pass, Ran::Busy(first + other as u64)),
+        Tried::NotPlaced(partition) => (pass, Ran::NotPlaced(partition)),
         Tried::NoMemory => (pass, Ran::NoMemory),
     }
 }

@@ -5,9 +5,10 @@ use Rattle.bohm_core_base.specs.declared.event.Event.TheVariants.{Claim, Fill, E
 use Rattle.bohm_core_base.specs.Batch.{Batch}
 use Rattle.words.specs.declared.view.View.{View}
 use Rattle.words.specs.Passes.{Passing, gone_on}
-use Rattle.words.specs.Views.{In, KnowsReferences, with_event, with_known, with_sighting}
+use Rattle.words.specs.Views.{In, KeepsFronts, KnowsReferences, with_all_placed, with_event, with_front, with_known, with_sighting}
 use Rattle.filling_base.specs.Goings.{Goes, IsSamePass, NoPlace, OnlyLearns}
 use Rattle.filling_base.specs.Tries.{HasToWait, IsToldDone}
+use Rattle.words.proofs.Known.{keeps-found, keeps-same, keeps-then}
 use Rattle.filling_base.proofs.Members.{in_back, in_cases, in_front, in_one}
 
 pub same-self : (p : Passing) → IsSamePass p p
@@ -24,24 +25,25 @@ same-then p q r a b = record {
 }
 
 -- nothing more happened
-pub nothing-more : (v w : View) (P : ℕ → Type 0) → w.events ≡ v.events → ((x : ℕ) → In x v.known → In x w.known) → w.kept ≡ v.kept → w.sole ≡ v.sole → Goes P v w
-nothing-more v w P is knows kept sole = record {
+pub nothing-more : (v w : View) (P : ℕ → Type 0) → w.events ≡ v.events → ((x : ℕ) → In x v.known → In x w.known) → w.kept ≡ v.kept → w.sole ≡ v.sole → KeepsFronts v w → Goes P v w
+nothing-more v w P is knows kept sole fronts = record {
   knows = knows;
   events = [];
   adds = is ∙ sym (append-nil v.events);
   gives_back = λ a i has. absurd has;
   kept = kept;
   sole = sole;
+  fronts = fronts;
 }
 
 pub goes-same : (P : ℕ → Type 0) (v w : View) → w ≡ v → Goes P v w
-goes-same P v w is = subst (λ (u : View). Goes P v u) (sym is) (nothing-more v v P refl (λ x has. has) refl refl)
+goes-same P v w is = subst (λ (u : View). Goes P v u) (sym is) (nothing-more v v P refl (λ x has. has) refl refl (keeps-same v))
 
 pub goes-known : (P : ℕ → Type 0) (v w : View) (i : ℕ) → w ≡ with_known v i → Goes P v w
-goes-known P v w i is = subst (λ (u : View). Goes P v u) (sym is) (nothing-more v (with_known v i) P refl (λ x has. in_front x v.known (i ∷ []) has) refl refl)
+goes-known P v w i is = subst (λ (u : View). Goes P v u) (sym is) (nothing-more v (with_known v i) P refl (λ x has. in_front x v.known (i ∷ []) has) refl refl (keeps-same v))
 
 pub goes-sighting : (P : ℕ → Type 0) (v w : View) (i : ℕ) → w ≡ with_sighting v i → Goes P v w
-goes-sighting P v w i is = subst (λ (u : View). Goes P v u) (sym is) (nothing-more v (with_sighting v i) P refl (λ x has. has) refl refl)
+goes-sighting P v w i is = subst (λ (u : View). Goes P v u) (sym is) (nothing-more v (with_sighting v i) P refl (λ x has. has) refl refl (keeps-same v))
 
 pub goes-event : (P : ℕ → Type 0) (v w : View) (e : Event) → ((a i : ℕ) → GiveBack a i ≡ e → P i) → w ≡ with_event v e → Goes P v w
 goes-event P v w e gives is = subst (λ (u : View). Goes P v u) (sym is) (record {
@@ -51,6 +53,7 @@ goes-event P v w e gives is = subst (λ (u : View). Goes P v u) (sym is) (record
   gives_back = λ a i has. gives a i (in_one (GiveBack a i) e has);
   kept = refl;
   sole = refl;
+  fronts = keeps-same v;
 })
 
 -- events that give nothing back
@@ -92,6 +95,7 @@ goes-then P u v w a b = record {
   gives_back = λ n i has. ⊎_elim (λ front. a.gives_back n i front) (λ back. b.gives_back n i back) (in_cases (GiveBack n i) a.events b.events has);
   kept = b.kept ∙ a.kept;
   sole = b.sole ∙ a.sole;
+  fronts = keeps-then u v w a.fronts b.fronts;
 }
 
 pub goes-wider : (P Q : ℕ → Type 0) (v w : View) → ((i : ℕ) → P i → Q i) → Goes P v w → Goes Q v w
@@ -102,6 +106,7 @@ goes-wider P Q v w wider g = record {
   gives_back = λ a i has. wider i (g.gives_back a i has);
   kept = g.kept;
   sole = g.sole;
+  fronts = g.fronts;
 }
 
 pub goes-none : (P : ℕ → Type 0) (v w : View) → Goes NoPlace v w → Goes P v w
@@ -120,6 +125,22 @@ learns-nothing v = record { goes = goes-same NoPlace v v refl; events = refl; si
 pub learns-known : (v w : View) (r : ℕ) → w ≡ with_known v r → OnlyLearns v w
 learns-known v w r is = record {
   goes = goes-known NoPlace v w r is;
+  events = ap (λ (u : View). u.events) is;
+  sightings = ap (λ (u : View). u.sightings) is;
+}
+
+-- a front that is found is only learnt
+pub learns-front : (v w : View) (p found : ℕ) → w ≡ with_front v p found → OnlyLearns v w
+learns-front v w p found is = record {
+  goes = subst (λ (u : View). Goes NoPlace v u) (sym is) (nothing-more v (with_front v p found) NoPlace refl (λ x has. has) refl refl (keeps-found v p found));
+  events = ap (λ (u : View). u.events) is;
+  sightings = ap (λ (u : View). u.sightings) is;
+}
+
+-- and so it is that all is placed
+pub learns-placed : (v w : View) → w ≡ with_all_placed v → OnlyLearns v w
+learns-placed v w is = record {
+  goes = subst (λ (u : View). Goes NoPlace v u) (sym is) (nothing-more v (with_all_placed v) NoPlace refl (λ x has. has) refl refl ((λ _. refl), (λ partition count has. has)));
   events = ap (λ (u : View). u.events) is;
   sightings = ap (λ (u : View). u.sightings) is;
 }

@@ -18,6 +18,9 @@ done-held is = cc
 claim-done-held : claimed.Done ≡ claimed.Held → ⊥
 claim-done-held is = cc
 
+claim-done-won : claimed.Done ≡ claimed.Won → ⊥
+claim-done-won is = cc
+
 pub untold-free : (b : Batch) (v : View) (i : ℕ) (found : Seen) → found ≡ seen.Free → (In i v.known → found ≡ seen.Done) → (IsSettled b v i → found ≡ seen.Done)
     → ¬ (IsToldDone b v i)
 untold-free b v i found is known settled told =
@@ -32,3 +35,8 @@ pub untold-claimed : (b : Batch) (v : View) (i : ℕ) (found : Claimed) → foun
     → (IsSettled b v i → found ≡ claimed.Done) → ¬ (IsToldDone b v i)
 untold-claimed b v i found is known settled told =
     ⊎_elim (λ has. claim-done-held (sym (known has) ∙ is)) (λ has. claim-done-held (sym (settled has) ∙ is)) told
+
+pub untold-won : (b : Batch) (v : View) (i : ℕ) (found : Claimed) → found ≡ claimed.Won → (In i v.known → found ≡ claimed.Done)
+    → (IsSettled b v i → found ≡ claimed.Done) → ¬ (IsToldDone b v i)
+untold-won b v i found is known settled told =
+    ⊎_elim (λ has. claim-done-won (sym (known has) ∙ is)) (λ has. claim-done-won (sym (settled has) ∙ is)) told

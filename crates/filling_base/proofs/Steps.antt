@@ -4,19 +4,20 @@ use Rattle.bohm_core_base.specs.Batch.{Batch, reference_words}
 use Rattle.bohm_core_base.specs.declared.event.Event.TheVariants.{Claim}
 use Rattle.words.specs.declared.view.View.{View}
 use Rattle.words.specs.Tells.{FoundHeld}
-use Rattle.words.specs.Views.{In, with_event, with_known}
+use Rattle.words.specs.Views.{In, KeepsFronts, with_event, with_known}
 use Rattle.filling_base.specs.declared.walk.Frame.{Frame}
 use Rattle.filling_base.specs.Goings.{Finishes, HoldsJust, NoPlace, OnlyLearns}
 use Rattle.filling_base.specs.References.{IsRevocation, reference}
 use Rattle.filling_base.specs.Tries.{HasToWait, IsToldDone}
 use Rattle.filling_base.specs.Walks.{Ended, IsWalk, KnownTo, Lacked, Met, Onward, Spot, Stays, bottom, cost, waiting}
+use Rattle.words.proofs.Known.{keeps-same, past-later}
 use Rattle.filling_base.proofs.Costs.{costs-snoc, less-enter, less-leave, less-next}
 use Rattle.filling_base.proofs.Falling.{falls-at, named}
 use Rattle.filling_base.proofs.Going.{goes-claim, goes-sighting, learns-known, learns-nothing, nothing-more, now-known}
 use Rattle.filling_base.proofs.Holding.{frees, met, reorder, same-events, takes}
 use Rattle.filling_base.proofs.Paths.{bottom-snoc, known-more, one-more, path-more, path-over, path-pop, path-push, path-top, to-back, to-front, under}
 
-abbrev at-spot : View → ℕ → ℕ → List Frame → Spot
+abbrev pub at-spot : View → ℕ → ℕ → List Frame → Spot
 at-spot v at n fs = record { view = v; at = at; next = n; frames = fs }
 
 module _ (b : Batch) where
@@ -32,6 +33,7 @@ module _ (b : Batch) where
           ready = subst (λ (k : ℕ). KnownTo b w.known at k) (sym is) (one-more b w.known at n (known-more b v.known w.known at n g.knows h.ready) here);
           short = omega arith;
           holds = same-events v w (at ∷ waiting fs) learns.events h.holds;
+          past = past-later b v w (bottom fs at) (bottom fs at) g.fronts (omega arith) h.past;
         };
         goes = g;
         sightings = learns.sightings;
@@ -78,6 +80,7 @@ module _ (b : Batch) where
               (λ i has. ⊎_elim (λ e. inl e) (λ more. inr (to-back fs f i more)) has)
               (λ i has. ⊎_elim (λ e. inl e) (λ more. inr (to-front fs f i more)) has)
               (takes v w a r (f.index ∷ waiting fs) h.holds apart is);
+          past = past-later b v w (bottom fs f.index) (bottom (fs ++ f ∷ []) r) g.fronts (let same = bottom-snoc fs f r in omega arith) h.past;
         };
         goes = g;
         sightings = ap (λ (u : View). u.sightings) is;
@@ -98,16 +101,17 @@ module _ (b : Batch) where
 
   -- nothing was claimed, given back or stored
   stays : (v w : View) (at n : ℕ) (fs gs : List Frame) → IsWalk b (at-spot v at n fs) → ((x : ℕ) → In x v.known → In x w.known) → w.events ≡ v.events
-      → w.kept ≡ v.kept → w.sole ≡ v.sole → gs ≡ fs → Stays b (at-spot v at n fs) (at-spot w at n gs)
-  stays v w at n fs gs h knows events kept sole back =
+      → w.kept ≡ v.kept → w.sole ≡ v.sole → KeepsFronts v w → gs ≡ fs → Stays b (at-spot v at n fs) (at-spot w at n gs)
+  stays v w at n fs gs h knows events kept sole fronts back =
       subst (λ (ks : List Frame). Stays b (at-spot v at n fs) (at-spot w at n ks)) (sym back) (record {
         walks = record {
           path = path-more b v.known w.known knows fs at h.path;
           ready = known-more b v.known w.known at n knows h.ready;
           short = h.short;
           holds = same-events v w (at ∷ waiting fs) events h.holds;
+          past = past-later b v w (bottom fs at) (bottom fs at) fronts (omega arith) h.past;
         };
-        goes = nothing-more v w NoPlace events knows kept sole;
+        goes = nothing-more v w NoPlace events knows kept sole fronts;
         events = events;
         at = refl;
         frames = refl;
@@ -121,7 +125,7 @@ module _ (b : Batch) where
       let g = goes-sighting NoPlace v w r m.0 in
       let low = falls-at b at n r short names in
       let top = path-top b v.known fs at h.path in record {
-        stays = stays v w at n fs gs h g.knows (ap (λ (u : View). u.events) m.0) g.kept g.sole back;
+        stays = stays v w at n fs gs h g.knows (ap (λ (u : View). u.events) m.0) g.kept g.sole g.fronts back;
         sightings = ap (λ (u : View). u.sightings) m.0;
         most = omega arith;
         shared = m.1;
@@ -133,7 +137,7 @@ module _ (b : Batch) where
   pub no-room : (v : View) (at n r : ℕ) (fs gs : List Frame) → IsWalk b (at-spot v at n fs) → n < length (reference_words b at) → reference b at n ≡ suc r
       → ¬ (IsToldDone b v r) → gs ≡ fs → Lacked b (at-spot v at n fs) (at-spot v at n gs)
   no-room v at n r fs gs h short names untold back = record {
-    stays = stays v v at n fs gs h (λ x has. has) refl refl refl back;
+    stays = stays v v at n fs gs h (λ x has. has) refl refl refl (keeps-same v) back;
     sightings = refl;
     lacks = inl (has-to-wait v at n r short names untold);
   }
@@ -142,7 +146,7 @@ module _ (b : Batch) where
   pub starved : (v w : View) (at n : ℕ) (fs : List Frame) → IsWalk b (at-spot v at n fs) → OnlyLearns v w → IsRevocation b at → Lacked b (at-spot v at n fs) (at-spot w at n fs)
   starved v w at n fs h learns revokes =
       let g = learns.goes in record {
-        stays = stays v w at n fs fs h g.knows learns.events g.kept g.sole refl;
+        stays = stays v w at n fs fs h g.knows learns.events g.kept g.sole g.fronts refl;
         sightings = learns.sightings;
         lacks = inr revokes;
       }
@@ -169,6 +173,7 @@ module _ (b : Batch) where
               (λ i has. ⊎_elim (λ e. inl e) (λ more. inr (to-back gs f i more)) has) h.holds)
               (λ i has e. (let over = path-over b v.known (gs ++ f ∷ []) at h.path i (to-back gs f i has) in absurd (omega arith)))
               finishes.others finishes.free;
+          past = past-later b v w (bottom (gs ++ f ∷ []) at) (bottom gs f.index) g.fronts (let same = bottom-snoc gs f at in omega arith) h.past;
         };
         goes = g;
         sightings = finishes.sightings;

@@ -1,16 +1,16 @@
 -- A call from its claim to its answer.
-use Rattle.std.proofs.Common.{◌≡◌, ℕ, List, [], ◌∷◌, ◌++◌, length, refl, sym, ap, ◌∙◌, subst, inl, inr, ⊎_elim, arith}
+use Rattle.std.proofs.Common.{◌≡◌, ℕ, true, false, true≢false, List, [], ◌∷◌, ◌++◌, length, refl, sym, ap, ◌∙◌, subst, inl, inr, ⊎_elim, arith}
 use Rattle.bohm_core_base.specs.declared.event.Event.TheVariants.{Claim}
 use Rattle.bohm_core_base.specs.Batch.{Batch}
 use Rattle.words.specs.declared.view.View.{View}
 use Rattle.words.specs.Tells.{FoundHeld}
-use Rattle.words.specs.Views.{In, KnowsReferences, with_event, with_known}
+use Rattle.words.specs.Views.{In, KnowsPast, KnowsReferences, with_event, with_known}
 use Rattle.filling_base.specs.declared.run.Tried.{Tried}
-use Rattle.filling_base.specs.declared.run.Tried.TheVariants.{Done, Busy, NoMemory}
+use Rattle.filling_base.specs.declared.run.Tried.TheVariants.{Done, Busy, NotPlaced, NoMemory}
 use Rattle.filling_base.specs.declared.walk.Frame.{Frame}
-use Rattle.filling_base.specs.Goings.{Goes, HoldsJust, NoPlace}
+use Rattle.filling_base.specs.Goings.{Goes, HoldsJust, NoPlace, OnlyLearns}
 use Rattle.filling_base.specs.References.{IsRevocation}
-use Rattle.filling_base.specs.Tries.{HasToWait, IsToldDone, MayLackMemory, TriedTells}
+use Rattle.filling_base.specs.Tries.{HasToWait, IsToldDone, MayLackMemory, TriedTells, is_unplaced}
 use Rattle.filling_base.specs.Walks.{Ended, IsWalk, Lacked, Met, Onward, Released, Spot, asked_place, bottom, held, waiting}
 use Rattle.filling_base.proofs.Going.{goes-claim, goes-known, goes-longer, goes-none, goes-same, goes-sighting, goes-then, goes-wider, now-known, refers-later, told-later, waited-before}
 use Rattle.filling_base.proofs.Holding.{met, takes}
@@ -48,10 +48,11 @@ module _ (b : Batch) (index : ℕ) where
   claimed v w a holds is = takes v w a index [] holds (λ i has. absurd has) is
 
   -- the run of a place that was claimed is that of the call
-  pub ran-from : (v w u : View) (a : ℕ) (answer : Tried) → w ≡ with_event v (Claim a index) → TriedTells b index w answer u → TriedTells b index v answer u
-  ran-from v w u a Done is tells =
+  pub ran-from : (v w u : View) (a : ℕ) (answer : Tried) → is_unplaced answer ≡ false → w ≡ with_event v (Claim a index) → TriedTells b index w answer u → TriedTells b index v answer u
+  ran-from v w u a (NotPlaced partition) not is tells = absurd (true≢false not)
+  ran-from v w u a Done not is tells =
       (goes-then NoPlace v w u (goes-claim v w a index is) tells.0, tells.1 ∙ ap (λ (x : View). x.sightings) is, tells.2)
-  ran-from v w u a (Busy other) is tells =
+  ran-from v w u a (Busy other) not is tells =
       let g = goes-claim v w a index is in
       let longer = goes-longer NoPlace v w g in
       let found = tells.1 in
@@ -68,7 +69,7 @@ module _ (b : Batch) (index : ℕ) where
           sighting = found.sighting ∙ ap (λ (x : View). x.sightings ++ (other, found.count) ∷ []) is;
         },
       )
-  ran-from v w u a NoMemory is tells =
+  ran-from v w u a NoMemory not is tells =
       let g = goes-claim v w a index is in (
         goes-then (MayLackMemory b v) v w u (goes-none (MayLackMemory b v) v w g)
             (goes-wider (MayLackMemory b w) (MayLackMemory b v) w u
@@ -77,17 +78,48 @@ module _ (b : Batch) (index : ℕ) where
         λ knows. tells.2 (refers-later b v w index g.knows knows),
       )
 
-  begun-at : (v : View) → HoldsJust v (index ∷ []) → Running b index v (record { view = v; at = index; next = 0; frames = [] })
-  begun-at v holds = record {
-    walks = record { path = tt; ready = λ m other below _. absurd (omega arith); short = omega arith; holds = holds };
+  -- who only learnt before is told the same
+  pub learnt-from : (v w u : View) (answer : Tried) → is_unplaced answer ≡ false → OnlyLearns v w → TriedTells b index w answer u → TriedTells b index v answer u
+  learnt-from v w u (NotPlaced partition) not learns tells = absurd (true≢false not)
+  learnt-from v w u Done not learns tells =
+      (goes-then NoPlace v w u learns.goes tells.0, tells.1 ∙ learns.sightings, tells.2)
+  learnt-from v w u (Busy other) not learns tells =
+      let g = learns.goes in
+      let longer = goes-longer NoPlace v w g in
+      let found = tells.1 in
+      let began = found.began in (
+        goes-then (HasToWait b v) v w u (goes-none (HasToWait b v) v w g)
+            (goes-wider (HasToWait b w) (HasToWait b v) w u (λ i waits. waited-before b v w i g.knows waits) tells.0),
+        record {
+          most = found.most;
+          shared = sym g.sole ∙ found.shared;
+          untold = λ told. found.untold (told-later b v w other g.knows told);
+          count = found.count;
+          began = omega arith;
+          ended = found.ended;
+          sighting = found.sighting ∙ ap (λ (l : List (ℕ × ℕ)). l ++ (other, found.count) ∷ []) learns.sightings;
+        },
+      )
+  learnt-from v w u NoMemory not learns tells =
+      let g = learns.goes in (
+        goes-then (MayLackMemory b v) v w u (goes-none (MayLackMemory b v) v w g)
+            (goes-wider (MayLackMemory b w) (MayLackMemory b v) w u
+            (λ i lacks. ⊎_elim (λ waits. inl (waited-before b v w i g.knows waits)) (λ revokes. inr revokes) lacks) tells.0),
+        tells.1 ∙ learns.sightings,
+        λ knows. tells.2 (refers-later b v w index g.knows knows),
+      )
+
+  begun-at : (v : View) → HoldsJust v (index ∷ []) → KnowsPast b v index → Running b index v (record { view = v; at = index; next = 0; frames = [] })
+  begun-at v holds past = record {
+    walks = record { path = tt; ready = λ m other below _. absurd (omega arith); short = omega arith; holds = holds; past = past };
     for = refl;
     goes = goes-same NoPlace v v refl;
     sightings = refl;
     waits = λ i has. absurd has;
   }
 
-  pub begun : (v : View) (fs : List Frame) → HoldsJust v (index ∷ []) → fs ≡ [] → Running b index v (record { view = v; at = index; next = 0; frames = fs })
-  begun v fs holds is = subst (λ (gs : List Frame). Running b index v (record { view = v; at = index; next = 0; frames = gs })) (sym is) (begun-at v holds)
+  pub begun : (v : View) (fs : List Frame) → HoldsJust v (index ∷ []) → KnowsPast b v index → fs ≡ [] → Running b index v (record { view = v; at = index; next = 0; frames = fs })
+  begun v fs holds past is = subst (λ (gs : List Frame). Running b index v (record { view = v; at = index; next = 0; frames = gs })) (sym is) (begun-at v holds past)
 
   pub round : (v : View) (s t : Spot) → Running b index v s → Onward b s t → Running b index v t
   round v s t r o = record {

@@ -4,7 +4,7 @@ use Rattle.bohm_core_base.specs.declared.event.Event.{Event}
 use Rattle.bohm_core_base.specs.declared.event.Event.TheVariants.{GiveBack}
 use Rattle.words.specs.declared.view.View.{View}
 use Rattle.words.specs.Passes.{Passing}
-use Rattle.words.specs.Views.{Holds, In}
+use Rattle.words.specs.Views.{Holds, In, KeepsFronts}
 use Rattle.filling_base.specs.Counting.{finished_places}
 
 -- the same pass, through which no fewer bodies were run
@@ -13,7 +13,7 @@ pub record IsSamePass (pass after : Passing) : Type 0 where
   pub number : after.number ≡ pass.number
   pub bodies : pass.bodies ≤ after.bodies
 
--- what it knew it knows, and its own events go on; of these, only such places are given back
+-- what it knew it knows, of fronts too, and its own events go on; of these, only such places are given back
 pub record Goes (MayGiveBack : ℕ → Type 0) (view after : View) : Type 0 where
   pub knows : (index : ℕ) → In index view.known → In index after.known
   pub events : List Event
@@ -21,6 +21,7 @@ pub record Goes (MayGiveBack : ℕ → Type 0) (view after : View) : Type 0 wher
   pub gives_back : (actor index : ℕ) → In (GiveBack actor index) events → MayGiveBack index
   pub kept : after.kept ≡ view.kept
   pub sole : after.sole ≡ view.sole
+  pub fronts : KeepsFronts view after
 
 -- no place at all
 abbrev pub NoPlace : ℕ → Type 0

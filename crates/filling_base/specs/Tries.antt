@@ -1,10 +1,10 @@
 -- What comes of a place that is asked for.
-use Rattle.std.specs.Prelude.{◌≡◌, ◌⊎◌, ℕ, ◌≤◌, [], ◌∷◌, ◌++◌, length, Result, Ok, Err, false}
+use Rattle.std.specs.Prelude.{◌≡◌, ◌⊎◌, ℕ, ◌<◌, ◌≤◌, ◌+◌, Bool, true, [], ◌∷◌, ◌++◌, length, Result, Ok, Err, List, false}
 use Rattle.bohm_core_base.specs.Batch.{Batch}
 use Rattle.words.specs.declared.view.View.{View}
-use Rattle.words.specs.Views.{In, IsSettled, KnowsReferences}
+use Rattle.words.specs.Views.{In, IsSettled, KnowsFront, KnowsPast, KnowsReferences}
 use Rattle.filling_base.specs.declared.run.Tried.{Tried}
-use Rattle.filling_base.specs.declared.run.Tried.TheVariants.{Done, Busy, NoMemory}
+use Rattle.filling_base.specs.declared.run.Tried.TheVariants.{Done, Busy, NotPlaced, NoMemory}
 use Rattle.filling_base.specs.Goings.{Finishes, Goes, NoPlace, OnlyLearns}
 use Rattle.filling_base.specs.References.{IsRevocation}
 
@@ -31,10 +31,38 @@ pub record MeetsHeld (batch : Batch) (index other : ℕ) (view after : View) : T
   pub ended : count ≤ length after.events
   pub sighting : after.sightings ≡ view.sightings ++ (other, count) ∷ []
 
+-- a partition was found not to have placed the place, and nothing else was done; the pass didn't know that it has
+pub record MeetsUnplaced (batch : Batch) (index partition : ℕ) (view after : View) : Type 0 where
+  pub learns : OnlyLearns view after
+  pub within : partition < batch.partitions
+  pub unknown : ¬ (KnowsFront view partition index)
+  pub undone : ¬ (In index view.known)
+  pub found : ℕ
+  pub short : found ≤ index
+  -- the last front that it found in this call, behind such as are past the place
+  pub past : List (ℕ × ℕ × ℕ)
+  pub sighting : after.front_sightings ≡ view.front_sightings ++ (past ++ (partition, found, length view.events) ∷ [])
+
+-- the pass only learnt, and knows each front past the last place; or it was found that one isn't
+pub record PlacedTells (batch : Batch) (view after : View) : Type 0 where
+  pub learns : OnlyLearns view after
+  pub past : (index : ℕ) → index < batch.size → KnowsPast batch after index
+
+abbrev pub UnplacedTells : Batch → View → View → Type 0
+UnplacedTells batch view after = (last : ℕ) × (partition : ℕ) × (last + 1 ≡ batch.size) × MeetsUnplaced batch last partition view after
+
+-- whether the answer is that a partition hasn't placed the place
+abbrev pub is_unplaced : Tried → Bool
+is_unplaced Done = false
+is_unplaced (Busy other) = false
+is_unplaced (NotPlaced partition) = true
+is_unplaced NoMemory = false
+
 -- what came of a place that was asked for. It is known done, and none was given back; or another was held, and what was given
--- back had to wait; or memory was wanting, which it isn't where the place has no revocation and all its references were known
+-- back had to wait; or a partition hasn't placed it; or memory was wanting, which it isn't where the place has no revocation and all its references were known
 -- done, and what was given back had to wait or may revoke
 abbrev pub TriedTells : Batch → ℕ → View → Tried → View → Type 0
+TriedTells batch index view (NotPlaced partition) after = MeetsUnplaced batch index partition view after
 TriedTells batch index view Done after = Goes NoPlace view after × (after.sightings ≡ view.sightings) × In index after.known
 TriedTells batch index view (Busy other) after = Goes (HasToWait batch view) view after × MeetsHeld batch index other view after
 TriedTells batch index view NoMemory after =

@@ -2,7 +2,7 @@
 use Rattle.std.specs.Prelude.{◌≡◌, ◌⊎◌, ℕ, zero, suc, ◌+◌, ◌*◌, ◌-◌, ◌^◌, ◌<◌, ◌≤◌, List, [], ◌∷◌, ◌++◌, length, false}
 use Rattle.bohm_core_base.specs.Batch.{Batch, reference_words}
 use Rattle.words.specs.declared.view.View.{View}
-use Rattle.words.specs.Views.{In}
+use Rattle.words.specs.Views.{In, KnowsPast}
 use Rattle.filling_base.specs.declared.walk.Frame.{Frame}
 use Rattle.filling_base.specs.declared.walk.Walk.{Walk}
 use Rattle.filling_base.specs.declared.walk.Step.{Step}
@@ -62,6 +62,8 @@ pub record IsWalk (batch : Batch) (spot : Spot) : Type 0 where
   pub ready : KnownTo batch spot.view.known spot.at spot.next
   pub short : spot.next ≤ length (reference_words batch spot.at)
   pub holds : HoldsJust spot.view (held spot)
+  -- every partition has placed the place asked for, and so the others, which stand before it
+  pub past : KnowsPast batch spot.view (asked_place spot)
 
 -- more than two for each place, and more than the references of each
 abbrev pub widest_below : Batch → ℕ → ℕ

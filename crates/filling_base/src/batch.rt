@@ -1,8 +1,8 @@
 //! A batch beside its words, and how its passes are cut and joined.
 
-ghost use Rattle.std.specs.Prelude.{◌≡◌, IfOk};
-ghost use Rattle.words.specs.Closing.{IsSettledBy, LastWith};
-ghost use Rattle.words.specs.Passes.{IsPassOf, cut_first, cut_second, first_pass, joined_pass};
+ghost use Rattle.std.specs.Prelude.{◌≡◌, IfOk, false, true};
+ghost use Rattle.words.specs.Closing.{TellsReferences, IsSettledBy, LastWith};
+ghost use Rattle.words.specs.Passes.{IsPassOf, cut_first, cut_second, first_pass, joined_pass, open_pass};
 
 use crate::fills::Fills;
 use std::alloc::{AllocError, Global};
@@ -29,11 +29,22 @@ impl<K: Fills> Model for Batch<K> {
 }
 
 impl<K: Fills + Drop> Batch<K> {
-    /// The words of the batch, with all places free, and its first pass. An error is want of memory.
+    /// The words of the batch, all of which is placed, with all places free, and its first pass. An error is want of memory.
     pub fn new(alloc: Global, key: K) -> Result<(Batch<K>, Pass), AllocError>
+        requires { K.placed key ≡ true }
         ensures { IfOk result (λ made. (made.0.key ≡ key) × (made.1 ≡ first_pass made.0)) }
     {
         let (words, pass) = BatchWords::new(alloc, &key)?;
+        Ok((Batch { key, words, alloc }, pass))
+    }
+
+    /// The words of the batch, of which nothing is placed yet, and its first pass, off which its placers are cut. An error is
+    /// want of memory.
+    pub fn open(alloc: Global, key: K) -> Result<(Batch<K>, Pass), AllocError>
+        requires { K.placed key ≡ false }
+        ensures { IfOk result (λ made. (made.0.key ≡ key) × (made.1 ≡ open_pass made.0)) }
+    {
+        let (words, pass) = BatchWords::open(alloc, &key)?;
         Ok((Batch { key, words, alloc }, pass))
     }
 }
@@ -73,12 +84,14 @@ impl<K: Fills> Batch<K> {
     }
 
     /// What the batch is of, and its words as they stand. Each place whose claim is done has the own words and the ends of the
-    /// serial run, and of any other place the words are a beginning of them, also where the pass that held it is gone.
+    /// serial run, and of any other place the words are a beginning of them, also where the pass that held it is gone. If the pass knows that
+    /// all is placed, the references are the batch's.
     pub fn close(self, pass: Pass) -> (K, Closed)
         requires { IsPassOf self pass }
         ensures key { result.0 ≡ self.key }
         ensures last { LastWith (K.batch self.key) (K.listed self.key) result.1.words pass.number pass.view }
         ensures settled { IsSettledBy (K.batch self.key) (K.listed self.key) result.1 }
+        ensures references { pass.view.placed ≡ true → TellsReferences (K.batch self.key) result.1 }
     {
         let Batch {
             key,

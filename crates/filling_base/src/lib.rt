@@ -6,6 +6,7 @@
 
 mod batch;
 mod fills;
+mod fronts;
 mod laws;
 mod release;
 mod run;

@@ -1,10 +1,11 @@
 //! Runs a place that is asked for.
 
-ghost use Rattle.std.specs.Prelude.{◌≡◌, ◌<◌, [], ◌∷◌};
+ghost use Rattle.std.specs.Prelude.{◌≡◌, ◌<◌, [], ◌∷◌, false};
 ghost use Rattle.words.specs.Passes.{IsPassOf};
+ghost use Rattle.words.specs.Views.{HoldsNone, KnowsPast};
 ghost use Rattle.filling_base.specs.Counting.{CountsBodies};
 ghost use Rattle.filling_base.specs.Goings.{HoldsJust, IsSamePass};
-ghost use Rattle.filling_base.specs.Tries.{IsToldDone, TriedTells};
+ghost use Rattle.filling_base.specs.Tries.{IsToldDone, TriedTells, is_unplaced};
 
 use crate::batch::Batch;
 use crate::fills::Fills;
@@ -18,6 +19,8 @@ pub enum Tried {
     Done,
     /// The place of this index was held by another pass.
     Busy(usize),
+    /// The partition hasn't placed the place.
+    NotPlaced(usize),
     /// Memory was wanting.
     NoMemory,
 }
@@ -28,6 +31,8 @@ impl<K: Fills> Batch<K> {
         requires ours { IsPassOf self.now holding }
         requires within { index < (K.batch self.now.key).size }
         requires held { HoldsJust holding.view (index ∷ []) }
+        requires past { KnowsPast (K.batch self.now.key) holding.view index }
+        ensures placed { is_unplaced result.1 ≡ false }
         ensures same { IsSamePass holding result.0 }
         ensures tells { TriedTells (K.batch self.now.key) index holding.view result.1 result.0.view }
         ensures bodies { CountsBodies (K.runs self.now.key) holding result.0 }
@@ -39,27 +44,54 @@ impl<K: Fills> Batch<K> {
             stack: Vec::new(self.alloc),
         };
         'steps: loop {
-            let (next, step) = self.step(walk);
+            let step = if walk.next < self.key.references_length(walk.at) {
+                let next = walk.next + 1;
+                self.step(&mut walk, next)
+            } else {
+                let (left, step) = self.leave(walk);
+                walk = left;
+                step
+            };
             match step {
-                Step::Went => walk = next,
+                Step::Went => {}
                 Step::Over => {
                     let Walk {
                         holding,
                         at: _,
                         next: _,
                         stack: _,
-                    } = next;
+                    } = walk;
                     return (holding.end(), Tried::Done);
                 }
-                Step::Busy(other) => return (self.release(next), Tried::Busy(other)),
-                Step::NoMemory => return (self.release(next), Tried::NoMemory),
+                Step::Busy(other) => return (self.release(walk), Tried::Busy(other)),
+                Step::NoMemory => return (self.release(walk), Tried::NoMemory),
             }
+        }
+    }
+
+    // Claims a place that every partition has placed, and runs it.
+    fn take(&self, mut holding: Holding, index: usize) -> (Pass, Tried)
+        requires ours { IsPassOf self.now holding }
+        requires within { index < (K.batch self.now.key).size }
+        requires idle { HoldsNone holding.view }
+        requires past { KnowsPast (K.batch self.now.key) holding.view index }
+        ensures same { IsSamePass holding result.0 }
+        ensures tells { TriedTells (K.batch self.now.key) index holding.view result.1 result.0.view }
+        ensures bodies { CountsBodies (K.runs self.now.key) holding result.0 }
+        ensures placed { is_unplaced result.1 ≡ false }
+        ensures told { IsToldDone (K.batch self.now.key) holding.view index → result.1 ≡ Tried.Done }
+    {
+        match self.words.claim(&mut holding, index) {
+            Claimed::Done => (holding.end(), Tried::Done),
+            Claimed::Held => (holding.end(), Tried::Busy(index)),
+            Claimed::Won => self.run(holding, index),
         }
     }
 
     /// Runs a place, and before it those that it is referred to and that aren't done. The pass holds none afterwards, and what
     /// was finished on the way stays finished. `Busy` tells a place, at most the one asked for, that another pass held at a step
-    /// of this call; all claims of the call were given back. `NoMemory` is not answered for a place without a revocation whose
+    /// of this call; all claims of the call were given back. `NotPlaced` tells a partition that was found in this call not to have
+    /// placed the place, and that the pass didn't know to have. `NoMemory` is not answered for a place without a revocation whose
     /// references the pass knew done. A place is given back only if one of its references wasn't known done as the call began,
     /// or for want of memory for a revocation. The pass counts the bodies of the places that it finishes, whatever is answered.
     pub fn try_run(&self, pass: Pass, index: usize) -> (Pass, Tried)
@@ -75,10 +107,9 @@ impl<K: Fills> Batch<K> {
         match self.words.look(&mut holding, index) {
             Seen::Done => (holding.end(), Tried::Done),
             Seen::Held => (holding.end(), Tried::Busy(index)),
-            Seen::Free => match self.words.claim(&mut holding, index) {
-                Claimed::Done => (holding.end(), Tried::Done),
-                Claimed::Held => (holding.end(), Tried::Busy(index)),
-                Claimed::Won => self.run(holding, index),
+            Seen::Free => match self.unplaced(&mut holding, index) {
+                None => self.take(holding, index),
+                Some(partition) => (holding.end(), Tried::NotPlaced(partition)),
             },
         }
     }

@@ -16,45 +16,45 @@ use words::{Claimed, Seen};
 
 impl<K: Fills> Batch<K> {
     // Goes on with a place that the one at hand is referred to, if it can be claimed. Room to wait for it is made first.
-    fn enter(&self, mut walk: Walk, index: usize, next: usize) -> (Walk, Step)
-        requires ours { IsPassOf self.now walk.holding }
-        requires within { asked_place (spot walk) < (K.batch self.now.key).size }
-        requires walks { IsWalk (K.batch self.now.key) (spot walk) }
-        requires short { walk.next < length (reference_words (K.batch self.now.key) walk.at) }
-        requires next { next ≡ suc walk.next }
-        requires names { reference (K.batch self.now.key) walk.at walk.next ≡ suc index }
-        requires untold { ¬ (IsToldDone (K.batch self.now.key) walk.holding.view index) }
-        ensures same { IsSamePass walk.holding result.0.holding }
-        ensures stepped { Stepped (K.batch self.now.key) (spot walk) result.1 (spot result.0) }
-        ensures bodies { CountsBodies (K.runs self.now.key) walk.holding result.0.holding }
+    fn enter(&self, walk: &mut Walk, index: usize, next: usize) -> Step
+        requires ours { IsPassOf self.now walk.old.holding }
+        requires within { asked_place (spot walk.old) < (K.batch self.now.key).size }
+        requires walks { IsWalk (K.batch self.now.key) (spot walk.old) }
+        requires short { walk.old.next < length (reference_words (K.batch self.now.key) walk.old.at) }
+        requires next { next ≡ suc walk.old.next }
+        requires names { reference (K.batch self.now.key) walk.old.at walk.old.next ≡ suc index }
+        requires untold { ¬ (IsToldDone (K.batch self.now.key) walk.old.holding.view index) }
+        ensures same { IsSamePass walk.old.holding walk.new.holding }
+        ensures stepped { Stepped (K.batch self.now.key) (spot walk.old) result (spot walk.new) }
+        ensures bodies { CountsBodies (K.runs self.now.key) walk.old.holding walk.new.holding }
     {
         let frame = Frame {
             index: walk.at,
             next,
         };
         if walk.stack.push(frame).is_err() {
-            return (walk, Step::NoMemory);
+            return Step::NoMemory;
         }
         match self.words.claim(&mut walk.holding, index) {
             Claimed::Won => {
                 walk.at = index;
                 walk.next = 0;
-                (walk, Step::Went)
+                Step::Went
             }
             Claimed::Held => {
                 let _ = walk.stack.pop();
-                (walk, Step::Busy(index))
+                Step::Busy(index)
             }
             Claimed::Done => {
                 let _ = walk.stack.pop();
                 walk.next = next;
-                (walk, Step::Went)
+                Step::Went
             }
         }
     }
 
     // Fills the place at hand, and goes back to the one that waits for it.
-    fn leave(&self, mut walk: Walk) -> (Walk, Step)
+    pub(crate) fn leave(&self, mut walk: Walk) -> (Walk, Step)
         requires ours { IsPassOf self.now walk.holding }
         requires within { asked_place (spot walk) < (K.batch self.now.key).size }
         requires walks { IsWalk (K.batch self.now.key) (spot walk) }
@@ -78,30 +78,28 @@ impl<K: Fills> Batch<K> {
         }
     }
 
-    // Looks at the next reference of the place at hand, or fills the place.
-    pub(crate) fn step(&self, mut walk: Walk) -> (Walk, Step)
-        requires ours { IsPassOf self.now walk.holding }
-        requires within { asked_place (spot walk) < (K.batch self.now.key).size }
-        requires walks { IsWalk (K.batch self.now.key) (spot walk) }
-        ensures same { IsSamePass walk.holding result.0.holding }
-        ensures stepped { Stepped (K.batch self.now.key) (spot walk) result.1 (spot result.0) }
-        ensures bodies { CountsBodies (K.runs self.now.key) walk.holding result.0.holding }
+    // Looks at the next reference of the place at hand, after which this one is the next.
+    pub(crate) fn step(&self, walk: &mut Walk, next: usize) -> Step
+        requires ours { IsPassOf self.now walk.old.holding }
+        requires within { asked_place (spot walk.old) < (K.batch self.now.key).size }
+        requires walks { IsWalk (K.batch self.now.key) (spot walk.old) }
+        requires short { walk.old.next < length (reference_words (K.batch self.now.key) walk.old.at) }
+        requires next { next ≡ suc walk.old.next }
+        ensures same { IsSamePass walk.old.holding walk.new.holding }
+        ensures stepped { Stepped (K.batch self.now.key) (spot walk.old) result (spot walk.new) }
+        ensures bodies { CountsBodies (K.runs self.now.key) walk.old.holding walk.new.holding }
     {
-        if walk.next >= self.key.references_length(walk.at) {
-            return self.leave(walk);
-        }
-        let next = walk.next + 1;
-        match self.key.reference(walk.at, walk.next) {
+        match self.referred(&mut walk.holding, walk.at, walk.next) {
             None => {
                 walk.next = next;
-                (walk, Step::Went)
+                Step::Went
             }
             Some(index) => match self.words.look(&mut walk.holding, index) {
                 Seen::Free => self.enter(walk, index, next),
-                Seen::Held => (walk, Step::Busy(index)),
+                Seen::Held => Step::Busy(index),
                 Seen::Done => {
                     walk.next = next;
-                    (walk, Step::Went)
+                    Step::Went
                 }
             },
         }

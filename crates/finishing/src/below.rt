@@ -2,17 +2,21 @@
 
 ghost use Rattle.std.specs.Prelude.{◌≡◌, ◌<◌, slice_index_or};
 ghost use Rattle.log_batch.specs.Supplied.{batch_in};
+ghost use Rattle.reading.specs.Told.{referred_word};
+ghost use Rattle.words.specs.Closing.{TellsReferences};
 
 use crate::standing::Standing;
 use log_batch::LogBatch;
 use model_base::Place;
 use reading::Told;
 use std::marker::Model;
+use words::Closed;
 
-/// A place of a batch of which all places below it stand.
+/// A place of a closed batch of which all places below it stand.
 #[derive(Drop)]
 pub(crate) struct Below<'a> {
     batch: &'a LogBatch<'a>,
+    closed: &'a Closed,
     standing: &'a Standing,
     index: usize,
 }
@@ -21,7 +25,8 @@ impl<'a> Model for Below<'a> {
     ghost use Rattle.std.specs.Prelude.{◌<◌};
     ghost use Rattle.log_batch.specs.Laws.{IsOfLog};
     ghost use Rattle.log_batch.specs.Supplied.{batch_in, range_of};
-    ghost use Rattle.reading.specs.Closed.{Indexed};
+    ghost use Rattle.reading.specs.Told.{Indexed};
+    ghost use Rattle.words.specs.Closing.{TellsReferences};
     ghost use Rattle.finishing.specs.Standing.{StandTo};
 
     ghost Value = { Indexed };
@@ -29,7 +34,8 @@ impl<'a> Model for Below<'a> {
     ghost view = { λ place. record { ranged = place.batch.now; index = place.index } };
 
     ghost invariant = { λ place. StandTo (batch_in place.batch.now) place.index place.standing.now
-        × (place.index < place.batch.now.size) × IsOfLog (range_of place.batch.now) };
+        × (place.index < place.batch.now.size) × IsOfLog (range_of place.batch.now)
+        × TellsReferences (batch_in place.batch.now) place.closed.now };
 }
 
 /// The word of an index, or 0 past the last.
@@ -39,11 +45,28 @@ fn word_at(words: &[u64], index: usize) -> u64
     if index < words.len() { words[index] } else { 0 }
 }
 
+/// The index of the place that a reference word is to, if it is to one.
+fn index_of(word: u64) -> Option<usize>
+    ensures { referred_word result ≡ word }
+{
+    if word == 0 {
+        None
+    } else {
+        Some((word - 1) as usize)
+    }
+}
+
 impl<'a> Below<'a> {
     ghost use Rattle.finishing.specs.Standing.{StandTo};
 
     /// The place of an index, as a reader of what stands below it.
-    pub(crate) fn new(batch: &'a LogBatch<'a>, standing: &'a Standing, index: usize) -> Self
+    pub(crate) fn new(
+        batch: &'a LogBatch<'a>,
+        closed: &'a Closed,
+        standing: &'a Standing,
+        index: usize,
+    ) -> Self
+        requires references { TellsReferences (batch_in batch.now) closed.now }
         requires stands { StandTo (batch_in batch.now) index standing.now }
         requires within { index < batch.now.size }
         ensures { result ≡ record { ranged = batch.now; index = index } }
@@ -51,6 +74,7 @@ impl<'a> Below<'a> {
         let _log = batch.log();
         Below {
             batch,
+            closed,
             standing,
             index,
         }
@@ -58,7 +82,7 @@ impl<'a> Below<'a> {
 }
 
 impl Told for Below<'_> {
-    ghost use Rattle.reading.specs.Closed.{reader_of};
+    ghost use Rattle.reading.specs.Told.{reader_of};
     ghost use Rattle.reading.specs.Told.{no_work};
 
     ghost told = { reader_of };
@@ -67,6 +91,10 @@ impl Told for Below<'_> {
 
     fn reader(&self) -> usize {
         self.index
+    }
+
+    fn reference(&mut self, number: usize) -> Option<usize> {
+        index_of(self.closed.reference(self.index, number))
     }
 
     fn own(&mut self, index: usize, number: usize) -> u64 {

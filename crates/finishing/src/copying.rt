@@ -4,7 +4,7 @@ ghost use Rattle.std.specs.Prelude.{◌≡◌, ◌<◌, ℕ, None, suc, IfOk, On
 ghost use Rattle.bohm_core_base.specs.Batch.{batch_slots};
 ghost use Rattle.bohm_core_base.specs.Serial.{serial_words};
 ghost use Rattle.log_batch.specs.Supplied.{batch_in};
-ghost use Rattle.words.specs.Closing.{IsSettledBy, claim_in};
+ghost use Rattle.words.specs.Closing.{TellsReferences, IsSettledBy, claim_in};
 ghost use Rattle.finishing.specs.Ends.{AreTold, TellsWord, told_end};
 ghost use Rattle.finishing.specs.Standing.{HasDone, StandTo, TellsDone};
 
@@ -76,13 +76,14 @@ pub(crate) fn complete(
 ) -> Result<(), AllocError>
     requires within { index < batch.now.size }
     requires closed { HasDone (batch_in batch.now) closed.now }
+    requires references { TellsReferences (batch_in batch.now) closed.now }
     requires done { TellsDone (batch_in batch.now) closed.now standing.old.ends }
     requires stands { StandTo (batch_in batch.now) index standing.old }
     ensures done { OnOk result (TellsDone (batch_in batch.now) closed.now standing.new.ends) }
     ensures stands { OnOk result (StandTo (batch_in batch.now) (suc index) standing.new) }
 {
     if closed.claim(index) != DONE {
-        return judge(alloc, batch, index, standing, words);
+        return judge(alloc, batch, closed, index, standing, words);
     }
     copy_words(batch, closed, index, words);
     standing.words.push(words.as_slice())?;

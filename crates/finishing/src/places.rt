@@ -6,6 +6,7 @@ ghost use Rattle.model_base.specs.declared.deed.Grant.{Grant};
 ghost use Rattle.bohm_core_base.specs.Batch.{batch_slots, was_done};
 ghost use Rattle.bohm_core_base.specs.Serial.{serial_ends, serial_words};
 ghost use Rattle.log_batch.specs.Supplied.{batch_in};
+ghost use Rattle.words.specs.Closing.{TellsReferences};
 ghost use Rattle.finishing.specs.Ends.{AreTold, KeepsTold, TellsOf, told_end};
 ghost use Rattle.finishing.specs.Standing.{StandTo};
 
@@ -18,6 +19,7 @@ use model_base::Place;
 use own_words::OwnWords;
 use reading::{ends_told, words_told};
 use std::alloc::{AllocError, Global};
+use words::Closed;
 
 /// Whether own words say that their place was done.
 #[tactic(auto, unfolding(bohm_core_base::specs::Batch::was_done))]
@@ -31,12 +33,19 @@ fn was_done(own: &[u64]) -> bool
 }
 
 /// Puts the own words of a place in the place of those that were there.
-fn judge_words(batch: &LogBatch<'_>, standing: &Standing, index: usize, words: &mut OwnWords)
+fn judge_words(
+    batch: &LogBatch<'_>,
+    closed: &Closed,
+    standing: &Standing,
+    index: usize,
+    words: &mut OwnWords,
+)
     requires within { index < batch.now.size }
+    requires references { TellsReferences (batch_in batch.now) closed.now }
     requires stands { StandTo (batch_in batch.now) index standing.now }
     ensures { words.new ≡ serial_words (batch_in batch.now) index }
 {
-    let place = Below::new(batch, standing, index);
+    let place = Below::new(batch, closed, standing, index);
     let _ = words_told(batch, place, words);
 }
 
@@ -44,16 +53,18 @@ fn judge_words(batch: &LogBatch<'_>, standing: &Standing, index: usize, words: &
 fn judged_ends(
     alloc: Global,
     batch: &LogBatch<'_>,
+    closed: &Closed,
     standing: &Standing,
     index: usize,
 ) -> Result<Vec<Place>, AllocError>
     requires within { index < batch.now.size }
+    requires references { TellsReferences (batch_in batch.now) closed.now }
     requires stands { StandTo (batch_in batch.now) index standing.now }
     requires done { was_done (serial_words (batch_in batch.now) index) ≡ true }
     ensures { IfOk result (λ places. (slot : ℕ) (grant : Grant) → slice_get (batch_slots (batch_in batch.now)) slot ≡ Some grant
         → list_any (λ place. place == grant.place) places.items ≡ serial_ends (batch_in batch.now) index slot) }
 {
-    let place = Below::new(batch, standing, index);
+    let place = Below::new(batch, closed, standing, index);
     let (places, _) = ends_told(alloc, batch, place);
     places
 }
@@ -106,11 +117,13 @@ fn tell_ends(
 fn judge_ends(
     alloc: Global,
     batch: &LogBatch<'_>,
+    closed: &Closed,
     words: &[u64],
     index: usize,
     standing: &mut Standing,
 ) -> Result<(), AllocError>
     requires within { index < batch.now.size }
+    requires references { TellsReferences (batch_in batch.now) closed.now }
     requires stands { StandTo (batch_in batch.now) index standing.old }
     requires words { words.now ≡ serial_words (batch_in batch.now) index }
     ensures told { OnOk result (AreTold (batch_in batch.now) standing.new.ends) }
@@ -121,7 +134,7 @@ fn judge_ends(
     records_end_by_done_places();
     let _log = batch.log();
     if was_done(words) {
-        let places = judged_ends(alloc, batch, standing, index)?;
+        let places = judged_ends(alloc, batch, closed, standing, index)?;
         tell_ends(batch, places.as_slice(), index, &mut standing.ends)?;
     }
     Ok(())
@@ -131,17 +144,19 @@ fn judge_ends(
 pub(crate) fn judge(
     alloc: Global,
     batch: &LogBatch<'_>,
+    closed: &Closed,
     index: usize,
     standing: &mut Standing,
     words: &mut OwnWords,
 ) -> Result<(), AllocError>
     requires within { index < batch.now.size }
+    requires references { TellsReferences (batch_in batch.now) closed.now }
     requires stands { StandTo (batch_in batch.now) index standing.old }
     ensures stands { OnOk result (StandTo (batch_in batch.now) (suc index) standing.new) }
     ensures kept { OnOk result (KeepsTold standing.old.ends standing.new.ends) }
 {
-    judge_words(batch, standing, index, words);
-    judge_ends(alloc, batch, words.as_slice(), index, standing)?;
+    judge_words(batch, closed, standing, index, words);
+    judge_ends(alloc, batch, closed, words.as_slice(), index, standing)?;
     standing.words.push(words.as_slice())?;
     Ok(())
 }

@@ -2,7 +2,7 @@
 
 ghost use Rattle.std.specs.Prelude.{◌≡◌, IfOk, OnOk};
 ghost use Rattle.log_batch.specs.Supplied.{batch_in};
-ghost use Rattle.words.specs.Closing.{IsSettledBy};
+ghost use Rattle.words.specs.Closing.{TellsReferences, IsSettledBy};
 ghost use Rattle.finishing.specs.Standing.{HasDone, StandTo, TellsDone};
 
 use crate::copying::{complete, take_ends};
@@ -22,6 +22,7 @@ fn complete_all(
     standing: &mut Standing,
 ) -> Result<(), AllocError>
     requires closed { HasDone (batch_in batch.now) closed.now }
+    requires references { TellsReferences (batch_in batch.now) closed.now }
     requires done { TellsDone (batch_in batch.now) closed.now standing.old.ends }
     requires stands { StandTo (batch_in batch.now) 0 standing.old }
     ensures { OnOk result (StandTo (batch_in batch.now) batch.now.size standing.new) }
@@ -45,13 +46,14 @@ fn taken(alloc: Global, key: &LogKey<'_>, closed: &Closed) -> Result<Standing, A
 }
 
 /// Completes a batch that no worker can reach any more, on this thread: what its words have of each place that is done is kept,
-/// and the others are run, those among them that a worker held when it was dropped. An error is want of memory.
+/// and the others are run, those among them that a worker held when it was dropped. All of it is placed. An error is want of memory.
 pub fn finish<'a>(
     alloc: Global,
     key: LogKey<'a>,
     closed: &Closed,
 ) -> Result<Finished<'a>, AllocError>
-    requires { IsSettledBy (batch_in key.batch) key.slots closed.now }
+    requires settled { IsSettledBy (batch_in key.batch) key.slots closed.now }
+    requires references { TellsReferences (batch_in key.batch) closed.now }
     ensures { IfOk result (λ done. done
         ≡ record { log = key.entry.batch.log; first = key.entry.batch.first; size = key.entry.batch.size }) }
 {

@@ -20,3 +20,4 @@ pub mod Counted
 pub mod Passed
 pub mod Earlier
 pub mod OnlySlot
+pub mod Referring

@@ -1,6 +1,10 @@
 //! Room for what a line reads as.
 
-ghost use Rattle.std.specs.Prelude.{◌≡◌, []};
+ghost use Rattle.std.specs.Prelude.{◌≡◌, [], List, Option};
+ghost use Rattle.line_words.specs.declared.access.RawAccess.{RawAccess};
+ghost use Rattle.log_text.specs.declared.statement.RawDeed.{RawDeed};
+ghost use Rattle.log_text.specs.declared.statement.RawForm.{RawForm};
+ghost use Rattle.log_text.specs.declared.statement.RawStep.{RawStep};
 
 use crate::statement::{RawForm, RawStatement, RawStep};
 use line_words::RawAccess;
@@ -26,8 +30,13 @@ impl<'a> RawRoom<'a> {
         }
     }
 
-    /// Takes back what a statement was read into.
-    pub fn take_back(&mut self, statement: RawStatement<'a>) {
+    /// Takes back what a statement was read into, with what stands in it.
+    pub fn take_back(&mut self, statement: RawStatement<'a>)
+        ensures accesses { (accesses : List RawAccess) (steps : List RawStep) (deed : Option RawDeed)
+            → statement.entry.form ≡ RawForm.Run accesses steps deed → self.new.accesses.items ≡ accesses }
+        ensures steps { (accesses : List RawAccess) (steps : List RawStep) (deed : Option RawDeed)
+            → statement.entry.form ≡ RawForm.Run accesses steps deed → self.new.steps.items ≡ steps }
+    {
         let (_user, form) = statement.into_parts();
         if let RawForm::Run {
             accesses,

@@ -1,9 +1,12 @@
 //! The constant data of a batch of a log.
 
-ghost use Rattle.std.specs.Prelude.{◌≡◌, ◌<◌, length};
+ghost use Rattle.std.specs.Prelude.{◌≡◌, ◌<◌, ◌^◌, length, slice_index_or, true};
+ghost use Rattle.model_base.specs.declared.reference.Reference.TheVariants.{Base};
+ghost use Rattle.log_batch.specs.Laws.{word_of};
 ghost use Rattle.log_batch.specs.Supplied.{batch_in};
 
 use log_batch::{LogBatch, batches_of_logs_are_sound};
+use model_base::{Place, Reference};
 use reading::words_length;
 use std::marker::Model;
 use words::Placed;
@@ -61,10 +64,31 @@ impl<'a> LogKey<'a> {
     }
 }
 
+// The reference of this number.
+fn reference_at(references: &[Reference], number: usize) -> Reference
+    requires { number < length references.now }
+    ensures { result ≡ slice_index_or references.now number Base }
+{
+    references[number]
+}
+
+// A reference as a word of the batch that begins here: 0 for what stood before it, or one more than the index of the place.
+fn word_of(first: Place, reference: Reference) -> u64
+    requires { word_of first reference < 2 ^ 64 }
+    ensures { result ≡ word_of first reference }
+{
+    match reference {
+        Reference::Base => 0,
+        Reference::At(place) => place.saturating_sub(first) + 1,
+    }
+}
+
 impl Placed for LogKey<'_> {
     ghost batch = { λ key. batch_in key.batch };
 
     ghost listed = { λ key. key.slots };
+
+    ghost placed = { λ _. true };
 
     fn places(&self) -> usize {
         // A range of a log is a batch that the machine's law speaks of.
@@ -75,6 +99,20 @@ impl Placed for LogKey<'_> {
 
     fn words_length(&self, index: usize) -> usize {
         words_length(&self.batch, index)
+    }
+
+    fn partitions(&self) -> usize {
+        self.batch.partition_count()
+    }
+
+    fn references_length(&self, index: usize) -> usize {
+        self.batch.references_at(index).len()
+    }
+
+    fn reference_word(&self, index: usize, number: usize) -> u64 {
+        let references = self.batch.references_at(index);
+        let first = self.batch.first_place();
+        word_of(first, reference_at(references, number))
     }
 
     fn ends(&self) -> usize {

@@ -1,8 +1,8 @@
 //! The words of a batch of a log, beside the batch.
 
-ghost use Rattle.std.specs.Prelude.{◌≡◌, IfOk};
+ghost use Rattle.std.specs.Prelude.{◌≡◌, true, IfOk};
 ghost use Rattle.log_batch.specs.Supplied.{batch_in};
-ghost use Rattle.words.specs.Closing.{IsSettledBy};
+ghost use Rattle.words.specs.Closing.{TellsReferences, IsSettledBy};
 ghost use Rattle.words.specs.Passes.{IsPassOf, first_pass};
 
 use crate::key::LogKey;
@@ -30,7 +30,7 @@ impl<'a> Model for LogWords<'a> {
 }
 
 impl<'a> LogWords<'a> {
-    /// The words of the batch, all 0, and its first pass. An error is want of memory.
+    /// The words of the batch, all of which is placed, with all places free, and its first pass. An error is want of memory.
     pub fn new(alloc: Global, key: LogKey<'a>) -> Result<(LogWords<'a>, Pass), AllocError>
         ensures { IfOk result (λ made. (made.0.key ≡ key.entry) × (made.1 ≡ first_pass made.0)) }
     {
@@ -54,11 +54,13 @@ impl<'a> LogWords<'a> {
     }
 
     /// The batch, and its words as they stand. Each place whose claim is done has the own words and the ends of the serial run,
-    /// and of any other place the words are a beginning of them.
+    /// and of any other place the words are a beginning of them. If the pass knows that all is placed, the references are the
+    /// batch's.
     pub fn close(self, pass: Pass) -> (LogKey<'a>, Closed)
         requires { IsPassOf self pass }
         ensures key { result.0 ≡ self.entry.key }
         ensures settled { IsSettledBy (batch_in self.entry.key.batch) self.entry.key.slots result.1 }
+        ensures references { pass.view.placed ≡ true → TellsReferences (batch_in self.entry.key.batch) result.1 }
     {
         let LogWords { key, words } = self;
         (key, words.close(pass))

@@ -208,6 +208,9 @@ fn tell_reader(
 {
     let seen = words.words().look(holding, 0);
     println!(rt; "the second looks at 3: {seen:?}")?;
+    if !holding.knows_placed() {
+        return Ok(());
+    }
     match words.words().claim(holding, 0) {
         Claimed::Won => {
             words.words().give_back(holding, 0);
@@ -235,6 +238,9 @@ fn tell_calls(
     let (first, second) = words.words().split(pass);
     let mut one = Holding::begin(first);
     let mut other = Holding::begin(second);
+    if !one.knows_placed() || !other.knows_placed() {
+        return Ok(());
+    }
     match words.words().claim(&mut one, 1) {
         Claimed::Won => {
             let found = words.words().claim(&mut other, 1);
@@ -269,6 +275,9 @@ fn tell_closed(
     requires ours { IsPassOf words pass }
     requires size { words.key.batch.size ≡ 2 }
 {
+    if !pass.knows_placed() {
+        return Ok(());
+    }
     let (key, closed) = words.close(pass);
     let (reader, revocation) = (closed.claim(0), closed.claim(1));
     println!(rt; "closed, the claims of 3 and 4 are {reader} and {revocation}")?;

@@ -1,5 +1,5 @@
 -- What is kept of the last writers, and how a statement changes it.
-use Rattle.std.proofs.Common.{◌≡◌, ℕ, ◌+◌, ◌≤◌, Bool, true, false, ◌&&◌, ◌||◌, cond, Some, List, [], ◌∷◌, refl, sym, ◌∙◌, ap, arith, eqb, ltb, ◌==◌, slice_get}
+use Rattle.std.proofs.Common.{◌≡◌, ℕ, zero, suc, drop, ◌+◌, ◌≤◌, Bool, true, false, ◌&&◌, ◌||◌, cond, Some, List, [], ◌∷◌, refl, sym, ◌∙◌, ap, arith, eqb, ltb, ◌==◌, slice_get}
 use Rattle.std.specs.List.{list_any}
 use Rattle.std.specs.BTreeMap.{get, is_at}
 use Rattle.std.specs.Map.{lookup}
@@ -18,7 +18,7 @@ use Rattle.model_base.specs.References.{declares_write, has_deed_on, is_write_to
 use Rattle.model_base.specs.Versions.{is_writing}
 use Rattle.placing.proofs.Last.{last_before-next}
 use Rattle.placing.specs.declared.latest.Latest.{Latest}
-use Rattle.placing.specs.Latest.{IsLatest, Notes, is_own_row, is_own_table, key_cmp, prior_in, reference_to, writer_in}
+use Rattle.placing.specs.Latest.{IsLatest, ChangesOnly, Notes, is_own_row, is_own_table, key_cmp, prior_in, reference_to, writer_in}
 
 is_eq-nat_cmp : (x y : ℕ) → is_eq (nat_cmp x y) ≡ eqb x y
 is_eq-nat_cmp x y =
@@ -104,6 +104,51 @@ no_prior latest empty t = ap (λ entries. reference_to (lookup (is_at (nat_cmp t
 pub none_kept : (own : Bool) (kept before : Reference) → kept ≡ Base → before ≡ Base → kept ≡ cond own before Base
 none_kept true kept before nothing none = nothing ∙ sym none
 none_kept false kept before nothing none = nothing
+
+-- who has all places below one, and of that one maybe a part, has all of it once it is noted again
+pub noted_again : (exact old new : Latest) (statement : Statement) (place : ℕ) → ChangesOnly exact old statement → Notes old new statement place → Notes exact new statement place
+noted_again exact old new statement place others notes = record {
+  partition = notes.partition ∙ others.partition;
+  partitions = notes.partitions ∙ others.partitions;
+  writers = λ t r.
+      let own : is_own_row old t r ≡ is_own_row exact t r = rw (others.partition, others.partitions) refl in
+      notes.writers t r ∙ ap (λ b. cond (b && declares_write t r statement) (At place) (writer_in old t r)) own
+      ∙ by_cases (is_own_row exact t r && declares_write t r statement)
+      (λ here. rw here refl)
+      (λ not_here. rw not_here (others.writers t r not_here));
+  deeds = λ t.
+      let own : is_own_table old t ≡ is_own_table exact t = rw (others.partition, others.partitions) refl in
+      notes.deeds t ∙ ap (λ b. cond (b && has_deed_on t statement) (At place) (prior_in old t)) own
+      ∙ by_cases (is_own_table exact t && has_deed_on t statement)
+      (λ here. rw here refl)
+      (λ not_here. rw not_here (others.deeds t not_here));
+}
+
+pub left_again : (exact old new : Latest) (statement : Statement) → ChangesOnly exact old statement → ChangesOnly old new statement → ChangesOnly exact new statement
+left_again exact old new statement others more = record {
+  partition = more.partition ∙ others.partition;
+  partitions = more.partitions ∙ others.partitions;
+  writers = λ t r not_here.
+      let own : is_own_row old t r ≡ is_own_row exact t r = rw (others.partition, others.partitions) refl in
+      more.writers t r (ap (λ b. b && declares_write t r statement) own ∙ not_here) ∙ others.writers t r not_here;
+  deeds = λ t not_here.
+      let own : is_own_table old t ≡ is_own_table exact t = rw (others.partition, others.partitions) refl in
+      more.deeds t (ap (λ b. b && has_deed_on t statement) own ∙ not_here) ∙ others.deeds t not_here;
+}
+
+-- a row that none of all accesses writes to stands, however many of them are left
+pub still_other : (place : ℕ) (own later all : Bool) (now before : Reference) → (all ≡ false → later ≡ false) → (own && all) ≡ false
+    → cond (own && later) (At place) now ≡ cond (own && all) (At place) before → now ≡ before
+still_other place false later all now before fewer out is = is
+still_other place true later all now before fewer out is = let none = fewer out in rw (none, out) at is
+
+-- of the rest of a list none passes where none of the whole does
+pub none_later : {A : Type 0} (test : A → Bool) (xs : List A) (n : ℕ) → list_any test xs ≡ false → list_any test (drop n xs) ≡ false
+none_later test [] zero none = none
+none_later test [] (suc n) none = none
+none_later test (x ∷ xs) zero none = none
+none_later test (x ∷ xs) (suc n) none =
+    none_later test xs n (by_cases (test x) (λ here. let both : true ≡ false = sym (rw here refl) ∙ none in absurd (cc)) (λ not_here. rw not_here at none))
 
 -- what is noted of a place makes what is kept the last places below the next
 pub latest_next : (old new : Latest) (log : List Statement) (first place : ℕ) (statement : Statement) → first ≤ place → slice_get log place ≡ Some statement → IsLatest old log first place → Notes old new statement place → IsLatest new log first (place + 1)

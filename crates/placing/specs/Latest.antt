@@ -1,5 +1,5 @@
 -- The last places so far that may change the rows of one partition, and that have a deed on its tables.
-use Rattle.std.specs.Prelude.{◌≡◌, ◌==◌, ◌&&◌, ℕ, Bool, Option, Some, None, List, if◌then◌else◌}
+use Rattle.std.specs.Prelude.{◌≡◌, ◌==◌, ◌&&◌, ℕ, Bool, Option, Some, None, List, false, slice_get, if◌then◌else◌}
 use Rattle.std.specs.BTreeMap.{get}
 use Rattle.std.specs.Ordering.{nat_cmp, ordering_then}
 use Rattle.std.specs.declared.cmp.Ordering.{Ordering}
@@ -54,6 +54,24 @@ pub record IsLatest (latest : Latest) (log : List Statement) (first place : ℕ)
   pub deeds :
       (table : ℕ) → prior_in latest table
       ≡ (if is_own_table latest table then last_before (has_deed_on table) log first place else Base)
+
+-- the partition is the same, and so is each row and table of it that the statement doesn't declare to write or to have a deed on
+pub record ChangesOnly (old new : Latest) (statement : Statement) : Type 0 where
+  pub partition : new.partition ≡ old.partition
+  pub partitions : new.partitions ≡ old.partitions
+  pub writers :
+      (table row : ℕ) → (is_own_row old table row && declares_write table row statement) ≡ false
+      → writer_in new table row ≡ writer_in old table row
+  pub deeds :
+      (table : ℕ) → (is_own_table old table && has_deed_on table statement) ≡ false → prior_in new table ≡ prior_in old table
+
+-- all places of the batch below this one are noted, and of this one's statement maybe a part
+pub record IsBehind (latest : Latest) (log : List Statement) (first place : ℕ) : Type 0 where
+  pub exact : Latest
+  pub noted : IsLatest exact log first place
+  pub partition : latest.partition ≡ exact.partition
+  pub partitions : latest.partitions ≡ exact.partitions
+  pub part : (statement : Statement) → slice_get log place ≡ Some statement → ChangesOnly exact latest statement
 
 -- the partition is the same; a row of it that the statement declares to write is kept with the place, as is a table of it
 -- that the statement has a deed on, and each other row and table stays as it was

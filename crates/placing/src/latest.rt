@@ -19,12 +19,12 @@ pub(crate) struct Latest {
 }
 
 impl Latest {
-    ghost use Rattle.std.specs.Prelude.{◌≡◌, ◌<◌, ◌==◌, ◌&&◌, OnOk, ℕ, List, option_to_list, if◌then◌else◌};
+    ghost use Rattle.std.specs.Prelude.{◌≡◌, ◌<◌, ◌==◌, ◌&&◌, OnOk, ℕ, List, false, option_to_list, if◌then◌else◌};
     ghost use Rattle.std.specs.List.{list_any};
     ghost use Rattle.model_base.specs.declared.reference.Reference.TheVariants.{At};
     ghost use Rattle.model_base.specs.declared.statement.Statement.{Statement};
     ghost use Rattle.model_base.specs.References.{has_deed_on, is_write_to};
-    ghost use Rattle.placing.specs.Latest.{IsLatest, Notes, is_own_row, is_own_table, own_prior, own_writer, prior_in, reference_to, writer_in};
+    ghost use Rattle.placing.specs.Latest.{IsLatest, ChangesOnly, Notes, is_own_row, is_own_table, own_prior, own_writer, prior_in, reference_to, writer_in};
 
     /// Before the first place of the batch nothing is kept. It takes no memory.
     pub(crate) fn new(alloc: Global, partition: usize, partitions: usize) -> Self
@@ -80,7 +80,9 @@ impl Latest {
         ensures writers { OnOk result ((table row : ℕ) → writer_in self.new table row
             ≡ (if is_own_row self.old table row && list_any (is_write_to table row) accesses.now
             then At place else writer_in self.old table row)) }
-        ensures deeds { OnOk result ((table : ℕ) → prior_in self.new table ≡ prior_in self.old table) }
+        ensures deeds { (table : ℕ) → prior_in self.new table ≡ prior_in self.old table }
+        ensures others { (table row : ℕ) → (is_own_row self.old table row && list_any (is_write_to table row) accesses.now) ≡ false
+            → writer_in self.new table row ≡ writer_in self.old table row }
     {
         for access in accesses {
             if access.is_writing() && partition_of(access.key, self.partitions) == self.partition {
@@ -94,7 +96,9 @@ impl Latest {
     fn note_deed(&mut self, table: Option<Table>, place: Place) -> Result<(), AllocError>
         ensures partition { self.new.partition ≡ self.old.partition }
         ensures partitions { self.new.partitions ≡ self.old.partitions }
-        ensures writers { OnOk result ((table row : ℕ) → writer_in self.new table row ≡ writer_in self.old table row) }
+        ensures writers { (table row : ℕ) → writer_in self.new table row ≡ writer_in self.old table row }
+        ensures others { (on : ℕ) → (is_own_table self.old on && list_any (λ of_deed. of_deed == on) (option_to_list table)) ≡ false
+            → prior_in self.new on ≡ prior_in self.old on }
         ensures deeds { OnOk result ((on : ℕ) → prior_in self.new on
             ≡ (if is_own_table self.old on && list_any (λ of_deed. of_deed == on) (option_to_list table)
             then At place else prior_in self.old on)) }
@@ -109,7 +113,8 @@ impl Latest {
 
     /// Notes the statement of a place. On `Err` memory was refused, and only a part of it may be noted.
     pub(crate) fn note(&mut self, statement: &Statement, place: Place) -> Result<(), AllocError>
-        ensures { OnOk result (Notes self.old self.new statement.now place) }
+        ensures others { ChangesOnly self.old self.new statement.now }
+        ensures noted { OnOk result (Notes self.old self.new statement.now place) }
     {
         self.note_writes(statement.accesses(), place)?;
         self.note_deed(statement.deed_table(), place)

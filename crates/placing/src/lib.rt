@@ -7,6 +7,7 @@
 //! each of its tables.
 #![tactic(auto)]
 
+mod finder;
 mod latest;
 mod laws;
 mod part;
@@ -15,6 +16,7 @@ mod placer;
 mod refs;
 mod tables;
 
+pub use finder::Finder;
 pub use laws::references_are_last;
 pub use part::{Found, Part};
 pub use partition::{partition_of, partition_of_table};

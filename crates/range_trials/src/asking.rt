@@ -44,6 +44,7 @@ fn count(counts: &mut Counts, tried: Tried) {
     match tried {
         Tried::Done => counts.done = counts.done.saturating_add(1),
         Tried::Busy(_) => counts.busy = counts.busy.saturating_add(1),
+        Tried::NotPlaced(_) => {}
         Tried::NoMemory => {}
     }
 }

@@ -101,6 +101,9 @@ pub fn finished<'a>(
     ensures { IfOk result (λ done. done
         ≡ record { log = words.entry.key.batch.log; first = words.entry.key.batch.first; size = words.entry.key.batch.size }) }
 {
+    if !pass.knows_placed() {
+        return Err(AllocError);
+    }
     let (key, closed) = words.close(pass);
     finish(alloc, key.into_key(), &closed)
 }

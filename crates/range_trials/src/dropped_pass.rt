@@ -45,6 +45,7 @@ fn hold_some<K: Fills>(batch: &Batch<K>, pass: Pass, first: usize) -> usize
     let mut holding = Holding::begin(pass);
     for index in 0..batch.key().places() {
         if index % APART == first % APART
+            && holding.knows_placed()
             && batch.words().claim(&mut holding, index) == Claimed::Won
         {
             held = held.saturating_add(1);

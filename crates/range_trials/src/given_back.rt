@@ -65,6 +65,9 @@ fn tell_calls(
     ensures { IfOk result (λ asker. IsPassOf batch.now asker) }
 {
     let mut holding = Holding::begin(holder);
+    if !holding.knows_placed() {
+        return Ok(asker);
+    }
     match batch.words().claim(&mut holding, HELD) {
         Claimed::Won => tell_holding(rt, batch, holding, asker),
         Claimed::Held | Claimed::Done => Err(TrialFault::Taken),

@@ -38,6 +38,9 @@ fn tell_claim(
     requires within { index < batch.now.key.batch.size }
     ensures { IsPassOf batch.now holding.new }
 {
+    if !holding.knows_placed() {
+        return Ok(());
+    }
     match batch.words().claim(holding, index) {
         Claimed::Won => {
             batch.words().give_back(holding, index);
@@ -109,6 +112,9 @@ fn tell_calls(
     requires within { 2 < batch.now.key.batch.size }
 {
     let mut holding = Holding::begin(holder);
+    if !holding.knows_placed() {
+        return Ok(());
+    }
     match batch.words().claim(&mut holding, HELD) {
         Claimed::Won => {
             let asker = tell_waiting(rt, batch, asker, other)?;

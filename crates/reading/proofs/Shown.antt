@@ -2,25 +2,21 @@
 use Rattle.std.proofs.Common.{◌≡◌, ◌<◌, ◌+◌, ◌++◌, ℕ, zero, suc, List, [], ◌∷◌, Some, drop, get_or, length, map, take, refl, sym, ap, ◌∙◌, arith}
 use Rattle.std.specs.Prelude.{slice_get}
 use Rattle.std.proofs.lemmas.List.{get_or-map, get_or_append_left, length-append, length-map, map-append, take_more}
-use Rattle.model_base.specs.declared.reference.Reference.{Reference}
-use Rattle.model_base.specs.declared.reference.Reference.TheVariants.{Base}
 use Rattle.model_base.specs.declared.row.Key.{Key}
 use Rattle.model_base.specs.declared.statement.Access.{Access as Declared}
 use Rattle.model_base.specs.declared.statement.Statement.{Statement}
 use Rattle.model_base.specs.Outcomes.{rows_before}
-use Rattle.model_base.specs.References.{references}
 use Rattle.model_base.specs.Versions.{accesses_of}
 use Rattle.body.proofs.Shapes.{logs_have_shape}
 use Rattle.own_words.specs.Words.{signed}
 use Rattle.bohm_core_base.specs.Batch.{Access, Batch, prior_reference, reference_words, writer_reference}
 use Rattle.bohm_core_base.proofs.Rows.{final_row, row-right}
-use Rattle.log_batch.specs.Laws.{IsOfLog, word_of}
+use Rattle.log_batch.specs.Laws.{IsOfLog}
 use Rattle.log_batch.specs.Shown.{access_of, row_bits, row_numbers}
 use Rattle.log_batch.specs.Supplied.{Ranged, batch_in, range_of}
 use Rattle.log_batch.proofs.Sound.{batches_are_sound}
 use Rattle.log_batch.proofs.SerialNumbers.{numbers-bits}
 use Rattle.log_batch.proofs.SerialRuns.{serial_runs_agree}
-use Rattle.log_batch.proofs.SoundReferences.{references_same}
 use Rattle.reading.specs.Told.{IsReferred, Reader, row_referred}
 
 -- what stands behind the first few words
@@ -58,15 +54,12 @@ numbers-told ranged is place key =
     numbers-bits (range.columns key.table) (rows_before range.log place key.table key.row)
     (logs_have_shape range.columns range.log place is.fits key.table key.row)
 
-module _ (ranged : Ranged) (is : IsOfLog (range_of ranged)) (index : ℕ) (statement : Statement) (at : slice_get ranged.log.statements (ranged.first + index) ≡ Some statement) (number : ℕ) (within : number < length (accesses_of statement.form)) (access : Declared) (here : access ≡ get_or (accesses_of statement.form) number access) where
+module _ (ranged : Ranged) (index : ℕ) (statement : Statement) (at : slice_get ranged.log.statements (ranged.first + index) ≡ Some statement) (number : ℕ) (within : number < length (accesses_of statement.form)) (access : Declared) (here : access ≡ get_or (accesses_of statement.form) number access) where
   abbrev batch : Batch
   batch = batch_in ranged
 
-  abbrev listed : List Reference
-  listed = references ranged.log.statements ranged.first (ranged.first + index)
-
   -- the references of the machine, first those of the accesses
-  by_access : (number < length (reference_words batch index)) × (get_or (reference_words batch index) number 0 ≡ writer_reference batch index access.key)
+  pub by_access : (number < length (reference_words batch index)) × (get_or (reference_words batch index) number 0 ≡ writer_reference batch index access.key)
   unfolding reference_words
   by_access =
       let declared : batch.accesses index ≡ map access_of (accesses_of statement.form) = rw at refl in
@@ -83,23 +76,15 @@ module _ (ranged : Ranged) (is : IsOfLog (range_of ranged)) (index : ℕ) (state
             ∙ ap (λ (one : Access). writer_reference batch index one.key) (get_or-map access_of (accesses_of statement.form) number access (access_of access) within ∙ ap access_of (sym here)),
       )
 
-  -- those of the log are the same, as words
-  word-listed : word_of ranged.first (get_or listed number Base) ≡ get_or (reference_words batch index) number 0
-  word-listed =
-      let same = references_same (range_of ranged) index in
-      let count : length (reference_words batch index) ≡ length listed = ap (λ (words : List ℕ). length words) same ∙ length-map listed (word_of ranged.first) in
-      let low = by_access.0 in
-      sym (ap (λ (words : List ℕ). get_or words number 0) same ∙ get_or-map (word_of ranged.first) listed number Base 0 (omega arith))
-
   -- so the place of one is referred to
-  pub referred-by : (other : ℕ) → word_of ranged.first (get_or listed number Base) ≡ suc other → IsReferred (record { batch = batch; index = index }) other
-  referred-by other shows = record { number = number; within = by_access.0; here = sym word-listed ∙ shows }
+  pub referred-by : (other : ℕ) → get_or (reference_words batch index) number 0 ≡ suc other → IsReferred (record { batch = batch; index = index }) other
+  referred-by other shows = record { number = number; within = by_access.0; here = shows }
 
   -- and shows the row before the place
-  pub row-by : row_numbers (row_referred batch access.key (word_of ranged.first (get_or listed number Base)))
+  pub row-by : IsOfLog (range_of ranged) → row_numbers (row_referred batch access.key (get_or (reference_words batch index) number 0))
       ≡ rows_before ranged.log.statements (ranged.first + index) access.key.table access.key.row
-  row-by =
-      ap (λ word. row_numbers (row_referred batch access.key word)) (word-listed ∙ by_access.1)
+  row-by is =
+      ap (λ word. row_numbers (row_referred batch access.key word)) by_access.1
       ∙ ap row_numbers
       (row-final batch access.key (writer_reference batch index access.key)
       ∙ sym (row-right batch (batches_are_sound (range_of ranged) is) index access.key)

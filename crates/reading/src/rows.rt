@@ -1,7 +1,6 @@
 //! The rows that a place of a batch is shown by its references, as a window for the body.
 
-ghost use Rattle.std.specs.Prelude.{◌≡◌, ◌<◌, ◌≤◌, ◌+◌, ◌*◌, ℕ, [], suc, Some, drop, length, map, slice_get, slice_index_or};
-ghost use Rattle.model_base.specs.declared.reference.Reference.TheVariants.{Base};
+ghost use Rattle.std.specs.Prelude.{◌≡◌, ◌<◌, ◌≤◌, ◌+◌, ℕ, [], Some, drop, length, map, slice_get};
 ghost use Rattle.model_base.specs.declared.statement.Statement.{Statement};
 ghost use Rattle.model_base.specs.Outcomes.{rows_before};
 ghost use Rattle.model_base.specs.Versions.{accesses_of};
@@ -11,15 +10,14 @@ ghost use Rattle.own_words.specs.Words.{outputs_of};
 ghost use Rattle.sequencer.specs.Taken.{columns_by};
 ghost use Rattle.bohm_core_base.specs.Batch.{cell, cells_length, row_from, words_length};
 ghost use Rattle.bohm_core_base.specs.Serial.{serial_words};
-ghost use Rattle.log_batch.specs.Laws.{word_of};
 ghost use Rattle.log_batch.specs.Shown.{access_of, row_numbers};
 ghost use Rattle.log_batch.specs.Supplied.{batch_in};
-ghost use Rattle.reading.specs.Told.{IsReferred, row_referred};
+ghost use Rattle.reading.specs.Told.{IsReferred, referred_word, row_referred};
 
 use crate::told::Told;
 use body::Window;
 use log_batch::LogBatch;
-use model_base::{Access, Key, MOST_ACCESSES, MOST_COLUMNS, Reference, Row, Statement, Table};
+use model_base::{Access, Key, MOST_ACCESSES, MOST_COLUMNS, Row, Statement, Table};
 use own_words::{MOST_OWN_WORDS, outputs_of};
 
 /// How many columns a table of the log has; one that the log doesn't have has none.
@@ -140,30 +138,21 @@ fn row_in<T: Told>(batch: &LogBatch, told: &mut T, index: usize, key: Key) -> Op
 
 /// The row that a reference of the reader shows: that before the batch, or the one that the own words tell of the place that it
 /// is to.
-fn row_shown<T: Told>(batch: &LogBatch, told: &mut T, reference: Reference, key: Key) -> Option<Row>
+fn row_shown<T: Told>(
+    batch: &LogBatch,
+    told: &mut T,
+    reference: Option<usize>,
+    key: Key,
+) -> Option<Row>
     requires batch { (T.told told.old).batch ≡ batch_in batch.now }
-    requires referred { (index : ℕ) → word_of batch.now.first reference ≡ suc index → IsReferred (T.told told.old) index }
-    ensures value { result ≡ row_numbers (row_referred (batch_in batch.now) key (word_of batch.now.first reference)) }
+    requires referred { (index : ℕ) → reference ≡ Some index → IsReferred (T.told told.old) index }
+    ensures value { result ≡ row_numbers (row_referred (batch_in batch.now) key (referred_word reference)) }
     ensures same { (T.told told.new ≡ T.told told.old) × (T.kept told.new ≡ T.kept told.old) }
 {
     let _log = batch.log();
     match reference {
-        Reference::Base => batch.row_before(key),
-        Reference::At(place) => {
-            let index = place.saturating_sub(batch.first_place()) as usize;
-            row_in(batch, told, index, key)
-        }
-    }
-}
-
-/// The reference of this number, or the one to what stood before the batch where there are fewer.
-fn reference_at(references: &[Reference], number: usize) -> Reference
-    ensures { result ≡ slice_index_or references.now number Base }
-{
-    if number < references.len() {
-        references[number]
-    } else {
-        Reference::Base
+        None => batch.row_before(key),
+        Some(index) => row_in(batch, told, index, key),
     }
 }
 
@@ -183,10 +172,9 @@ pub(crate) fn show_rows<T: Told>(batch: &LogBatch, told: &mut T, window: &mut Wi
     let _log = batch.log();
     let index = told.reader();
     let statement = batch.statement(index);
-    let references = batch.references_at(index);
     let accesses = statement.accesses();
     for (place, access) in accesses.iter().enumerate() {
-        let reference = reference_at(references, place);
+        let reference = told.reference(place);
         window.set(place, row_shown(batch, told, reference, access.key));
     }
 }

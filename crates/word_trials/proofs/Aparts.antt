@@ -6,7 +6,7 @@ use Rattle.model_base.specs.Privileges.{place_of}
 use Rattle.bohm_core_base.specs.Batch.{IsSoundBatch, reference_words, batch_slots, words_by, words_length, deeds_of}
 use Rattle.bohm_core_base.specs.Deeds.{named_before, slots}
 use Rattle.bohm_core_base.specs.Serial.{serial_words}
-use Rattle.words.specs.Layout.{IsListed}
+use Rattle.words.specs.Layout.{IsListed, reference_at}
 use Rattle.words.specs.Tells.{HoldsWhole}
 use Rattle.words.specs.Views.{Holds, KnowsReferences}
 use Rattle.words.specs.declared.view.View.{View}
@@ -29,6 +29,14 @@ apart_sound size width some = record {
   same_length = λ index. refl;
   within = λ index reference low. absurd (omega arith);
 }
+
+pub apart_none : (size width index : ℕ) → length (reference_words (apart size width) index) ≡ 0
+unfolding reference_words
+apart_none size width index = refl
+
+pub apart_base : (size width index number : ℕ) → reference_at (apart size width) index number ≡ 0
+unfolding reference_words
+apart_base size width index number = refl
 
 pub apart_length : (size width index : ℕ) → words_length (apart size width) index ≡ width
 unfolding words_length

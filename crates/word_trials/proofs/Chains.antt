@@ -7,8 +7,7 @@ use Rattle.model_base.specs.Records.{grants_of}
 use Rattle.bohm_core_base.specs.Batch.{IsSoundBatch, deeds_of, reference_words, batch_slots, words_by, words_length}
 use Rattle.bohm_core_base.specs.Deeds.{named_before}
 use Rattle.bohm_core_base.specs.Serial.{serial_words}
-use Rattle.words.specs.Layout.{IsListed}
-use Rattle.filling_base.specs.References.{reference}
+use Rattle.words.specs.Layout.{IsListed, reference_at}
 use Rattle.filling_base.specs.Storing.{IsEnding}
 use Rattle.word_trials.specs.Chained.{chain}
 
@@ -45,7 +44,7 @@ chain_length size index = refl
 pub chain_one : (size index : ℕ) → length (reference_words (chain size) index) ≡ 1
 chain_one size index = ap length (chain_references size index)
 
-pub chain_reference : (size index number : ℕ) → number < 1 → reference (chain size) index number ≡ index
+pub chain_reference : (size index number : ℕ) → number < 1 → reference_at (chain size) index number ≡ index
 chain_reference size index zero low = ap (λ (l : List ℕ). get_or l 0 0) (chain_references size index)
 chain_reference size index (suc number) low = absurd (omega arith)
 

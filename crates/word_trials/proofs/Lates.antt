@@ -1,5 +1,5 @@
 -- What the reader and the revocation compute to.
-use Rattle.std.proofs.Common.{◌≡◌, ◌<◌, ◌+◌, subst, ℕ, suc, zero, true, Some, None, List, [], ◌∷◌, length, get_or, refl, arith, inl, ⊎_elim}
+use Rattle.std.proofs.Common.{◌≡◌, ◌≢◌, ◌<◌, ◌+◌, subst, ℕ, suc, zero, true, Some, None, List, [], ◌∷◌, length, get_or, refl, arith, inl, ⊎_elim}
 use Rattle.std.specs.Prelude.{All}
 use Rattle.model_base.specs.declared.deed.Grantee.TheVariants.{User}
 use Rattle.model_base.specs.declared.deed.Kind.TheVariants.{Read}
@@ -10,7 +10,7 @@ use Rattle.model_base.specs.Privileges.{MayFollow, has, names, owns, place_of}
 use Rattle.bohm_core_base.specs.Batch.{IsSoundBatch, is_deed_on, is_listed, reference_words, batch_slots, was_done, words_by, words_length}
 use Rattle.bohm_core_base.specs.Machine.{end_of, start}
 use Rattle.bohm_core_base.specs.Serial.{serial_ends, serial_words, whole_end, batch_world_before}
-use Rattle.words.specs.Layout.{IsListed, listed_slot_at}
+use Rattle.words.specs.Layout.{reference_at, IsListed, listed_slot_at}
 use Rattle.words.specs.Views.{In}
 use Rattle.word_trials.specs.Late.{late, late_deed, late_length, late_partitions, late_words, late_grant}
 
@@ -116,6 +116,25 @@ unfolding serial_ends whole_end batch_world_before words_by was_done batch_slots
 late_ends = refl
 
 -- they refer to nothing in the batch
+pub late_reading : length (reference_words late 0) ≡ 2
+unfolding reference_words
+late_reading = refl
+
+pub late_revoking : (index : ℕ) → index ≢ 0 → index < 2 → length (reference_words late index) ≡ 1
+unfolding reference_words
+late_revoking zero differ low = absurd (differ refl)
+late_revoking (suc zero) differ low = refl
+late_revoking (suc (suc index)) differ low = absurd (omega arith)
+
+pub late_base : (index number : ℕ) → index < 2 → reference_at late index number ≡ 0
+unfolding reference_words
+late_base zero zero low = refl
+late_base zero (suc zero) low = refl
+late_base zero (suc (suc number)) low = refl
+late_base (suc zero) zero low = refl
+late_base (suc zero) (suc number) low = refl
+late_base (suc (suc index)) number low = absurd (omega arith)
+
 pub late_references : (index other : ℕ) → index < 2 → ¬ (In (suc other) (reference_words late index))
 unfolding reference_words
 late_references zero other low = λ has. ⊎_elim (λ (is : suc other ≡ 0). absurd (omega arith)) (λ more. ⊎_elim (λ (is : suc other ≡ 0). absurd (omega arith)) (λ no. no) more) has

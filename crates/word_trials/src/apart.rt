@@ -1,6 +1,6 @@
 //! A batch of places that refer to none.
 
-ghost use Rattle.std.specs.Prelude.{◌<◌, []};
+ghost use Rattle.std.specs.Prelude.{◌<◌, [], true};
 ghost use Rattle.word_trials.specs.Apart.{apart};
 
 use words::Placed;
@@ -19,6 +19,8 @@ impl Placed for Apart {
 
     ghost listed = { λ _. [] };
 
+    ghost placed = { λ _. true };
+
     fn places(&self) -> usize {
         self.size
     }
@@ -26,6 +28,20 @@ impl Placed for Apart {
     #[tactic(auto, using(crate::proofs::Aparts::apart_length))]
     fn words_length(&self, _index: usize) -> usize {
         self.width
+    }
+
+    fn partitions(&self) -> usize {
+        1
+    }
+
+    #[tactic(auto, using(crate::proofs::Aparts::apart_none))]
+    fn references_length(&self, _index: usize) -> usize {
+        0
+    }
+
+    #[tactic(auto, using(crate::proofs::Aparts::apart_base))]
+    fn reference_word(&self, _index: usize, _number: usize) -> u64 {
+        0
     }
 
     fn ends(&self) -> usize {

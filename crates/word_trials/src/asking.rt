@@ -74,6 +74,9 @@ fn tell_middle_held(rt: &impl Print, batch: &Batch<Chain>, pass: Pass) -> Result
 {
     let (first, second) = batch.split(pass);
     let mut holding = Holding::begin(first);
+    if !holding.knows_placed() {
+        return Ok(());
+    }
     match batch.words().claim(&mut holding, 1) {
         Claimed::Won => {
             let (second, last) = batch.try_run(second, 2);

@@ -1,6 +1,6 @@
 //! A batch in which each place is referred to the one before it.
 
-ghost use Rattle.std.specs.Prelude.{◌<◌, ◌^◌, []};
+ghost use Rattle.std.specs.Prelude.{◌<◌, ◌^◌, [], true};
 ghost use Rattle.word_trials.specs.Chained.{chain};
 
 use filling_base::{Fills, store};
@@ -20,6 +20,8 @@ impl Placed for Chain {
 
     ghost listed = { λ _. [] };
 
+    ghost placed = { λ _. true };
+
     #[tactic(auto, using(crate::proofs::Chains::chain_sound))]
     fn places(&self) -> usize {
         self.size
@@ -28,6 +30,20 @@ impl Placed for Chain {
     #[tactic(auto, using(crate::proofs::Chains::chain_length))]
     fn words_length(&self, _index: usize) -> usize {
         3
+    }
+
+    fn partitions(&self) -> usize {
+        1
+    }
+
+    #[tactic(auto, using(crate::proofs::Chains::chain_one))]
+    fn references_length(&self, _index: usize) -> usize {
+        1
+    }
+
+    #[tactic(auto, using(crate::proofs::Chains::chain_one, crate::proofs::Chains::chain_reference))]
+    fn reference_word(&self, index: usize, _number: usize) -> u64 {
+        index as u64
     }
 
     #[tactic(auto, using(crate::proofs::Chains::chain_listed))]
@@ -39,16 +55,6 @@ impl Placed for Chain {
 impl Fills for Chain {
     // no place has a body
     ghost runs = { λ _ _. 0 };
-
-    #[tactic(auto, using(crate::proofs::Chains::chain_one))]
-    fn references_length(&self, _index: usize) -> usize {
-        1
-    }
-
-    #[tactic(auto, using(crate::proofs::Chains::chain_one, crate::proofs::Chains::chain_reference))]
-    fn reference(&self, index: usize, _number: usize) -> Option<usize> {
-        if index == 0 { None } else { Some(index - 1) }
-    }
 
     #[tactic(auto, using(crate::proofs::Chains::chain_serial, crate::proofs::Chains::chain_length, crate::proofs::Chains::chain_ending))]
     fn fill(

@@ -21,7 +21,7 @@ fn claim_all(words: &BatchWords<Apart>, size: usize, pass: Pass) -> usize
     let mut holding = Holding::begin(pass);
     let mut won = 0;
     for index in 0..size {
-        if words.claim(&mut holding, index) == Claimed::Won {
+        if holding.knows_placed() && words.claim(&mut holding, index) == Claimed::Won {
             won += 1;
         }
     }

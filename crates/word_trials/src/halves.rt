@@ -45,6 +45,9 @@ fn fill_place(words: &BatchWords<Apart>, holding: &mut Holding, index: usize) ->
     ensures idle { HoldsNone holding.new.view }
 {
     own_events_tell_what_is_held();
+    if !holding.knows_placed() {
+        return false;
+    }
     match words.claim(holding, index) {
         Claimed::Won => {
             store_words(words, holding, index);

@@ -1,6 +1,6 @@
 //! A place that reads by a grant, and a later one that revokes it.
 
-ghost use Rattle.std.specs.Prelude.{[], ◌∷◌};
+ghost use Rattle.std.specs.Prelude.{[], ◌∷◌, true};
 ghost use Rattle.word_trials.specs.Late.{late};
 
 use words::Placed;
@@ -14,6 +14,8 @@ impl Placed for Late {
 
     ghost listed = { λ _. 0 ∷ [] };
 
+    ghost placed = { λ _. true };
+
     #[tactic(auto, using(crate::proofs::Lates::late_sound))]
     fn places(&self) -> usize {
         2
@@ -22,6 +24,19 @@ impl Placed for Late {
     #[tactic(auto, using(crate::proofs::Lates::late_counts))]
     fn words_length(&self, index: usize) -> usize {
         if index == 0 { 5 } else { 4 }
+    }
+
+    fn partitions(&self) -> usize {
+        1
+    }
+
+    fn references_length(&self, index: usize) -> usize {
+        if index == 0 { 2 } else { 1 }
+    }
+
+    #[tactic(auto, using(crate::proofs::Lates::late_base))]
+    fn reference_word(&self, _index: usize, _number: usize) -> u64 {
+        0
     }
 
     #[tactic(auto, using(crate::proofs::Lates::late_listed))]

@@ -98,6 +98,9 @@ fn tell_reader(
 {
     let seen = words.look(holding, 0);
     println!(rt; "the second looks at 3: {seen:?}")?;
+    if !holding.knows_placed() {
+        return Ok(());
+    }
     match words.claim(holding, 0) {
         Claimed::Won => {
             words.give_back(holding, 0);
@@ -116,6 +119,9 @@ fn tell_calls(rt: &impl Print, words: &BatchWords<Late>, pass: Pass) -> Result<(
     let (first, second) = words.split(pass);
     let mut one = Holding::begin(first);
     let mut other = Holding::begin(second);
+    if !one.knows_placed() || !other.knows_placed() {
+        return Ok(());
+    }
     match words.claim(&mut one, 1) {
         Claimed::Won => {
             let found = words.claim(&mut other, 1);

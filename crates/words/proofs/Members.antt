@@ -8,7 +8,7 @@ use lib.ListN.{get_elem?}
 use Rattle.bohm_core_base.specs.declared.event.Event.{Event}
 use Rattle.bohm_core_base.specs.declared.event.Event.TheVariants.{Place, Claim, Fill, End, Finish, GiveBack}
 use Rattle.bohm_core_base.specs.Laws.{actor_of}
-use Rattle.words.specs.Legal.{events_by, is_event_of}
+use Rattle.words.specs.Legal.{events_by, is_event_of, is_placing_in, placings_in}
 use Rattle.words.specs.Views.{In}
 use Rattle.model_base.proofs.Replay.{by_cases}
 
@@ -83,3 +83,24 @@ by-one a e of = rw (by-actor a e of) refl
 pub by-none : (a : ℕ) (es : List Event) → ((e : Event) → In e es → actor_of e ≢ Some a) → events_by a es ≡ []
 by-none a [] none = refl
 by-none a (e ∷ es) none = rw (not-by a e (none e (inl refl))) (by-none a es (λ f h. none f (inr h)))
+
+-- an event with an actor is no placer's
+pub acted-no_placing : (p a : ℕ) (e : Event) → actor_of e ≡ Some a → is_placing_in p e ≡ false
+acted-no_placing p a (Place q) of = absurd (cc)
+acted-no_placing p a (Claim b i) of = refl
+acted-no_placing p a (Fill b i) of = refl
+acted-no_placing p a (End b i j) of = refl
+acted-no_placing p a (Finish b i) of = refl
+acted-no_placing p a (GiveBack b i) of = refl
+
+pub placings-append : (p : ℕ) (es fs : List Event) → placings_in p (es ++ fs) ≡ placings_in p es ++ placings_in p fs
+placings-append p [] fs = refl
+placings-append p (e ∷ es) fs =
+    by_cases (is_placing_in p e)
+    (λ by. rw (by, placings-append p es fs) refl)
+    (λ no. rw (no, placings-append p es fs) refl)
+
+-- none of these is of the partition
+pub placings-none : (p : ℕ) (es : List Event) → ((e : Event) → In e es → is_placing_in p e ≡ false) → placings_in p es ≡ []
+placings-none p [] none = refl
+placings-none p (e ∷ es) none = rw (none e (inl refl)) (placings-none p es (λ f h. none f (inr h)))

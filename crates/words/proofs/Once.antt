@@ -1,5 +1,5 @@
 -- In an effective list a place is finished at most once, and just once where it is done.
-use Rattle.std.proofs.Common.{◌≡◌, ℕ, ◌+◌, ◌<◌, Bool, true, false, List, [], ◌∷◌, length, get_or, set, ◌++◌, refl, sym, ap, subst, arith, eq-eqb, inl, inr, get_or-set_same}
+use Rattle.std.proofs.Common.{◌≡◌, ℕ, ◌+◌, ◌<◌, Bool, true, false, List, [], ◌∷◌, length, get_or, set, refl, sym, ap, subst, arith, eq-eqb, inl, inr, get_or-set_same}
 use Rattle.std.specs.Prelude.{◌==◌, if◌then◌else◌, nat_lt}
 use Rattle.std.proofs.lemmas.Bool.{and_parts, cases_eq, ltb-true, ne_eqb}
 use Rattle.std.proofs.lemmas.List.{get_or-set_other}
@@ -8,8 +8,8 @@ use Rattle.bohm_core_base.specs.declared.event.Event.TheVariants.{Place, Claim, 
 use Rattle.bohm_core_base.specs.declared.hold.Hold.{Hold}
 use Rattle.bohm_core_base.specs.declared.hold.Hold.TheVariants.{Free, Held, Done}
 use Rattle.bohm_core_base.specs.Batch.{Batch, IsSoundBatch}
-use Rattle.bohm_core_base.specs.Machine.{State, all_past, change, effect, guard, hold_of, is_done, is_free, is_held_by, run_from, start}
-use Rattle.words.specs.Legal.{IsEffective, finishes_of, is_finish_of, placings, reached}
+use Rattle.bohm_core_base.specs.Machine.{State, all_past, change, effect, guard, hold_of, is_done, is_free, is_held_by, reach, run_from, start}
+use Rattle.words.specs.Legal.{IsEffective, finishes_of, is_finish_of}
 use Rattle.words.proofs.Members.{replicate-same}
 use Rattle.words.proofs.Reached.{IsReached, held-not_free, held-within as holder-within, reached-effect, reached-start, sizes}
 use Rattle.bohm_core_base.proofs.Steps.{free-not_done, held-not_done}
@@ -82,12 +82,12 @@ module _ (b : Batch) (sound : IsSoundBatch b) where
       omega arith
 
   -- the number of times that a place is finished: once if it is done, else never
-  pub finished-once : (es : List Event) (i : ℕ) → IsEffective b (start b) (placings b ++ es)
-      → finishes_of i (placings b ++ es) ≡ (if is_done (hold_of (reached b es) i) then 1 else 0)
+  pub finished-once : (es : List Event) (i : ℕ) → IsEffective b (start b) es
+      → finishes_of i es ≡ (if is_done (hold_of (reach b es) i) then 1 else 0)
   finished-once es i works =
-      let all = counts (placings b ++ es) (start b) i (reached-start b) works in
+      let all = counts es (start b) i (reached-start b) works in
       let none : count_of (is_done (hold_of (start b) i)) ≡ 0 = rw (replicate-same b.size i Free) refl in
-      let shown : count_of (is_done (hold_of (reached b es) i)) ≡ (if is_done (hold_of (reached b es) i) then 1 else 0) = told (is_done (hold_of (reached b es) i)) in
+      let shown : count_of (is_done (hold_of (reach b es) i)) ≡ (if is_done (hold_of (reach b es) i) then 1 else 0) = told (is_done (hold_of (reach b es) i)) in
       omega arith
     where
       told : (x : Bool) → count_of x ≡ (if x then 1 else 0)

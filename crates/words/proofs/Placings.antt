@@ -1,18 +1,26 @@
--- The state once all is placed, and every state that is reached from it.
-use Rattle.std.proofs.Common.{◌≡◌, ◌≢◌, ℕ, zero, suc, ◌+◌, ◌<◌, ◌≤◌, Bool, true, List, [], ◌∷◌, ◌++◌, length, refl, sym, ap, ◌∙◌, subst, arith, append_assoc, inl, inr, get_or-set_same}
-use Rattle.std.specs.Prelude.{◌&&◌, nat_lt, replicate}
+-- The state once all is placed.
+use Rattle.std.proofs.Common.{◌≡◌, ◌≢◌, ℕ, zero, suc, ◌+◌, ◌<◌, ◌≤◌, Bool, true, List, [], ◌∷◌, ◌++◌, length, refl, sym, ap, ◌∙◌, subst, arith, inl, inr, ⊎_elim, get_or-set_same}
+use Rattle.std.specs.Prelude.{◌&&◌, nat_lt, replicate, None}
 use Rattle.std.proofs.lemmas.Bool.{lt-ltb, cases_lt}
 use Rattle.std.proofs.lemmas.List.{get_or-set_other}
 use Rattle.bohm_core_base.specs.declared.event.Event.{Event}
 use Rattle.bohm_core_base.specs.declared.event.Event.TheVariants.{Place}
 use Rattle.bohm_core_base.specs.declared.hold.Hold.TheVariants.{Free}
-use Rattle.bohm_core_base.specs.Batch.{Batch, IsSoundBatch, reference_words}
-use Rattle.bohm_core_base.specs.Laws.{HasSizes, KeepsStored}
-use Rattle.bohm_core_base.specs.Machine.{State, all_past, change, effect, end_of, front_of, guard, hold_of, own_of, stored_references_of, run_from, start, reach}
-use Rattle.bohm_core_base.proofs.Reach.{past-references, stored-stands}
-use Rattle.words.specs.Legal.{IsEffective, placings, placings_of, reached}
-use Rattle.words.proofs.Members.{all-of, replicate-same}
+use Rattle.bohm_core_base.specs.Batch.{Batch, IsSoundBatch}
+use Rattle.bohm_core_base.specs.Laws.{actor_of}
+use Rattle.bohm_core_base.specs.Machine.{State, change, effect, end_of, front_of, guard, hold_of, own_of, run_from, start, reach}
+use Rattle.words.specs.Legal.{IsEffective}
+use Rattle.words.specs.Views.{In}
+use Rattle.words.proofs.Members.{in_cases, replicate-same}
 use Rattle.words.proofs.Reached.{IsReached, reached-effect, run-append, sizes}
+
+-- all events of the placers: each partition's placer goes through the whole batch
+abbrev pub placings_of : Batch → ℕ → List Event
+placings_of batch zero = []
+placings_of batch (suc partition) = placings_of batch partition ++ replicate batch.size (Place partition)
+
+abbrev pub placings : Batch → List Event
+placings batch = placings_of batch batch.partitions
 
 pub and-both : (a b : Bool) → a ≡ true → b ≡ true → (a && b) ≡ true
 and-both a b x y = rw (x, y) refl
@@ -34,6 +42,20 @@ record IsPassed (b : Batch) (s t : State) (es : List Event) (p front : ℕ) : Ty
   pub holds : t.holds ≡ s.holds
   pub own : t.own ≡ s.own
   pub ends : t.ends ≡ s.ends
+
+-- none of them has an actor
+placing-unacted : (p k : ℕ) (e : Event) → In e (replicate k (Place p)) → actor_of e ≡ None
+placing-unacted p zero e has = absurd has
+placing-unacted p (suc k) e has = ⊎_elim (λ is. ap actor_of is) (λ more. placing-unacted p k e more) has
+
+unacted-so-far : (b : Batch) (n : ℕ) (e : Event) → In e (placings_of b n) → actor_of e ≡ None
+unacted-so-far b zero e has = absurd has
+unacted-so-far b (suc n) e has =
+    ⊎_elim (λ old. unacted-so-far b n e old) (λ new. placing-unacted n b.size e new)
+    (in_cases e (placings_of b n) (replicate b.size (Place n)) has)
+
+pub placings-unacted : (b : Batch) (e : Event) → In e (placings b) → actor_of e ≡ None
+placings-unacted b e has = unacted-so-far b b.partitions e has
 
 module _ (b : Batch) (sound : IsSoundBatch b) where
   -- a placer with places left may place
@@ -124,45 +146,5 @@ module _ (b : Batch) (sound : IsSoundBatch b) where
   placed-ends j = rw (placed-so-far b.partitions (omega arith)).ends refl
 
   -- every partition has placed every place
-  pub placed-past : (i : ℕ) → i < b.size → all_past placed i ≡ true
-  placed-past i below =
-      let all = placed-so-far b.partitions (omega arith) in
-      let len = (sizes b sound placed (record { events = placings b; is = refl })).fronts in
-      all-of (λ front. nat_lt i front) 0 placed.fronts
-      (λ q within. let is = all.done q (omega arith) in lt-ltb i (front_of placed q) (omega arith))
-
-  module _ (es : List Event) where
-    pub is-reached : IsReached b (reached b es)
-    is-reached = record { events = placings b ++ es; is = refl }
-
-    pub has-all : HasSizes b (reached b es)
-    has-all = sizes b sound (reached b es) is-reached
-
-    -- so it is wherever events lead from there
-    pub past : (i : ℕ) → i < b.size → all_past (reached b es) i ≡ true
-    past i below = (stored-stands b sound (placings b) es).placed i (placed-past i below)
-
-    pub refs : (i : ℕ) → i < b.size → stored_references_of (reached b es) i ≡ reference_words b i
-    refs i below = past-references b sound (placings b ++ es) i below (past i below)
-
-    pub from-placed : reached b es ≡ run_from b placed es
-    from-placed = run-append b (start b) (placings b) es
-
-    pub works-placed : IsEffective b (start b) (placings b ++ es) → IsEffective b placed es
-    works-placed works = effective-later b (start b) (placings b) es works
-
-    -- and after more events
-    pub reached-more : (fs : List Event) → reached b (es ++ fs) ≡ run_from b (reached b es) fs
-    reached-more fs =
-        ap (λ list. run_from b (start b) list) (sym (append_assoc (placings b) es fs))
-        ∙ run-append b (start b) (placings b ++ es) fs
-
-    pub stays : (fs : List Event) → KeepsStored (reached b es) (reached b (es ++ fs))
-    stays fs =
-        subst (λ list. KeepsStored (reached b es) (reach b list)) (append_assoc (placings b) es fs)
-        (stored-stands b sound (placings b ++ es) fs)
-
-    pub works-more : (fs : List Event) → IsEffective b (start b) (placings b ++ es) → IsEffective b (reached b es) fs → IsEffective b (start b) (placings b ++ (es ++ fs))
-    works-more fs works more =
-        subst (λ list. IsEffective b (start b) list) (append_assoc (placings b) es fs)
-        (effective-append b (start b) (placings b ++ es) fs works more)
+  pub placed-front : (q : ℕ) → q < b.partitions → front_of placed q ≡ b.size
+  placed-front q below = (placed-so-far b.partitions (omega arith)).done q below

@@ -1,19 +1,22 @@
 -- What the rule says of the words alone.
 use Rattle.std.proofs.Common.{◌≡◌, ◌⊎◌, ℕ, zero, suc, ◌+◌, ◌<◌, ◌≤◌, List, [], ◌∷◌, ◌++◌, length, get_or, refl, sym, ap, ◌∙◌, inl, inr, arith}
-use Rattle.std.specs.Prelude.{nat_lt, Option, Some, None, if◌then◌else◌}
+use lib.ListN.{get_elem?}
+use mathlib.Core.Option.{some}
+use Rattle.std.specs.Prelude.{nat_lt, true, Option, Some, None, if◌then◌else◌}
 use Rattle.std.proofs.lemmas.Bool.{cases_lt, lt-ltb, ltb-true}
 use Rattle.std.proofs.lemmas.List.{get_or_append_left}
 use Rattle.bohm_core_base.specs.declared.event.Event.{Event}
 use Rattle.bohm_core_base.specs.declared.hold.Hold.{Hold}
 use Rattle.bohm_core_base.specs.declared.hold.Hold.TheVariants.{Free, Held, Done}
-use Rattle.bohm_core_base.specs.Batch.{Batch, words_length}
-use Rattle.bohm_core_base.specs.Machine.{end_of, hold_of, own_of}
+use Rattle.bohm_core_base.specs.Batch.{Batch, reference_words, words_length}
+use Rattle.bohm_core_base.specs.Machine.{end_of, front_of, hold_of, own_of, reach}
 use Rattle.bohm_core_base.specs.Serial.{serial_words, whole_end}
 use Rattle.bohm_core_base.proofs.Reach.{done-right, ends-right, words-begun}
 use Rattle.words.specs.declared.view.View.{View}
-use Rattle.words.specs.Closing.{HasBeginning, IsSettledBy, ClosedLayout, claim_in, end_word_in, own_in}
-use Rattle.words.specs.Layout.{block_begin, claim_code, claim_word, end_begin, end_code, end_word, own_word, listed_slot_at}
-use Rattle.words.specs.Legal.{Lawful, placings, reached}
+use Rattle.words.specs.Closing.{HasBeginning, TellsReferences, IsSettledBy, ClosedLayout, claim_in, end_word_in, own_in}
+use Rattle.words.specs.Layout.{block_begin, claim_code, claim_word, end_begin, end_code, end_word, own_word, listed_slot_at, partition_at, reference_begin, reference_word}
+use Rattle.words.specs.Legal.{Lawful}
+use Rattle.words.proofs.Past.{placed-reference}
 use Rattle.words.proofs.Showing.{position-below}
 use Rattle.model_base.proofs.Replay.{by_cases}
 use Rattle.model_base.proofs.Covered.{contrary}
@@ -41,27 +44,27 @@ beginning own rest all m is =
 
 module _ (b : Batch) (listed : List ℕ) (standing : ClosedLayout) (views : List View) (es : List Event) (law : Lawful b listed standing.words views es)
     (every : length standing.begins ≡ b.size) (begin : (i : ℕ) → i < b.size → get_or standing.begins i 0 ≡ block_begin b i) (end : standing.ends ≡ end_begin b) where
-  claim-at : (i : ℕ) → i < b.size → claim_in standing i ≡ claim_code (hold_of (reached b es) i)
-  claim-at i below = ap (λ (n : ℕ). get_or standing.words n 0) (begin i below) ∙ law.shows.at (claim_word i) below
+  claim-at : (i : ℕ) → i < b.size → claim_in standing i ≡ claim_code (hold_of (reach b es) i)
+  claim-at i below = ap (λ (n : ℕ). get_or standing.words n 0) (begin i below) ∙ law.shows.at (claim_word i) below tt
 
-  own-at : (i m : ℕ) → i < b.size → m < words_length b i → own_in standing i m ≡ get_or (own_of (reached b es) i) m 0
-  own-at i m below within = ap (λ (n : ℕ). get_or standing.words (n + suc m) 0) (begin i below) ∙ law.shows.at (own_word i m) (below, within)
+  own-at : (i m : ℕ) → i < b.size → m < words_length b i → own_in standing i m ≡ get_or (own_of (reach b es) i) m 0
+  own-at i m below within = ap (λ (n : ℕ). get_or standing.words (n + suc m) 0) (begin i below) ∙ law.shows.at (own_word i m) (below, within) tt
 
-  end-at : (r : ℕ) → r < length listed → end_word_in standing r ≡ end_code (end_of (reached b es) (listed_slot_at listed r))
-  end-at r has = ap (λ (n : ℕ). get_or standing.words (n + r) 0) end ∙ law.shows.at (end_word r) has
+  end-at : (r : ℕ) → r < length listed → end_word_in standing r ≡ end_code (end_of (reach b es) (listed_slot_at listed r))
+  end-at r has = ap (λ (n : ℕ). get_or standing.words (n + r) 0) end ∙ law.shows.at (end_word r) has tt
 
-  done-at : (i : ℕ) → i < b.size → claim_in standing i ≡ 2 → hold_of (reached b es) i ≡ Done
-  done-at i below two = two-is-done (hold_of (reached b es) i) (sym (claim-at i below) ∙ two)
+  done-at : (i : ℕ) → i < b.size → claim_in standing i ≡ 2 → hold_of (reach b es) i ≡ Done
+  done-at i below two = two-is-done (hold_of (reach b es) i) (sym (claim-at i below) ∙ two)
 
-  begun-at : (i : ℕ) → i < b.size → HasBeginning b standing i (length (own_of (reached b es) i))
+  begun-at : (i : ℕ) → i < b.size → HasBeginning b standing i (length (own_of (reach b es) i))
   begun-at i below m within =
-      let begun = words-begun b law.sound (placings b ++ es) i in
-      own-at i m below within ∙ beginning (own_of (reached b es) i) begun.0 (serial_words b i) m begun.1
+      let begun = words-begun b law.sound es i in
+      own-at i m below within ∙ beginning (own_of (reach b es) i) begun.0 (serial_words b i) m begun.1
 
-  by_end : (r : ℕ) (seen : Option ℕ) → end_of (reached b es) (listed_slot_at listed r) ≡ seen → end_word_in standing r ≡ end_code seen
+  by_end : (r : ℕ) (seen : Option ℕ) → end_of (reach b es) (listed_slot_at listed r) ≡ seen → end_word_in standing r ≡ end_code seen
       → (end_word_in standing r ≡ 0) ⊎ ((place : ℕ) × (end_word_in standing r ≡ suc place) × (whole_end b (listed_slot_at listed r) ≡ Some place))
   by_end r None is shows = inl shows
-  by_end r (Some q) is shows = inr (q, shows, ends-right b law.sound (placings b ++ es) (listed_slot_at listed r) q is)
+  by_end r (Some q) is shows = inr (q, shows, ends-right b law.sound es (listed_slot_at listed r) q is)
 
   pub settled : IsSettledBy b listed standing
   settled = record {
@@ -70,9 +73,29 @@ module _ (b : Batch) (listed : List ℕ) (standing : ClosedLayout) (views : List
     owns = λ i m below within. (let room = position-below b listed (own_word i m) (below, within) in let wide = law.shows.wide in let from = begin i below in omega arith);
     enders = λ r has. (let room = position-below b listed (end_word r) has in let wide = law.shows.wide in omega arith);
     own = λ i m below within two. own-at i m below within
-        ∙ ap (λ (own : List ℕ). get_or own m 0) (done-right b law.sound (placings b ++ es) i (done-at i below two)).words;
+        ∙ ap (λ (own : List ℕ). get_or own m 0) (done-right b law.sound es i (done-at i below two)).words;
     ended = λ i r below has ends two. end-at r has
-        ∙ ap end_code ((done-right b law.sound (placings b ++ es) i (done-at i below two)).ends (listed_slot_at listed r) (law.slots.within r has) ends);
-    begun = λ i below. (length (own_of (reached b es) i), begun-at i below);
-    end = λ r has. by_end r (end_of (reached b es) (listed_slot_at listed r)) refl (end-at r has);
+        ∙ ap end_code ((done-right b law.sound es i (done-at i below two)).ends (listed_slot_at listed r) (law.slots.within r has) ends);
+    begun = λ i below. (length (own_of (reach b es) i), begun-at i below);
+    end = λ r has. by_end r (end_of (reach b es) (listed_slot_at listed r)) refl (end-at r has);
+  }
+
+module _ (b : Batch) (listed : List ℕ) (standing : ClosedLayout) (views : List View) (es : List Event) (law : Lawful b listed standing.words views es)
+    (every : length standing.references ≡ b.size) (begin : (i : ℕ) → i < b.size → get_or standing.references i 0 ≡ reference_begin b i) where
+  past-front : (n : ℕ) (v : View) → get_elem? views n ≡ some v → v.placed ≡ true → (i m : ℕ) → i < b.size → m < length (reference_words b i)
+      → i < front_of (reach b es) (partition_at b i m)
+  past-front n v is placed i m below low =
+      let long = law.sound.same_length i in
+      let there : partition_at b i m < b.partitions = law.sound.within i m (omega arith) in
+      let all = (law.fits n v is).placed placed (partition_at b i m) there in
+      omega arith
+
+  pub referred : (n : ℕ) (v : View) → get_elem? views n ≡ some v → v.placed ≡ true → TellsReferences b standing
+  referred n v is placed = record {
+    begins = λ i below. omega arith;
+    within = λ i m below low. (let room = position-below b listed (reference_word i m) (below, low) in let wide = law.shows.wide in let from = begin i below in omega arith);
+    right = λ i m below low. (let past = past-front n v is placed i m below low in
+        ap (λ (p : ℕ). get_or standing.words (p + m) 0) (begin i below)
+        ∙ law.shows.at (reference_word i m) (below, low) past
+        ∙ placed-reference b law.sound es i m below low past);
   }

@@ -1,5 +1,5 @@
 -- What a pass's own events say that it holds is what the state says.
-use Rattle.std.proofs.Common.{◌≡◌, ◌≢◌, ℕ, ◌+◌, ◌<◌, Bool, true, false, List, [], ◌∷◌, ◌++◌, length, get_or, set, refl, sym, ap, ◌∙◌, subst, arith, eq-eqb, inl, inr, ⊎_elim, get_or-set_same}
+use Rattle.std.proofs.Common.{◌≡◌, ◌≢◌, ℕ, ◌+◌, ◌<◌, Bool, true, false, List, [], ◌∷◌, ◌++◌, length, get_or, set, refl, sym, ap, ◌∙◌, arith, eq-eqb, inl, inr, ⊎_elim, get_or-set_same}
 use Rattle.std.specs.Prelude.{if◌then◌else◌, ◌==◌, nat_lt, is_none, Option, Some, None}
 use Rattle.std.proofs.lemmas.Bool.{and_parts, eqb-true, eqb-false, ltb-true, cases_eq, ne_eqb}
 use Rattle.std.proofs.lemmas.List.{get_or-set_other, length_push}
@@ -8,12 +8,11 @@ use Rattle.bohm_core_base.specs.declared.event.Event.TheVariants.{Place, Claim, 
 use Rattle.bohm_core_base.specs.declared.hold.Hold.{Hold}
 use Rattle.bohm_core_base.specs.declared.hold.Hold.TheVariants.{Free, Held, Done}
 use Rattle.bohm_core_base.specs.Batch.{Batch, IsSoundBatch}
-use Rattle.bohm_core_base.specs.Machine.{State, all_past, all_ready, all_filled, change, effect, end_of, guard, hold_of, is_free, is_held_by, must_end, next_word, own_of, run_from, start}
-use Rattle.words.specs.Legal.{IsEffective, events_by, is_event_of, placings, reached}
+use Rattle.bohm_core_base.specs.Machine.{State, all_past, all_ready, all_filled, change, effect, end_of, guard, hold_of, is_free, is_held_by, must_end, next_word, own_of, reach, run_from, start}
+use Rattle.words.specs.Legal.{IsEffective, events_by, is_event_of}
 use Rattle.words.specs.Views.{In, Stored, is_event_at, one_end, one_more, track, turn}
-use Rattle.words.proofs.Members.{in_cases, in_front, in_back, in_one}
-use Rattle.words.proofs.Reached.{IsReached, blank-ends, blank-words, free-is, held-not_free, held-within, reached-effect, sizes}
-use Rattle.words.proofs.Placings.{from-placed, placed, placed-free, works-placed}
+use Rattle.words.proofs.Members.{in_cases, in_front, in_back, in_one, replicate-same}
+use Rattle.words.proofs.Reached.{IsReached, blank-ends, blank-words, free-is, held-not_free, held-within, reached-effect, reached-start, sizes}
 use Rattle.model_base.proofs.Replay.{by_cases}
 use Rattle.model_base.proofs.Covered.{contrary}
 
@@ -194,7 +193,5 @@ module _ (b : Batch) (sound : IsSoundBatch b) where
       (λ no. rw no (tracks es (effect b s e) a i t (reached-effect b s e leads) works.1 (rw no at after)))
 
   -- a pass's own events tell what it holds
-  pub tracked : (es : List Event) (a i : ℕ) → IsEffective b (start b) (placings b ++ es) → TracksIn b (reached b es) a i (track i None (events_by a es))
-  tracked es a i works =
-      subst (λ s. TracksIn b s a i (track i None (events_by a es))) (sym (from-placed b sound es))
-      (tracks es (placed b sound) a i None (record { events = placings b; is = refl }) (works-placed b sound es works) (rw (placed-free b sound i) refl))
+  pub tracked : (es : List Event) (a i : ℕ) → IsEffective b (start b) es → TracksIn b (reach b es) a i (track i None (events_by a es))
+  tracked es a i works = tracks es (start b) a i None (reached-start b) works (rw (replicate-same b.size i Free) refl)

@@ -2,24 +2,28 @@
 use Rattle.std.specs.Prelude.{◌≡◌, ◌⊎◌, ◌<◌, ◌+◌, nat_lt, ℕ, suc, true, Some, List, length, slice_index, slice_index_or, if◌then◌else◌}
 use mathlib.Core.Option.{some}
 use lib.ListN.{get_elem?}
-use Rattle.bohm_core_base.specs.Batch.{Batch, words_length}
+use Rattle.bohm_core_base.specs.Batch.{Batch, reference_words, words_length}
 use Rattle.bohm_core_base.specs.Serial.{serial_ends, serial_words, whole_end}
 use Rattle.words.specs.declared.view.View.{View}
-use Rattle.words.specs.Layout.{listed_slot_at}
+use Rattle.words.specs.Layout.{listed_slot_at, reference_at}
 use Rattle.words.specs.Legal.{legal}
 
--- the words of a closed batch, with where the block of each place begins, and where the ends begin
+-- the words of a closed batch, with where the block of each place and where its references begin, and where the ends begin
 pub record ClosedLayout : Type 0 where
   pub begins : List ℕ
+  pub references : List ℕ
   pub ends : ℕ
   pub words : List ℕ
 
--- the claim of a place, its own word of a number, and a listed end
+-- the claim of a place, its own word of a number, its reference of a number, and a listed end
 abbrev pub claim_in : ClosedLayout → ℕ → ℕ
 claim_in standing index = slice_index standing.words (slice_index standing.begins index)
 
 abbrev pub own_in : ClosedLayout → ℕ → ℕ → ℕ
 own_in standing index number = slice_index standing.words (slice_index standing.begins index + suc number)
+
+abbrev pub reference_in : ClosedLayout → ℕ → ℕ → ℕ
+reference_in standing index number = slice_index standing.words (slice_index standing.references index + number)
 
 abbrev pub end_word_in : ClosedLayout → ℕ → ℕ
 end_word_in standing end = slice_index standing.words (standing.ends + end)
@@ -52,3 +56,11 @@ pub record IsSettledBy (batch : Batch) (listed : List ℕ) (standing : ClosedLay
   pub end : (end : ℕ) → end < length listed
       → (end_word_in standing end ≡ 0) ⊎ ((place : ℕ) × (end_word_in standing end ≡ suc place)
       × (whole_end batch (listed_slot_at listed end) ≡ Some place))
+
+-- the references of every place are the batch's
+pub record TellsReferences (batch : Batch) (standing : ClosedLayout) : Type 0 where
+  pub begins : (index : ℕ) → index < batch.size → index < length standing.references
+  pub within : (index number : ℕ) → index < batch.size → number < length (reference_words batch index)
+      → slice_index standing.references index + number < length standing.words
+  pub right : (index number : ℕ) → index < batch.size → number < length (reference_words batch index)
+      → reference_in standing index number ≡ reference_at batch index number

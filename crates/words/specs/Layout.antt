@@ -5,16 +5,27 @@
 use Rattle.std.specs.Prelude.{◌≡◌, ◌<◌, ◌+◌, ◌*◌, ◌/◌, ℕ, zero, suc, true, Option, Some, None, List, length, slice_index, slice_index_or}
 use Rattle.bohm_core_base.specs.declared.hold.Hold.{Hold}
 use Rattle.bohm_core_base.specs.declared.hold.Hold.TheVariants.{Free, Held, Done}
-use Rattle.bohm_core_base.specs.Batch.{Batch, batch_slots, words_length}
-use Rattle.bohm_core_base.specs.Machine.{State, end_of, hold_of, own_of, start}
+use Rattle.bohm_core_base.specs.Batch.{Batch, batch_slots, reference_words, words_length}
+use Rattle.bohm_core_base.specs.Machine.{State, end_of, front_of, hold_of, own_of, start, stored_references_of}
 use Rattle.bohm_core_base.specs.Serial.{serial_ends}
 use Rattle.words.specs.Views.{In}
 
--- what a word is for: the claim of a place, one of its own words, or one of the listed ends
+-- what a word is for: the claim of a place, one of its own words, one of its references, the front of a partition, or one of
+-- the listed ends
 pub data Meaning : Type 0 where
   claim_word : ℕ → Meaning
   own_word : ℕ → ℕ → Meaning
+  reference_word : ℕ → ℕ → Meaning
+  front_word : ℕ → Meaning
   end_word : ℕ → Meaning
+
+-- the reference of a place with this number: 0 for what stood before the batch, or one more than the index of a place
+abbrev pub reference_at : Batch → ℕ → ℕ → ℕ
+reference_at batch index number = slice_index_or (reference_words batch index) number 0
+
+-- its partition
+abbrev pub partition_at : Batch → ℕ → ℕ → ℕ
+partition_at batch index number = slice_index_or (batch.partitions_of index) number 0
 
 -- a claim as a word
 abbrev pub claim_code : Hold → ℕ
@@ -54,9 +65,18 @@ abbrev pub block_begin : Batch → ℕ → ℕ
 block_begin batch zero = 0
 block_begin batch (suc index) = block_begin batch index + block_length batch index
 
--- where the ends begin: behind all blocks
+-- where the references of a place begin: behind all blocks, and behind those of all places before it
+abbrev pub reference_begin : Batch → ℕ → ℕ
+reference_begin batch zero = block_begin batch batch.size
+reference_begin batch (suc index) = reference_begin batch index + length (reference_words batch index)
+
+-- where the fronts begin: behind all references; each has a group of eight words for itself
+abbrev pub front_begin : Batch → ℕ
+front_begin batch = reference_begin batch batch.size
+
+-- where the ends begin: behind all fronts
 abbrev pub end_begin : Batch → ℕ
-end_begin batch = block_begin batch batch.size
+end_begin batch = front_begin batch + batch.partitions * 8
 
 -- how many words there are
 abbrev pub total : Batch → List ℕ → ℕ
@@ -66,21 +86,36 @@ total batch listed = end_begin batch + length listed
 abbrev pub Has : Batch → List ℕ → Meaning → Type 0
 Has batch listed (claim_word index) = index < batch.size
 Has batch listed (own_word index number) = (index < batch.size) × (number < words_length batch index)
+Has batch listed (reference_word index number) = (index < batch.size) × (number < length (reference_words batch index))
+Has batch listed (front_word partition) = partition < batch.partitions
 Has batch listed (end_word end) = end < length listed
 
 -- where the word lies: the claim of a place stands before its own words
 abbrev pub position : Batch → Meaning → ℕ
 position batch (claim_word index) = block_begin batch index
 position batch (own_word index number) = block_begin batch index + suc number
+position batch (reference_word index number) = reference_begin batch index + number
+position batch (front_word partition) = front_begin batch + partition * 8
 position batch (end_word end) = end_begin batch + end
 
 -- what the word shows of a state: an own word that isn't stored yet is 0
 abbrev pub shown : List ℕ → State → Meaning → ℕ
 shown listed state (claim_word index) = claim_code (hold_of state index)
 shown listed state (own_word index number) = slice_index_or (own_of state index) number 0
+shown listed state (reference_word index number) = slice_index_or (stored_references_of state index) number 0
+shown listed state (front_word partition) = front_of state partition
 shown listed state (end_word end) = end_code (end_of state (listed_slot_at listed end))
+
+-- a reference counts only below the front of its partition, and every other word does
+abbrev pub Counts : Batch → State → Meaning → Type 0
+Counts batch state (claim_word index) = Unit {0}
+Counts batch state (own_word index number) = Unit {0}
+Counts batch state (reference_word index number) = index < front_of state (partition_at batch index number)
+Counts batch state (front_word partition) = Unit {0}
+Counts batch state (end_word end) = Unit {0}
 
 -- the words show the state
 pub record ShowsState (batch : Batch) (listed words : List ℕ) (state : State) : Type 0 where
   pub wide : length words ≡ total batch listed
-  pub at : (meaning : Meaning) → Has batch listed meaning → slice_index words (position batch meaning) ≡ shown listed state meaning
+  pub at : (meaning : Meaning) → Has batch listed meaning → Counts batch state meaning
+      → slice_index words (position batch meaning) ≡ shown listed state meaning

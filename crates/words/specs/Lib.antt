@@ -1,4 +1,5 @@
 pub mod Layout
+pub mod Written
 pub mod Views
 pub mod Legal
 pub mod Passes

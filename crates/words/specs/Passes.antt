@@ -1,11 +1,11 @@
 -- What contracts see of the words and of a pass.
-use Rattle.std.specs.Prelude.{◌≡◌, ◌<◌, ◌+◌, ◌-◌, ◌^◌, ℕ, suc, min, false, List, [], length, slice_index}
+use Rattle.std.specs.Prelude.{◌≡◌, ◌<◌, ◌+◌, ◌-◌, ◌^◌, ℕ, suc, min, Bool, true, false, List, [], length, slice_index}
 use Rattle.atomic_table.specs.Seated.{TableId}
 use Rattle.atomic_table.specs.Table.{Me}
 use Rattle.bohm_core_base.specs.Batch.{Batch}
 use Rattle.words.specs.declared.view.View.{View}
-use Rattle.words.specs.Layout.{block_begin, end_begin, total}
-use Rattle.words.specs.Views.{HoldsNone, first_view, joined, split_left, split_right}
+use Rattle.words.specs.Layout.{block_begin, end_begin, front_begin, reference_begin, total}
+use Rattle.words.specs.Views.{HoldsNone, first_view, front_in, joined, placer_view, split_left, split_right}
 
 -- the words of a batch: the table that they are, and the batch with what is listed
 pub record Words (K : Type 0) : Type 0 where
@@ -27,31 +27,68 @@ IsPassOf words pass = pass.table ≡ words.table
 abbrev pub gone_on : Passing → View → Passing
 gone_on pass view = record pass { view = view }
 
--- no other took it in, and it has no slot of the table
-pub record IsAlive (me : Me ℕ View) : Type 0 where
+-- no other took it in, it isn't a placer, and it has no slot of the table
+pub record IsAlive (me : Me ℕ View) (knows : Bool) : Type 0 where
   pub bare : me.1 ≡ []
   pub alive : me.0.spent ≡ false
+  pub pass : me.0.placer ≡ false
+  -- where it says so, it knows that all is placed
+  pub placed : knows ≡ true → me.0.placed ≡ true
 
 -- and it holds no place
-pub record IsIdle (me : Me ℕ View) : Type 0 where
+pub record IsIdle (me : Me ℕ View) (knows : Bool) : Type 0 where
   pub bare : me.1 ≡ []
   pub alive : me.0.spent ≡ false
+  pub pass : me.0.placer ≡ false
+  pub placed : knows ≡ true → me.0.placed ≡ true
   pub idle : HoldsNone me.0
 
--- where the blocks begin, and behind them the ends
-pub record AreBlocks (batch : Batch) (begins : List ℕ) (ends : ℕ) : Type 0 where
+-- a placer: its table, its number there, and what it did
+pub record Placing : Type 0 where
+  pub table : TableId
+  pub number : ℕ
+  pub view : View
+
+-- the placer is one of these words
+abbrev pub IsPlacerOf : {K : Type 0} → Words K → Placing → Type 0
+IsPlacerOf words placer = placer.table ≡ words.table
+
+-- the placer has gone on to this view
+abbrev pub placed_on : Placing → View → Placing
+placed_on placer view = record placer { view = view }
+
+-- the view is that of the placer of this partition, which has placed so many places
+pub record IsPlacer (me : Me ℕ View) (number count : ℕ) : Type 0 where
+  pub bare : me.1 ≡ []
+  pub alive : me.0.spent ≡ false
+  pub places : me.0.placer ≡ true
+  pub partition : number ≡ me.0.partition
+  pub front : count ≡ front_in me.0
+
+-- where the blocks begin, and behind them the references
+pub record AreBlocks (batch : Batch) (begins : List ℕ) (last : ℕ) : Type 0 where
   pub every : length begins ≡ batch.size
   pub begin : (index : ℕ) → index < batch.size → slice_index begins index ≡ block_begin batch index
-  pub end : ends ≡ end_begin batch
+  pub end : last ≡ block_begin batch batch.size
+
+-- where the references of each place begin, and behind them the fronts
+pub record AreReferences (batch : Batch) (begins : List ℕ) (last : ℕ) : Type 0 where
+  pub every : length begins ≡ batch.size
+  pub begin : (index : ℕ) → index < batch.size → slice_index begins index ≡ reference_begin batch index
+  pub end : last ≡ front_begin batch
 
 -- where the words lie
-pub record IsLaid (batch : Batch) (listed : List ℕ) (table : TableId) (places : ℕ) (begins : List ℕ) (ends count : ℕ) : Type 0 where
+pub record IsLaid
+    (batch : Batch) (listed : List ℕ) (table : TableId) (places : ℕ) (begins references : List ℕ) (fronts ends count : ℕ) : Type 0 where
   pub slots : table.slots ≡ 0
   pub words : table.words ≡ count
   pub size : batch.size ≡ places
   pub some : 0 < places
   pub begin : (index : ℕ) → index < batch.size → slice_index begins index ≡ block_begin batch index
   pub every : length begins ≡ places
+  pub reference : (index : ℕ) → index < batch.size → slice_index references index ≡ reference_begin batch index
+  pub every_reference : length references ≡ places
+  pub front : fronts ≡ front_begin batch
   pub end : ends ≡ end_begin batch
   pub all : count ≡ total batch listed
   pub few : count < 2 ^ 64
@@ -60,9 +97,16 @@ pub record IsLaid (batch : Batch) (listed : List ℕ) (table : TableId) (places 
 abbrev pub counted : Passing → Passing
 counted pass = record pass { bodies = min (suc pass.bodies) (2 ^ 64 - 1) }
 
--- the first pass of a batch
+-- the first pass of a batch of which all is placed, and of one of which nothing is placed yet
 abbrev pub first_pass : {K : Type 0} → Words K → Passing
-first_pass words = record { table = words.table; number = 0; view = first_view; bodies = 0 }
+first_pass words = record { table = words.table; number = 0; view = first_view true; bodies = 0 }
+
+abbrev pub open_pass : {K : Type 0} → Words K → Passing
+open_pass words = record { table = words.table; number = 0; view = first_view false; bodies = 0 }
+
+-- the placer of a partition that was cut from a pass, whose number is a new one
+abbrev pub cut_placer : Passing → ℕ → ℕ → Placing
+cut_placer pass partition number = record { table = pass.table; number = number; view = placer_view partition }
 
 -- the part of a split pass that goes on
 abbrev pub cut_first : Passing → Passing

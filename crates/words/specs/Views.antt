@@ -2,7 +2,7 @@
 -- on the words; that it carries what it did and what it found is this project's own, after the way in which a view of shared
 -- state is split and joined in separation logics for concurrency (D. Dinsdale-Young, M. Dodds, P. Gardner, M. J. Parkinson and
 -- V. Vafeiadis, "Concurrent Abstract Predicates", ECOOP 2010).
-use Rattle.std.specs.Prelude.{◌≡◌, ◌⊎◌, ◌==◌, ℕ, suc, ◌<◌, Bool, true, false, Option, Some, None, List, [], ◌∷◌, ◌++◌, length, if◌then◌else◌}
+use Rattle.std.specs.Prelude.{◌≡◌, ◌⊎◌, ◌==◌, ◌||◌, ℕ, suc, ◌<◌, Bool, true, false, Option, Some, None, List, [], ◌∷◌, ◌++◌, length, if◌then◌else◌}
 use Rattle.bohm_core_base.specs.declared.event.Event.{Event}
 use Rattle.bohm_core_base.specs.declared.event.Event.TheVariants.{Place, Claim, Fill, End, Finish, GiveBack}
 use Rattle.bohm_core_base.specs.Batch.{Batch, place_has_deed_on, is_listed, reference_words}
@@ -13,19 +13,65 @@ abbrev pub In : {A : Type 0} → A → List A → Type 0
 In x [] = ⊥
 In x (y ∷ ys) = (x ≡ y) ⊎ In x ys
 
--- the first pass of a batch, and what a pass that was taken in leaves
-abbrev pub first_view : View
-first_view = record { events = []; kept = []; known = []; sightings = []; sole = true; spent = false }
+-- the first pass of a batch, of which all is placed or nothing yet
+abbrev pub first_view : Bool → View
+first_view placed = record {
+  events = [];
+  kept = [];
+  known = [];
+  sightings = [];
+  fronts = [];
+  front_sightings = [];
+  placed = placed;
+  sole = true;
+  cut = [];
+  placer = false;
+  partition = 0;
+  placings = [];
+  stored = [];
+  spent = false;
+}
 
+-- what a pass that was taken in leaves
 abbrev pub spent_view : View
-spent_view = record { events = []; kept = []; known = []; sightings = []; sole = false; spent = true }
+spent_view = record {
+  events = [];
+  kept = [];
+  known = [];
+  sightings = [];
+  fronts = [];
+  front_sightings = [];
+  placed = false;
+  sole = false;
+  cut = [];
+  placer = false;
+  partition = 0;
+  placings = [];
+  stored = [];
+  spent = true;
+}
 
 -- of a split, the first part goes on, and the second begins without events and knows the same
 abbrev pub split_left : View → View
 split_left view = record view { sole = false }
 
 abbrev pub split_right : View → View
-split_right view = record { events = []; kept = []; known = view.known; sightings = []; sole = false; spent = false }
+split_right view = record {
+  events = [];
+  kept = [];
+  known = view.known;
+  sightings = [];
+  fronts = view.fronts;
+  front_sightings = [];
+  placed = view.placed;
+  sole = false;
+  cut = [];
+  placer = false;
+  partition = 0;
+  placings = [];
+  stored = [];
+  spent = false;
+}
 
 -- the first goes on, knows what either knew, and keeps the lists of the other, which has this number
 abbrev pub joined : View → ℕ → View → View
@@ -34,9 +80,52 @@ joined view number other = record {
   kept = view.kept ++ (number, other.events) ∷ other.kept;
   known = view.known ++ other.known;
   sightings = view.sightings;
+  fronts = view.fronts ++ other.fronts;
+  front_sightings = view.front_sightings;
+  placed = view.placed || other.placed;
   sole = false;
+  cut = [];
+  placer = false;
+  partition = 0;
+  placings = [];
+  stored = [];
   spent = false;
 }
+
+-- the placer of a partition was cut from the pass
+abbrev pub with_cut : View → ℕ → View
+with_cut view partition = record view { cut = view.cut ++ partition ∷ [] }
+
+-- a placer, which begins without events or references
+abbrev pub placer_view : ℕ → View
+placer_view partition = record {
+  events = [];
+  kept = [];
+  known = [];
+  sightings = [];
+  fronts = [];
+  front_sightings = [];
+  placed = false;
+  sole = false;
+  cut = [];
+  placer = true;
+  partition = partition;
+  placings = [];
+  stored = [];
+  spent = false;
+}
+
+-- a placer stored one more reference
+abbrev pub with_stored : View → ℕ → View
+with_stored view number = record view { stored = view.stored ++ number ∷ [] }
+
+-- a placer placed a place
+abbrev pub with_placing : View → View
+with_placing view = record view { placings = view.placings ++ Place view.partition ∷ []; stored = [] }
+
+-- how many places a placer has placed, which is the index of the one that it places next
+abbrev pub front_in : View → ℕ
+front_in view = length view.placings
 
 -- one more event of its own
 abbrev pub with_event : View → Event → View
@@ -49,6 +138,32 @@ with_known view index = record view { known = view.known ++ index ∷ [] }
 -- it found a place held by another pass
 abbrev pub with_sighting : View → ℕ → View
 with_sighting view index = record view { sightings = view.sightings ++ (index, length view.events) ∷ [] }
+
+-- it found a front, which is at least so from then on
+abbrev pub with_front : View → ℕ → ℕ → View
+with_front view partition found = record view {
+  fronts = view.fronts ++ (partition, found) ∷ [];
+  front_sightings = view.front_sightings ++ (partition, found, length view.events) ∷ [];
+}
+
+-- it knows that all is placed
+abbrev pub with_all_placed : View → View
+with_all_placed view = record view { placed = true }
+
+-- the pass knows that a partition has placed the place
+abbrev pub KnowsFront : View → ℕ → ℕ → Type 0
+KnowsFront view partition index =
+    (view.placed ≡ true) ⊎ ((count : ℕ) × In (partition, count) view.fronts × (index < count))
+
+-- and that every partition has
+abbrev pub KnowsPast : Batch → View → ℕ → Type 0
+KnowsPast batch view index = (partition : ℕ) → partition < batch.partitions → KnowsFront view partition index
+
+-- who has gone on from the first view to the second knows no fewer fronts
+abbrev pub KeepsFronts : View → View → Type 0
+KeepsFronts view after =
+    (view.placed ≡ true → after.placed ≡ true)
+    × ((partition count : ℕ) → In (partition, count) view.fronts → In (partition, count) after.fronts)
 
 -- whether the event is about the place; a placer's is about none
 abbrev pub is_event_at : ℕ → Event → Bool

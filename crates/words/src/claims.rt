@@ -4,7 +4,7 @@ ghost use Rattle.std.specs.Prelude.{◌≡◌, ◌<◌, []};
 ghost use Rattle.bohm_core_base.specs.declared.event.Event.TheVariants.{GiveBack};
 ghost use Rattle.words.specs.Passes.{IsPassOf, gone_on};
 ghost use Rattle.words.specs.Tells.{ClaimTells, LookTells};
-ghost use Rattle.words.specs.Views.{Holds, In, IsSettled, with_event};
+ghost use Rattle.words.specs.Views.{Holds, In, IsSettled, KnowsPast, with_event};
 
 use crate::placed::Placed;
 use crate::table::{BatchWords, Holding};
@@ -33,11 +33,13 @@ pub enum Seen {
 }
 
 impl<K: Placed> BatchWords<K> {
-    /// Takes a place if it is free: one compare-exchange of its claim, from free to held. A place that the pass knows done is
+    /// Takes a place if it is free: one compare-exchange of its claim, from free to held. The pass knows that every partition has
+    /// placed the place. A place that the pass knows done is
     /// found done, and so is one with a deed on a table of a later place of which the pass knows all references done.
     pub fn claim(&self, pass: &mut Holding, index: usize) -> Claimed
         requires ours { IsPassOf self.now pass.old }
         requires within { index < (K.batch self.now.key).size }
+        requires past { KnowsPast (K.batch self.now.key) pass.old.view index }
         ensures same { pass.new ≡ gone_on pass.old pass.new.view }
         ensures tells { ClaimTells pass.old.number index pass.old.view result pass.new.view }
         ensures known { In index pass.old.view.known → result ≡ Claimed.Done }

@@ -1,8 +1,8 @@
 //! A batch that no pass can reach any more.
 
-ghost use Rattle.std.specs.Prelude.{◌≡◌, ◌<◌, ◌+◌, suc, length, slice_index};
+ghost use Rattle.std.specs.Prelude.{◌≡◌, ◌<◌, ◌+◌, suc, length, slice_index, true};
 ghost use Rattle.std.specs.Mem.Slots.{slots_len, IsFull};
-ghost use Rattle.words.specs.Closing.{IsSettledBy, LastWith, claim_in, end_word_in, own_in};
+ghost use Rattle.words.specs.Closing.{TellsReferences, IsSettledBy, LastWith, claim_in, end_word_in, own_in, reference_in};
 ghost use Rattle.words.specs.Passes.{IsPassOf};
 
 use crate::placed::Placed;
@@ -15,6 +15,7 @@ use std::marker::Model;
 pub struct Closed {
     stood: Stood<u8, Global>,
     begins: Vec<usize>,
+    references: Vec<usize>,
     ends: usize,
     ghost full: { IsFull stood.words },
     ghost bare: { slots_len stood.slots ≡ 0 },
@@ -26,30 +27,43 @@ impl Model for Closed {
 
     ghost Value = { ClosedLayout };
 
-    ghost view = { λ closed. record { begins = closed.begins.items; ends = closed.ends; words = slots_items closed.stood.words } };
+    ghost view = { λ closed. record {
+      begins = closed.begins.items;
+      references = closed.references.items;
+      ends = closed.ends;
+      words = slots_items closed.stood.words;
+    } };
 }
 
 impl<K: Placed> BatchWords<K> {
     /// The words as they stand. Some list of events led to them, with this pass's events in order. Each place whose claim is
     /// done has the own words and the ends of the serial run; of any other place the words are a beginning of the serial
-    /// run's; and no end is another than the serial run's.
+    /// run's; and no end is another than the serial run's. If the pass knows that all is placed, the references are the batch's.
     pub fn close(self, pass: Pass) -> Closed
         requires { IsPassOf self pass }
         ensures last { LastWith (K.batch self.key) (K.listed self.key) result.words pass.number pass.view }
         ensures settled { IsSettledBy (K.batch self.key) (K.listed self.key) result }
+        ensures references { pass.view.placed ≡ true → TellsReferences (K.batch self.key) result }
     {
         let BatchWords {
             table,
             places: _,
             begins,
+            references,
+            fronts: _,
             ends,
             count: _,
         } = self;
-        let Pass { seat, bodies: _ } = pass;
+        let Pass {
+            seat,
+            bodies: _,
+            placed: _,
+        } = pass;
         let stood = table.close_with(seat);
         Closed {
             stood,
             begins,
+            references,
             ends,
         }
     }
@@ -74,6 +88,15 @@ impl Closed {
         self.stood.word(self.begins[index] + 1 + number)
     }
 
+    /// The reference of a number of a place: 0 for what stood before the batch, or one more than the index of a place.
+    pub fn reference(&self, index: usize, number: usize) -> u64
+        requires begins { index < length self.now.references }
+        requires within { slice_index self.now.references index + number < length self.now.words }
+        ensures { result ≡ reference_in self.now index number }
+    {
+        self.stood.word(self.references[index] + number)
+    }
+
     /// A listed end: 0, or one more than the place that ended the record.
     pub fn end(&self, end: usize) -> u64
         requires { self.now.ends + end < length self.now.words }
@@ -88,6 +111,7 @@ impl Drop for Closed {
         let Closed {
             stood,
             begins: _,
+            references: _,
             ends: _,
         } = self;
         stood.free();

@@ -1,6 +1,6 @@
 //! What follows of the rule, for who chains steps.
 
-ghost use Rattle.std.specs.Prelude.{◌≡◌, ◌++◌, ◌∷◌, [], ℕ, suc, List, Some, false, true, length, if◌then◌else◌};
+ghost use Rattle.std.specs.Prelude.{◌≡◌, ◌++◌, ◌∷◌, ◌<◌, ◌≤◌, [], ℕ, suc, List, Some, false, true, length, if◌then◌else◌};
 ghost use mathlib.Core.Option.{some};
 ghost use lib.ListN.{get_elem?};
 ghost use Rattle.bohm_core_base.specs.declared.event.Event.{Event};
@@ -8,10 +8,10 @@ ghost use Rattle.bohm_core_base.specs.declared.event.Event.TheVariants.{Claim, E
 ghost use Rattle.bohm_core_base.specs.declared.hold.Hold.TheVariants.{Done, Held};
 ghost use Rattle.bohm_core_base.specs.Batch.{Batch, IsSoundBatch};
 ghost use Rattle.bohm_core_base.specs.Laws.{actor_of};
-ghost use Rattle.bohm_core_base.specs.Machine.{hold_of, is_done, own_of, start};
+ghost use Rattle.bohm_core_base.specs.Machine.{front_of, hold_of, is_done, own_of, reach, start};
 ghost use Rattle.words.specs.declared.view.View.{View};
-ghost use Rattle.words.specs.Legal.{IsEffective, Lawful, events_by, finishes_of, is_event_of, placings, reached};
-ghost use Rattle.words.specs.Views.{Holds, In, IsSettled, KnowsReferences, is_event_at, joined, split_left, split_right, with_event, with_known};
+ghost use Rattle.words.specs.Legal.{IsEffective, Lawful, events_by, finishes_of, is_event_of};
+ghost use Rattle.words.specs.Views.{Holds, In, IsSettled, KeepsFronts, KnowsFront, KnowsPast, KnowsReferences, front_in, is_event_at, joined, split_left, split_right, with_all_placed, with_event, with_front, with_known};
 
 /// A pass that claims a place holds it with nothing stored; each word that it stores counts as one more, and each end that it
 /// sets is listed behind the others; it holds no more what it finished or gave back. Its events about other places change
@@ -57,24 +57,51 @@ pub fn passes_keep_what_they_know()
         → ((other : ℕ) → In other view.known → In other after.known) → IsSettled batch view index → IsSettled batch after index }
 {}
 
+/// A pass knows the front that it just found, and keeps those that it knew; who knows no fewer fronts knows each place that was
+/// known to be past, and each before it; both parts of a split know what the whole knew, and a join knows what either knew.
+pub fn passes_keep_the_fronts_that_they_know()
+    ensures found { (view : View) (partition found index : ℕ) → index < found
+        → KnowsFront (with_front view partition found) partition index }
+    ensures kept { (view : View) (partition found other index : ℕ) → KnowsFront view other index
+        → KnowsFront (with_front view partition found) other index }
+    ensures all { (batch : Batch) (view : View) (index : ℕ) → KnowsPast batch (with_all_placed view) index }
+    ensures past { (batch : Batch) (view after : View) (index other : ℕ)
+        → KeepsFronts view after → other ≤ index → KnowsPast batch view index → KnowsPast batch after other }
+    ensures split { (batch : Batch) (view : View) (index : ℕ) → KnowsPast batch view index
+        → KnowsPast batch (split_left view) index × KnowsPast batch (split_right view) index }
+    ensures first { (batch : Batch) (view other : View) (number index : ℕ) → KnowsPast batch view index
+        → KnowsPast batch (joined view number other) index }
+    ensures second { (batch : Batch) (view other : View) (number index : ℕ) → KnowsPast batch other index
+        → KnowsPast batch (joined view number other) index }
+{}
+
 /// Wherever the rule holds: what a pass's own events say that it holds, it holds, with as many own words stored; what it knows
-/// done is done; and so is a place with a deed on a table of a later place of which it knows all references done.
+/// done is done; so is a place with a deed on a table of a later place of which it knows all references done; and a partition has
+/// placed each place that the pass knows it past, and so has every one if the pass knows that all is placed.
 pub fn views_tell_the_state()
     ensures held { (batch : Batch) (listed words : List ℕ) (views : List View) (events : List Event)
         (number index count : ℕ) (view : View) (ended : List ℕ)
         → Lawful batch listed words views events → get_elem? views number ≡ some view → view.spent ≡ false → Holds view index count ended
-        → (hold_of (reached batch events) index ≡ Held number) × (length (own_of (reached batch events) index) ≡ count) }
+        → (hold_of (reach batch events) index ≡ Held number) × (length (own_of (reach batch events) index) ≡ count) }
     ensures known { (batch : Batch) (listed words : List ℕ) (views : List View) (events : List Event) (number index : ℕ) (view : View)
         → Lawful batch listed words views events → get_elem? views number ≡ some view → In index view.known
-        → hold_of (reached batch events) index ≡ Done }
+        → hold_of (reach batch events) index ≡ Done }
     ensures settled { (batch : Batch) (listed words : List ℕ) (views : List View) (events : List Event) (number index : ℕ) (view : View)
         → Lawful batch listed words views events → get_elem? views number ≡ some view → view.spent ≡ false → IsSettled batch view index
-        → hold_of (reached batch events) index ≡ Done }
+        → hold_of (reach batch events) index ≡ Done }
+    ensures past { (batch : Batch) (listed words : List ℕ) (views : List View) (events : List Event)
+        (number partition index : ℕ) (view : View)
+        → Lawful batch listed words views events → get_elem? views number ≡ some view → view.spent ≡ false
+        → partition < batch.partitions → index < batch.size → KnowsFront view partition index
+        → index < front_of (reach batch events) partition }
+    ensures placed_by { (batch : Batch) (listed words : List ℕ) (views : List View) (events : List Event) (number : ℕ) (view : View)
+        → Lawful batch listed words views events → get_elem? views number ≡ some view → view.placer ≡ true
+        → front_of (reach batch events) view.partition ≡ front_in view }
 {}
 
 /// In a list of events each of which may happen where it happens, a place is finished once if it is done, and else never.
 pub fn places_are_finished_once()
     ensures { (batch : Batch) (events : List Event) (index : ℕ)
-        → IsSoundBatch batch → IsEffective batch (start batch) (placings batch ++ events)
-        → finishes_of index (placings batch ++ events) ≡ (if is_done (hold_of (reached batch events) index) then 1 else 0) }
+        → IsSoundBatch batch → IsEffective batch (start batch) events
+        → finishes_of index events ≡ (if is_done (hold_of (reach batch events) index) then 1 else 0) }
 {}

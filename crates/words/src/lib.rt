@@ -9,6 +9,7 @@
 mod claims;
 mod close;
 mod fills;
+mod fronts;
 mod holding;
 mod laws;
 mod placed;
@@ -16,13 +17,14 @@ mod steps;
 mod table;
 mod view;
 mod words;
+mod written;
 
 pub use claims::{Claimed, Seen};
 pub use close::Closed;
 pub use laws::{
-    events_are_their_actors, own_events_tell_what_is_held, passes_keep_what_they_know,
-    places_are_finished_once, views_tell_the_state,
+    events_are_their_actors, own_events_tell_what_is_held, passes_keep_the_fronts_that_they_know,
+    passes_keep_what_they_know, places_are_finished_once, views_tell_the_state,
 };
 pub use placed::Placed;
-pub use table::{BatchWords, Holding, Pass};
+pub use table::{BatchWords, Holding, Pass, Placer};
 pub use view::View;

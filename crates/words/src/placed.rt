@@ -1,15 +1,18 @@
 //! The batch whose words are shared.
 
-ghost use Rattle.std.specs.Prelude.{◌≡◌, ◌<◌, ℕ, List, length};
-ghost use Rattle.bohm_core_base.specs.Batch.{Batch, IsSoundBatch, words_length};
-ghost use Rattle.words.specs.Layout.{IsListed};
+ghost use Rattle.std.specs.Prelude.{◌≡◌, ◌<◌, ℕ, Bool, List, length, true};
+ghost use Rattle.bohm_core_base.specs.Batch.{Batch, IsSoundBatch, reference_words, words_length};
+ghost use Rattle.words.specs.Layout.{IsListed, reference_at};
 
-/// The constant data of a batch: which batch it is, and which slots have a word for their record's end. These are slots without
+/// The constant data of a batch: which batch it is, whether all is placed before its words are made, and which slots have a
+/// word for their record's end. These are slots without
 /// an end before the batch, and every slot whose record a place of the batch ends by the serial run is among them.
 pub trait Placed {
     ghost batch: { Self → Batch };
 
     ghost listed: { Self → List ℕ };
+
+    ghost placed: { Self → Bool };
 
     /// How many places the batch has. The batch is one that the machine's law speaks of.
     fn places(&self) -> usize
@@ -21,6 +24,22 @@ pub trait Placed {
     fn words_length(&self, index: usize) -> usize
         requires { index < (batch self.now).size }
         ensures { result ≡ words_length (batch self.now) index };
+
+    /// How many partitions there are.
+    fn partitions(&self) -> usize
+        ensures { result ≡ (batch self.now).partitions };
+
+    /// How many references a place has.
+    fn references_length(&self, index: usize) -> usize
+        requires { index < (batch self.now).size }
+        ensures { result ≡ length (reference_words (batch self.now) index) };
+
+    /// A reference of a place, if all is placed: 0 for what stood before the batch, or one more than the index of a place.
+    fn reference_word(&self, index: usize, number: usize) -> u64
+        requires placed { placed self.now ≡ true }
+        requires within { index < (batch self.now).size }
+        requires number { number < length (reference_words (batch self.now) index) }
+        ensures { result ≡ reference_at (batch self.now) index number };
 
     /// How many slots have a word for their record's end. Each of them has no end before the batch, none stands twice, and all
     /// whose records the batch ends are among them.

@@ -1,18 +1,18 @@
 //! A step on one word, and where each word lies.
 
-ghost use Rattle.std.specs.Prelude.{◌≡◌, ◌==◌, ◌<◌, [], false, length};
-ghost use Rattle.bohm_core_base.specs.Batch.{words_length};
-ghost use Rattle.atomic_table.specs.Table.{Allows, step};
+ghost use Rattle.std.specs.Prelude.{◌≡◌, ◌==◌, ◌<◌, ℕ, [], false, length};
+ghost use Rattle.bohm_core_base.specs.Batch.{reference_words, words_length};
+ghost use Rattle.atomic_table.specs.Table.{Allows, Splits, step};
 ghost use mathlib.Core.Option.{none};
 ghost use prog.Atomic.{either};
 ghost use Rattle.words.specs.Legal.{legal};
-ghost use Rattle.words.specs.Layout.{claim_word, end_word, own_word, position};
+ghost use Rattle.words.specs.Layout.{claim_word, end_word, front_word, own_word, position, reference_word};
 ghost use Rattle.words.specs.Views.{joined, split_left, split_right};
 
 use crate::placed::Placed;
 use crate::table::{BatchWords, Rule};
 use crate::view::View;
-use atomic_table::{Play, Seat, Shared};
+use atomic_table::{Play, Seat, Shared, Split};
 use std::marker::Brand;
 
 // What a step tells is a type M that the caller's proof picks, by the place and the number that are passed for it alone.
@@ -25,10 +25,18 @@ impl<K: Placed> BatchWords<K> {
         &self.table.shared
     }
 
+    // How many places the batch has.
+    pub(crate) fn places(&self) -> usize
+        ensures { result ≡ (K.batch self.now.key).size }
+    {
+        self.places
+    }
+
     // Cuts a seat in two, by one load.
     pub(crate) fn cut_off(&self, seat: &mut Seat<u8, View>) -> Seat<u8, View>
         requires ours { seat.old.table_id ≡ self.now.table }
         requires alive { seat.old.me.0.spent ≡ false }
+        requires pass { seat.old.me.0.placer ≡ false }
         ensures same { (seat.new.table_id ≡ seat.old.table_id) × (seat.new.id ≡ seat.old.id) × (result.table_id ≡ seat.old.table_id) }
         ensures first { seat.new.me ≡ (split_left seat.old.me.0, seat.old.me.1) }
         ensures second { result.me ≡ (split_right seat.old.me.0, []) }
@@ -36,11 +44,29 @@ impl<K: Placed> BatchWords<K> {
         self.shared().split_seat::<Brand>(seat)
     }
 
+    // Cuts a seat of the placer of a partition off, by one load.
+    pub(crate) fn cut_placer_off<M: Split<View>>(
+        &self,
+        seat: &mut Seat<u8, View>,
+        _partition: usize,
+    ) -> Seat<u8, View>
+        requires ours { seat.old.table_id ≡ self.now.table }
+        requires splits { Splits {S = ℕ}
+            (λ state. legal (K.batch self.now.key) (K.listed self.now.key) state.words state.views)
+            seat.old.id seat.old.me.0 (M.left seat.old.me.0) (M.right seat.old.me.0) }
+        ensures same { (seat.new.table_id ≡ seat.old.table_id) × (seat.new.id ≡ seat.old.id) × (result.table_id ≡ seat.old.table_id) }
+        ensures first { seat.new.me ≡ (M.left seat.old.me.0, seat.old.me.1) }
+        ensures second { result.me ≡ (M.right seat.old.me.0, []) }
+    {
+        self.shared().split_seat::<M>(seat)
+    }
+
     // The first seat, which takes the other in, by one load.
     pub(crate) fn take_in(&self, mut seat: Seat<u8, View>, other: Seat<u8, View>) -> Seat<u8, View>
         requires ours { (seat.table_id ≡ self.now.table) × (other.table_id ≡ self.now.table) }
         requires bare { other.me.1 ≡ [] }
         requires alive { (seat.me.0.spent ≡ false) × (other.me.0.spent ≡ false) }
+        requires pass { (seat.me.0.placer ≡ false) × (other.me.0.placer ≡ false) }
         ensures same { (result.table_id ≡ seat.table_id) × (result.id ≡ seat.id) }
         ensures view { result.me ≡ (joined seat.me.0 other.id other.me.0, seat.me.1) }
     {
@@ -126,6 +152,24 @@ impl<K: Placed> BatchWords<K> {
         ensures within { result < self.now.table.words }
     {
         self.begins[index] + 1 + number
+    }
+
+    // Where a reference lies.
+    pub(crate) fn reference_spot(&self, index: usize, number: usize) -> usize
+        requires within { (index < (K.batch self.now.key).size) × (number < length (reference_words (K.batch self.now.key) index)) }
+        ensures value { result ≡ position (K.batch self.now.key) (reference_word index number) }
+        ensures within { result < self.now.table.words }
+    {
+        self.references[index] + number
+    }
+
+    // Where the front of a partition lies.
+    pub(crate) fn front_spot(&self, partition: usize) -> usize
+        requires { partition < (K.batch self.now.key).partitions }
+        ensures value { result ≡ position (K.batch self.now.key) (front_word partition) }
+        ensures within { result < self.now.table.words }
+    {
+        self.fronts + partition * 8
     }
 
     // Where a listed end lies.

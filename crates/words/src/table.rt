@@ -17,16 +17,21 @@ impl<K: Placed> TableRule<u8, View, K> for Rule {
 
     ghost holds = { λ key state. legal (K.batch key) (K.listed key) state.words state.views };
 
-    ghost first = { λ _. first_view };
+    ghost first = { λ key. first_view (K.placed key) };
 }
 
-/// The words of one batch: for each place a block with its claim and its own words, and behind all blocks the listed ends.
+/// The words of one batch: for each place a block with its claim and its own words; behind all blocks the references of each
+/// place, then the front of each partition, and then the listed ends.
 #[derive(Drop)]
 pub struct BatchWords<K: Placed> {
     pub(crate) table: Table<u8, View, K, Rule, Global>,
     pub(crate) places: usize,
     /// Where the block of each place begins.
     pub(crate) begins: Vec<usize>,
+    /// Where the references of each place begin.
+    pub(crate) references: Vec<usize>,
+    /// Where the fronts begin.
+    pub(crate) fronts: usize,
     /// Where the ends begin.
     pub(crate) ends: usize,
     pub(crate) count: usize,
@@ -40,7 +45,7 @@ impl<K: Placed> Model for BatchWords<K> {
     ghost view = { λ words. record { table = words.table.shared.table_id; key = words.table.shared.key } };
 
     ghost invariant = { λ words. IsLaid (K.batch words.table.shared.key) (K.listed words.table.shared.key)
-        words.table.shared.table_id words.places words.begins.items words.ends words.count };
+        words.table.shared.table_id words.places words.begins.items words.references.items words.fronts words.ends words.count };
 }
 
 /// A pass of one batch, which holds no place. It may be handed to any thread.
@@ -48,6 +53,8 @@ impl<K: Placed> Model for BatchWords<K> {
 pub struct Pass {
     pub(crate) seat: Seat<u8, View>,
     pub(crate) bodies: u64,
+    /// It knows that all is placed.
+    pub(crate) placed: bool,
 }
 
 impl Model for Pass {
@@ -57,7 +64,7 @@ impl Model for Pass {
 
     ghost view = { λ pass. record { table = pass.seat.table_id; number = pass.seat.id; view = pass.seat.me.0; bodies = pass.bodies } };
 
-    ghost invariant = { λ pass. IsIdle pass.seat.me };
+    ghost invariant = { λ pass. IsIdle pass.seat.me pass.placed };
 }
 
 /// A pass that may hold places.
@@ -65,6 +72,8 @@ impl Model for Pass {
 pub struct Holding {
     pub(crate) seat: Seat<u8, View>,
     pub(crate) bodies: u64,
+    /// It knows that all is placed.
+    pub(crate) placed: bool,
 }
 
 impl Model for Holding {
@@ -74,7 +83,26 @@ impl Model for Holding {
 
     ghost view = { λ pass. record { table = pass.seat.table_id; number = pass.seat.id; view = pass.seat.me.0; bodies = pass.bodies } };
 
-    ghost invariant = { λ pass. IsAlive pass.seat.me };
+    ghost invariant = { λ pass. IsAlive pass.seat.me pass.placed };
+}
+
+/// The right of a partition's placer to step on the words of one batch. It may be handed to any thread.
+#[derive(Drop)]
+pub struct Placer {
+    pub(crate) seat: Seat<u8, View>,
+    pub(crate) partition: usize,
+    /// How many places it has placed, which is the index of the one that it places next.
+    pub(crate) front: usize,
+}
+
+impl Model for Placer {
+    ghost use Rattle.words.specs.Passes.{IsPlacer, Placing};
+
+    ghost Value = { Placing };
+
+    ghost view = { λ placer. record { table = placer.seat.table_id; number = placer.seat.id; view = placer.seat.me.0 } };
+
+    ghost invariant = { λ placer. IsPlacer placer.seat.me placer.partition placer.front };
 }
 
 impl Split<View> for Brand {

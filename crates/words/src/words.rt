@@ -1,14 +1,16 @@
 //! How the words of a batch and its passes are made, cut and joined.
 
-ghost use Rattle.std.specs.Prelude.{◌≡◌, ◌+◌, ◌*◌, ◌/◌, [], replicate, IfOk};
+ghost use Rattle.std.specs.Prelude.{◌≡◌, ◌+◌, ◌*◌, ◌/◌, [], false, true, replicate, IfOk};
 ghost use Rattle.bohm_core_base.specs.Batch.{IsSoundBatch};
-ghost use Rattle.words.specs.Layout.{end_begin, total};
-ghost use Rattle.words.specs.Passes.{AreBlocks, IsPassOf, cut_first, cut_second, first_pass, joined_pass};
+ghost use Rattle.words.specs.Layout.{block_begin, end_begin, front_begin, total};
+ghost use Rattle.words.specs.Passes.{AreBlocks, AreReferences, IsPassOf, cut_first, cut_second, first_pass, joined_pass, open_pass};
 ghost use Rattle.words.specs.Views.{first_view};
+ghost use Rattle.words.specs.Written.{IsWritten};
 
 use crate::placed::Placed;
 use crate::table::{BatchWords, Pass, Rule};
 use crate::view::View;
+use crate::written::{write_all_references, write_fronts};
 use atomic_table::{Seat, Table};
 use std::alloc::{AllocError, Global};
 
@@ -34,7 +36,7 @@ fn block_end(begin: usize, words: usize) -> Result<usize, AllocError>
     sum(begin, block_length(words)?)
 }
 
-/// Where the block of each place begins, and where the ends begin.
+/// Where the block of each place begins, and where the references begin.
 fn blocks<K: Placed>(alloc: Global, key: &K) -> Result<(Vec<usize>, usize), AllocError>
     ensures { IfOk result (λ found. AreBlocks (K.batch key.now) found.0.items found.1) }
 {
@@ -48,6 +50,40 @@ fn blocks<K: Placed>(alloc: Global, key: &K) -> Result<(Vec<usize>, usize), Allo
     Ok((begins, ends))
 }
 
+/// Where the references of each place begin, and where the fronts begin.
+fn references<K: Placed>(
+    alloc: Global,
+    key: &K,
+    begin: usize,
+) -> Result<(Vec<usize>, usize), AllocError>
+    requires { begin ≡ block_begin (K.batch key.now) (K.batch key.now).size }
+    ensures { IfOk result (λ found. AreReferences (K.batch key.now) found.0.items found.1) }
+{
+    let places = key.places();
+    let mut begins = Vec::with_capacity(alloc, places)?;
+    let mut end = begin;
+    for index in 0..places {
+        begins.push_reserved(end);
+        end = sum(end, key.references_length(index))?;
+    }
+    Ok((begins, end))
+}
+
+/// How many words so many fronts have: each a group of eight for itself, so that who stores one leaves the others' lines alone.
+fn fronts_length(partitions: usize) -> Result<usize, AllocError>
+    ensures { IfOk result (λ length. length ≡ partitions * 8) }
+{
+    partitions.checked_mul(8).ok_or(AllocError)
+}
+
+/// Where the ends begin: behind the fronts.
+fn fronts_end<K: Placed>(key: &K, begin: usize) -> Result<usize, AllocError>
+    requires { begin ≡ front_begin (K.batch key.now) }
+    ensures { IfOk result (λ end. end ≡ end_begin (K.batch key.now)) }
+{
+    sum(begin, fronts_length(key.partitions())?)
+}
+
 /// A row of so many words, all 0.
 fn all_zero(alloc: Global, count: usize) -> Result<Vec<u64>, AllocError>
     ensures { IfOk result (λ row. row.items ≡ replicate count 0) }
@@ -55,43 +91,130 @@ fn all_zero(alloc: Global, count: usize) -> Result<Vec<u64>, AllocError>
     Vec::from_elem(alloc, 0u64, count)
 }
 
-/// The table of the words, all 0, and its first seat. The ends begin behind all blocks.
+/// The table of the words, all 0, and its first seat. The ends begin behind all else.
 fn table_of<K: Placed>(
     alloc: Global,
     key: &K,
     ends: usize,
 ) -> Result<(Table<u8, View, K, Rule, Global>, Seat<u8, View>), AllocError>
     requires sound { IsSoundBatch (K.batch key.now) }
+    requires open { K.placed key.now ≡ false }
     requires end { ends ≡ end_begin (K.batch key.now) }
     ensures table { IfOk result (λ made.
         (made.0.shared.table_id.words ≡ total (K.batch key.now) (K.listed key.now)) × (made.0.shared.table_id.slots ≡ 0)
         × (made.0.shared.key ≡ key.now)) }
     ensures seat { IfOk result (λ made.
-        (made.1.table_id ≡ made.0.shared.table_id) × (made.1.id ≡ 0) × (made.1.me ≡ (first_view, []))) }
+        (made.1.table_id ≡ made.0.shared.table_id) × (made.1.id ≡ 0) × (made.1.me ≡ (first_view false, []))) }
 {
     let count = sum(ends, key.ends())?;
     let row = all_zero(alloc, count)?;
     Table::of_words(alloc, row.as_slice(), key)
 }
 
+/// The words of a batch of which all is placed: the references of all places and all fronts are stored, and the others are 0.
+fn placed_row<K: Placed>(
+    alloc: Global,
+    key: &K,
+    references: &[usize],
+    fronts: usize,
+    count: usize,
+) -> Result<Vec<u64>, AllocError>
+    requires placed { K.placed key.now ≡ true }
+    requires begins { AreReferences (K.batch key.now) references.now fronts }
+    requires count { count ≡ total (K.batch key.now) (K.listed key.now) }
+    ensures { IfOk result (λ row.
+        IsWritten (K.batch key.now) (K.listed key.now) row.items (K.batch key.now).size 0 (K.batch key.now).partitions) }
+{
+    let mut row = all_zero(alloc, count)?;
+    write_all_references(key, row.as_mut_slice(), references, fronts);
+    write_fronts(key, row.as_mut_slice(), fronts);
+    Ok(row)
+}
+
+/// The table of such words, and its first seat. The ends begin behind all else.
+fn placed_table<K: Placed>(
+    alloc: Global,
+    key: &K,
+    references: &[usize],
+    fronts: usize,
+    ends: usize,
+) -> Result<(Table<u8, View, K, Rule, Global>, Seat<u8, View>), AllocError>
+    requires sound { IsSoundBatch (K.batch key.now) }
+    requires placed { K.placed key.now ≡ true }
+    requires begins { AreReferences (K.batch key.now) references.now fronts }
+    requires end { ends ≡ end_begin (K.batch key.now) }
+    ensures table { IfOk result (λ made.
+        (made.0.shared.table_id.words ≡ total (K.batch key.now) (K.listed key.now)) × (made.0.shared.table_id.slots ≡ 0)
+        × (made.0.shared.key ≡ key.now)) }
+    ensures seat { IfOk result (λ made.
+        (made.1.table_id ≡ made.0.shared.table_id) × (made.1.id ≡ 0) × (made.1.me ≡ (first_view true, []))) }
+{
+    let count = sum(ends, key.ends())?;
+    let row = placed_row(alloc, key, references, fronts, count)?;
+    Table::of_words(alloc, row.as_slice(), key)
+}
+
 impl<K: Placed> BatchWords<K> {
-    /// The words of a batch, all 0, and its first pass. An error is want of memory, and so is a batch with more words than can
-    /// be counted.
+    /// The words of a batch of which all is placed, with its references and fronts stored and all else 0, and its first pass. An
+    /// error is want of memory, and so is a batch with more words than can be counted.
     pub fn new(alloc: Global, key: &K) -> Result<(BatchWords<K>, Pass), AllocError>
+        requires { K.placed key.now ≡ true }
         ensures { IfOk result (λ made. (made.0.key ≡ key.now) × (made.1 ≡ first_pass made.0)) }
     {
         let places = key.places();
-        let (begins, ends) = blocks(alloc, key)?;
+        let (begins, end) = blocks(alloc, key)?;
+        let (references, fronts) = references(alloc, key, end)?;
+        let ends = fronts_end(key, fronts)?;
+        let (table, seat) = placed_table(alloc, key, references.as_slice(), fronts, ends)?;
+        let count = table.word_count();
+        let words = BatchWords {
+            table,
+            places,
+            begins,
+            references,
+            fronts,
+            ends,
+            count,
+        };
+        Ok((
+            words,
+            Pass {
+                seat,
+                bodies: 0,
+                placed: true,
+            },
+        ))
+    }
+
+    /// The words of a batch of which nothing is placed yet, all 0, and its first pass. An error is want of memory, and so is a
+    /// batch with more words than can be counted.
+    pub fn open(alloc: Global, key: &K) -> Result<(BatchWords<K>, Pass), AllocError>
+        requires { K.placed key.now ≡ false }
+        ensures { IfOk result (λ made. (made.0.key ≡ key.now) × (made.1 ≡ open_pass made.0)) }
+    {
+        let places = key.places();
+        let (begins, end) = blocks(alloc, key)?;
+        let (references, fronts) = references(alloc, key, end)?;
+        let ends = fronts_end(key, fronts)?;
         let (table, seat) = table_of(alloc, key, ends)?;
         let count = table.word_count();
         let words = BatchWords {
             table,
             places,
             begins,
+            references,
+            fronts,
             ends,
             count,
         };
-        Ok((words, Pass { seat, bodies: 0 }))
+        Ok((
+            words,
+            Pass {
+                seat,
+                bodies: 0,
+                placed: false,
+            },
+        ))
     }
 
     /// Cuts a pass in two, by one load: the first goes on and the second begins, and neither is sole.
@@ -100,13 +223,22 @@ impl<K: Placed> BatchWords<K> {
         ensures first { result.0 ≡ cut_first pass }
         ensures second { result.1 ≡ cut_second pass result.1.number }
     {
-        let Pass { mut seat, bodies } = pass;
+        let Pass {
+            mut seat,
+            bodies,
+            placed,
+        } = pass;
         let other = self.cut_off(&mut seat);
         (
-            Pass { seat, bodies },
+            Pass {
+                seat,
+                bodies,
+                placed,
+            },
             Pass {
                 seat: other,
                 bodies: 0,
+                placed,
             },
         )
     }
@@ -120,15 +252,18 @@ impl<K: Placed> BatchWords<K> {
         let Pass {
             seat: first,
             bodies,
+            placed,
         } = pass;
         let Pass {
             seat: second,
             bodies: more,
+            placed: _,
         } = other;
         let seat = self.take_in(first, second);
         Pass {
             seat,
             bodies: bodies.saturating_add(more),
+            placed,
         }
     }
 }

@@ -3,22 +3,26 @@ use Rattle.std.proofs.Common.{◌≡◌, ◌++◌, ℕ, suc, List, [], ◌∷◌
 use Rattle.std.proofs.lemmas.Bool.{cases_lt}
 use Rattle.words.specs.declared.view.View.{View}
 use Rattle.words.specs.Passes.{Passing, cut_first, joined_pass}
-use Rattle.words.specs.Views.{In}
+use Rattle.words.specs.Views.{In, KeepsFronts}
 use Rattle.bohm_core_base.specs.Batch.{Batch}
 use Rattle.filling_base.specs.declared.run.Tried.{Tried}
-use Rattle.filling_base.specs.declared.run.Tried.TheVariants.{Done, Busy, NoMemory}
+use Rattle.filling_base.specs.declared.run.Tried.TheVariants.{Done, Busy, NotPlaced, NoMemory}
 use Rattle.filling_base.specs.Goings.{IsSamePass}
 use Rattle.filling_base.specs.Tries.{TriedTells}
 use Rattle.workers.specs.Working.{GoesOn, KnowsAll, KnowsRange}
 
 pub stays : (pass : Passing) → GoesOn pass pass
-stays pass = record { table = refl; number = refl; knows = λ index known. known }
+stays pass = record { table = refl; number = refl; knows = λ index known. known; fronts = ((λ placed. placed), (λ partition count has. has)) }
 
 pub on_and_on : (pass middle after : Passing) → GoesOn pass middle → GoesOn middle after → GoesOn pass after
 on_and_on pass middle after first second = record {
   table = second.table ∙ first.table;
   number = second.number ∙ first.number;
   knows = λ index known. second.knows index (first.knows index known);
+  fronts = (
+    (λ placed. second.fronts.0 (first.fronts.0 placed)),
+    (λ partition count has. second.fronts.1 partition count (first.fronts.1 partition count has)),
+  );
 }
 
 in_first : {A : Type 0} (x : A) (xs ys : List A) → In x xs → In x (xs ++ ys)
@@ -32,6 +36,10 @@ cut_and_joined pass middle other on = record {
   table = on.table;
   number = on.number;
   knows = λ index known. in_first index middle.view.known other.view.known (on.knows index known);
+  fronts = (
+    (λ placed. let known = on.fronts.0 placed in rw known refl),
+    (λ partition count has. in_first (partition, count) middle.view.fronts other.view.fronts (on.fronts.1 partition count has)),
+  );
 }
 
 -- one more place of a range
@@ -58,7 +66,14 @@ pub tells_on : (batch : Batch) (index : ℕ) (view after : View) (tried : Tried)
     → (other : ℕ) → In other view.known → In other after.known
 tells_on batch index view after Done tells = tells.0.knows
 tells_on batch index view after (Busy held) tells = tells.0.knows
+tells_on batch index view after (NotPlaced partition) tells = tells.learns.goes.knows
 tells_on batch index view after NoMemory tells = tells.0.knows
+
+pub tells_fronts : (batch : Batch) (index : ℕ) (view after : View) (tried : Tried) → TriedTells batch index view tried after → KeepsFronts view after
+tells_fronts batch index view after Done tells = tells.0.fronts
+tells_fronts batch index view after (Busy held) tells = tells.0.fronts
+tells_fronts batch index view after (NotPlaced partition) tells = tells.learns.goes.fronts
+tells_fronts batch index view after NoMemory tells = tells.0.fronts
 
 pub tells_done : (batch : Batch) (index : ℕ) (view after : View) (tried : Tried) → TriedTells batch index view tried after → tried ≡ Done
     → In index after.known
@@ -67,4 +82,9 @@ tells_done batch index view after tried tells is = (subst (λ (came : Tried). Tr
 pub asked_on : (batch : Batch) (index : ℕ) (pass after : Passing) (tried : Tried) → IsSamePass pass after → TriedTells batch index pass.view tried after.view
     → GoesOn pass after
 asked_on batch index pass after tried same tells =
-    record { table = same.table; number = same.number; knows = tells_on batch index pass.view after.view tried tells }
+    record {
+      table = same.table;
+      number = same.number;
+      knows = tells_on batch index pass.view after.view tried tells;
+      fronts = tells_fronts batch index pass.view after.view tried tells;
+    }

@@ -45,6 +45,7 @@ fn ask<K: Fills, G: Gate>(
         match tried {
             Tried::Done => gate.after(index),
             Tried::Busy(_) => swept = Swept::Missed,
+            Tried::NotPlaced(_) => swept = Swept::Missed,
             Tried::NoMemory => return (last, Swept::NoMemory),
         }
     }

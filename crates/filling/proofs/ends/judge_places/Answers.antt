@@ -14,6 +14,7 @@ invariant_of-reader g c = record {
   ours = c.requires.ours;
   key = c.requires.key;
   within = c.requires.within;
+  past = c.requires.past;
   ready = c.requires.ready;
   named = c.requires.named;
   knows = c.requires.knows;

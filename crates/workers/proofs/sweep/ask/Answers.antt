@@ -1,7 +1,7 @@
 use Rattle.std.proofs.Common.{sym, ◌∙◌, arith}
 use Rattle.workers.proofs.Going.{asked_on, on_and_on, one_more, tells_done, tells_on}
 use Rattle.workers.proofs.sweep.ask.Goals as goal
-use Rattle.workers.proofs.sweep.ask.Goals.{in-Done, in-Busy}
+use Rattle.workers.proofs.sweep.ask.Goals.{in-Done, in-Busy, in-NotPlaced}
 
 pub returns-in-NoMemory-clause-on : goal.returns-in-NoMemory-clause-on
 returns-in-NoMemory-clause-on g c =
@@ -27,6 +27,7 @@ loop-index-preserved g c =
             (c.loop-index.invariant.1 (sym w.swept-is ∙ all)) other from (omega (arith, less)),
       )
       | in-Busy w ↦ (on, λ all. absurd (cc (all, w.swept-is)))
+      | in-NotPlaced w ↦ (on, λ all. absurd (cc (all, w.swept-is)))
     ]
 
 pub returns-clause-all : goal.returns-clause-all

@@ -1,4 +1,5 @@
-use Rattle.std.proofs.Common.{ℕ, sym, ap, ◌∙◌, subst}
+use Rattle.std.proofs.Common.{ℕ, sym, ap, ◌∙◌, subst, arith}
+use Rattle.log_batch.specs.Supplied.{batch_in}
 use Rattle.words.specs.declared.view.View.{View}
 use Rattle.filling_base.specs.Counting.{counted_more}
 use Rattle.filling_base.specs.Goings.{Finishes}
@@ -7,6 +8,11 @@ use Rattle.filling.proofs.fill.RangeKeyFills.fill.Goals as goal
 
 pub ends_of-ends-requires-clause-ready : goal.ends_of-ends-requires-clause-ready
 ends_of-ends-requires-clause-ready c other has = c.own_told-holding.ensures.learns.goes.knows other (c.requires.ready other has)
+
+pub ends_of-ends-requires-clause-past : goal.ends_of-ends-requires-clause-past
+ends_of-ends-requires-clause-past c =
+    c.passes_keep_the_fronts_that_they_know.ensures.past (batch_in c.args.self.now.batch) c.args.holding.view c.own_told-holding.result.view c.args.index c.args.index
+    c.own_told-holding.ensures.learns.goes.fronts (omega arith) c.requires.past
 
 pub store_place-holding-requires-clause-ready : goal.store_place-holding-requires-clause-ready
 store_place-holding-requires-clause-ready c other has =

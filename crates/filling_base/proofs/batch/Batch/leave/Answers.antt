@@ -1,9 +1,10 @@
 use Rattle.std.proofs.Common.{◌≡◌, ◌<◌, [], sym, ap, ◌∙◌, subst, arith}
 use Rattle.std.proofs.lemmas.Grind.{common_steps}
 use Rattle.bohm_core_base.specs.Batch.{Batch}
-use Rattle.words.specs.Views.{KnowsReferences}
+use Rattle.words.specs.Views.{KnowsPast, KnowsReferences}
 use Rattle.filling_base.specs.References.{IsRevocation}
-use Rattle.filling_base.specs.Walks.{spot}
+use Rattle.filling_base.specs.Walks.{asked_place, spot}
+use Rattle.words.proofs.Known.{keeps-same, past-later}
 use Rattle.filling_base.specs.Counting.{counted_more}
 use Rattle.filling_base.proofs.Counting.{counts-filled, counts-starved}
 use Rattle.filling_base.proofs.Paths.{knows-all, path-top}
@@ -28,6 +29,17 @@ fill-holding-requires-clause-ready g c =
     let s = spot c.args.walk in
     subst (λ (b : Batch). KnowsReferences b s.view s.at) same
     (knows-all (g.K.Placed.batch c.args.self.now.key) s.view s.at s.next c.requires.all c.requires.walks.ready)
+
+pub fill-holding-requires-clause-past : goal.fill-holding-requires-clause-past
+fill-holding-requires-clause-past g c =
+    let invariant = c.self.invariant in
+    let view = c.self.view_is in
+    let same : g.K.Placed.batch c.args.self.now.key ≡ g.K.Placed.batch c.self.inside.key = cc in
+    let b = g.K.Placed.batch c.args.self.now.key in
+    let s = spot c.args.walk in
+    let top = path-top b s.view.known s.frames s.at c.requires.walks.path in
+    subst (λ (b : Batch). KnowsPast b s.view s.at) same
+    (past-later b s.view s.view (asked_place s) s.at (keeps-same s.view) top c.requires.walks.past)
 
 pub returns-in-Err-clause-stepped : goal.returns-in-Err-clause-stepped
 returns-in-Err-clause-stepped g c =

@@ -4,7 +4,7 @@ use Rattle.bohm_core_base.specs.Batch.{batch_slots}
 use Rattle.bohm_core_base.specs.Serial.{whole_end}
 use Rattle.log_batch.specs.Supplied.{batch_in}
 use Rattle.log_batch.proofs.Counted.{sound_batch}
-use Rattle.reading.specs.Closed.{Indexed}
+use Rattle.reading.specs.Told.{Indexed}
 use Rattle.finishing.proofs.Telling.{told-below, untold-below}
 use Rattle.finishing.proofs.below.BelowTold.end.Goals as goal
 use Rattle.finishing.proofs.below.BelowTold.end.Goals.{in-Some, in-None}

@@ -1,7 +1,7 @@
 use Rattle.std.proofs.Common.{List, ℕ, get_or, sym, ap, ◌∙◌, subst}
 use Rattle.bohm_core_base.specs.Serial.{serial_words}
 use Rattle.log_batch.specs.Supplied.{batch_in}
-use Rattle.reading.specs.Closed.{Indexed, reader_of}
+use Rattle.reading.specs.Told.{Indexed, reader_of}
 use Rattle.reading.specs.Told.{IsReferred}
 use Rattle.reading.proofs.Referred.{referred-low}
 use Rattle.finishing.proofs.below.BelowTold.own.Goals as goal

@@ -2,7 +2,7 @@ use Rattle.std.proofs.Common.{subst}
 use Rattle.bohm_core_base.specs.Batch.{IsSoundBatch}
 use Rattle.log_batch.specs.Supplied.{batch_in}
 use Rattle.log_batch.proofs.Counted.{sound_batch}
-use Rattle.reading.specs.Closed.{Indexed}
+use Rattle.reading.specs.Told.{Indexed}
 use Rattle.finishing.proofs.below.BelowTold.reader.Goals as goal
 
 pub returns-clause-sound : goal.returns-clause-sound

@@ -2,7 +2,7 @@ use Rattle.std.proofs.Common.{◌==◌, ◌<◌, List, ℕ, get_or, sym, ap, ◌
 use Rattle.bohm_core_base.specs.Batch.{was_done}
 use Rattle.bohm_core_base.specs.Serial.{serial_words}
 use Rattle.log_batch.specs.Supplied.{batch_in}
-use Rattle.reading.specs.Closed.{Indexed}
+use Rattle.reading.specs.Told.{Indexed}
 use Rattle.finishing.proofs.below.BelowTold.was_done.Goals as goal
 
 pub returns-clause-value : goal.returns-clause-value

@@ -7,10 +7,22 @@ use Rattle.model_base.specs.declared.statement.Access.{Access}
 use Rattle.model_base.specs.References.{is_write_to}
 use Rattle.model_base.specs.Versions.{is_writing}
 use Rattle.placing.specs.Parts.{key_partition}
-use Rattle.placing.specs.Latest.{is_own_row, writer_in}
-use Rattle.placing.proofs.Writers.{at_own_row, pass_on, writer_put}
+use Rattle.placing.specs.Latest.{is_own_row, key_cmp, reference_to, writer_in}
+use Rattle.std.specs.BTreeMap.{is_at}
+use Rattle.std.specs.Map.{lookup}
+use Rattle.placing.proofs.Writers.{at_own_row, none_later, pass_on, still_other, writer_put}
 use Rattle.placing.proofs.latest.Latest.note_writes.Goals as goal
 use Rattle.placing.proofs.latest.Latest.note_writes.Goals.{then-is_writing+then-partition_of-self+in_ok-insert, else-is_writing, else-is_writing-via-then-is_writing+else-partition_of-self, else-is_writing-via-else-is_writing}
+
+pub returns-in_err-insert-clause-others : goal.returns-in_err-insert-clause-others
+returns-in_err-insert-clause-others c = λ table row out.
+    let now = c.loop-access.self in
+    let i = c.loop-access.access-index in
+    let accesses = c.args.accesses.now in
+    ap (λ entries. reference_to (lookup (is_at (key_cmp (record { table = table; row = row }))) entries)) c.in_err-insert.ensures.err
+    ∙ still_other c.args.place (is_own_row c.args.self.now table row) (list_any (is_write_to table row) (drop i accesses)) (list_any (is_write_to table row) accesses)
+    (writer_in now table row) (writer_in c.args.self.now table row)
+    (λ none. none_later (is_write_to table row) accesses i none) out (c.loop-access.invariant.writers table row)
 
 pub loop-access-preserved : goal.loop-access-preserved
 loop-access-preserved c =

@@ -4,7 +4,7 @@ use Rattle.atomic_table.specs.Table.{Allows}
 use Rattle.words.specs.Legal.{legal}
 use Rattle.words.specs.Passes.{Passing, gone_on}
 use Rattle.words.specs.Tells.{ClaimTells}
-use Rattle.words.specs.Views.{In, IsSettled}
+use Rattle.words.specs.Views.{In, IsSettled, KnowsPast}
 use Rattle.words.proofs.Plays.{claim_then}
 use Rattle.words.proofs.Allowed.{claims}
 use Rattle.words.proofs.table.BatchWords.claim.Goals.{in-0, in-1, in_default}
@@ -16,13 +16,14 @@ exchange-found-requires-clause-allows g c =
     let b = g.K.Placed.batch key in
     let listed = g.K.Placed.listed key in
     let seat = c.pass.inside.seat in
+    let past = subst (λ (p : Passing). KnowsPast b p.view c.args.index) (sym c.pass.view_is) c.requires.past in
     subst (λ (w : ℕ). Allows (λ s. legal b listed s.words s.views) c.args.self.now.table.slots seat.id seat.me w (λ n. either (n == 0) 1 n) (claim_then b seat.id c.args.index seat.me)) (sym c.claim_at-at.ensures.value)
-    (claims b listed c.args.self.now.table.slots seat.id seat.me c.pass.invariant.alive c.args.index c.requires.within)
+    (claims b listed c.args.self.now.table.slots seat.id seat.me c.pass.invariant.alive c.pass.invariant.pass c.args.index c.requires.within past)
 
 pub invariant_of-pass : goal.invariant_of-pass
 invariant_of-pass g c =
     let then = c.exchange-found.ensures.then in
-    record { bare = then.0.0 ∙ c.pass.invariant.bare; alive = then.0.1 ∙ c.pass.invariant.alive }
+    record { bare = then.0.0 ∙ c.pass.invariant.bare; alive = then.0.1 ∙ c.pass.invariant.alive; pass = then.0.2 ∙ c.pass.invariant.pass; placed = λ yes. then.0.3 ∙ c.pass.invariant.placed yes }
 
 pub returns-clause-same : goal.returns-clause-same
 returns-clause-same g c =

@@ -8,5 +8,5 @@ split_seat-requires g c =
     let key = c.shared.result.now.key in (
       c.requires.ours ∙ ap (λ w. w.table) c.shared.ensures.same,
       c.shared.ensures.some,
-      splits (g.K.Placed.batch key) (g.K.Placed.listed key) seat.id seat.me.0 c.requires.alive,
+      splits (g.K.Placed.batch key) (g.K.Placed.listed key) seat.id seat.me.0 c.requires.alive c.requires.pass,
     )

@@ -15,12 +15,12 @@ get-requires-clause-allows g c =
     let listed = g.K.Placed.listed key in
     let seat = c.pass.inside.seat in
     subst (λ (w : ℕ). Allows (λ s. legal b listed s.words s.views) c.args.self.now.table.slots seat.id seat.me w (λ n. n) (end_then b (listed_slot_at listed c.args.end) seat.me)) (sym c.end_at-at.ensures.value)
-    (end_reads b listed c.args.self.now.table.slots seat.id seat.me c.pass.invariant.alive c.args.end c.requires.listed)
+    (end_reads b listed c.args.self.now.table.slots seat.id seat.me c.pass.invariant.alive c.pass.invariant.pass c.args.end c.requires.listed)
 
 pub invariant_of-pass : goal.invariant_of-pass
 invariant_of-pass g c =
     let me = c.get.ensures.then.0 in
-    record { bare = ap (λ m. m.1) me ∙ c.pass.invariant.bare; alive = ap (λ m. m.0.spent) me ∙ c.pass.invariant.alive }
+    record { bare = ap (λ m. m.1) me ∙ c.pass.invariant.bare; alive = ap (λ m. m.0.spent) me ∙ c.pass.invariant.alive; pass = ap (λ m. m.0.placer) me ∙ c.pass.invariant.pass; placed = λ yes. ap (λ m. m.0.placed) me ∙ c.pass.invariant.placed yes }
 
 pub returns-clause-same : goal.returns-clause-same
 returns-clause-same g c =

@@ -16,12 +16,12 @@ put-requires-clause-allows g c =
     let held = subst (λ (p : Passing). (ended : List ℕ) × Holds p.view c.args.index c.args.number ended) (sym c.pass.view_is) c.requires.held in
     let ready = subst (λ (p : Passing). KnowsReferences b p.view c.args.index) (sym c.pass.view_is) c.requires.ready in
     subst (λ (w : ℕ). Allows (λ s. legal b (g.K.Placed.listed key) s.words s.views) c.args.self.now.table.slots seat.id seat.me w (λ _. c.args.word) (λ _. makes (Fill seat.id c.args.index) seat.me c.args.word)) (sym c.own_at-at.ensures.value)
-    (fills b (g.K.Placed.listed key) c.args.self.now.table.slots seat.id seat.me c.pass.invariant.alive c.args.index c.requires.within c.args.word c.args.number held.0 c.requires.missing held.1 ready c.requires.right)
+    (fills b (g.K.Placed.listed key) c.args.self.now.table.slots seat.id seat.me c.pass.invariant.alive c.pass.invariant.pass c.args.index c.requires.within c.args.word c.args.number held.0 c.requires.missing held.1 ready c.requires.right)
 
 pub invariant_of-pass : goal.invariant_of-pass
 invariant_of-pass g c =
     let then = c.put.ensures.then in
-    record { bare = then.0.0 ∙ c.pass.invariant.bare; alive = then.0.1 ∙ c.pass.invariant.alive }
+    record { bare = then.0.0 ∙ c.pass.invariant.bare; alive = then.0.1 ∙ c.pass.invariant.alive; pass = then.0.2 ∙ c.pass.invariant.pass; placed = λ yes. then.0.3 ∙ c.pass.invariant.placed yes }
 
 pub returns : goal.returns
 returns g c =

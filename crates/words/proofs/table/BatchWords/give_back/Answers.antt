@@ -16,12 +16,12 @@ put-requires-clause-allows g c =
     let seat = c.pass.inside.seat in
     let held = subst (λ (p : Passing). Holds p.view c.args.index 0 []) (sym c.pass.view_is) c.requires.blank in
     subst (λ (w : ℕ). Allows (λ s. legal b listed s.words s.views) c.args.self.now.table.slots seat.id seat.me w (λ _. 0) (λ _. makes (GiveBack seat.id c.args.index) seat.me 0)) (sym c.claim_at-at.ensures.value)
-    (gives_back b listed c.args.self.now.table.slots seat.id seat.me c.pass.invariant.alive c.args.index c.requires.within held)
+    (gives_back b listed c.args.self.now.table.slots seat.id seat.me c.pass.invariant.alive c.pass.invariant.pass c.args.index c.requires.within held)
 
 pub invariant_of-pass : goal.invariant_of-pass
 invariant_of-pass g c =
     let then = c.put.ensures.then in
-    record { bare = then.0.0 ∙ c.pass.invariant.bare; alive = then.0.1 ∙ c.pass.invariant.alive }
+    record { bare = then.0.0 ∙ c.pass.invariant.bare; alive = then.0.1 ∙ c.pass.invariant.alive; pass = then.0.2 ∙ c.pass.invariant.pass; placed = λ yes. then.0.3 ∙ c.pass.invariant.placed yes }
 
 pub returns : goal.returns
 returns g c =

@@ -18,4 +18,5 @@ take_in-seat-requires g c = record {
   ours = (ap (λ (p : Passing). p.table) c.pass.view_is ∙ c.requires.first, ap (λ (p : Passing). p.table) c.other.view_is ∙ c.requires.second);
   bare = c.other.invariant.bare;
   alive = (c.pass.invariant.alive, c.other.invariant.alive);
+  pass = (c.pass.invariant.pass, c.other.invariant.pass);
 }

@@ -16,12 +16,12 @@ get-found-requires-clause-allows g c =
     let listed = g.K.Placed.listed key in
     let seat = c.pass.inside.seat in
     subst (λ (w : ℕ). Allows (λ s. legal b listed s.words s.views) c.args.self.now.table.slots seat.id seat.me w (λ n. n) (look_then b c.args.index seat.me)) (sym c.claim_at-at.ensures.value)
-    (looks b listed c.args.self.now.table.slots seat.id seat.me c.pass.invariant.alive c.args.index c.requires.within)
+    (looks b listed c.args.self.now.table.slots seat.id seat.me c.pass.invariant.alive c.pass.invariant.pass c.args.index c.requires.within)
 
 pub invariant_of-pass : goal.invariant_of-pass
 invariant_of-pass g c =
     let then = c.get-found.ensures.then in
-    record { bare = then.0.0 ∙ c.pass.invariant.bare; alive = then.0.1 ∙ c.pass.invariant.alive }
+    record { bare = then.0.0 ∙ c.pass.invariant.bare; alive = then.0.1 ∙ c.pass.invariant.alive; pass = then.0.2 ∙ c.pass.invariant.pass; placed = λ yes. then.0.3 ∙ c.pass.invariant.placed yes }
 
 pub returns-clause-same : goal.returns-clause-same
 returns-clause-same g c =

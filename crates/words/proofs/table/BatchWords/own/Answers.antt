@@ -15,12 +15,12 @@ get-requires-clause-allows g c =
     let seat = c.pass.inside.seat in
     let known = subst (λ (p : Passing). In c.args.index p.view.known) (sym c.pass.view_is) c.requires.known in
     subst (λ (w : ℕ). Allows (λ s. legal b (g.K.Placed.listed key) s.words s.views) c.args.self.now.table.slots seat.id seat.me w (λ n. n) (reads (get_or (serial_words b c.args.index) c.args.number 0) seat.me)) (sym c.own_at-at.ensures.value)
-    (owns b (g.K.Placed.listed key) c.args.self.now.table.slots seat.id seat.me c.pass.invariant.alive c.args.index c.requires.within.0 c.args.number c.requires.within.1 known)
+    (owns b (g.K.Placed.listed key) c.args.self.now.table.slots seat.id seat.me c.pass.invariant.alive c.pass.invariant.pass c.args.index c.requires.within.0 c.args.number c.requires.within.1 known)
 
 pub invariant_of-pass : goal.invariant_of-pass
 invariant_of-pass g c =
     let me = c.get.ensures.then.0 in
-    record { bare = ap (λ m. m.1) me ∙ c.pass.invariant.bare; alive = ap (λ m. m.0.spent) me ∙ c.pass.invariant.alive }
+    record { bare = ap (λ m. m.1) me ∙ c.pass.invariant.bare; alive = ap (λ m. m.0.spent) me ∙ c.pass.invariant.alive; pass = ap (λ m. m.0.placer) me ∙ c.pass.invariant.pass; placed = λ yes. ap (λ m. m.0.placed) me ∙ c.pass.invariant.placed yes }
 
 pub returns-clause-same : goal.returns-clause-same
 returns-clause-same g c =

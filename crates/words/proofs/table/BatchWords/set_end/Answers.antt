@@ -23,12 +23,12 @@ put-requires-clause-allows g c =
     let one : suc (b.first + c.args.index) ≡ c.args.place + 1 = omega arith in
     subst (λ (n : ℕ). Allows (λ s. legal b listed s.words s.views) c.args.self.now.table.slots seat.id seat.me c.end_at-at.result (λ _. n) (λ _. makes (End seat.id c.args.index slot) seat.me n)) one
     (subst (λ (w : ℕ). Allows (λ s. legal b listed s.words s.views) c.args.self.now.table.slots seat.id seat.me w (λ _. suc (b.first + c.args.index)) (λ _. makes (End seat.id c.args.index slot) seat.me (suc (b.first + c.args.index)))) (sym c.end_at-at.ensures.value)
-    (ends b listed c.args.self.now.table.slots seat.id seat.me c.pass.invariant.alive c.args.index c.requires.within c.args.end held.0 c.requires.listed held.1 held.2 ready c.requires.right))
+    (ends b listed c.args.self.now.table.slots seat.id seat.me c.pass.invariant.alive c.pass.invariant.pass c.args.index c.requires.within c.args.end held.0 c.requires.listed held.1 held.2 ready c.requires.right))
 
 pub invariant_of-pass : goal.invariant_of-pass
 invariant_of-pass g c =
     let then = c.put.ensures.then in
-    record { bare = then.0.0 ∙ c.pass.invariant.bare; alive = then.0.1 ∙ c.pass.invariant.alive }
+    record { bare = then.0.0 ∙ c.pass.invariant.bare; alive = then.0.1 ∙ c.pass.invariant.alive; pass = then.0.2 ∙ c.pass.invariant.pass; placed = λ yes. then.0.3 ∙ c.pass.invariant.placed yes }
 
 pub returns : goal.returns
 returns g c =

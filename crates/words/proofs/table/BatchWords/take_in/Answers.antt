@@ -11,5 +11,5 @@ join_seat-requires g c =
       c.requires.ours.1 ∙ ap (λ w. w.table) c.shared.ensures.same,
       c.requires.bare,
       c.shared.ensures.some,
-      joins (g.K.Placed.batch key) (g.K.Placed.listed key) seat.id seat.me.0 other.id other.me.0 c.requires.alive.0 c.requires.alive.1,
+      joins (g.K.Placed.batch key) (g.K.Placed.listed key) seat.id seat.me.0 other.id other.me.0 c.requires.alive.0 c.requires.pass.0 c.requires.alive.1 c.requires.pass.1,
     )

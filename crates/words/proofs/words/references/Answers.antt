@@ -1,0 +1,25 @@
+use Rattle.std.proofs.Common.{◌≡◌, ℕ, ◌+◌, ◌∷◌, ◌++◌, [], length, add-one, subst, arith}
+use Rattle.bohm_core_base.specs.Batch.{reference_words}
+use Rattle.words.proofs.Begun.{all-referred, one-more_referred}
+use Rattle.words.proofs.words.references.Goals as goal
+
+pub loop-index-preserved : goal.loop-index-preserved
+loop-index-preserved g c =
+    let b = g.K.Placed.batch c.args.key.now in
+    let places = c.places-places.result in
+    let index = c.loop-index.index in
+    let begins = c.loop-index.begins.items in
+    let next : c.in_ok-end.end ≡ c.loop-index.end + length (reference_words b index) = subst (λ (n : ℕ). c.in_ok-end.end ≡ c.loop-index.end + n) c.references_length.ensures c.in_ok-end.ensures in
+    let more : c.push_reserved.new.self.items ≡ begins ++ c.loop-index.end ∷ [] = c.push_reserved.ensures.items in
+    let room = c.loop-index.invariant.room in
+    let same = c.push_reserved.ensures.capacity in
+    record {
+      begun = rw (add-one index, more) (one-more_referred b places index c.loop-index.end c.in_ok-end.end begins c.loop-index.invariant.begun next);
+      room = omega arith;
+    }
+
+pub returns : goal.returns
+returns g c =
+    let most = c.loop-index.auto.index-end in
+    let least = c.loop-index-test.false in
+    all-referred (g.K.Placed.batch c.args.key.now) c.places-places.result c.loop-index.index c.loop-index.end c.loop-index.begins.items c.loop-index.invariant.begun (omega arith)
