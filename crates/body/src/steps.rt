@@ -133,15 +133,13 @@ fn store(
 {
     match place_of(accesses, registers, Kind::Update, table, row) {
         None => StepEnd::Undeclared,
-        Some(place) => match window.row(place) {
-            None => StepEnd::Aborts(Reason::NoRow),
-            Some(found) => {
-                let mut changed = *found;
-                changed.set_column(column, read(registers, from));
-                window.set(place, Some(changed));
+        Some(place) => {
+            if window.set_column(place, column, read(registers, from)) {
                 StepEnd::GoesOn(0)
+            } else {
+                StepEnd::Aborts(Reason::NoRow)
             }
-        },
+        }
     }
 }
 

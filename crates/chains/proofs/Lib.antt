@@ -1,6 +1,7 @@
 pub mod Order
 pub mod Serial
 pub mod Right
+pub mod Indexed
 pub mod Keyed
 pub mod Entries
 pub mod Sweeping

@@ -5,6 +5,7 @@
 //! that is older than itself.
 #![tactic(auto)]
 
+mod finding;
 mod laws;
 mod replaced;
 mod rows;

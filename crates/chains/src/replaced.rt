@@ -26,6 +26,7 @@ pub(crate) struct Replaced {
 }
 
 /// The row of the last replaced version of the key whose place is below this one, or `None`. It looks from the last on.
+#[inline(never)]
 pub(crate) fn replaced_before(older: &VecDeque<Replaced>, place: Place, key: Key) -> Option<Row>
     ensures { result ≡ newest_below None (replaced_of key older.now.items) place }
 {

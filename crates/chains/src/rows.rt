@@ -1,10 +1,12 @@
 //! The versions of all rows, found by their keys.
 
+use crate::finding::index_of;
 use crate::replaced::{Dated, Replaced, replaced_before, take_below, take_last_from};
 use crate::version::Version;
 use crate::writes::{Written, take_write_below};
+use body::Window;
 use indexmap::IndexMap;
-use model_base::{Key, Place, Row};
+use model_base::{Key, MOST_ACCESSES, Place, Row};
 use std::alloc::{AllocError, Global};
 use std::collections::VecDeque;
 use std::marker::Model;
@@ -28,7 +30,7 @@ impl Model for Rows {
 }
 
 impl Rows {
-    ghost use Rattle.std.specs.Prelude.{◌≡◌, ◌+◌, ◌≤◌, ◌<◌, ◌&&◌, ◌++◌, ◌∷◌, [], List, None, ℕ, OnOk, OnErr, is_none, length, map, nat_lt, not};
+    ghost use Rattle.std.specs.Prelude.{◌≡◌, ◌+◌, ◌≤◌, ◌<◌, ◌&&◌, ◌++◌, ◌∷◌, [], List, None, ℕ, OnOk, OnErr, is_none, length, map, nat_lt, not, slice_set};
     ghost use Rattle.std.specs.Bool.{OnTrue, OnFalse};
     ghost use Rattle.model_base.specs.declared.row.Key.{Key as RowKey};
     ghost use Rattle.chains.specs.Kept.{AreChained, AreNoted, AreWrittenBelow, AreWrittenInOrder, IsStoreKept, next_swept, replacing_after, written_by};
@@ -46,13 +48,15 @@ impl Rows {
         }
     }
 
-    /// Adds the version of a place after the others of its key. On `Err` memory was refused, and the rows are as they were.
+    /// Adds the version of a place after the others of its key, whose entry is looked for at this index first. On `Err` memory was
+    /// refused, and the rows are as they were.
     #[inline(always)]
     pub(crate) fn put(
         &mut self,
         place: Place,
         key: Key,
         row: &Option<Row>,
+        found: usize,
     ) -> Result<(), AllocError>
         ensures added { OnOk result ((other : RowKey) → of_key other self.new.versions
             ≡ of_key other (self.old.versions ++ record { place = place; key = key; row = row.now } ∷ [])) }
@@ -62,7 +66,8 @@ impl Rows {
         ensures err { OnErr result (self.new ≡ self.old) }
     {
         self.older.reserve(1)?;
-        match self.newest.get_mut(&key) {
+        let index = index_of(&self.newest, &key, found);
+        match self.newest.get_index_mut(index) {
             None => {
                 let dated = Dated { place, row: *row };
                 self.newest.insert(key, dated)?;
@@ -142,7 +147,7 @@ impl Rows {
         ensures err { OnErr result (self.new ≡ self.old) }
     {
         for version in versions {
-            if let Err(refused) = self.put(version.place, version.key, &version.row) {
+            if let Err(refused) = self.put(version.place, version.key, &version.row, usize::MAX) {
                 self.cut(first);
                 return Err(refused);
             }
@@ -174,6 +179,25 @@ impl Rows {
             None => None,
             Some(newest) if newest.place < place => newest.row,
             Some(_) => replaced_before(&self.older, place, key),
+        }
+    }
+
+    /// Sets the row of an access of a window to what `newest_before` returns, with the index of the key's entry.
+    #[inline(always)]
+    pub(crate) fn find(&self, place: Place, key: Key, access: usize, window: &mut Window)
+        requires { access < MOST_ACCESSES }
+        ensures rows { window.new.rows ≡ slice_set window.old.rows access (newest_or None self.now.versions place key) }
+        ensures outputs { window.new.outputs ≡ window.old.outputs }
+    {
+        match self.newest.get_full(&key) {
+            None => window.set_found(access, &None, usize::MAX),
+            Some((index, _key, newest)) if newest.place < place => {
+                window.set_found(access, &newest.row, index)
+            }
+            Some((index, _key, _newest)) => {
+                let row = replaced_before(&self.older, place, key);
+                window.set_found(access, &row, index)
+            }
         }
     }
 

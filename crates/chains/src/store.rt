@@ -4,7 +4,7 @@ use crate::rows::Rows;
 use crate::version::Version;
 use crate::writes::{Written, cut_writes, note_absent, note_if};
 use body::{RowSource, Window};
-use model_base::{Access, Key, MOST_ACCESSES, Place, Row};
+use model_base::{Access, Key, MOST_ACCESSES, Place, Row, Statement};
 use std::alloc::{AllocError, Global};
 use std::collections::VecDeque;
 use std::marker::Model;
@@ -46,8 +46,10 @@ impl Chains {
     ghost use Rattle.std.specs.Prelude.{◌≡◌, ◌+◌, ◌<◌, ◌≤◌, ◌^◌, ◌||◌, ◌++◌, ◌∷◌, [], ℕ, List, IfOk, OnErr, OnOk, is_err, length, nat_lt};
     ghost use Rattle.model_base.specs.declared.row.Key.{Key};
     ghost use Rattle.model_base.specs.declared.statement.Statement.{Statement};
+    ghost use Rattle.model_base.specs.Versions.{accesses_of};
     ghost use Rattle.model_base.specs.Outcomes.{rows_before};
-    ghost use Rattle.chains.specs.Store.{AreBetween, Gains, IsRight, Sweeps, Trims, cut_store, of_key, row_in, versions_at, versions_between, versions_by};
+    ghost use Rattle.body.specs.Shown.{WindowShows};
+    ghost use Rattle.chains.specs.Store.{AreBetween, Gains, IsRight, Sweeps, Trims, cut_store, of_key, row_in, rows_at_end, versions_at, versions_between, versions_by};
 
     /// The store before the first place. It takes no memory.
     pub fn new(alloc: Global) -> Self
@@ -162,9 +164,29 @@ impl Chains {
         self.end += 1;
     }
 
+    /// Fills a window, whatever it held, with the rows that the statement's accesses have at the end, as `fill` does, and notes in it
+    /// where each was found: `put_place` looks there first. It has no output then.
+    pub fn fill_window(&self, statement: &Statement, window: &mut Window)
+        requires { length (accesses_of statement.now.form) ≤ MOST_ACCESSES }
+        ensures shows { WindowShows (accesses_of statement.now.form) window.new (rows_at_end self.now) }
+        ensures fresh { window.new.outputs ≡ [] }
+    {
+        let accesses = statement.accesses();
+        window.clear_outputs();
+        for (index, access) in accesses.iter().enumerate() {
+            self.rows.find(self.end, access.key, index, window);
+        }
+    }
+
     /// Adds the version that an access of the place before the end leaves, if it may change its row. On `Err` memory was refused,
     /// and the store is as it was.
-    fn put(&mut self, place: Place, access: &Access, row: &Option<Row>) -> Result<(), AllocError>
+    fn put(
+        &mut self,
+        place: Place,
+        access: &Access,
+        row: &Option<Row>,
+        found: usize,
+    ) -> Result<(), AllocError>
         requires last { place + 1 ≡ self.old.end }
         requires mark { self.old.mark ≤ place }
         ensures added { OnOk result ((key : Key) → of_key key self.new.versions
@@ -177,14 +199,15 @@ impl Chains {
             return Ok(());
         }
         self.absent.reserve(1)?;
-        self.rows.put(place, access.key, row)?;
+        self.rows.put(place, access.key, row, found)?;
         note_if(&mut self.absent, row.is_none(), place, access.key);
         Ok(())
     }
 
     /// Adds the rows that the next place leaves, a version for each access that may change its row, and moves the end on over
-    /// it. The window has the row of each access. On `Err` memory was refused, and some of the versions may be there: `cut`
-    /// takes them out.
+    /// it. The window has the row of each access. Where `fill_window` filled it, no key is hashed that had a version then; where
+    /// it notes another index, the key is. On `Err` memory was refused, and some of the versions may be there: `cut` takes them
+    /// out.
     pub fn put_place(&mut self, accesses: &[Access], window: &Window) -> Result<(), AllocError>
         requires places { length accesses.now ≤ MOST_ACCESSES }
         requires room { self.old.end + 1 < 2 ^ 64 }
@@ -199,7 +222,7 @@ impl Chains {
         let place = self.end;
         self.pass();
         for (index, access) in accesses.iter().enumerate() {
-            self.put(place, access, window.row(index))?;
+            self.put(place, access, window.row(index), window.found(index))?;
         }
         Ok(())
     }
