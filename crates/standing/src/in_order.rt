@@ -16,7 +16,7 @@ ghost use Rattle.taking.specs.Span.{AreOutcomes};
 
 use crate::booking::{create, creates, make};
 use crate::remembering::RememberingBook;
-use body::{BodyEnd, Window, fill, run, shows_rows};
+use body::{BodyEnd, Window, run, shows_rows};
 use chains::Chains;
 use checker::Admission;
 use model_base::{Outcome, Place, Statement};
@@ -58,7 +58,7 @@ fn run_admitted(
     let _len = log.len();
     let _dropped = log.dropped();
     let _mark = chains.mark();
-    fill(statement, chains, window);
+    chains.fill_window(statement, window);
     match run(statement, window) {
         BodyEnd::Completed => {
             // A window has a row for each access, which the contract of reading one tells.
