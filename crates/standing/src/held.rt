@@ -37,14 +37,14 @@ fn index_of(user: User, table: Table) -> usize
     user.0.wrapping_add(table.0.wrapping_mul(61)) as usize % MOST_PAIRS
 }
 
-/// Whether each of the kinds is among the others.
+/// Whether each of the kinds is among the others. It has no branch, since it is asked of each access.
 fn are_among(kinds: &Kinds, others: &Kinds) -> bool
     ensures { result ≡ true → (kind : Use) → has_kind kinds.now kind ≡ true → has_kind others.now kind ≡ true }
 {
-    (!kinds.read || others.read)
-        && (!kinds.insert || others.insert)
-        && (!kinds.update || others.update)
-        && (!kinds.delete || others.delete)
+    (!kinds.read | others.read)
+        & (!kinds.insert | others.insert)
+        & (!kinds.update | others.update)
+        & (!kinds.delete | others.delete)
 }
 
 /// The kinds that are among the first or the second.
