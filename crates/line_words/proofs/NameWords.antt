@@ -100,3 +100,9 @@ foreign_word line start end left view within value more ne =
 -- the word is not a name
 pub first_no_name : (left : List (List ℕ)) (w : List ℕ) (ws : List (List ℕ)) → left ≡ w ∷ ws → is_name w ≡ false → is_name (first_word left) ≡ false
 first_no_name left w ws e h = ap (λ vs. is_name (first_word vs)) e ∙ h
+
+-- a name holds no space
+pub name-no_space : (w : List ℕ) → is_name w ≡ true → list_all (λ b. not (eqb b 32)) w ≡ true
+name-no_space w e =
+    let all = (name_all w e).0 in
+    list_all-from_AllPass (λ b. not (eqb b 32)) w (λ k d lt. ap not (no_space (get_or w k d) (AllPass-from_list_all is_name_byte w all k d lt)))

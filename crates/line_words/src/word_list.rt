@@ -239,6 +239,27 @@ impl<'a> Words<'a> {
         true
     }
 
+    /// Takes the next word, if it is this name and another follows; otherwise the words stay as they are. It looks at no byte of its own.
+    #[inline(always)]
+    pub fn next_same(&mut self, name: &Name<'_>) -> bool
+        ensures { MatchBool result (self.old ≡ name.now ∷ self.new) (self.new ≡ self.old) }
+    {
+        let start = self.start;
+        if start > self.line.len() {
+            return false;
+        }
+        let text = &self.line[start..];
+        let word = name.as_str().as_bytes();
+        if text.len() <= word.len() || text[word.len()] != b' ' {
+            return false;
+        }
+        if &text[..word.len()] != word {
+            return false;
+        }
+        self.start = start + word.len() + 1;
+        true
+    }
+
     /// Takes the word of a step, if the next word is one and others follow; otherwise the words stay as they are. It doesn't look for
     /// the word's end.
     #[inline(always)]

@@ -102,7 +102,8 @@ pub sound : (line : List ℕ) (r : Result Sentence LineFault) → IfOk r (λ s. 
 sound line (Ok s) read = no_fault line s read
 sound line (Err f) read = tt
 
-found_fault : (f : LineFault) (o : Option LineFault) → IsFault f o → (f ≡ NoMemory → ⊥) → o ≡ Some f
+-- a fault that was found, and is no want of memory, is the line's
+pub found_fault : (f : LineFault) (o : Option LineFault) → IsFault f o → (f ≡ NoMemory → ⊥) → o ≡ Some f
 found_fault TooLong o h ne = h
 found_fault NotAscii o h ne = h
 found_fault Empty o h ne = h

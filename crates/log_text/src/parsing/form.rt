@@ -40,7 +40,8 @@ pub(crate) fn run<'a>(
         room.steps.clear();
         return Ok(None);
     }
-    steps(words, &mut room.steps)
+    let near = &room.accesses[room.accesses.len() - 1].table;
+    steps(words, near, &mut room.steps)
 }
 
 /// Takes the word RUN, if it is the next word, in whatever form it stands; otherwise the words stay as they are.

@@ -64,16 +64,24 @@ fn run_by<'a>(
     RawStatement::of(user, form)
 }
 
-/// What `read_line` answers. Whether each byte is printable is asked only where the words have a fault: a line that reads as a statement has
-/// printable bytes alone.
-fn line_statement<'a>(
+/// The statement that a line, without its end of line, reads as, or the line's fault. Its accesses and steps take the room
+/// that is lent, and memory only where it isn't enough. `NoMemory` comes only where the allocator refused.
+#[tactic(auto, using(crate::proofs::Grammar::only_memory, crate::proofs::Grammar::found_fault))]
+pub fn read_line<'a>(
     alloc: Global,
     line: &'a [u8],
     room: &mut RawRoom<'a>,
 ) -> Result<RawStatement<'a>, LineFault>
+    // What is answered is what the line reads as.
     ensures read { IfOk result (λ s. Reads line.now s) }
-    ensures fault { IfErr result (λ f. IsFault f (line_fault line.now)) }
+    // A line that reads as a statement is answered by it, unless memory runs out.
+    ensures only { (s : Sentence) → Reads line.now s → MatchResult result (λ found. found ≡ s) (λ f. f ≡ LineFault.NoMemory) }
+    // Only a line with no fault is read.
+    ensures sound { OnOk result (line_fault line.now ≡ None) }
+    // Any other fault is the first of the line's.
+    ensures fault { IfErr result (λ f. f ≢ LineFault.NoMemory → line_fault line.now ≡ Some f) }
 {
+    // Whether each byte is printable is asked only where the words have a fault: a line that reads as a statement has printable bytes alone.
     if line.len() > MOST_LINE_BYTES {
         return Err(LineFault::TooLong);
     }
@@ -95,25 +103,6 @@ fn line_statement<'a>(
         Ok(form) => Ok(RawStatement::of(user, form)),
         Err(fault) => Err(first_fault(line, fault)),
     }
-}
-
-/// The statement that a line, without its end of line, reads as, or the line's fault. Its accesses and steps take the room
-/// that is lent, and memory only where it isn't enough. `NoMemory` comes only where the allocator refused.
-pub fn read_line<'a>(
-    alloc: Global,
-    line: &'a [u8],
-    room: &mut RawRoom<'a>,
-) -> Result<RawStatement<'a>, LineFault>
-    // What is answered is what the line reads as.
-    ensures read { IfOk result (λ s. Reads line.now s) }
-    // A line that reads as a statement is answered by it, unless memory runs out.
-    ensures only { (s : Sentence) → Reads line.now s → MatchResult result (λ found. found ≡ s) (λ f. f ≡ LineFault.NoMemory) }
-    // Only a line with no fault is read.
-    ensures sound { OnOk result (line_fault line.now ≡ None) }
-    // Any other fault is the first of the line's.
-    ensures fault { IfErr result (λ f. f ≢ LineFault.NoMemory → line_fault line.now ≡ Some f) }
-{
-    line_statement(alloc, line, room)
 }
 
 /// The statement that a line reads as, or the line's fault, as `read_line` with room for nothing yet.

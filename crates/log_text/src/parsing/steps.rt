@@ -12,7 +12,7 @@ use super::computing::{check, compute, constant, out, skip};
 use super::deeds::{begins_deed, deed};
 use super::touching::{delete, has, insert, load, store};
 use crate::statement::{RawDeed, RawStep};
-use line_words::{LineFault, StepName, Words};
+use line_words::{LineFault, Name, StepName, Words};
 use model_base::{MOST_OUTPUTS, MOST_STEPS, Register};
 
 /// Takes the word of a step, if the next word is one; otherwise the words stay as they are.
@@ -83,6 +83,7 @@ fn computing<'a>(name: StepName, words: &mut Words<'a>) -> Option<RawStep<'a>>
 fn step<'a>(
     name: StepName,
     words: &mut Words<'a>,
+    near: &Name<'a>,
     found: &mut RawStep<'a>,
     steps: usize,
     outs: usize,
@@ -98,11 +99,11 @@ fn step<'a>(
     match name {
         StepName::Const => constant(words, found),
         StepName::Compute(operation) => compute(operation, words, found),
-        StepName::Has => has(words, found),
-        StepName::Load => load(words, found),
-        StepName::Store => store(words, found),
-        StepName::Insert => insert(words, found),
-        StepName::Delete => delete(words, found),
+        StepName::Has => has(words, near, found),
+        StepName::Load => load(words, near, found),
+        StepName::Store => store(words, near, found),
+        StepName::Insert => insert(words, near, found),
+        StepName::Delete => delete(words, near, found),
         StepName::Check => check(words, found),
         StepName::Skip => skip(words, found),
         StepName::Out => out(words, found),
@@ -136,9 +137,10 @@ fn out_count(step: &RawStep<'_>) -> usize
 }
 
 /// Takes the steps and the deed behind the first bar, to the end of the line. The steps go where room is, and after an error
-/// some of them may stand there.
+/// some of them may stand there. Most steps of a line are on one table: the near name is compared first.
 pub(crate) fn steps<'a>(
     words: &mut Words<'a>,
+    near: &Name<'a>,
     found: &mut Vec<RawStep<'a>>,
 ) -> Result<Option<RawDeed<'a>>, LineFault>
     ensures ok { IfOk result (λ deed. (codes "|" ∷ words.old ≡ body_words found.new.items deed)
@@ -162,7 +164,7 @@ pub(crate) fn steps<'a>(
         found.push_reserved(RawStep::Check {
             of: Register::new(0),
         });
-        let more = step(name, words, &mut found[place], place, outs)?;
+        let more = step(name, words, near, &mut found[place], place, outs)?;
         outs += out_count(&found[place]);
         if !more {
             return Ok(None);

@@ -2,9 +2,9 @@
 ghost use Rattle.std.specs.Prelude.{◌≡◌, ◌∷◌, ◌+◌, ◌<◌, length, Some, List, ℕ, IfOk, IfErr, IsTrue, ◌^◌};
 ghost use Rattle.std.specs.Fmt.{decimal};
 ghost use Rattle.line_words.specs.StepWords.{step_word};
-ghost use Rattle.line_words.specs.Words.{is_name};
+ghost use Rattle.line_words.specs.Words.{first_word, is_name};
 ghost use Rattle.log_text.specs.Statement.{row_word, IsStep, IsRowNumber, outs_of};
-ghost use Rattle.log_text.specs.Fault.{Expected, OfName, OfRow, OfPlain, expected_in, fault_from};
+ghost use Rattle.log_text.specs.Fault.{Expected, OfName, OfRow, OfPlain, expected_in, fault_from, misfit};
 ghost use Rattle.log_text.specs.Parsing.{AreInsertable, FailAsRegisters, FitAsRegisters, TakesStep, TakesRegisters, fault_behind};
 ghost use Rattle.line_words.specs.declared.step_name.StepName.TheVariants.{Has, Load, Store, Insert, Delete};
 
@@ -13,8 +13,24 @@ use crate::statement::RawStep;
 use line_words::{LineFault, Name, Words};
 use model_base::{MOST_COLUMNS, Registers, RowName};
 
+/// Takes a table's name. One name is compared first: where it is the same, its bytes aren't gone over one by one.
+#[inline(always)]
+fn table<'a>(words: &mut Words<'a>, near: &Name<'a>) -> Result<Name<'a>, LineFault>
+    ensures ok { IfOk result (λ n. (words.old ≡ n ∷ words.new) × IsTrue (is_name n)) }
+    ensures fault { IfErr result (λ f. misfit OfName (first_word words.old) ≡ Some f) }
+{
+    if words.next_same(near) {
+        return Ok(Name::of(near.as_str().as_bytes()));
+    }
+    name(words)
+}
+
 /// What stands behind HAS, up to the next step or the end.
-pub(super) fn has<'a>(words: &mut Words<'a>, step: &mut RawStep<'a>) -> Result<bool, LineFault>
+pub(super) fn has<'a>(
+    words: &mut Words<'a>,
+    near: &Name<'a>,
+    step: &mut RawStep<'a>,
+) -> Result<bool, LineFault>
     ensures ok { IfOk result (λ more. TakesStep (step_word Has ∷ words.old) step.new more words.new
         × IsStep step.new × (outs_of step.new ≡ 0)) }
     ensures fits { IfOk result (λ more. (steps outs : ℕ)
@@ -22,7 +38,7 @@ pub(super) fn has<'a>(words: &mut Words<'a>, step: &mut RawStep<'a>) -> Result<b
     ensures fault { IfErr result (λ f. (steps outs : ℕ) → fault_from (expected_in (Some Has) steps outs) words.old ≡ Some f) }
 {
     let to = register(words)?;
-    let table = name(words)?;
+    let table = table(words, near)?;
     let row = row(words)?;
     *step = RawStep::Has { to, table, row };
     bar_or_end(words)
@@ -30,21 +46,25 @@ pub(super) fn has<'a>(words: &mut Words<'a>, step: &mut RawStep<'a>) -> Result<b
 
 /// Takes a table's name, a row and a column.
 #[inline(always)]
-fn cell<'a>(words: &mut Words<'a>) -> Result<(Name<'a>, RowName, u32), LineFault>
+fn cell<'a>(words: &mut Words<'a>, near: &Name<'a>) -> Result<(Name<'a>, RowName, u32), LineFault>
     ensures ok { IfOk result (λ r. (words.old ≡ r.0 ∷ row_word r.1 ∷ decimal r.2 ∷ words.new)
         × IsTrue (is_name r.0) × IsRowNumber r.1 × (r.2 < 2 ^ 32)) }
     ensures fits { IfOk result (λ r. (others : List Expected)
         → fault_from (OfName ∷ OfRow ∷ OfPlain ∷ others) words.old ≡ fault_from others words.new) }
     ensures fault { IfErr result (λ f. (others : List Expected) → fault_from (OfName ∷ OfRow ∷ OfPlain ∷ others) words.old ≡ Some f) }
 {
-    let table = name(words)?;
+    let table = table(words, near)?;
     let row = row(words)?;
     let column = number(words)?;
     Ok((table, row, column))
 }
 
 /// What stands behind LOAD, up to the next step or the end.
-pub(super) fn load<'a>(words: &mut Words<'a>, step: &mut RawStep<'a>) -> Result<bool, LineFault>
+pub(super) fn load<'a>(
+    words: &mut Words<'a>,
+    near: &Name<'a>,
+    step: &mut RawStep<'a>,
+) -> Result<bool, LineFault>
     ensures ok { IfOk result (λ more. TakesStep (step_word Load ∷ words.old) step.new more words.new
         × IsStep step.new × (outs_of step.new ≡ 0)) }
     ensures fits { IfOk result (λ more. (steps outs : ℕ)
@@ -52,7 +72,7 @@ pub(super) fn load<'a>(words: &mut Words<'a>, step: &mut RawStep<'a>) -> Result<
     ensures fault { IfErr result (λ f. (steps outs : ℕ) → fault_from (expected_in (Some Load) steps outs) words.old ≡ Some f) }
 {
     let to = register(words)?;
-    let (table, row, column) = cell(words)?;
+    let (table, row, column) = cell(words, near)?;
     *step = RawStep::Load {
         to,
         table,
@@ -63,14 +83,18 @@ pub(super) fn load<'a>(words: &mut Words<'a>, step: &mut RawStep<'a>) -> Result<
 }
 
 /// What stands behind STORE, up to the next step or the end.
-pub(super) fn store<'a>(words: &mut Words<'a>, step: &mut RawStep<'a>) -> Result<bool, LineFault>
+pub(super) fn store<'a>(
+    words: &mut Words<'a>,
+    near: &Name<'a>,
+    step: &mut RawStep<'a>,
+) -> Result<bool, LineFault>
     ensures ok { IfOk result (λ more. TakesStep (step_word Store ∷ words.old) step.new more words.new
         × IsStep step.new × (outs_of step.new ≡ 0)) }
     ensures fits { IfOk result (λ more. (steps outs : ℕ)
         → fault_from (expected_in (Some Store) steps outs) words.old ≡ fault_behind more (steps + 1) outs words.new) }
     ensures fault { IfErr result (λ f. (steps outs : ℕ) → fault_from (expected_in (Some Store) steps outs) words.old ≡ Some f) }
 {
-    let (table, row, column) = cell(words)?;
+    let (table, row, column) = cell(words, near)?;
     let from = register(words)?;
     *step = RawStep::Store {
         table,
@@ -105,14 +129,18 @@ fn more_registers(words: &mut Words<'_>, registers: &mut Registers) -> Result<bo
 }
 
 /// What stands behind INSERT, up to the next step or the end.
-pub(super) fn insert<'a>(words: &mut Words<'a>, step: &mut RawStep<'a>) -> Result<bool, LineFault>
+pub(super) fn insert<'a>(
+    words: &mut Words<'a>,
+    near: &Name<'a>,
+    step: &mut RawStep<'a>,
+) -> Result<bool, LineFault>
     ensures ok { IfOk result (λ more. TakesStep (step_word Insert ∷ words.old) step.new more words.new
         × IsStep step.new × (outs_of step.new ≡ 0)) }
     ensures fits { IfOk result (λ more. (steps outs : ℕ)
         → fault_from (expected_in (Some Insert) steps outs) words.old ≡ fault_behind more (steps + 1) outs words.new) }
     ensures fault { IfErr result (λ f. (steps outs : ℕ) → fault_from (expected_in (Some Insert) steps outs) words.old ≡ Some f) }
 {
-    let table = name(words)?;
+    let table = table(words, near)?;
     let row = row(words)?;
     let first = register(words)?;
     let mut from = Registers::of(first);
@@ -122,14 +150,18 @@ pub(super) fn insert<'a>(words: &mut Words<'a>, step: &mut RawStep<'a>) -> Resul
 }
 
 /// What stands behind DELETE, up to the next step or the end.
-pub(super) fn delete<'a>(words: &mut Words<'a>, step: &mut RawStep<'a>) -> Result<bool, LineFault>
+pub(super) fn delete<'a>(
+    words: &mut Words<'a>,
+    near: &Name<'a>,
+    step: &mut RawStep<'a>,
+) -> Result<bool, LineFault>
     ensures ok { IfOk result (λ more. TakesStep (step_word Delete ∷ words.old) step.new more words.new
         × IsStep step.new × (outs_of step.new ≡ 0)) }
     ensures fits { IfOk result (λ more. (steps outs : ℕ)
         → fault_from (expected_in (Some Delete) steps outs) words.old ≡ fault_behind more (steps + 1) outs words.new) }
     ensures fault { IfErr result (λ f. (steps outs : ℕ) → fault_from (expected_in (Some Delete) steps outs) words.old ≡ Some f) }
 {
-    let table = name(words)?;
+    let table = table(words, near)?;
     let row = row(words)?;
     *step = RawStep::Delete { table, row };
     bar_or_end(words)

@@ -1,11 +1,63 @@
-use Rattle.log_text.proofs.Grammar.{only_one, sound, other_fault}
+use Rattle.std.proofs.Common.{Ok, Some, ◌<◌, length, ◌≡◌, List, ℕ, ◌∷◌, ap, ◌∙◌, sym, subst}
+use Rattle.line_words.specs.Words.{words}
+use Rattle.log_text.specs.Statement.{Reads, form_words}
+use Rattle.log_text.specs.declared.statement.RawForm.TheVariants.{Run}
+use Rattle.std.proofs.Common.{ltb}
+use Rattle.std.proofs.lemmas.Bool.{cond-true, lt-ltb}
+use Rattle.log_text.specs.Fault.{line_fault}
+use Rattle.line_words.specs.declared.fault.LineFault.TheVariants.{TooLong}
+use Rattle.log_text.proofs.Grammar.{faulty, only_one, reads, sound}
 use Rattle.log_text.proofs.parsing.line.read_line.Goals as goal
 
-pub returns-clause-only : goal.returns-clause-only
-returns-clause-only c = only_one c.args.line.now c.line_statement.result c.line_statement.ensures.read c.line_statement.ensures.fault
+too_long : (line : List ℕ) → 4096 < length line → line_fault line ≡ Some TooLong
+too_long line long = cond-true (ltb 4096 (length line)) (Some TooLong) _ (lt-ltb 4096 (length line) long)
 
-pub returns-clause-sound : goal.returns-clause-sound
-returns-clause-sound c = sound c.args.line.now c.line_statement.result c.line_statement.ensures.read
+pub returns-then-line-gt-MOST_LINE_BYTES-clause-only : goal.returns-then-line-gt-MOST_LINE_BYTES-clause-only
+returns-then-line-gt-MOST_LINE_BYTES-clause-only c =
+    λ s reads. absurd (faulty c.args.line.now s TooLong (too_long c.args.line.now c.if-line-gt-MOST_LINE_BYTES.true) reads)
 
-pub returns-clause-fault : goal.returns-clause-fault
-returns-clause-fault c = other_fault c.args.line.now c.line_statement.result c.line_statement.ensures.fault
+pub of-requires : goal.of-requires
+of-requires c =
+    let user = c.in-Ok.ensures.ok in
+    let form = c.in-Ok-other_form.ensures.ok in
+    let same : words c.args.line.now ≡ c.in-Ok.user ∷ form_words c.in-Ok-other_form.form =
+    sym c.of-words.ensures ∙ user.0 ∙ ap (λ (ws : List (List ℕ)). c.in-Ok.user ∷ ws) (sym c.if-takes_run.ensures.0 ∙ form.0) in
+    (reads c.args.line.now c.in-Ok.user c.in-Ok-other_form.form same user.1 form.1 c.if-line-gt-MOST_LINE_BYTES.false).grammar
+
+pub returns-in-Ok-other_form-clause-read : goal.returns-in-Ok-other_form-clause-read
+returns-in-Ok-other_form-clause-read c =
+    let user = c.in-Ok.ensures.ok in
+    let form = c.in-Ok-other_form.ensures.ok in
+    let same : words c.args.line.now ≡ c.in-Ok.user ∷ form_words c.in-Ok-other_form.form =
+    sym c.of-words.ensures ∙ user.0 ∙ ap (λ (ws : List (List ℕ)). c.in-Ok.user ∷ ws) (sym c.if-takes_run.ensures.0 ∙ form.0) in
+    subst (Reads c.args.line.now) (sym c.of.ensures) (reads c.args.line.now c.in-Ok.user c.in-Ok-other_form.form same user.1 form.1 c.if-line-gt-MOST_LINE_BYTES.false)
+
+pub run_by-requires : goal.run_by-requires
+run_by-requires c =
+    let user = c.in-Ok.ensures.ok in
+    let run = c.in-Ok-run.ensures.ok in
+    let form = Run c.run.new.room.accesses.items c.run.new.room.steps.items c.in-Ok-run.deed in
+    let same : words c.args.line.now ≡ c.in-Ok.user ∷ form_words form =
+    sym c.of-words.ensures ∙ user.0 ∙ ap (λ (ws : List (List ℕ)). c.in-Ok.user ∷ ws) (c.if-takes_run.ensures ∙ run.0) in
+    (reads c.args.line.now c.in-Ok.user form same user.1 run.1 c.if-line-gt-MOST_LINE_BYTES.false).grammar
+
+pub returns-in-Ok-run-clause-read : goal.returns-in-Ok-run-clause-read
+returns-in-Ok-run-clause-read c =
+    let user = c.in-Ok.ensures.ok in
+    let run = c.in-Ok-run.ensures.ok in
+    let form = Run c.run.new.room.accesses.items c.run.new.room.steps.items c.in-Ok-run.deed in
+    let same : words c.args.line.now ≡ c.in-Ok.user ∷ form_words form =
+    sym c.of-words.ensures ∙ user.0 ∙ ap (λ (ws : List (List ℕ)). c.in-Ok.user ∷ ws) (c.if-takes_run.ensures ∙ run.0) in
+    subst (Reads c.args.line.now) (sym c.run_by.ensures) (reads c.args.line.now c.in-Ok.user form same user.1 run.1 c.if-line-gt-MOST_LINE_BYTES.false)
+
+pub returns-in-Ok-run-clause-only : goal.returns-in-Ok-run-clause-only
+returns-in-Ok-run-clause-only c = only_one c.args.line.now (Ok c.run_by.result) (returns-in-Ok-run-clause-read c) tt
+
+pub returns-in-Ok-run-clause-sound : goal.returns-in-Ok-run-clause-sound
+returns-in-Ok-run-clause-sound c = sound c.args.line.now (Ok c.run_by.result) (returns-in-Ok-run-clause-read c)
+
+pub returns-in-Ok-other_form-clause-only : goal.returns-in-Ok-other_form-clause-only
+returns-in-Ok-other_form-clause-only c = only_one c.args.line.now (Ok c.of.result) (returns-in-Ok-other_form-clause-read c) tt
+
+pub returns-in-Ok-other_form-clause-sound : goal.returns-in-Ok-other_form-clause-sound
+returns-in-Ok-other_form-clause-sound c = sound c.args.line.now (Ok c.of.result) (returns-in-Ok-other_form-clause-read c)
