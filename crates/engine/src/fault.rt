@@ -2,9 +2,11 @@
 
 ghost use Rattle.std.specs.Prelude.{◌≡◌};
 ghost use Rattle.engine.specs.declared.fault.EngineFault.TheVariants.{NoMemory};
+ghost use Rattle.engine.specs.Faults.{of_run};
 
 use std::alloc::{AllocError, AllocFailed};
 use thiserror::Error;
+use workers::RunFault;
 
 /// Why a batch wasn't run, or why a run ended before the end of its log.
 #[derive(Clone, Copy, Debug, PartialEq, Eq, Error)]
@@ -21,6 +23,9 @@ pub enum EngineFault {
     /// A setting is outside its limits, or the range isn't one that can be run next.
     #[error("bad settings")]
     BadSettings = 4,
+    /// A worker's thread could not be started.
+    #[error("cannot start a worker")]
+    Spawn = 5,
 }
 
 impl From<AllocError> for EngineFault {
@@ -36,5 +41,16 @@ impl<T: Drop> From<AllocFailed<T>> for EngineFault {
 
     fn from(_e: AllocFailed<T>) -> EngineFault {
         EngineFault::NoMemory
+    }
+}
+
+impl From<RunFault> for EngineFault {
+    ghost from_gives = { λ fault e. e ≡ of_run fault };
+
+    fn from(fault: RunFault) -> EngineFault {
+        match fault {
+            RunFault::NoMemory => EngineFault::NoMemory,
+            RunFault::Spawn => EngineFault::Spawn,
+        }
     }
 }

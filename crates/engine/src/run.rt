@@ -28,7 +28,7 @@ use std::ops::Range;
 use std::sync::Wait;
 use std::thread::Threads;
 use taking::{Taken, take};
-use workers::Gate;
+use workers::{Gate, RunFault};
 
 /// A log, the outcomes of its finished places, and what stands behind these: the versions of rows and the book of grants. What
 /// was finished may be forgotten, statements and outcomes both; rows and book stay.
@@ -65,7 +65,7 @@ impl Model for Engine {
         engine.past.items };
 }
 
-/// The outcomes and the versions of the places of a range, run as a batch on shared words. On `Err` memory was refused.
+/// The outcomes and the versions of the places of a range, run as a batch on shared words.
 fn ran<T: Threads + Wait + Sync, G: Gate + Sync>(
     rt: &T,
     alloc: Global,
@@ -75,7 +75,7 @@ fn ran<T: Threads + Wait + Sync, G: Gate + Sync>(
     range: Range<Place>,
     crew: Crew,
     gate: &G,
-) -> Result<Taken, AllocError>
+) -> Result<Taken, RunFault>
     requires partitions { 0 < crew.partitions }
     requires kept { log.now.dropped ≤ range.start }
     requires order { range.start < range.end }
@@ -102,7 +102,7 @@ fn ran<T: Threads + Wait + Sync, G: Gate + Sync>(
 }
 
 /// Runs the places of a range as a batch on shared words, by so many workers and placers. Rows and book are those before the
-/// range's end then, and the outcomes are appended. On `Err` memory was refused, and rows, book and outcomes are as they were.
+/// range's end then, and the outcomes are appended. After an error rows, book and outcomes are as they were.
 fn run_by_workers<T: Threads + Wait + Sync, G: Gate + Sync>(
     rt: &T,
     alloc: Global,
@@ -113,7 +113,7 @@ fn run_by_workers<T: Threads + Wait + Sync, G: Gate + Sync>(
     crew: Crew,
     gate: &G,
     outcomes: &mut Vec<Outcome>,
-) -> Result<(), AllocError>
+) -> Result<(), RunFault>
     requires partitions { 0 < crew.partitions }
     requires order { range.start < range.end }
     requires kept { log.now.dropped ≤ range.start }
@@ -144,10 +144,13 @@ fn run_by_workers<T: Threads + Wait + Sync, G: Gate + Sync>(
         versions,
         start..end,
     );
-    if moved.is_err() {
-        outcomes.truncate(before);
+    match moved {
+        Ok(()) => Ok(()),
+        Err(_refused) => {
+            outcomes.truncate(before);
+            Err(RunFault::NoMemory)
+        }
     }
-    moved
 }
 
 /// Runs the places of a range: in order, on this thread, where there is one worker, and on shared words else. The result is the
@@ -162,7 +165,7 @@ fn run_range<T: Threads + Wait + Sync, G: Gate + Sync>(
     crew: Crew,
     gate: &G,
     outcomes: &mut Vec<Outcome>,
-) -> Result<(), AllocError>
+) -> Result<(), RunFault>
     requires partitions { 0 < crew.partitions }
     requires order { range.start ≤ range.end }
     requires kept { log.now.dropped ≤ range.start }
@@ -179,7 +182,10 @@ fn run_range<T: Threads + Wait + Sync, G: Gate + Sync>(
     ensures outcomes { OnErr result (outcomes.new.items ≡ outcomes.old.items) }
 {
     if crew.workers <= 1 || range.start == range.end {
-        return run_in_order(alloc, chains, book, log, range, gate, outcomes);
+        return match run_in_order(alloc, chains, book, log, range, gate, outcomes) {
+            Ok(()) => Ok(()),
+            Err(_refused) => Err(RunFault::NoMemory),
+        };
     }
     run_by_workers(rt, alloc, chains, book, log, range, crew, gate, outcomes)
 }
@@ -287,9 +293,9 @@ impl Engine {
     }
 
     /// Runs the next places of the log, up to this one, as a batch, by so many workers and placers: by one worker in order, on this
-    /// thread. The gate is told of each place, by its index in the batch, before a worker asks for it and once it is done. Then
-    /// the places are finished: their outcomes are the log's, and rows and book are those before this place. On `Err` memory was
-    /// refused, and the engine is as it was, so that the batch can be run again.
+    /// thread. The gate is told of each place before a worker asks for it, and by each worker once when it is done. Then the places
+    /// are finished: their outcomes are the log's, and rows and book are those before this place. On `Err` memory was refused or a
+    /// worker's thread could not be started; the engine is as it was, so that the batch can be run again.
     pub fn run_to<T: Threads + Wait + Sync, G: Gate + Sync>(
         &mut self,
         rt: &T,
@@ -297,7 +303,7 @@ impl Engine {
         end: Place,
         crew: Crew,
         gate: &G,
-    ) -> Result<(), AllocError>
+    ) -> Result<(), RunFault>
         requires partitions { 0 < crew.partitions }
         requires order { finished self.old ≤ end }
         requires within { end ≤ length self.old.log.statements }
@@ -339,7 +345,8 @@ impl Engine {
     }
 
     /// Runs the range as the next batch, by so many workers and placers, as `run_to`. `BadSettings` is returned exactly where
-    /// `may_run` is false; any other error is `NoMemory`. On `Err` the engine is as it was, so that the batch can be run again.
+    /// `may_run` is false; any other error is `NoMemory`, or `Spawn` where a worker's thread could not be started. After an error the
+    /// engine is as it was, so that the batch can be run again.
     pub fn run_batch<T: Threads + Wait + Sync, G: Gate + Sync>(
         &mut self,
         rt: &T,
@@ -349,7 +356,7 @@ impl Engine {
         gate: &G,
     ) -> Result<(), EngineFault>
         ensures bad { (result ≡ Err EngineFault.BadSettings) ↔ (may_run self.old range.start range.end crew ≡ false) }
-        ensures fault { IfErr result (λ f. (f ≡ EngineFault.NoMemory) ⊎ (f ≡ EngineFault.BadSettings)) }
+        ensures fault { IfErr result (λ f. (f ≡ EngineFault.BadSettings) ⊎ (f ≡ EngineFault.NoMemory) ⊎ (f ≡ EngineFault.Spawn)) }
         ensures ends { OnOk result (finished self.new ≡ range.end) }
         ensures stands { OnOk result (Stands self.new.log.statements range.end self.new.store self.new.book) }
         ensures came { OnOk result (AreOutcomes self.new.log.statements 0 range.end self.new.outcomes) }

@@ -158,16 +158,16 @@ fn run_places<G: Gate>(
     outcomes.reserve(size)?;
     for index in 0..size {
         let place = range.start + index as u64;
-        gate.before(index);
+        gate.before(place);
         run_place(alloc, chains, book, &mut window, log, place, outcomes)?;
-        gate.after(index);
+        gate.after(place);
     }
     Ok(())
 }
 
 /// Runs the places of a range, one after another, and appends their outcomes; rows and grants are those before the range's end
-/// then. The gate is told of each place, by its index in the range, before it is run and once it is done. On `Err` memory was
-/// refused, and rows, grants and outcomes are as they were.
+/// then. The gate is told of each place before it is run and once it is done. On `Err` memory was refused, and rows, grants and
+/// outcomes are as they were.
 pub fn run_in_order<G: Gate>(
     alloc: Global,
     chains: &mut Chains,

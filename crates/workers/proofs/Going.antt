@@ -1,6 +1,5 @@
 -- A pass that goes on, and what it knows of the places.
-use Rattle.std.proofs.Common.{◌≡◌, ◌++◌, ℕ, suc, List, [], ◌∷◌, refl, subst, ◌∙◌, arith, inl, inr}
-use Rattle.std.proofs.lemmas.Bool.{cases_lt}
+use Rattle.std.proofs.Common.{◌≡◌, ◌⊎◌, ◌<◌, ◌++◌, ℕ, List, [], ◌∷◌, length, refl, subst, ◌∙◌, arith, inl, inr}
 use Rattle.words.specs.declared.view.View.{View}
 use Rattle.words.specs.Passes.{Passing, cut_first, joined_pass}
 use Rattle.words.specs.Views.{In, KeepsFronts}
@@ -9,7 +8,9 @@ use Rattle.filling_base.specs.declared.run.Tried.{Tried}
 use Rattle.filling_base.specs.declared.run.Tried.TheVariants.{Done, Busy, NotPlaced, NoMemory}
 use Rattle.filling_base.specs.Goings.{IsSamePass}
 use Rattle.filling_base.specs.Tries.{TriedTells}
-use Rattle.workers.specs.Working.{GoesOn, KnowsAll, KnowsRange}
+use Rattle.workers.specs.declared.work.Worked.{Worked}
+use Rattle.workers.specs.declared.work.Worked.TheVariants.{Done as WorkedDone, NoMemory as WorkedNoMemory, NotStarted}
+use Rattle.workers.specs.Working.{AreLeft, GoesOn, KnowsAll, worse}
 
 pub stays : (pass : Passing) → GoesOn pass pass
 stays pass = record { table = refl; number = refl; knows = λ index known. known; fronts = ((λ placed. placed), (λ partition count has. has)) }
@@ -42,21 +43,80 @@ cut_and_joined pass middle other on = record {
   );
 }
 
--- one more place of a range
-pub one_more : (first index : ℕ) (view after : View) → ((other : ℕ) → In other view.known → In other after.known) → In index after.known
-    → KnowsRange first index view → KnowsRange first (suc index) after
-one_more first index view after keeps known below other from less = elim (cases_lt other index) [
-  | inl before ↦ keeps other (below other from before)
-  | inr here ↦ let is : index ≡ other = omega arith in subst (λ (k : ℕ). In k after.known) is known
-]
+-- one more at the end of a list
+in_second : {A : Type 0} (x : A) (xs ys : List A) → In x ys → In x (xs ++ ys)
+in_second x [] ys there = there
+in_second x (z ∷ xs) ys there = inr (in_second x xs ys there)
 
--- the places from one on and those before it
-pub both_parts : (first size : ℕ) (view after : View) → ((other : ℕ) → In other view.known → In other after.known)
-    → KnowsRange first size view → KnowsRange 0 first after → KnowsAll size after
-both_parts first size view after keeps later earlier index less = elim (cases_lt index first) [
-  | inl before ↦ earlier index (omega arith) before
-  | inr from ↦ keeps index (later index from less)
-]
+in_either : {A : Type 0} (x : A) (xs ys : List A) → In x (xs ++ ys) → In x xs ⊎ In x ys
+in_either x [] ys there = inr there
+in_either x (z ∷ xs) ys (inl here) = inl (inl here)
+in_either x (z ∷ xs) ys (inr there) = elim (in_either x xs ys there) [ inl first ↦ inl (inr first) | inr second ↦ inr second ]
+
+pub in_old : {A : Type 0} (x y : A) (xs after : List A) → after ≡ xs ++ y ∷ [] → In x xs → In x after
+in_old x y xs after is there = rw is (in_first x xs (y ∷ []) there)
+
+pub in_last : {A : Type 0} (x : A) (xs after : List A) → after ≡ xs ++ x ∷ [] → In x after
+in_last x xs after is = rw is (in_second x xs (x ∷ []) (inl refl))
+
+pub in_old_or_last : {A : Type 0} (x y : A) (xs after : List A) → after ≡ xs ++ y ∷ [] → In x after → In x xs ⊎ (x ≡ y)
+in_old_or_last x y xs after is there =
+    let found : In x (xs ++ y ∷ []) = rw is at there in
+    elim (in_either x xs (y ∷ []) found) [ inl old ↦ inl old | inr last ↦ inr (elim last [ inl same ↦ same | inr none ↦ absurd none ]) ]
+
+pub in_none : {A : Type 0} (x : A) (xs : List A) → xs ≡ [] → In x xs → ⊥
+in_none x xs is there =
+    let none : In x [] = rw is at there in
+    none
+
+pub none_of : {A : Type 0} (xs : List A) → length xs ≡ 0 → xs ≡ []
+none_of [] is = refl
+none_of (x ∷ xs) is = absurd (omega (arith, is))
+
+-- the first of the rest is known done
+pub left_done : (size index : ℕ) (known after rest then : List ℕ) → ((other : ℕ) → In other known → In other after)
+    → rest ≡ index ∷ then → AreLeft size known rest → In index after → AreLeft size after then
+left_done size index known after rest then keeps is left done =
+    let all : AreLeft size known (index ∷ then) = rw is at left in
+    record {
+      within = λ other there. all.within other (inr there);
+      every = λ other less. elim (all.every other less) [
+        | inl before ↦ inl (keeps other before)
+        | inr there ↦ elim there [ inl same ↦ inl (rw same done) | inr later ↦ inr later ]
+      ];
+    }
+
+-- the first of the rest goes to its end
+pub left_open : (size index : ℕ) (known after rest then turned : List ℕ) → ((other : ℕ) → In other known → In other after)
+    → rest ≡ index ∷ then → turned ≡ then ++ index ∷ [] → AreLeft size known rest → AreLeft size after turned
+left_open size index known after rest then turned keeps is turns left =
+    let all : AreLeft size known (index ∷ then) = rw is at left in
+    record {
+      within = λ other there. elim (in_old_or_last other index then turned turns there) [ inl old ↦ all.within other (inr old) | inr same ↦ all.within other (inl same) ];
+      every = λ other less. elim (all.every other less) [
+        | inl before ↦ inl (keeps other before)
+        | inr there ↦ inr (elim there [ inl same ↦ rw same (in_last index then turned turns) | inr later ↦ in_old other index then turned turns later ])
+      ];
+    }
+
+-- the first of the rest is a place
+pub left_first : (size index : ℕ) (known rest then : List ℕ) → rest ≡ index ∷ then → AreLeft size known rest → index < size
+left_first size index known rest then is left =
+    let all : AreLeft size known (index ∷ then) = rw is at left in
+    all.within index (inl refl)
+
+-- where there is no rest, each place is known done
+pub left_none : (size : ℕ) (view : View) (rest : List ℕ) → rest ≡ [] → AreLeft size view.known rest → KnowsAll size view
+left_none size view rest is left index less =
+    let all : AreLeft size view.known [] = rw is at left in
+    elim (all.every index less) [ inl known ↦ known | inr none ↦ absurd none ]
+
+-- where nothing is known, all is left
+pub left_all : (size : ℕ) (known rest : List ℕ) → AreLeft size [] rest → AreLeft size known rest
+left_all size known rest left = record {
+  within = left.within;
+  every = λ index less. elim (left.every index less) [ inl none ↦ absurd none | inr there ↦ inr there ];
+}
 
 pub joined_all : (size : ℕ) (middle other : Passing) → KnowsAll size middle.view → KnowsAll size (joined_pass middle other).view
 joined_all size middle other all index less = in_first index middle.view.known other.view.known (all index less)
@@ -88,3 +148,11 @@ asked_on batch index pass after tried same tells =
       knows = tells_on batch index pass.view after.view tried tells;
       fronts = tells_fronts batch index pass.view after.view tried tells;
     }
+
+-- what came of two workers is that all is done only if both came to that
+pub worse_done : (one other : Worked) → worse one other ≡ WorkedDone → one ≡ WorkedDone
+worse_done NotStarted other is = absurd (cc is)
+worse_done WorkedNoMemory NotStarted is = absurd (cc is)
+worse_done WorkedNoMemory WorkedNoMemory is = absurd (cc is)
+worse_done WorkedNoMemory WorkedDone is = absurd (cc is)
+worse_done WorkedDone other is = refl

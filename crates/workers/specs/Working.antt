@@ -1,14 +1,18 @@
 -- What workers know of a batch. Each execution thread goes over the places of the batch by itself: J. M. Faleiro and
 -- D. J. Abadi, "Rethinking Serializable Multiversion Concurrency Control", PVLDB 8 (2015), section 3; that a pass carries what
 -- a thread knows is this project's own.
-use Rattle.std.specs.Prelude.{◌≡◌, ◌<◌, ◌≤◌, ℕ}
+use Rattle.std.specs.Prelude.{◌≡◌, ◌⊎◌, ◌<◌, ℕ, List, Result, Ok, Err}
 use Rattle.words.specs.declared.view.View.{View}
+use Rattle.workers.specs.declared.fault.RunFault.{RunFault}
+use Rattle.workers.specs.declared.work.Worked.{Worked}
+use Rattle.workers.specs.declared.work.Worked.TheVariants.{Done, NoMemory, NotStarted}
 use Rattle.words.specs.Passes.{Passing}
 use Rattle.words.specs.Views.{In, KeepsFronts}
 
--- the pass knows each place of a range done
-abbrev pub KnowsRange : ℕ → ℕ → View → Type 0
-KnowsRange first end view = (index : ℕ) → first ≤ index → index < end → In index view.known
+-- of so many places each is known done or among the rest, and the rest are some of them
+pub record AreLeft (size : ℕ) (known rest : List ℕ) : Type 0 where
+  pub within : (index : ℕ) → In index rest → index < size
+  pub every : (index : ℕ) → index < size → In index known ⊎ In index rest
 
 -- the pass knows each of so many places done
 abbrev pub KnowsAll : ℕ → View → Type 0
@@ -20,3 +24,17 @@ pub record GoesOn (pass after : Passing) : Type 0 where
   pub number : after.number ≡ pass.number
   pub knows : (index : ℕ) → In index pass.view.known → In index after.view.known
   pub fronts : KeepsFronts pass.view after.view
+
+-- what came of two workers together
+abbrev pub worse : Worked → Worked → Worked
+worse NotStarted other = NotStarted
+worse NoMemory NotStarted = NotStarted
+worse NoMemory NoMemory = NoMemory
+worse NoMemory Done = NoMemory
+worse Done other = other
+
+-- whether a batch was run
+abbrev pub came_of : Worked → Result (Unit {0}) RunFault
+came_of Done = Ok tt
+came_of NoMemory = Err RunFault.NoMemory
+came_of NotStarted = Err RunFault.Spawn

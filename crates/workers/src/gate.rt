@@ -1,12 +1,17 @@
 //! What workers tell of the places that they ask for.
 
-/// Who is told what workers ask for, by the index of a place in the batch.
+use model_base::Place;
+
+/// Who is told what workers do, by places of the log.
 pub trait Gate {
     /// A worker will ask for a place.
-    fn before(&self, index: usize);
+    fn before(&self, place: Place);
 
-    /// It was answered that the place is done.
-    fn after(&self, index: usize);
+    /// A worker was told that a place is done, which it is told once for each place.
+    fn after(&self, place: Place);
+
+    /// The placer of a partition has placed a place.
+    fn placed(&self, _partition: usize, _place: Place) {}
 }
 
 /// Nobody.
@@ -14,7 +19,7 @@ pub trait Gate {
 pub struct NoGate;
 
 impl Gate for NoGate {
-    fn before(&self, _index: usize) {}
+    fn before(&self, _place: Place) {}
 
-    fn after(&self, _index: usize) {}
+    fn after(&self, _place: Place) {}
 }

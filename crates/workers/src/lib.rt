@@ -4,9 +4,11 @@
 //! section 3: each execution thread goes over the batch, and leaves alone what another has at hand.
 #![tactic(auto)]
 
+mod fault;
 mod gate;
 mod sweep;
 mod work;
 
+pub use fault::RunFault;
 pub use gate::{Gate, NoGate};
 pub use work::{Worked, run_workers};

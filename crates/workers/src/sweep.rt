@@ -1,109 +1,170 @@
 //! One worker, which goes over the places until it has had each done.
 
-ghost use Rattle.std.specs.Prelude.{◌≡◌, ◌<◌, ◌≤◌, ℕ};
+ghost use Rattle.std.specs.Prelude.{◌≡◌, ◌⊎◌, ◌<◌, ◌≤◌, ◌+◌, ◌-◌, ◌^◌, [], ℕ, IfOk, true};
+ghost use Rattle.std.specs.VecDeque.{deque_capacity, deque_len};
 ghost use Rattle.words.specs.Passes.{IsPassOf};
 ghost use Rattle.words.specs.Views.{In};
-ghost use Rattle.workers.specs.Working.{GoesOn, KnowsAll, KnowsRange};
+ghost use Rattle.workers.specs.Working.{AreLeft, GoesOn, KnowsAll};
 
 use crate::gate::Gate;
 use filling_base::{Batch, Fills, Tried};
+use model_base::Place;
+use std::alloc::{AllocError, Global};
+use std::collections::VecDeque;
 use std::ops::Range;
 use std::sync::Wait;
+use std::sync::atomic::{AtomicBool, Ordering};
 use std::thread;
 use words::Pass;
 
-/// What came of asking for some places once.
+/// What came of asking for a place.
 #[derive(Clone, Copy, PartialEq, Eq, Debug)]
-pub(crate) enum Swept {
-    /// All are done.
-    All,
-    /// Another worker had one at hand.
-    Missed,
-    /// Memory was wanting.
-    NoMemory,
+enum Asked {
+    /// It is done.
+    Done,
+    /// Another worker has it at hand, or it isn't placed.
+    Open,
+    /// It wasn't asked for, since the workers were stopped; or memory was refused, and they are stopped now.
+    Stopped,
 }
 
-/// Asks for each place of a range. Where memory is wanting, the rest isn't asked for.
+/// What came of a sweep.
+#[derive(Clone, Copy, PartialEq, Eq, Debug)]
+pub(crate) enum Swept {
+    /// All places are done.
+    All,
+    /// The workers were stopped.
+    Stopped,
+}
+
+/// Asks for a place, unless the workers were stopped. Where memory is refused it stops them.
 fn ask<K: Fills, G: Gate>(
     batch: &Batch<K>,
     gate: &G,
+    stop: &AtomicBool,
     pass: Pass,
-    range: Range<usize>,
-) -> (Pass, Swept)
+    start: Place,
+    index: usize,
+) -> (Pass, Asked)
     requires ours { IsPassOf batch.now pass }
-    requires order { range.start ≤ range.end }
-    requires within { range.end ≤ (K.batch batch.now.key).size }
+    requires within { index < (K.batch batch.now.key).size }
+    requires places { start + (K.batch batch.now.key).size < 2 ^ 64 }
     ensures on { GoesOn pass result.0 }
-    ensures all { result.1 ≡ Swept.All → KnowsRange range.start range.end result.0.view }
+    ensures done { result.1 ≡ Asked.Done → In index result.0.view.known }
 {
-    let mut last = pass;
-    let mut swept = Swept::All;
-    for index in range.start..range.end {
-        gate.before(index);
-        let (next, tried) = batch.try_run(last, index);
-        last = next;
-        match tried {
-            Tried::Done => gate.after(index),
-            Tried::Busy(_) => swept = Swept::Missed,
-            Tried::NotPlaced(_) => swept = Swept::Missed,
-            Tried::NoMemory => return (last, Swept::NoMemory),
+    if stop.load(Ordering::SeqCst) {
+        return (pass, Asked::Stopped);
+    }
+    let place = start + index as u64;
+    gate.before(place);
+    let (pass, tried) = batch.try_run(pass, index);
+    match tried {
+        Tried::Done => {
+            gate.after(place);
+            (pass, Asked::Done)
+        }
+        Tried::Busy(_) => (pass, Asked::Open),
+        Tried::NotPlaced(_) => (pass, Asked::Open),
+        Tried::NoMemory => {
+            stop.store(true, Ordering::SeqCst);
+            (pass, Asked::Stopped)
         }
     }
-    (last, swept)
 }
 
-/// Asks for each place once, from one on and then round.
+/// Asks once for each place of the rest, in order: one that is done leaves the rest, and any other goes to its end. False if
+/// the workers were stopped.
 fn go_round<K: Fills, G: Gate>(
     batch: &Batch<K>,
     gate: &G,
+    stop: &AtomicBool,
     pass: Pass,
-    first: usize,
-    size: usize,
-) -> (Pass, Swept)
+    start: Place,
+    rest: &mut VecDeque<usize>,
+) -> (Pass, bool)
     requires ours { IsPassOf batch.now pass }
-    requires size { size ≡ (K.batch batch.now.key).size }
-    requires within { first ≤ size }
+    requires places { start + (K.batch batch.now.key).size < 2 ^ 64 }
+    requires left { AreLeft (K.batch batch.now.key).size pass.view.known rest.old.items }
     ensures on { GoesOn pass result.0 }
-    ensures all { result.1 ≡ Swept.All → KnowsAll size result.0.view }
+    ensures left { result.1 ≡ true → AreLeft (K.batch batch.now.key).size result.0.view.known rest.new.items }
 {
-    let (pass, later) = ask(batch, gate, pass, first..size);
-    if later == Swept::NoMemory {
-        return (pass, later);
+    let mut last = pass;
+    for _ in 0..rest.len() {
+        let Some(index) = rest.pop_front() else {
+            break;
+        };
+        let (next, asked) = ask(batch, gate, stop, last, start, index);
+        last = next;
+        match asked {
+            Asked::Done => {}
+            Asked::Open => rest.push_back_reserved(index),
+            Asked::Stopped => return (last, false),
+        }
     }
-    let (pass, earlier) = ask(batch, gate, pass, 0..first);
-    match earlier {
-        Swept::All => (pass, later),
-        Swept::Missed => (pass, earlier),
-        Swept::NoMemory => (pass, earlier),
-    }
+    (last, true)
 }
 
-/// Asks for the places round and round, from one on, until all are done or memory is wanting. While another worker has one at
-/// hand, it lets others run and goes round again.
+/// Goes round over the places of the rest until each is done or the workers are stopped. After a round in which none was done
+/// it lets other threads run.
 pub(crate) fn sweep<K: Fills, G: Gate, R: Wait>(
     rt: &R,
     batch: &Batch<K>,
     gate: &G,
+    stop: &AtomicBool,
     pass: Pass,
-    first: usize,
-    size: usize,
+    start: Place,
+    mut rest: VecDeque<usize>,
 ) -> (Pass, Swept)
     requires ours { IsPassOf batch.now pass }
-    requires size { size ≡ (K.batch batch.now.key).size }
-    requires within { first ≤ size }
+    requires places { start + (K.batch batch.now.key).size < 2 ^ 64 }
+    requires left { AreLeft (K.batch batch.now.key).size pass.view.known rest.items }
     ensures on { GoesOn pass result.0 }
-    ensures all { result.1 ≡ Swept.All → KnowsAll size result.0.view }
-    ensures ended { ¬ (result.1 ≡ Swept.Missed) }
+    ensures all { result.1 ≡ Swept.All → KnowsAll (K.batch batch.now.key).size result.0.view }
 {
     let mut last = pass;
     for _ in rt.forever() {
-        let (next, swept) = go_round(batch, gate, last, first, size);
+        let count = rest.len();
+        if count == 0 {
+            return (last, Swept::All);
+        }
+        let (next, is_over) = go_round(batch, gate, stop, last, start, &mut rest);
         last = next;
-        match swept {
-            Swept::All => return (last, swept),
-            Swept::NoMemory => return (last, swept),
-            Swept::Missed => thread::yield_now(),
+        if !is_over {
+            return (last, Swept::Stopped);
+        }
+        if rest.len() == count {
+            thread::yield_now();
         }
     }
     unreachable!()
+}
+
+/// Adds the indices of a range, for which there is room.
+fn add_range(rest: &mut VecDeque<usize>, range: Range<usize>)
+    requires order { range.start ≤ range.end }
+    requires room { deque_len rest.old + (range.end - range.start) ≤ deque_capacity rest.old }
+    ensures capacity { deque_capacity rest.new ≡ deque_capacity rest.old }
+    ensures len { deque_len rest.new ≡ deque_len rest.old + (range.end - range.start) }
+    ensures keeps { (index : ℕ) → In index rest.old.items → In index rest.new.items }
+    ensures adds { (index : ℕ) → range.start ≤ index → index < range.end → In index rest.new.items }
+    ensures within { (index : ℕ) → In index rest.new.items → In index rest.old.items ⊎ (index < range.end) }
+{
+    for index in range.start..range.end {
+        rest.push_back_reserved(index);
+    }
+}
+
+/// All of so many places, from one on and then round. An error is out of memory.
+pub(crate) fn all_places(
+    alloc: Global,
+    first: usize,
+    size: usize,
+) -> Result<VecDeque<usize>, AllocError>
+    requires { first ≤ size }
+    ensures { IfOk result (λ rest. AreLeft size [] rest.items) }
+{
+    let mut rest = VecDeque::with_capacity(alloc, size)?;
+    add_range(&mut rest, first..size);
+    add_range(&mut rest, 0..first);
+    Ok(rest)
 }

@@ -1,16 +1,20 @@
 //! Several workers.
 
-ghost use Rattle.std.specs.Prelude.{◌≡◌, ◌<◌, ◌≤◌, ◌-◌};
+ghost use Rattle.std.specs.Prelude.{◌≡◌, ◌<◌, ◌≤◌, ◌+◌, ◌^◌};
 ghost use Rattle.std.specs.Thread.{IsSync};
 ghost use Rattle.words.specs.Passes.{IsPassOf};
-ghost use Rattle.workers.specs.Working.{GoesOn, KnowsAll};
+ghost use Rattle.workers.specs.Working.{GoesOn, KnowsAll, came_of, worse};
 
+use crate::fault::RunFault;
 use crate::gate::Gate;
-use crate::sweep::{Swept, sweep};
+use crate::sweep::{Swept, all_places, sweep};
 use filling_base::{Batch, Fills};
+use model_base::Place;
+use std::alloc::Global;
 use std::sync::Wait;
+use std::sync::atomic::{AtomicBool, Ordering};
 use std::thread;
-use std::thread::Threads;
+use std::thread::{Promise, Scope, Threads};
 use words::Pass;
 
 /// What came of running a batch.
@@ -18,8 +22,23 @@ use words::Pass;
 pub enum Worked {
     /// All its places are done.
     Done,
-    /// Memory was wanting.
+    /// Memory was refused.
     NoMemory,
+    /// A worker's thread could not be started.
+    NotStarted,
+}
+
+impl Worked {
+    /// Whether the batch was run.
+    pub fn ended(self) -> Result<(), RunFault>
+        ensures { result ≡ came_of self }
+    {
+        match self {
+            Worked::Done => Ok(()),
+            Worked::NoMemory => Err(RunFault::NoMemory),
+            Worked::NotStarted => Err(RunFault::Spawn),
+        }
+    }
 }
 
 /// Where a worker begins: the places are cut into as many parts as there are workers, and it begins with its own.
@@ -30,88 +49,156 @@ fn first_of(worker: usize, workers: usize, size: usize) -> usize
     (worker as u128 * size as u128 / workers as u128) as usize
 }
 
-/// One worker, of so many.
+/// One worker, of so many. Where memory is refused it stops the others.
 fn work<K: Fills, G: Gate, R: Wait>(
     rt: &R,
+    alloc: Global,
     batch: &Batch<K>,
     gate: &G,
+    stop: &AtomicBool,
     pass: Pass,
+    start: Place,
     worker: usize,
     workers: usize,
 ) -> (Pass, Worked)
     requires ours { IsPassOf batch.now pass }
+    requires places { start + (K.batch batch.now.key).size < 2 ^ 64 }
     requires number { worker < workers }
     ensures on { GoesOn pass result.0 }
     ensures all { result.1 ≡ Worked.Done → KnowsAll (K.batch batch.now.key).size result.0.view }
 {
     let size = batch.key().places();
     let first = first_of(worker, workers, size);
-    let (pass, swept) = sweep(rt, batch, gate, pass, first, size);
+    let Ok(rest) = all_places(alloc, first, size) else {
+        stop.store(true, Ordering::SeqCst);
+        return (pass, Worked::NoMemory);
+    };
+    let (pass, swept) = sweep(rt, batch, gate, stop, pass, start, rest);
     match swept {
         Swept::All => (pass, Worked::Done),
-        Swept::Missed => (pass, Worked::NoMemory),
-        Swept::NoMemory => (pass, Worked::NoMemory),
+        Swept::Stopped => (pass, Worked::NoMemory),
     }
 }
 
 /// What came of two workers.
 fn both(one: Worked, other: Worked) -> Worked
-    ensures { result ≡ Worked.Done → one ≡ Worked.Done }
+    ensures { result ≡ worse one other }
 {
-    match one {
-        Worked::Done => other,
-        Worked::NoMemory => one,
+    match (one, other) {
+        (Worked::NotStarted, _) => one,
+        (_, Worked::NotStarted) => other,
+        (Worked::NoMemory, _) => one,
+        (Worked::Done, _) => other,
     }
 }
 
-/// A worker, of so many, on a thread of its own, and those below it.
-fn work_below<K: Fills + Sync, G: Gate + Sync, R: Threads + Wait + Sync>(
-    rt: &R,
-    batch: &Batch<K>,
-    gate: &G,
+/// That a worker's pass is one of the batch.
+struct OfBatch<'a, K: Fills>(&'a Batch<K>);
+
+impl<K: Fills> Drop for OfBatch<'_, K> {
+    fn drop(self) {
+        let OfBatch(_) = self;
+    }
+}
+
+impl<'a, K: Fills> Promise<(Pass, Worked)> for OfBatch<'a, K> {
+    ghost kept_by = { λ promise ended. IsPassOf promise.0.now ended.0 };
+}
+
+/// A worker, of so many, on a thread of its own, and those below it, the lowest on this thread. If the thread can't be started, all
+/// are stopped.
+fn work_below<'s, E, K: Fills + Sync, G: Gate + Sync, R: Threads + Wait + Sync>(
+    rt: &'s R,
+    scope: &Scope<'s, E>,
+    alloc: Global,
+    batch: &'s Batch<K>,
+    gate: &'s G,
+    stop: &'s AtomicBool,
     pass: Pass,
+    start: Place,
     worker: usize,
     workers: usize,
 ) -> (Pass, Worked)
     requires ours { IsPassOf batch.now pass }
+    requires places { start + (K.batch batch.now.key).size < 2 ^ 64 }
     requires number { worker < workers }
     ensures on { GoesOn pass result.0 }
     ensures all { result.1 ≡ Worked.Done → KnowsAll (K.batch batch.now.key).size result.0.view }
 {
     if worker == 0 {
-        return work(rt, batch, gate, pass, worker, workers);
+        return work(rt, alloc, batch, gate, stop, pass, start, worker, workers);
     }
     let (pass, other) = batch.split(pass);
-    let ((other, theirs), (pass, mine)) = thread::join(
-        rt,
+    let started = scope.spawn_with(
+        OfBatch(batch),
         move || -> (Pass, Worked)
-            requires { IsPassOf batch.now other × (worker < workers) }
+            requires { IsPassOf batch.now other × (start + (K.batch batch.now.key).size < 2 ^ 64) × (worker < workers) }
             ensures { IsPassOf batch.entry.now result.0 }
-        { work(rt, batch, gate, other, worker, workers) },
-        move || -> (Pass, Worked)
-            requires { IsSync K.row × IsSync G.row × IsSync R.row × IsPassOf batch.now pass × (0 < worker) × (worker < workers) }
-            ensures { GoesOn pass result.0 × (result.1 ≡ Worked.Done → KnowsAll (K.batch batch.entry.now.key).size result.0.view) }
-        { work_below(rt, batch, gate, pass, worker - 1, workers) },
+        { work(rt, alloc, batch, gate, stop, other, start, worker, workers) },
     );
+    let Ok(thread) = started else {
+        stop.store(true, Ordering::SeqCst);
+        return (pass, Worked::NotStarted);
+    };
+    let (pass, mine) = work_below(
+        rt,
+        scope,
+        alloc,
+        batch,
+        gate,
+        stop,
+        pass,
+        start,
+        worker - 1,
+        workers,
+    );
+    let (other, theirs) = thread.join(rt);
     (batch.join(pass, other), both(mine, theirs))
 }
 
 /// Runs all places of a batch by so many workers, at least one: the caller's thread is the first, and each further one has a
-/// thread of its own; one whose thread can't be started is run by the caller. Each begins with a part of the batch of its own
-/// and goes round over all places until it has had each done; where another has a place at hand, it goes on with the next. A
-/// worker to whom memory is wanting stops, and the others go on to their ends. The pass knows afterwards what it knew and what
-/// the workers know. `Done` tells that all places are done. With one worker no thread is started.
+/// thread of its own. Each begins with a part of the batch of its own and goes round over the places that it hasn't had done yet,
+/// until it has had each done; where another has a place at hand, it goes on with the next. The gate is told places of the log,
+/// of which the batch's first is `start`: each worker tells it of a place before it asks for it, and once when it is done. If a thread
+/// can't be started or memory is refused, all workers stop. No thread runs any more afterwards. The pass knows what it knew and
+/// what the workers know. `Done` tells that all places are done, `NotStarted` that a thread couldn't be started. With one worker no
+/// thread is started.
 pub fn run_workers<K: Fills + Sync, G: Gate + Sync, R: Threads + Wait + Sync>(
     rt: &R,
+    alloc: Global,
     batch: &Batch<K>,
     gate: &G,
     pass: Pass,
+    start: Place,
     workers: usize,
 ) -> (Pass, Worked)
     requires ours { IsPassOf batch.now pass }
+    requires places { start + (K.batch batch.now.key).size < 2 ^ 64 }
     ensures on { GoesOn pass result.0 }
     ensures all { result.1 ≡ Worked.Done → KnowsAll (K.batch batch.now.key).size result.0.view }
 {
     let workers = workers.max(1);
-    work_below(rt, batch, gate, pass, workers - 1, workers)
+    let flag = AtomicBool::new(false);
+    let stop = &flag;
+    thread::scope(
+        thread::scope_env(),
+        rt,
+        move |scope| -> (Pass, Worked)
+            requires { IsPassOf batch.now pass × (start + (K.batch batch.now.key).size < 2 ^ 64) × (0 < workers) }
+            ensures { GoesOn pass result.0 × (result.1 ≡ Worked.Done → KnowsAll (K.batch batch.entry.now.key).size result.0.view) }
+        {
+            work_below(
+                rt,
+                scope,
+                alloc,
+                batch,
+                gate,
+                stop,
+                pass,
+                start,
+                workers - 1,
+                workers,
+            )
+        },
+    )
 }

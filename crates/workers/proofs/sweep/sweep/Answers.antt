@@ -1,11 +1,23 @@
-use Rattle.workers.proofs.Going.{on_and_on}
+use Rattle.std.proofs.Common.{◌≡◌, length, sym, ◌∙◌}
+use Rattle.workers.proofs.Going.{left_none, none_of, on_and_on}
 use Rattle.workers.proofs.sweep.sweep.Goals as goal
 
-pub returns-in-All-clause-on : goal.returns-in-All-clause-on
-returns-in-All-clause-on g c = on_and_on c.args.pass c.loop.last c.go_round-next.result.0 c.loop.invariant c.go_round-next.ensures.on
+pub returns-then-count-eq0-clause-all : goal.returns-then-count-eq0-clause-all
+returns-then-count-eq0-clause-all g c = λ all.
+    let none : length c.loop.rest.items ≡ 0 = sym c.loop.rest.ok.0 ∙ sym c.len-count.ensures ∙ c.if-count-eq0.true in
+    left_none (g.K.Placed.batch c.args.batch.now.key).size c.loop.last.view c.loop.rest.items (none_of c.loop.rest.items none) c.loop.invariant.left
 
-pub returns-in-NoMemory-clause-on : goal.returns-in-NoMemory-clause-on
-returns-in-NoMemory-clause-on g c = on_and_on c.args.pass c.loop.last c.go_round-next.result.0 c.loop.invariant c.go_round-next.ensures.on
+pub returns-then-not-is_over-clause-on : goal.returns-then-not-is_over-clause-on
+returns-then-not-is_over-clause-on g c = on_and_on c.args.pass c.loop.last c.go_round-next.result.0 c.loop.invariant.on c.go_round-next.ensures.on
+
+pub loop-preserved-then-len-count : goal.loop-preserved-then-len-count
+loop-preserved-then-len-count g c = record {
+  on = on_and_on c.args.pass c.loop.last c.go_round-next.result.0 c.loop.invariant.on c.go_round-next.ensures.on;
+  left = c.go_round-next.ensures.left c.if-not-is_over.false;
+}
 
 pub loop-preserved : goal.loop-preserved
-loop-preserved g c = on_and_on c.args.pass c.loop.last c.go_round-next.result.0 c.loop.invariant c.go_round-next.ensures.on
+loop-preserved g c = record {
+  on = on_and_on c.args.pass c.loop.last c.go_round-next.result.0 c.loop.invariant.on c.go_round-next.ensures.on;
+  left = c.go_round-next.ensures.left c.if-not-is_over.false;
+}

@@ -1,5 +1,8 @@
-use Rattle.workers.specs.Working.{GoesOn}
+use Rattle.workers.specs.Working.{AreLeft, GoesOn}
 use Rattle.workers.proofs.sweep.sweep.Given as goal
 
 abbrev pub invariant-loop : goal.invariant-loop
-invariant-loop g l = GoesOn l.fn.pass l.last
+invariant-loop g l = record {
+  on : GoesOn l.fn.pass l.last;
+  left : AreLeft (g.K.Placed.batch l.batch.key).size l.last.view.known l.rest.items;
+}

@@ -1,7 +1,13 @@
-use Rattle.std.proofs.Common.{◌<◌, ℕ, ap, subst, sym, ◌∙◌}
+use Rattle.std.proofs.Common.{ℕ, ap, subst, ◌∙◌}
+use Rattle.workers.specs.Working.{AreLeft}
+use Rattle.workers.proofs.Going.{left_all}
 use Rattle.workers.proofs.work.work.Goals as goal
 
+pub sweep-pass-requires-clause-left : goal.sweep-pass-requires-clause-left
+sweep-pass-requires-clause-left g c =
+    subst (λ (size : ℕ). AreLeft size c.args.pass.view.known c.in-Ok.rest.items)
+    (c.places-size.ensures.value ∙ ap (λ key. (g.K.Placed.batch key).size) c.key.ensures)
+    (left_all c.places-size.result c.args.pass.view.known c.in-Ok.rest.items c.in-Ok.ensures)
+
 pub returns-in-All-clause-all : goal.returns-in-All-clause-all
-returns-in-All-clause-all g c = λ _ index less.
-    c.sweep-pass.ensures.all c.in-All.is index
-    (subst (λ (n : ℕ). index < n) (sym (c.places-size.ensures.value ∙ ap (λ key. (g.K.Placed.batch key).size) c.key.ensures)) less)
+returns-in-All-clause-all g c = λ _. c.sweep-pass.ensures.all c.in-All.is

@@ -1,0 +1,4 @@
+use Rattle.workers.proofs.work.+work_below.Given as goal
+
+abbrev pub decreases-work_below : goal.decreases-work_below
+decreases-work_below g l = l.worker
