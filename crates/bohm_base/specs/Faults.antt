@@ -14,6 +14,7 @@ read_errors (Ok answer) errors = errors
 read_errors (Err EngineFault.NoMemory) errors = errors
 read_errors (Err EngineFault.Read) errors = raised errors
 read_errors (Err EngineFault.Write) errors = errors
+read_errors (Err EngineFault.Spawn) errors = errors
 
 -- the count of the writer's failures after an answer
 abbrev pub write_errors : {A : Type 0} → Result A EngineFault → ℕ → ℕ
@@ -21,3 +22,4 @@ write_errors (Ok answer) errors = errors
 write_errors (Err EngineFault.NoMemory) errors = errors
 write_errors (Err EngineFault.Read) errors = errors
 write_errors (Err EngineFault.Write) errors = raised errors
+write_errors (Err EngineFault.Spawn) errors = errors

@@ -20,6 +20,9 @@ pub enum EngineFault {
     /// The writer failed, or took no byte of a piece that wasn't empty.
     #[error("cannot write")]
     Write = 3,
+    /// A worker's thread could not be started.
+    #[error("cannot start a worker")]
+    Spawn = 5,
 }
 
 impl From<AllocError> for EngineFault {
