@@ -8,3 +8,4 @@ mod run;
 pub use crew::Crew;
 pub use fault::EngineFault;
 pub use run::Engine;
+pub use workers::RunFault;

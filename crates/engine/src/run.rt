@@ -1,6 +1,6 @@
 //! A log of which a beginning is finished.
 
-ghost use Rattle.std.specs.Prelude.{◌≡◌, ◌<◌, ◌≤◌, ◌+◌, ◌-◌, ◌++◌, IfOk, List, OnErr, OnOk, length};
+ghost use Rattle.std.specs.Prelude.{◌≡◌, ◌≢◌, ◌<◌, ◌≤◌, ◌+◌, ◌-◌, ◌++◌, Err, IfOk, List, OnErr, OnOk, length};
 ghost use Rattle.model_base.specs.declared.outcome.Outcome.{Outcome as Came};
 ghost use Rattle.chains.specs.Store.{versions_between};
 ghost use Rattle.standing.specs.Known.{AreKnown, AreNamed};
@@ -180,6 +180,7 @@ fn run_range<T: Threads + Wait + Sync, G: Gate + Sync>(
     ensures chains { OnErr result (chains.new ≡ chains.old) }
     ensures book { OnErr result (book.new ≡ book.old) }
     ensures outcomes { OnErr result (outcomes.new.items ≡ outcomes.old.items) }
+    ensures alone { crew.workers ≤ 1 → result ≢ Err RunFault.Spawn }
 {
     if crew.workers <= 1 || range.start == range.end {
         return match run_in_order(alloc, chains, book, log, range, gate, outcomes) {
@@ -191,7 +192,7 @@ fn run_range<T: Threads + Wait + Sync, G: Gate + Sync>(
 }
 
 impl Engine {
-    ghost use Rattle.std.specs.Prelude.{◌↔◌, ◌⊎◌, ◌||◌, false, Option, None, Some, Err, IfErr, IfOk, OnErr, OnOk, drop, is_err, nat_lt, slice_get};
+    ghost use Rattle.std.specs.Prelude.{◌↔◌, ◌⊎◌, ◌||◌, false, Option, None, Some, IfErr, IfOk, OnErr, OnOk, drop, is_err, nat_lt, slice_get};
     ghost use Rattle.std.specs.Option.{MatchOption};
     ghost use Rattle.model_base.specs.Outcomes.{deeds_before, outcome, owners, rows_before};
     ghost use Rattle.chains.specs.Store.{Sweeps, Trims};
@@ -314,6 +315,8 @@ impl Engine {
         ensures log { self.new.log ≡ self.old.log }
         ensures dropped { self.new.dropped ≡ self.old.dropped }
         ensures err { OnErr result (self.new ≡ self.old) }
+        // One worker starts no thread.
+        ensures alone { crew.workers ≤ 1 → result ≢ Err RunFault.Spawn }
     {
         let start = self.finished();
         let _len = self.log.len();
