@@ -21,3 +21,4 @@ pub mod Passed
 pub mod Earlier
 pub mod OnlySlot
 pub mod Referring
+pub mod AtHand

@@ -1,6 +1,6 @@
 //! A range of a log as a batch.
 
-ghost use Rattle.std.specs.Prelude.{◌≡◌, ◌<◌, ◌≤◌, ◌+◌, ◌-◌, ◌++◌, ℕ, List, None, Some, length, slice_get, slice_index_or, ◌^◌, IfOk, IfSome, OnOk};
+ghost use Rattle.std.specs.Prelude.{◌≡◌, ◌<◌, ◌≤◌, ◌+◌, ◌-◌, ◌++◌, ℕ, List, None, Some, length, slice_get, slice_index_or, ◌^◌, IfOk, IfSome, OnOk, false, true};
 ghost use Rattle.std.specs.Option.{MatchOption, option_to_list};
 ghost use Rattle.model_base.specs.Records.{grants_of};
 ghost use Rattle.model_base.specs.Outcomes.{deeds_before, owners, rows_before};
@@ -9,12 +9,13 @@ ghost use Rattle.grants_base.specs.Book.{ShowsBook};
 ghost use Rattle.grants_base.specs.Index.{IsNext, is_by, is_to};
 ghost use Rattle.chains.specs.Store.{IsRight};
 ghost use Rattle.sequencer.specs.Taken.{IsTaken, IsWhole};
-ghost use Rattle.bohm_core_base.specs.Batch.{batch_slots};
+ghost use Rattle.bohm_core_base.specs.Batch.{batch_slots, reference_words};
 ghost use Rattle.bohm_core_base.specs.Machine.{end_of, start};
 ghost use Rattle.log_batch.specs.Laws.{IsOfLog};
 ghost use Rattle.log_batch.specs.Earlier.{earlier_count, earlier_grants, own_grants};
 ghost use Rattle.log_batch.specs.Named.{grants_named};
 
+use crate::referred::{References, reference_counts};
 use chains::Chains;
 use grants::{Book, IndexedGrants, Records};
 use model_base::{
@@ -34,7 +35,7 @@ pub struct LogBatch<'a> {
     log: &'a LogTail,
     chains: &'a Chains,
     book: &'a Book,
-    references: Refs,
+    references: References,
     named: IndexedGrants,
     first: Place,
     size: usize,
@@ -42,14 +43,27 @@ pub struct LogBatch<'a> {
 }
 
 impl<'a> Model for LogBatch<'a> {
+    ghost use Rattle.log_batch.specs.Referred.{is_found};
     ghost use Rattle.log_batch.specs.Supplied.{IsSupplied, Ranged};
 
     ghost Value = { Ranged };
 
-    ghost view = { λ batch. record { log = batch.log.now.log; first = batch.first; size = batch.size; partitions = batch.partitions } };
+    ghost view = { λ batch. record {
+      log = batch.log.now.log;
+      first = batch.first;
+      size = batch.size;
+      partitions = batch.partitions;
+      placed = is_found batch.references;
+    } };
 
     ghost invariant = { λ batch. IsSupplied
-        (record { log = batch.log.now.log; first = batch.first; size = batch.size; partitions = batch.partitions })
+        (record {
+          log = batch.log.now.log;
+          first = batch.first;
+          size = batch.size;
+          partitions = batch.partitions;
+          placed = is_found batch.references;
+        })
         batch.log.now.dropped batch.chains.now batch.book.now batch.references batch.named };
 }
 
@@ -82,7 +96,51 @@ fn named_grants(
 }
 
 impl<'a> LogBatch<'a> {
+    ghost use Rattle.log_batch.specs.Referred.{AreAtHand, is_found};
     ghost use Rattle.log_batch.specs.Supplied.{batch_in, range_of};
+
+    // The places of the range as a batch, with what is at hand of their references.
+    fn of(
+        alloc: Global,
+        log: &'a LogTail,
+        chains: &'a Chains,
+        book: &'a Book,
+        range: Range<Place>,
+        partitions: usize,
+        references: References,
+    ) -> Result<Self, AllocError>
+        requires partitions { 0 < partitions }
+        requires kept { log.now.dropped ≤ range.start }
+        requires order { range.start ≤ range.end }
+        requires within { range.end ≤ length log.now.log.statements }
+        requires ends { chains.now.end ≡ range.start }
+        requires right { IsRight log.now.log.statements chains.now }
+        requires book { ShowsBook book.now (owners log.now.log.statements) (deeds_before log.now.log.statements range.start) }
+        requires references { AreAtHand log.now.log.statements range.start (range.end - range.start) references }
+        ensures { IfOk result (λ batch. batch ≡ record {
+          log = log.now.log;
+          first = range.start;
+          size = range.end - range.start;
+          partitions = partitions;
+          placed = is_found references;
+        }) }
+    {
+        let _dropped = log.dropped();
+        let _len = log.len();
+        let _mark = chains.mark();
+        let named = named_grants(alloc, log, range.start..range.end)?;
+        Ok(LogBatch {
+            alloc,
+            log,
+            chains,
+            book,
+            references,
+            named,
+            first: range.start,
+            size: (range.end - range.start) as usize,
+            partitions,
+        })
+    }
 
     /// The places of the range as a batch, placed by so many partitions. The versions of rows end where the range begins and
     /// are those of the log, the book has the deeds before the range, and the references are `merge`'s for it. An error is want
@@ -104,24 +162,47 @@ impl<'a> LogBatch<'a> {
         requires right { IsRight log.now.log.statements chains.now }
         requires book { ShowsBook book.now (owners log.now.log.statements) (deeds_before log.now.log.statements range.start) }
         requires references { references ≡ batch_references log.now.log.statements range.start range.end }
-        ensures { IfOk result (λ batch. batch
-            ≡ record { log = log.now.log; first = range.start; size = range.end - range.start; partitions = partitions }) }
+        ensures { IfOk result (λ batch. batch ≡ record {
+          log = log.now.log;
+          first = range.start;
+          size = range.end - range.start;
+          partitions = partitions;
+          placed = true;
+        }) }
     {
-        let _dropped = log.dropped();
-        let _len = log.len();
-        let _mark = chains.mark();
-        let named = named_grants(alloc, log, range.start..range.end)?;
-        Ok(LogBatch {
-            alloc,
-            log,
-            chains,
-            book,
-            references,
-            named,
-            first: range.start,
-            size: (range.end - range.start) as usize,
-            partitions,
-        })
+        let found = References::Found(references);
+        Self::of(alloc, log, chains, book, range, partitions, found)
+    }
+
+    /// The places of the range as a batch that isn't placed: no reference is looked for, and of each place only the number of
+    /// its references is kept. So many partitions are to place it. The versions of rows end where the range begins and are those
+    /// of the log, and the book has the deeds before the range. An error is out of memory.
+    pub fn open(
+        alloc: Global,
+        log: &'a LogTail,
+        chains: &'a Chains,
+        book: &'a Book,
+        range: Range<Place>,
+        partitions: usize,
+    ) -> Result<Self, AllocError>
+        requires partitions { 0 < partitions }
+        requires kept { log.now.dropped ≤ range.start }
+        requires order { range.start ≤ range.end }
+        requires within { range.end ≤ length log.now.log.statements }
+        requires ends { chains.now.end ≡ range.start }
+        requires right { IsRight log.now.log.statements chains.now }
+        requires book { ShowsBook book.now (owners log.now.log.statements) (deeds_before log.now.log.statements range.start) }
+        ensures { IfOk result (λ batch. batch ≡ record {
+          log = log.now.log;
+          first = range.start;
+          size = range.end - range.start;
+          partitions = partitions;
+          placed = false;
+        }) }
+    {
+        let counts = reference_counts(alloc, log, range.start..range.end)?;
+        let counted = References::Counted(counts);
+        Self::of(alloc, log, chains, book, range, partitions, counted)
     }
 
     /// The log.
@@ -186,12 +267,24 @@ impl<'a> LogBatch<'a> {
         }
     }
 
-    /// What an index is referred to.
+    /// What an index is referred to, if the batch was placed.
     pub fn references_at(&self, index: usize) -> &[Reference]
-        requires { index < self.now.size }
+        requires placed { self.now.placed ≡ true }
+        requires within { index < self.now.size }
         ensures { result.now ≡ references self.now.log.statements self.now.first (self.now.first + index) }
     {
-        self.references.of(index)
+        match &self.references {
+            References::Found(references) => references.of(index),
+            References::Counted(_) => unreachable!(),
+        }
+    }
+
+    /// How many references an index has, whether the batch was placed or not.
+    pub fn references_length(&self, index: usize) -> usize
+        requires { index < self.now.size }
+        ensures { result ≡ length (reference_words (batch_in self.now) index) }
+    {
+        self.references.count(index)
     }
 
     /// The row of a key before the batch.

@@ -7,6 +7,7 @@
 mod asking;
 mod batch;
 mod laws;
+mod referred;
 
 pub use batch::LogBatch;
 pub use laws::{

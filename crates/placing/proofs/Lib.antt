@@ -5,3 +5,4 @@ pub mod Writers
 pub mod Placed
 pub mod Merged
 pub mod Few
+pub mod Going

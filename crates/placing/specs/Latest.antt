@@ -1,5 +1,5 @@
 -- The last places so far that may change the rows of one partition, and that have a deed on its tables.
-use Rattle.std.specs.Prelude.{◌≡◌, ◌==◌, ◌&&◌, ℕ, Bool, Option, Some, None, List, false, slice_get, if◌then◌else◌}
+use Rattle.std.specs.Prelude.{◌≡◌, ◌==◌, ◌&&◌, ◌+◌, ℕ, zero, suc, Bool, Option, Some, None, List, false, slice_get, if◌then◌else◌}
 use Rattle.std.specs.BTreeMap.{get}
 use Rattle.std.specs.Ordering.{nat_cmp, ordering_then}
 use Rattle.std.specs.declared.cmp.Ordering.{Ordering}
@@ -72,6 +72,11 @@ pub record IsBehind (latest : Latest) (log : List Statement) (first place : ℕ)
   pub partition : latest.partition ≡ exact.partition
   pub partitions : latest.partitions ≡ exact.partitions
   pub part : (statement : Statement) → slice_get log place ≡ Some statement → ChangesOnly exact latest statement
+
+-- so many places of the batch were gone through: before any nothing is kept, and then all are noted but the last, of which maybe a part is
+abbrev pub IsUpTo : Latest → List Statement → ℕ → ℕ → Type 0
+IsUpTo latest log first zero = IsLatest latest log first first
+IsUpTo latest log first (suc last) = IsBehind latest log first (first + last)
 
 -- the partition is the same; a row of it that the statement declares to write is kept with the place, as is a table of it
 -- that the statement has a deed on, and each other row and table stays as it was

@@ -34,6 +34,8 @@ impl Finder {
 
     /// Notes the statement of a place that was placed. On `Err` memory was refused; the place can be noted again.
     pub fn note(&mut self, statement: &Statement, place: Place) -> Result<(), AllocError>
+        ensures partition { self.new.latest.partition ≡ self.old.latest.partition }
+        ensures partitions { self.new.latest.partitions ≡ self.old.latest.partitions }
         ensures behind { (log : List Statement) (first : ℕ)
             → IsBehind self.old.latest log first place → slice_get log place ≡ Some statement.now
             → IsBehind self.new.latest log first place }

@@ -2,6 +2,7 @@ use Rattle.std.proofs.Common.{◌≡◌, ◌≤◌, List, ℕ, length, ap, sym, 
 use Rattle.model_base.specs.declared.deed.Record.{Record}
 use Rattle.bohm_core_base.specs.Batch.{batch_slots}
 use Rattle.log_batch.specs.Earlier.{earlier_count}
+use Rattle.log_batch.specs.Referred.{is_found}
 use Rattle.log_batch.specs.Supplied.{Ranged, batch_in, range_of}
 use Rattle.log_batch.proofs.Earlier.{book-count, count-within}
 use Rattle.log_batch.proofs.batch.LogBatch.earlier_count.Goals as goal
@@ -9,12 +10,12 @@ use Rattle.log_batch.proofs.batch.LogBatch.earlier_count.Goals as goal
 pub returns : goal.returns
 returns c =
     let s = c.self.inside in
-    let range = range_of record { log = s.log.now.log; first = s.first; size = s.size; partitions = s.partitions } in
+    let range = range_of record { log = s.log.now.log; first = s.first; size = s.size; partitions = s.partitions; placed = is_found s.references } in
     let found = length c.records.result.now in
     let count = ap (λ (entries : List Record). length entries) c.records.ensures.records ∙ book-count range s.book.now c.self.invariant.book.same in
     record {
       value = subst (λ (ranged : Ranged). found ≡ earlier_count (batch_in ranged)) c.self.view_is count;
       within =
           subst (λ (ranged : Ranged). found ≤ length (batch_slots (batch_in ranged))) c.self.view_is
-          (subst (λ (n : ℕ). n ≤ length (batch_slots (batch_in (record { log = s.log.now.log; first = s.first; size = s.size; partitions = s.partitions })))) (sym count) (count-within range));
+          (subst (λ (n : ℕ). n ≤ length (batch_slots (batch_in (record { log = s.log.now.log; first = s.first; size = s.size; partitions = s.partitions; placed = is_found s.references })))) (sym count) (count-within range));
     }

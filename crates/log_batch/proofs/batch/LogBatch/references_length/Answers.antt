@@ -1,0 +1,15 @@
+use Rattle.std.proofs.Common.{◌≡◌, ◌<◌, length, sym, ◌∙◌, subst}
+use Rattle.bohm_core_base.specs.Batch.{reference_words}
+use Rattle.log_batch.specs.Supplied.{Ranged, batch_in}
+use Rattle.log_batch.specs.Referred.{counts_in, is_found}
+use Rattle.log_batch.proofs.AtHand.{count-is}
+use Rattle.log_batch.proofs.batch.LogBatch.references_length.Goals as goal
+
+pub returns : goal.returns
+returns c =
+    let s = c.self.inside in
+    let index = c.args.index in
+    let ranged : Ranged = record { log = s.log.now.log; first = s.first; size = s.size; partitions = s.partitions; placed = is_found s.references } in
+    let low : index < s.size = subst (λ (r : Ranged). index < r.size) (sym c.self.view_is) c.requires in
+    subst (λ (r : Ranged). c.count.result ≡ length (reference_words (batch_in r) index)) c.self.view_is
+    (c.count.ensures ∙ count-is ranged index (counts_in s.references) c.self.invariant.references.counts low)
