@@ -72,8 +72,8 @@ fn reference_at(references: &[Reference], number: usize) -> Reference
     references[number]
 }
 
-// A reference as a word of the batch that begins here: 0 for what stood before it, or one more than the index of the place.
-fn word_of(first: Place, reference: Reference) -> u64
+/// A reference as a word of the batch that begins here: 0 for what stood before it, or one more than the index of the place.
+pub fn word_of(first: Place, reference: Reference) -> u64
     requires { word_of first reference < 2 ^ 64 }
     ensures { result ≡ word_of first reference }
 {
@@ -88,7 +88,7 @@ impl Placed for LogKey<'_> {
 
     ghost listed = { λ key. key.slots };
 
-    ghost placed = { λ _. true };
+    ghost placed = { λ key. key.batch.placed };
 
     fn places(&self) -> usize {
         // A range of a log is a batch that the machine's law speaks of.
@@ -106,7 +106,7 @@ impl Placed for LogKey<'_> {
     }
 
     fn references_length(&self, index: usize) -> usize {
-        self.batch.references_at(index).len()
+        self.batch.references_length(index)
     }
 
     fn reference_word(&self, index: usize, number: usize) -> u64 {

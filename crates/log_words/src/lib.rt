@@ -11,5 +11,5 @@ mod log_words;
 mod reach;
 
 pub use ended::ended_slots;
-pub use key::LogKey;
+pub use key::{LogKey, word_of};
 pub use log_words::LogWords;

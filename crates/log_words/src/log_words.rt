@@ -32,6 +32,7 @@ impl<'a> Model for LogWords<'a> {
 impl<'a> LogWords<'a> {
     /// The words of the batch, all of which is placed, with all places free, and its first pass. An error is want of memory.
     pub fn new(alloc: Global, key: LogKey<'a>) -> Result<(LogWords<'a>, Pass), AllocError>
+        requires { key.batch.placed ≡ true }
         ensures { IfOk result (λ made. (made.0.key ≡ key.entry) × (made.1 ≡ first_pass made.0)) }
     {
         let (words, pass) = BatchWords::new(alloc, &key)?;

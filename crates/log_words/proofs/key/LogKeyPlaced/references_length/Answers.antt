@@ -1,11 +1,10 @@
 use Rattle.std.proofs.Common.{◌≡◌, length, subst}
 use Rattle.bohm_core_base.specs.Batch.{reference_words}
 use Rattle.log_batch.specs.Supplied.{batch_in}
-use Rattle.log_batch.proofs.Counted.{references_counted}
 use Rattle.log_words.specs.Keys.{Key}
 use Rattle.log_words.proofs.key.LogKeyPlaced.references_length.Goals as goal
 
 pub returns : goal.returns
 returns c =
-    subst (λ (k : Key). length c.references_at.result.now ≡ length (reference_words (batch_in k.batch) c.args.index)) c.self.view_is
-    (references_counted c.self.inside.batch c.args.index c.references_at.result.now c.references_at.ensures)
+    subst (λ (k : Key). c.references_length.result ≡ length (reference_words (batch_in k.batch) c.args.index)) c.self.view_is
+    c.references_length.ensures
