@@ -6,3 +6,4 @@ pub mod Endings
 pub mod Decoding
 pub mod Admitting
 pub mod Learnt
+pub mod Placing

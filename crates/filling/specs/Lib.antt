@@ -3,3 +3,4 @@ pub mod Numbers
 pub mod Readings
 pub mod Outcomes
 pub mod Runs
+pub mod Placers

@@ -94,7 +94,7 @@ impl Placed for RangeKey<'_> {
 
     ghost listed = { λ key. key.slots };
 
-    ghost placed = { λ _. true };
+    ghost placed = { λ key. key.batch.placed };
 
     fn places(&self) -> usize {
         self.key.places()

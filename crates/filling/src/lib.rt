@@ -9,11 +9,16 @@ mod ends;
 mod fill;
 mod key;
 mod loads;
+mod opening;
 mod outcomes;
 mod own;
+mod placer;
 mod reader;
 mod running;
+mod storing;
 
 pub use key::RangeKey;
+pub use opening::open;
 pub use outcomes::outcome;
+pub use placer::{Advanced, Placer};
 pub use running::{Ran, run_place};

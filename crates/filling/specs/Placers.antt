@@ -1,0 +1,76 @@
+-- A placer of a batch of a log. Each partition is gone through in the order of the log, without a look at another one: J. M.
+-- Faleiro and D. J. Abadi, "Rethinking Serializable Multiversion Concurrency Control", PVLDB 8 (2015), section 3. That places
+-- are run while later ones are still placed is this project's own.
+use Rattle.std.specs.Prelude.{◌≡◌, ◌<◌, ◌≤◌, ◌+◌, ℕ, Some, List, length, slice_get}
+use Rattle.std.specs.List.{range_with_len}
+use Rattle.model_base.specs.declared.statement.Statement.{Statement}
+use Rattle.placing.specs.declared.latest.Latest.{Latest}
+use Rattle.placing.specs.Latest.{IsLatest, IsUpTo}
+use Rattle.bohm_core_base.specs.Batch.{Batch, reference_words}
+use Rattle.log_batch.specs.Supplied.{Ranged}
+use Rattle.log_words.specs.Keys.{Key}
+use Rattle.words.specs.declared.view.View.{View}
+use Rattle.words.specs.Layout.{partition_at}
+use Rattle.words.specs.Passes.{IsPlacerOf, Placing, Words, placed_on}
+use Rattle.words.specs.Views.{In, front_in, placer_view, with_placing}
+use Rattle.filling.specs.declared.placer.Placer.{Placer}
+use Rattle.filling.specs.declared.placer.Advanced.{Advanced}
+use Rattle.filling.specs.declared.placer.Advanced.TheVariants.{Next, End, NoMemory}
+
+-- how many places it has placed, which is the index of the one that it places next
+abbrev pub front_of : Placer → ℕ
+front_of placer = front_in placer.token.view
+
+-- it is a placer of this batch, for one of its partitions, and keeps what it needs for the place at its front
+pub record IsPlacerIn (words : Words Key) (placer : Placer) : Type 0 where
+  pub ours : IsPlacerOf words placer.token
+  pub within : placer.token.view.partition < words.key.batch.partitions
+  pub most : front_of placer ≤ words.key.batch.size
+  pub partition : placer.finder.latest.partition ≡ placer.token.view.partition
+  pub partitions : placer.finder.latest.partitions ≡ words.key.batch.partitions
+  pub up_to : IsUpTo placer.finder.latest words.key.batch.log.statements words.key.batch.first (front_of placer)
+
+-- the placer of a partition that has placed nothing
+abbrev pub IsNewPlacer : Words Key → ℕ → Placer → Type 0
+IsNewPlacer words partition placer = IsPlacerIn words placer × (placer.token.view ≡ placer_view partition)
+
+-- there is one for each of so many partitions, in order
+pub record AreNewPlacers (words : Words Key) (partitions : ℕ) (placers : List Placer) : Type 0 where
+  pub every : length placers ≡ partitions
+  pub each : (partition : ℕ) (placer : Placer) → slice_get placers partition ≡ Some placer → IsNewPlacer words partition placer
+
+-- the placers of the first so many partitions were cut from the pass
+abbrev pub with_all_cut : View → ℕ → View
+with_all_cut view partitions = record view { cut = range_with_len 0 partitions }
+
+-- what came of a step: the place at the front was placed, or there was none any more, or memory was refused, and then neither the
+-- words nor the place at the front are others
+abbrev pub AdvancedTells : Ranged → Placer → Advanced → Placer → Type 0
+AdvancedTells ranged placer (Next place) after =
+    (front_of placer < ranged.size) × (place ≡ ranged.first + front_of placer)
+    × (after.token ≡ placed_on placer.token (with_placing placer.token.view))
+AdvancedTells ranged placer End after = (front_of placer ≡ ranged.size) × (after ≡ placer)
+AdvancedTells ranged placer NoMemory after = (front_of placer < ranged.size) × (after.token ≡ placer.token)
+
+-- the place at the front is one of the batch and has this statement, and the placer keeps all places below it
+pub record IsAt (words : Words Key) (token : Placing) (kept : Latest) (statement : Statement) : Type 0 where
+  pub ours : IsPlacerOf words token
+  pub within : front_in token.view < words.key.batch.size
+  pub at : slice_get words.key.batch.log.statements (words.key.batch.first + front_in token.view) ≡ Some statement
+  pub partition : kept.partition ≡ token.view.partition
+  pub partitions : kept.partitions ≡ words.key.batch.partitions
+  pub latest : IsLatest kept words.key.batch.log.statements words.key.batch.first (words.key.batch.first + front_in token.view)
+
+-- of the references of the place at the front, those below a number that are into the placer's partition are stored
+abbrev pub StoredBelow : Batch → View → ℕ → Type 0
+StoredBelow batch view count =
+    (number : ℕ) → number < count → number < length (reference_words batch (front_in view))
+    → partition_at batch (front_in view) number ≡ view.partition → In number view.stored
+
+-- the placer with these stored
+abbrev pub storing : Placing → List ℕ → Placing
+storing token stored = placed_on token (record token.view { stored = stored })
+
+-- it only stored references
+abbrev pub OnlyStores : Placing → Placing → Type 0
+OnlyStores token after = after ≡ storing token after.view.stored

@@ -1,0 +1,130 @@
+//! The placers of a batch of a log.
+
+ghost use Rattle.std.specs.Prelude.{◌≡◌, ◌<◌, ◌+◌, Some, OnOk, length, slice_get};
+ghost use Rattle.model_base.specs.declared.statement.Statement.{Statement};
+ghost use Rattle.model_base.specs.References.{tables_of};
+ghost use Rattle.placing.specs.Latest.{IsLatest, IsUpTo};
+ghost use Rattle.words.specs.Passes.{placed_on};
+ghost use Rattle.words.specs.Views.{with_placing};
+ghost use Rattle.filling.specs.Placers.{IsAt};
+
+use crate::key::RangeKey;
+use crate::storing::{store_rows, store_tables};
+use filling_base::Batch;
+use log_batch::LogBatch;
+use model_base::{Place, Statement};
+use placing::Finder;
+use std::alloc::AllocError;
+use words::BatchWords;
+
+/// What came of a placer's step.
+#[derive(Clone, Copy, PartialEq, Eq, Debug)]
+pub enum Advanced {
+    /// It placed this place.
+    Next(Place),
+    /// It has placed every place of the batch.
+    End,
+    /// Out of memory. It can be asked again.
+    NoMemory,
+}
+
+/// The placer of one partition of a batch of a log, which places one place after another. It may be handed to any thread.
+#[derive(Drop)]
+pub struct Placer {
+    pub(crate) token: words::Placer,
+    pub(crate) finder: Finder,
+}
+
+// Notes the place before an index, if the batch has one, and finds the tables of the index. On `Err` memory was refused, and the
+// same can be tried again.
+fn find(finder: &mut Finder, batch: &LogBatch<'_>, index: usize) -> Result<(), AllocError>
+    requires within { index < batch.now.size }
+    requires up_to { IsUpTo finder.old.latest batch.now.log.statements batch.now.first index }
+    ensures partition { finder.new.latest.partition ≡ finder.old.latest.partition }
+    ensures partitions { finder.new.latest.partitions ≡ finder.old.latest.partitions }
+    ensures up_to { IsUpTo finder.new.latest batch.now.log.statements batch.now.first index }
+    ensures latest { OnOk result (IsLatest finder.new.latest batch.now.log.statements batch.now.first (batch.now.first + index)) }
+    ensures tables { OnOk result ((statement : Statement)
+        → slice_get batch.now.log.statements (batch.now.first + index) ≡ Some statement
+        → finder.new.tables.items ≡ tables_of statement.form) }
+{
+    note_before(finder, batch, index)?;
+    finder.find(batch.statement(index))
+}
+
+// Notes the place before an index, if the batch has one.
+fn note_before(finder: &mut Finder, batch: &LogBatch<'_>, index: usize) -> Result<(), AllocError>
+    requires within { index < batch.now.size }
+    requires up_to { IsUpTo finder.old.latest batch.now.log.statements batch.now.first index }
+    ensures partition { finder.new.latest.partition ≡ finder.old.latest.partition }
+    ensures partitions { finder.new.latest.partitions ≡ finder.old.latest.partitions }
+    ensures up_to { IsUpTo finder.new.latest batch.now.log.statements batch.now.first index }
+    ensures latest { OnOk result (IsLatest finder.new.latest batch.now.log.statements batch.now.first (batch.now.first + index)) }
+{
+    if index == 0 {
+        return Ok(());
+    }
+    let place = batch.first_place() + (index as u64 - 1);
+    finder.note(batch.statement(index - 1), place)
+}
+
+// Stores the references of the place at the front into the placer's partition, and then its front.
+fn place_statement<'a>(
+    key: &RangeKey<'a>,
+    words: &BatchWords<RangeKey<'a>>,
+    token: &mut words::Placer,
+    finder: &Finder,
+    statement: &Statement,
+)
+    requires key { words.now.key ≡ key.now }
+    requires at { IsAt words.now token.old finder.now.latest statement.now }
+    requires partition { token.old.view.partition < words.now.key.batch.partitions }
+    requires tables { finder.now.tables.items ≡ tables_of statement.now.form }
+    ensures { token.new ≡ placed_on token.old (with_placing token.old.view) }
+{
+    store_rows(key, words, token, finder, statement);
+    store_tables(key, words, token, finder, statement);
+    words.advance(token);
+}
+
+impl Placer {
+    ghost use Rattle.std.specs.Prelude.{◌≡◌};
+    ghost use Rattle.filling.specs.Placers.{AdvancedTells, IsPlacerIn, front_of};
+
+    /// Its partition.
+    pub fn partition(&self) -> usize
+        ensures { result ≡ self.now.token.view.partition }
+    {
+        self.token.partition()
+    }
+
+    /// How many places of the batch it has placed, which is the index of the one that it places next.
+    pub fn front(&self) -> usize
+        ensures { result ≡ front_of self.now }
+    {
+        self.token.front()
+    }
+
+    /// Places the next place of the batch for the placer's partition, if there is one: it stores the place's references into the
+    /// partition, and then the partition's front. After `NoMemory` nothing is stored, and the next call places the same place.
+    pub fn place_next(&mut self, batch: &Batch<RangeKey<'_>>) -> Advanced
+        requires ours { IsPlacerIn batch.now self.old }
+        ensures ours { IsPlacerIn batch.now self.new }
+        ensures tells { AdvancedTells batch.now.key.batch self.old result self.new }
+    {
+        let key = batch.key();
+        let range = key.batch();
+        let index = self.front();
+        if index >= range.size() {
+            return Advanced::End;
+        }
+        match find(&mut self.finder, range, index) {
+            Ok(()) => {
+                let statement = range.statement(index);
+                place_statement(key, batch.words(), &mut self.token, &self.finder, statement);
+                Advanced::Next(range.first_place() + index as u64)
+            }
+            Err(_) => Advanced::NoMemory,
+        }
+    }
+}
