@@ -1,6 +1,6 @@
 //! What a partition stores of the references of its next place.
 
-ghost use Rattle.std.specs.Prelude.{◌≡◌, ◌==◌, ◌<◌, ◌^◌, ◌+◌, ◌++◌, All, IfOk, OnOk, length, map, if◌then◌else◌};
+ghost use Rattle.std.specs.Prelude.{◌≡◌, ◌==◌, ◌<◌, ◌^◌, ◌+◌, ◌++◌, All, IfOk, OnOk, length, map, true, if◌then◌else◌};
 ghost use Rattle.model_base.specs.declared.reference.Reference.{Reference};
 ghost use Rattle.model_base.specs.declared.statement.Access.{Access};
 ghost use Rattle.placing.specs.Parts.{key_partition, table_partition};
@@ -110,7 +110,8 @@ pub(crate) fn stored_references(
     state: &State,
     partition: usize,
 ) -> Result<Vec<usize>, AllocError>
-    requires { front_of state.now partition < batch.now.size }
+    requires placed { batch.now.placed ≡ true }
+    requires within { front_of state.now partition < batch.now.size }
     ensures { IfOk result (λ references. references.items
         ≡ placed_references (batch_in batch.now) state.now partition (front_of state.now partition)) }
 {

@@ -10,7 +10,7 @@ use Rattle.log_machine.proofs.done.done_outcome.Goals as goal
 
 pub statement-requires : goal.statement-requires
 statement-requires c =
-    let same = c.batch-batch.ensures ∙ c.statements.ensures in
+    let same = c.batch-batch.ensures.same ∙ c.statements.ensures in
     let is = subst (λ (r : Ranged). IsOfLog (range_of r)) same c.log-log.ensures.of_log in
     let within = subst (λ (r : Ranged). r.first + r.size ≤ length r.log.statements) same c.log-log.ensures.within in
     let done = rw c.in-Some.is at c.in_ok-ended.ensures.done in
@@ -23,7 +23,7 @@ returns-in-Some-clause-told c =
     let state = c.args.machine.now.state in
     let index = c.args.index in
     let form = c.statement.result.now.form in
-    let same = c.batch-batch.ensures ∙ c.statements.ensures in
+    let same = c.batch-batch.ensures.same ∙ c.statements.ensures in
     let is = subst (λ (r : Ranged). IsOfLog (range_of r)) same c.log-log.ensures.of_log in
     let within = subst (λ (r : Ranged). r.first + r.size ≤ length r.log.statements) same c.log-log.ensures.within in
     let few = subst (λ (r : Ranged). r.first + r.size ≤ 4294967295) same c.first_place-first.ensures.small in
