@@ -239,7 +239,7 @@ impl<'a> Words<'a> {
         true
     }
 
-    /// Takes the next word, if it is this name and another follows; otherwise the words stay as they are. It looks at no byte of its own.
+    /// Takes the next word, if it is this name and another follows; otherwise the words stay as they are. The bytes are compared together.
     #[inline(always)]
     pub fn next_same(&mut self, name: &Name<'_>) -> bool
         ensures { MatchBool result (self.old ≡ name.now ∷ self.new) (self.new ≡ self.old) }
