@@ -32,6 +32,7 @@ pub fn endings(alloc: Global) -> Result<String, TrialFault> {
         ProgramFault::Work(WorkFault::Read),
         ProgramFault::Work(WorkFault::Write),
         ProgramFault::Work(WorkFault::NoSuchPlace),
+        ProgramFault::Work(WorkFault::Spawn),
     ] {
         let (status, text) = ending(&fault);
         let part = format!(in alloc; "{fault:?} status {status}, {text}")?;

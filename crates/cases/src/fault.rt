@@ -57,6 +57,9 @@ pub enum TrialFault {
     /// A setting of a run is outside its limits.
     #[error("bad settings")]
     BadSettings,
+    /// A worker's thread could not be started.
+    #[error("cannot start a worker")]
+    Spawn,
     /// The log has no such place.
     #[error("no such place")]
     NoSuchPlace,
@@ -101,6 +104,7 @@ impl From<bohm_base::EngineFault> for TrialFault {
             bohm_base::EngineFault::NoMemory => TrialFault::NoMemory,
             bohm_base::EngineFault::Read => TrialFault::Read,
             bohm_base::EngineFault::Write => TrialFault::Write,
+            bohm_base::EngineFault::Spawn => TrialFault::Spawn,
         }
     }
 }
@@ -112,6 +116,7 @@ impl From<engine::EngineFault> for TrialFault {
             engine::EngineFault::Read => TrialFault::Read,
             engine::EngineFault::Write => TrialFault::Write,
             engine::EngineFault::BadSettings => TrialFault::BadSettings,
+            engine::EngineFault::Spawn => TrialFault::Spawn,
         }
     }
 }

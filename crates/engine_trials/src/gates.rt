@@ -3,6 +3,7 @@
 use crate::fault::TrialFault;
 use crate::stepping::{crew_of, push_lines, run_up_to};
 use engine::Engine;
+use model_base::Place;
 use std::alloc::Global;
 use std::sync::Wait;
 use std::sync::atomic::{AtomicBool, AtomicUsize, Ordering};
@@ -13,11 +14,11 @@ use workers::Gate;
 /// How often a gate looks whether a place is done, before it gives up.
 const LOOKS: u32 = 10_000_000;
 
-/// Holds back who asks for one place of a batch until another place is done.
+/// Holds back who asks for one place until another place is done.
 #[derive(Drop)]
 struct Waiting {
-    held: usize,
-    awaited: usize,
+    held: Place,
+    awaited: Place,
     done: AtomicBool,
     vain: AtomicUsize,
 }
@@ -36,33 +37,47 @@ impl Waiting {
 }
 
 impl Gate for Waiting {
-    fn before(&self, index: usize) {
-        if index == self.held && !self.sees_done() {
+    fn before(&self, place: Place) {
+        if place == self.held && !self.sees_done() {
             self.vain.fetch_add(1, Ordering::SeqCst);
         }
     }
 
-    fn after(&self, index: usize) {
-        if index == self.awaited {
+    fn after(&self, place: Place) {
+        if place == self.awaited {
             self.done.store(true, Ordering::SeqCst);
         }
     }
 }
 
-/// Counts what it is told, and holds back nobody.
+/// Notes how often it is told that a place is done, and holds back nobody.
 #[derive(Drop)]
-struct Counting {
-    before: AtomicUsize,
-    after: AtomicUsize,
+struct Noting {
+    second: AtomicUsize,
+    third: AtomicUsize,
+    others: AtomicUsize,
 }
 
-impl Gate for Counting {
-    fn before(&self, _index: usize) {
-        self.before.fetch_add(1, Ordering::SeqCst);
+impl Noting {
+    /// How often it was told of a place.
+    fn count_of(&self, place: Place) -> &AtomicUsize {
+        match place {
+            2 => &self.second,
+            3 => &self.third,
+            _ => &self.others,
+        }
+    }
+}
+
+impl Gate for Noting {
+    fn before(&self, place: Place) {
+        if place < 2 || place > 3 {
+            self.others.fetch_add(1, Ordering::SeqCst);
+        }
     }
 
-    fn after(&self, _index: usize) {
-        self.after.fetch_add(1, Ordering::SeqCst);
+    fn after(&self, place: Place) {
+        self.count_of(place).fetch_add(1, Ordering::SeqCst);
     }
 }
 
@@ -87,8 +102,8 @@ fn tell_held<R: Threads + Wait + Print + Sync>(
     rt: &R,
     alloc: Global,
     engine: &mut Engine,
-    held: usize,
-    awaited: usize,
+    held: Place,
+    awaited: Place,
 ) -> Result<(), TrialFault> {
     begin(rt, alloc, engine)?;
     let gate = Waiting {
@@ -101,7 +116,7 @@ fn tell_held<R: Threads + Wait + Print + Sync>(
     let vain = gate.vain.load(Ordering::SeqCst);
     let finished = engine.finished();
     println!(rt;
-        "place {held} of a batch waits for place {awaited}: {answer:?}, {vain} in vain, {finished} finished"
+        "place {held} waits for place {awaited}: {answer:?}, {vain} in vain, {finished} finished"
     )?;
     Ok(())
 }
@@ -114,17 +129,18 @@ fn tell_counted<R: Threads + Wait + Print + Sync>(
     workers: usize,
 ) -> Result<(), TrialFault> {
     begin(rt, alloc, engine)?;
-    let gate = Counting {
-        before: AtomicUsize::new(0),
-        after: AtomicUsize::new(0),
+    let gate = Noting {
+        second: AtomicUsize::new(0),
+        third: AtomicUsize::new(0),
+        others: AtomicUsize::new(0),
     };
     let answer = engine.run_batch(rt, alloc, 2..4, crew_of(workers, 1), &gate);
-    let before = gate.before.load(Ordering::SeqCst);
-    let after = gate.after.load(Ordering::SeqCst);
-    let all = after >= workers.saturating_mul(2) && before >= after;
-    let none = before == 0 && after == 0;
+    let second = gate.second.load(Ordering::SeqCst);
+    let third = gate.third.load(Ordering::SeqCst);
+    let others = gate.others.load(Ordering::SeqCst);
+    let all = second == workers && third == workers;
     println!(rt;
-        "{workers} workers: {answer:?}, each told of both places: {all}, told of none: {none}"
+        "{workers} workers: {answer:?}, each told of both places: {all}, of others: {others}"
     )?;
     Ok(())
 }
@@ -133,8 +149,8 @@ fn tell_counted<R: Threads + Wait + Print + Sync>(
 fn tell_waiting<R: Threads + Wait + Print + Sync>(
     rt: &R,
     alloc: Global,
-    held: usize,
-    awaited: usize,
+    held: Place,
+    awaited: Place,
 ) -> Result<(), TrialFault> {
     let mut engine = Engine::new(alloc);
     tell_held(rt, alloc, &mut engine, held, awaited)
@@ -155,8 +171,8 @@ pub fn tell_gates<R: Threads + Wait + Print + Sync>(
     rt: &R,
     alloc: Global,
 ) -> Result<(), TrialFault> {
-    tell_waiting(rt, alloc, 0, 1)?;
-    tell_waiting(rt, alloc, 1, 0)?;
+    tell_waiting(rt, alloc, 2, 3)?;
+    tell_waiting(rt, alloc, 3, 2)?;
     for workers in [1, 2, 4, 64] {
         tell_counting(rt, alloc, workers)?;
     }

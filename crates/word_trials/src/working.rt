@@ -4,6 +4,7 @@ use crate::asking::ask_for_all;
 use crate::chain::Chain;
 use crate::fault::TrialFault;
 use filling_base::Batch;
+use model_base::Place;
 use std::alloc::Global;
 use std::sync::Wait;
 use std::sync::atomic::{AtomicUsize, Ordering};
@@ -20,9 +21,9 @@ struct Counting {
 }
 
 impl Gate for Counting {
-    fn before(&self, _index: usize) {}
+    fn before(&self, _place: Place) {}
 
-    fn after(&self, _index: usize) {
+    fn after(&self, _place: Place) {
         self.done.fetch_add(1, Ordering::SeqCst);
     }
 }
@@ -38,8 +39,8 @@ pub fn tell_workers<R: Threads + Wait + Print + Sync>(
     let gate = Counting {
         done: AtomicUsize::new(0),
     };
-    let (pass, worked) = run_workers(rt, &batch, &gate, pass, workers);
-    let told = gate.done.load(Ordering::SeqCst) >= PLACES.saturating_mul(workers.max(1));
+    let (pass, worked) = run_workers(rt, alloc, &batch, &gate, pass, 0, workers);
+    let told = gate.done.load(Ordering::SeqCst) == PLACES.saturating_mul(workers.max(1));
     let (_, done) = ask_for_all(&batch, PLACES, pass);
     println!(rt;
         "{workers} workers: {worked:?}, each was told all {PLACES} places: {told}, {done} are done"
