@@ -1,6 +1,6 @@
 //! What a batch tells of itself, each call once.
 
-ghost use Rattle.std.specs.Prelude.{◌≡◌};
+ghost use Rattle.std.specs.Prelude.{◌≡◌, true};
 ghost use Rattle.machine_trials.specs.Before.{IsBefore};
 
 use crate::batches::{batch_of, log_of, nothing};
@@ -42,7 +42,9 @@ fn tell_form(rt: &impl Print, form: &Form) -> Result<(), TrialFault> {
 }
 
 /// Tells the statement of each index and what it is referred to.
-fn tell_statements(rt: &impl Print, batch: &LogBatch<'_>) -> Result<(), TrialFault> {
+fn tell_statements(rt: &impl Print, batch: &LogBatch<'_>) -> Result<(), TrialFault>
+    requires { batch.now.placed ≡ true }
+{
     for index in 0..batch.size() {
         let references = batch.references_at(index);
         let statement = batch.statement(index);
@@ -64,7 +66,9 @@ fn tell_grants(rt: &impl Print, batch: &LogBatch<'_>) -> Result<(), TrialFault> 
 }
 
 /// Tells all that the calls of a batch answer.
-pub fn tell_batch(rt: &impl Print, batch: &LogBatch<'_>) -> Result<(), TrialFault> {
+pub fn tell_batch(rt: &impl Print, batch: &LogBatch<'_>) -> Result<(), TrialFault>
+    requires { batch.now.placed ≡ true }
+{
     let (first, size) = (batch.first_place(), batch.size());
     let (len, partitions) = (batch.log().len(), batch.partition_count());
     println!(rt; "places: {size} of {len}, from {first} on; partitions: {partitions}")?;

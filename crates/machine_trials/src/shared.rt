@@ -1,7 +1,7 @@
 //! The shared words of the reader and the revocation of the worked log: a row of calls of two passes, the parts of one that was
 //! split. What they store is what a machine that has done the revocation tells.
 
-ghost use Rattle.std.specs.Prelude.{◌≡◌, ◌==◌, ◌<◌, ◌≤◌, [], ℕ, IfOk, IsTrue, length, slice_index_or, suc};
+ghost use Rattle.std.specs.Prelude.{◌≡◌, ◌==◌, ◌<◌, ◌≤◌, [], ℕ, IfOk, IsTrue, length, slice_index_or, suc, true};
 ghost use Rattle.std.specs.List.{list_all};
 ghost use Rattle.bohm_core_base.specs.declared.hold.Hold.TheVariants.{Done};
 ghost use Rattle.bohm_core_base.specs.Batch.{reference_words, batch_slots, words_length};
@@ -293,6 +293,7 @@ fn tell_batch_words(
     batch: LogBatch<'_>,
 ) -> Result<(), TrialFault>
     requires same { machine.now.statements ≡ batch }
+    requires placed { batch.placed ≡ true }
     requires size { batch.size ≡ 2 }
     requires done { hold_of machine.now.state 1 ≡ Done }
     requires none { (other : ℕ) → ¬ (In (suc other) (reference_words (batch_in machine.now.statements) 1)) }
@@ -315,7 +316,7 @@ fn tell_beside(
     requires kept { log.now.dropped ≡ 0 }
     requires within { 5 ≤ length log.now.log.statements }
     requires before { IsBefore before.now log.now.log.statements 3 }
-    requires same { machine.now.statements ≡ record { log = log.now.log; first = 3; size = 2; partitions = 1 } }
+    requires same { machine.now.statements ≡ record { log = log.now.log; first = 3; size = 2; partitions = 1; placed = true } }
 {
     if !is_done(machine, 1) {
         return Err(TrialFault::OtherLog);
@@ -337,7 +338,7 @@ fn revoked<'a>(
     requires within { 5 ≤ length log.now.log.statements }
     requires before { IsBefore before.now log.now.log.statements 3 }
     ensures { IfOk result (λ machine. machine.statements
-        ≡ record { log = log.now.log; first = 3; size = 2; partitions = 1 }) }
+        ≡ record { log = log.now.log; first = 3; size = 2; partitions = 1; placed = true }) }
 {
     let batch = batch_of(alloc, log, before, 3..5, 1)?;
     let mut machine = Machine::new(alloc, OfLog::new(batch))?;

@@ -1,5 +1,5 @@
 -- A whole log as one batch.
-use Rattle.std.specs.Prelude.{◌≡◌, ℕ, List, length}
+use Rattle.std.specs.Prelude.{◌≡◌, ℕ, List, length, true}
 use Rattle.model_base.specs.declared.statement.Statement.{Statement}
 use Rattle.model_base.specs.Outcomes.{deeds_before, owners}
 use Rattle.chains.specs.Store.{IsRight}
@@ -16,4 +16,4 @@ pub record IsNothing (before : Before) (log : List Statement) : Type 0 where
 
 -- all places of the log, placed by so many
 abbrev pub whole : Accepted → ℕ → Ranged
-whole log placers = record { log = log; first = 0; size = length log.statements; partitions = placers }
+whole log placers = record { log = log; first = 0; size = length log.statements; partitions = placers; placed = true }

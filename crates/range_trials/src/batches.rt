@@ -1,6 +1,6 @@
 //! Whole logs as batches on shared words.
 
-ghost use Rattle.std.specs.Prelude.{◌≡◌, ◌<◌, IfOk};
+ghost use Rattle.std.specs.Prelude.{◌≡◌, ◌<◌, IfOk, true};
 ghost use Rattle.words.specs.Passes.{IsPassOf};
 ghost use Rattle.range_trials.specs.Whole.{IsNothing, whole};
 
@@ -64,6 +64,7 @@ pub fn words_for<'a>(
     alloc: Global,
     batch: LogBatch<'a>,
 ) -> Result<(Batch<RangeKey<'a>>, Pass), TrialFault>
+    requires { batch.placed ≡ true }
     ensures batch { IfOk result (λ made. made.0.key.batch ≡ batch.entry) }
     ensures pass { IfOk result (λ made. IsPassOf made.0 made.1) }
 {

@@ -18,4 +18,4 @@ returns c =
     (λ done. ends-serial b here.events index slot (law.done b here.events index here.sound done) (λ end. law.ended b here.events slot end here.sound) c.requires.slot)
     c.requires.done in
     c.is_ended_by.ensures ∙ ap (λ (s : State). is_end (c.first_place.result + index) (end_of s slot)) c.state.ensures.value
-    ∙ ap (λ (n : ℕ). is_end (n + index) (end_of c.args.machine.now.state slot)) (c.first_place.ensures.value ∙ ap (λ (s : Ranged). s.first) (c.batch.ensures ∙ c.statements.ensures)) ∙ is
+    ∙ ap (λ (n : ℕ). is_end (n + index) (end_of c.args.machine.now.state slot)) (c.first_place.ensures.value ∙ ap (λ (s : Ranged). s.first) (c.batch.ensures.same ∙ c.statements.ensures)) ∙ is
