@@ -64,7 +64,7 @@ pub(crate) fn store_rows<'a>(
     }
 }
 
-// Stores the references of the tables of the place at the front, behind those of its accesses.
+// Stores the references of the tables of the place at the front, after those of its accesses.
 pub(crate) fn store_tables<'a>(
     key: &RangeKey<'a>,
     words: &BatchWords<RangeKey<'a>>,
