@@ -2,8 +2,8 @@
 use Rattle.std.proofs.Common.{◌≡◌, ◌⊎◌, ap, inl, inr, refl, sym, ◌∙◌}
 use Rattle.workers.specs.declared.fault.RunFault.{RunFault}
 use Rattle.engine.specs.declared.fault.EngineFault.{EngineFault}
-use Rattle.engine.specs.Faults.{of_run}
+use Rattle.engine.specs.Faults.{of_batch}
 
-pub never_bad : (fault : RunFault) → of_run fault ≡ EngineFault.BadSettings → ⊥
+pub never_bad : (fault : RunFault) → of_batch fault ≡ EngineFault.BadSettings → ⊥
 never_bad RunFault.NoMemory is = cc is
 never_bad RunFault.Spawn is = cc is

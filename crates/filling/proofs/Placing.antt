@@ -27,7 +27,7 @@ use Rattle.words.specs.Passes.{Passing, Placing, Words, gone_on, open_pass, plac
 use Rattle.words.specs.Tells.{StoredAll}
 use Rattle.words.specs.Views.{In, front_in, with_cut, with_placing, with_stored}
 use Rattle.filling.specs.declared.placer.Placer.{Placer}
-use Rattle.filling.specs.Placers.{AreNewPlacers, IsAt, IsNewPlacer, IsPlacerIn, OnlyStores, StoredBelow, front_of, storing, with_all_cut}
+use Rattle.filling.specs.Placers.{AreNewPlacers, IsAt, IsNewPlacer, IsPlacerIn, OnlyStores, StoredBelow, placer_front, storing, with_all_cut}
 
 module _ (ranged : Ranged) (index : ℕ) (statement : Statement) (at : slice_get ranged.log.statements (ranged.first + index) ≡ Some statement) where
   abbrev log : List Statement
@@ -228,20 +228,20 @@ stores-advance token middle after only is = is ∙ ap (λ (t : Placing). placed_
 pub front-more : (view : View) → front_in (with_placing view) ≡ suc (front_in view)
 front-more view = let one = length-append view.placings (Place view.partition ∷ []) in omega arith
 
-pub placer-more : (words : Words Key) (placer after : Placer) → IsPlacerIn words placer → front_of placer < words.key.batch.size
+pub placer-more : (words : Words Key) (placer after : Placer) → IsPlacerIn words placer → placer_front placer < words.key.batch.size
     → after.finder.latest.partition ≡ placer.finder.latest.partition → after.finder.latest.partitions ≡ placer.finder.latest.partitions
-    → IsLatest after.finder.latest words.key.batch.log.statements words.key.batch.first (words.key.batch.first + front_of placer)
+    → IsLatest after.finder.latest words.key.batch.log.statements words.key.batch.first (words.key.batch.first + placer_front placer)
     → after.token ≡ placed_on placer.token (with_placing placer.token.view) → IsPlacerIn words after
 placer-more words placer after is low partition partitions latest moved =
     let mine : after.token.view.partition ≡ placer.token.view.partition = ap (λ (t : Placing). t.view.partition) moved in
-    let front : front_of after ≡ suc (front_of placer) = ap (λ (t : Placing). front_in t.view) moved ∙ front-more placer.token.view in
+    let front : placer_front after ≡ suc (placer_front placer) = ap (λ (t : Placing). front_in t.view) moved ∙ front-more placer.token.view in
     record {
       ours = ap (λ (t : Placing). t.table) moved ∙ is.ours;
       within = (let within = is.within in omega arith);
       most = omega arith;
       partition = partition ∙ is.partition ∙ sym mine;
       partitions = partitions ∙ is.partitions;
-      up_to = rw front (up-to-next after.finder.latest words.key.batch.log.statements words.key.batch.first (front_of placer) latest);
+      up_to = rw front (up-to-next after.finder.latest words.key.batch.log.statements words.key.batch.first (placer_front placer) latest);
     }
 
 -- the partitions below one are not it

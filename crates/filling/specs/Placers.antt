@@ -18,17 +18,17 @@ use Rattle.filling.specs.declared.placer.Advanced.{Advanced}
 use Rattle.filling.specs.declared.placer.Advanced.TheVariants.{Next, End, NoMemory}
 
 -- how many places it has placed, which is the index of the one that it places next
-abbrev pub front_of : Placer → ℕ
-front_of placer = front_in placer.token.view
+abbrev pub placer_front : Placer → ℕ
+placer_front placer = front_in placer.token.view
 
 -- it is a placer of this batch, for one of its partitions, and keeps what it needs for the place at its front
 pub record IsPlacerIn (words : Words Key) (placer : Placer) : Type 0 where
   pub ours : IsPlacerOf words placer.token
   pub within : placer.token.view.partition < words.key.batch.partitions
-  pub most : front_of placer ≤ words.key.batch.size
+  pub most : placer_front placer ≤ words.key.batch.size
   pub partition : placer.finder.latest.partition ≡ placer.token.view.partition
   pub partitions : placer.finder.latest.partitions ≡ words.key.batch.partitions
-  pub up_to : IsUpTo placer.finder.latest words.key.batch.log.statements words.key.batch.first (front_of placer)
+  pub up_to : IsUpTo placer.finder.latest words.key.batch.log.statements words.key.batch.first (placer_front placer)
 
 -- the placer of a partition that has placed nothing
 abbrev pub IsNewPlacer : Words Key → ℕ → Placer → Type 0
@@ -47,10 +47,10 @@ with_all_cut view partitions = record view { cut = range_with_len 0 partitions }
 -- words nor the place at the front are others
 abbrev pub AdvancedTells : Ranged → Placer → Advanced → Placer → Type 0
 AdvancedTells ranged placer (Next place) after =
-    (front_of placer < ranged.size) × (place ≡ ranged.first + front_of placer)
+    (placer_front placer < ranged.size) × (place ≡ ranged.first + placer_front placer)
     × (after.token ≡ placed_on placer.token (with_placing placer.token.view))
-AdvancedTells ranged placer End after = (front_of placer ≡ ranged.size) × (after ≡ placer)
-AdvancedTells ranged placer NoMemory after = (front_of placer < ranged.size) × (after.token ≡ placer.token)
+AdvancedTells ranged placer End after = (placer_front placer ≡ ranged.size) × (after ≡ placer)
+AdvancedTells ranged placer NoMemory after = (placer_front placer < ranged.size) × (after.token ≡ placer.token)
 
 -- the place at the front is one of the batch and has this statement, and the placer keeps all places below it
 pub record IsAt (words : Words Key) (token : Placing) (kept : Latest) (statement : Statement) : Type 0 where

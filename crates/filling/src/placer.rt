@@ -89,7 +89,7 @@ fn place_statement<'a>(
 
 impl Placer {
     ghost use Rattle.std.specs.Prelude.{◌≡◌};
-    ghost use Rattle.filling.specs.Placers.{AdvancedTells, IsPlacerIn, front_of};
+    ghost use Rattle.filling.specs.Placers.{AdvancedTells, IsPlacerIn, placer_front};
 
     /// Its partition.
     pub fn partition(&self) -> usize
@@ -100,7 +100,7 @@ impl Placer {
 
     /// How many places of the batch it has placed, which is the index of the one that it places next.
     pub fn front(&self) -> usize
-        ensures { result ≡ front_of self.now }
+        ensures { result ≡ placer_front self.now }
     {
         self.token.front()
     }

@@ -3,7 +3,7 @@ use Rattle.placing.specs.Latest.{IsLatest}
 use Rattle.log_batch.specs.Supplied.{Ranged}
 use Rattle.log_words.specs.Keys.{Key}
 use Rattle.filling.specs.declared.placer.Placer.{Placer}
-use Rattle.filling.specs.Placers.{front_of}
+use Rattle.filling.specs.Placers.{placer_front}
 use Rattle.filling.proofs.Placing.{placer-more}
 use Rattle.filling.proofs.placer.Placer.place_next.Goals as goal
 
@@ -15,9 +15,9 @@ returns-in-Ok-clause-ours c =
     let after : Placer = record { token = c.place_statement.new.token; finder = c.find.new.finder } in
     let same : c.batch-range.result.now ≡ ranged = c.batch-range.ensures ∙ ap (λ (k : Key). k.batch) c.key-key.ensures in
     let size : c.size.result ≡ ranged.size = c.size.ensures ∙ ap (λ (r : Ranged). r.size) same in
-    let front : c.front-index.result ≡ front_of placer = c.front-index.ensures in
-    let low : front_of placer < ranged.size = omega arith in
-    let latest : IsLatest after.finder.latest ranged.log.statements ranged.first (ranged.first + front_of placer) =
+    let front : c.front-index.result ≡ placer_front placer = c.front-index.ensures in
+    let low : placer_front placer < ranged.size = omega arith in
+    let latest : IsLatest after.finder.latest ranged.log.statements ranged.first (ranged.first + placer_front placer) =
     subst (λ n. IsLatest after.finder.latest ranged.log.statements ranged.first (ranged.first + n)) front
     (subst (λ (r : Ranged). IsLatest after.finder.latest r.log.statements r.first (r.first + c.front-index.result)) same c.in-Ok.ensures.latest) in
     placer-more words placer after c.requires.ours low c.find.ensures.partition c.find.ensures.partitions latest c.place_statement.ensures
