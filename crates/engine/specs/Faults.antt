@@ -2,6 +2,6 @@
 use Rattle.workers.specs.declared.fault.RunFault.{RunFault}
 use Rattle.engine.specs.declared.fault.EngineFault.{EngineFault}
 
-abbrev pub of_batch : RunFault → EngineFault
-of_batch RunFault.NoMemory = EngineFault.NoMemory
-of_batch RunFault.Spawn = EngineFault.Spawn
+abbrev pub batch_fault : RunFault → EngineFault
+batch_fault RunFault.NoMemory = EngineFault.NoMemory
+batch_fault RunFault.Spawn = EngineFault.Spawn

@@ -2,7 +2,7 @@
 
 ghost use Rattle.std.specs.Prelude.{◌≡◌};
 ghost use Rattle.engine.specs.declared.fault.EngineFault.TheVariants.{NoMemory};
-ghost use Rattle.engine.specs.Faults.{of_batch};
+ghost use Rattle.engine.specs.Faults.{batch_fault};
 
 use std::alloc::{AllocError, AllocFailed};
 use thiserror::Error;
@@ -45,7 +45,7 @@ impl<T: Drop> From<AllocFailed<T>> for EngineFault {
 }
 
 impl From<RunFault> for EngineFault {
-    ghost from_gives = { λ fault e. e ≡ of_batch fault };
+    ghost from_gives = { λ fault e. e ≡ batch_fault fault };
 
     fn from(fault: RunFault) -> EngineFault {
         match fault {
