@@ -1,6 +1,6 @@
 //! A batch, run.
 
-ghost use Rattle.std.specs.Prelude.{◌≡◌, ◌<◌, IfOk};
+ghost use Rattle.std.specs.Prelude.{◌≡◌, ◌<◌, IfOk, true};
 
 use filling::RangeKey;
 use filling_base::Batch;
@@ -11,7 +11,7 @@ use std::sync::Wait;
 use std::thread::Threads;
 use workers::{Gate, RunFault, run_workers};
 
-/// Runs all places of a batch on shared words, by so many workers, of which this thread is the first: each has then what its place in
+/// Runs all places of a batch that was placed, on shared words, by so many workers, of which this thread is the first: each has then what its place in
 /// the log comes to, and what its revocation ended, whatever the workers do in which order. What they left, which is nothing once all
 /// places are done, is completed on this thread. An error is out of memory, of any of the workers or of the batch itself, or a
 /// worker's thread that could not be started. No thread runs any more afterwards.
@@ -22,6 +22,7 @@ pub fn execute<'a, R: Threads + Wait + Sync, G: Gate + Sync>(
     gate: &G,
     workers: usize,
 ) -> Result<Finished<'a>, RunFault>
+    requires placed { batch.placed ≡ true }
     requires some { 0 < batch.size }
     ensures { IfOk result (λ done. done ≡ record { log = batch.entry.log; first = batch.entry.first; size = batch.entry.size }) }
 {
