@@ -1,12 +1,12 @@
 -- A fault that is told on tells the same failures.
-use Rattle.std.proofs.Common.{◌≡◌, ◌<◌, ◌≤◌, ◌+◌, ℕ, Result, Ok, Err, refl, sym, ap, ◌∙◌, arith}
-use Rattle.std.specs.Prelude.{IsErrAnd, OnErr, OnOk}
+use Rattle.std.proofs.Common.{◌≡◌, ◌<◌, ◌≤◌, ◌+◌, ℕ, Result, Ok, Err, refl, sym, ap, ◌∙◌, arith, inl, inr, subst}
+use Rattle.std.specs.Prelude.{IfErr, IsErrAnd, OnErr, OnOk}
 use Rattle.log_text_base.specs.Known.{raised}
 use Rattle.log_text_base.specs.declared.fault.ReadFault.{ReadFault}
-use Rattle.bohm_base.specs.Faults.{write_errors}
+use Rattle.bohm_base.specs.Faults.{read_errors, write_errors}
 use Rattle.bohm_base.specs.declared.fault.EngineFault.{EngineFault}
 use Rattle.engine.specs.declared.fault.EngineFault.{EngineFault as RunFault}
-use Rattle.batched_text.specs.Faults.{of_text}
+use Rattle.batched_text.specs.Faults.{IsOfBatch, of_text}
 
 told_on : {B E : Type 0} (fault : E) (result : Result B E) → IsErrAnd result (λ other. other ≡ fault) → result ≡ Err fault
 told_on fault (Ok value) same = absurd same
@@ -28,6 +28,8 @@ write_counted A EngineFault.Read result written old mid new told is counted same
 write_counted A EngineFault.Write result written old mid new told is counted same more small =
     let one : mid ≡ old + 1 = omega (arith, counted, small) in
     omega (arith, one, errors_stay written mid new same more (omega (arith, one, small)))
+write_counted A EngineFault.Spawn result written old mid new told is counted same more small =
+    absurd (cc (sym (told_on EngineFault.Spawn result told) ∙ is))
 
 -- a failure of the reader is told as one
 pub read_on : {A B : Type 0} (fault : ReadFault) (result : Result B ReadFault) → IsErrAnd result (λ other. other ≡ fault) → (first : Result A ReadFault) → first ≡ Err fault
@@ -40,15 +42,52 @@ pub read_told : {A : Type 0} (fault : EngineFault) (told : RunFault) (result : R
 read_told EngineFault.Read told result same comes is = refl
 read_told EngineFault.NoMemory told result same comes is = absurd (cc (ap Err (sym same) ∙ sym comes ∙ is))
 read_told EngineFault.Write told result same comes is = absurd (cc (ap Err (sym same) ∙ sym comes ∙ is))
+read_told EngineFault.Spawn told result same comes is = absurd (cc (ap Err (sym same) ∙ sym comes ∙ is))
 
 pub write_told : {A : Type 0} (fault : EngineFault) (told : RunFault) (result : Result A RunFault) → told ≡ of_text fault → result ≡ Err told
     → result ≡ Err RunFault.Write → fault ≡ EngineFault.Write
 write_told EngineFault.Write told result same comes is = refl
 write_told EngineFault.NoMemory told result same comes is = absurd (cc (ap Err (sym same) ∙ sym comes ∙ is))
 write_told EngineFault.Read told result same comes is = absurd (cc (ap Err (sym same) ∙ sym comes ∙ is))
+write_told EngineFault.Spawn told result same comes is = absurd (cc (ap Err (sym same) ∙ sym comes ∙ is))
 
 pub never_bad : {A : Type 0} (fault : EngineFault) (told : RunFault) (result : Result A RunFault) → told ≡ of_text fault → result ≡ Err told
     → result ≡ Err RunFault.BadSettings → ⊥
 never_bad EngineFault.NoMemory told result same comes is = cc (ap Err (sym same) ∙ sym comes ∙ is)
 never_bad EngineFault.Read told result same comes is = cc (ap Err (sym same) ∙ sym comes ∙ is)
 never_bad EngineFault.Write told result same comes is = cc (ap Err (sym same) ∙ sym comes ∙ is)
+never_bad EngineFault.Spawn told result same comes is = cc (ap Err (sym same) ∙ sym comes ∙ is)
+
+-- a fault of a batch that is told on is one of a batch, and neither the reader's nor the writer's
+pub stops_told : {A : Type 0} (fault : EngineFault) (result : Result A EngineFault) → IsErrAnd result (λ other. other ≡ fault) → IsOfBatch fault
+    → IfErr result IsOfBatch
+stops_told fault (Ok value) same stops = absurd same
+stops_told fault (Err other) same stops = subst IsOfBatch (sym same) stops
+
+pub stops_memory : {A : Type 0} (result : Result A EngineFault) → IsErrAnd result (λ other. other ≡ EngineFault.NoMemory) → IfErr result IsOfBatch
+stops_memory (Ok value) same = absurd same
+stops_memory (Err other) same = inl same
+
+reads_of : (A : Type 0) (fault : EngineFault) (errors : ℕ) → IsOfBatch fault → read_errors {A = A} (Err fault) errors ≡ errors
+reads_of A fault errors (inl memory) = ap (λ (f : EngineFault). read_errors {A = A} (Err f) errors) memory
+reads_of A fault errors (inr start) = ap (λ (f : EngineFault). read_errors {A = A} (Err f) errors) start
+
+writes_of : (A : Type 0) (fault : EngineFault) (errors : ℕ) → IsOfBatch fault → write_errors {A = A} (Err fault) errors ≡ errors
+writes_of A fault errors (inl memory) = ap (λ (f : EngineFault). write_errors {A = A} (Err f) errors) memory
+writes_of A fault errors (inr start) = ap (λ (f : EngineFault). write_errors {A = A} (Err f) errors) start
+
+pub reads_told : (A : Type 0) (fault : EngineFault) (result : Result A EngineFault) (errors : ℕ) → IsErrAnd result (λ other. other ≡ fault)
+    → IsOfBatch fault → errors ≡ read_errors result errors
+reads_told A fault (Ok value) errors same stops = absurd same
+reads_told A fault (Err other) errors same stops = sym (reads_of A other errors (subst IsOfBatch (sym same) stops))
+
+pub writes_told : (A : Type 0) (fault : EngineFault) (result : Result A EngineFault) (errors : ℕ) → IsErrAnd result (λ other. other ≡ fault)
+    → IsOfBatch fault → errors ≡ write_errors result errors
+writes_told A fault (Ok value) errors same stops = absurd same
+writes_told A fault (Err other) errors same stops = sym (writes_of A other errors (subst IsOfBatch (sym same) stops))
+
+pub writes_never : {A : Type 0} (fault : EngineFault) (result : Result A EngineFault) → IsErrAnd result (λ other. other ≡ fault) → IsOfBatch fault
+    → IfErr result (λ other. other ≡ EngineFault.Write → ⊥)
+writes_never fault (Ok value) same stops = absurd same
+writes_never fault (Err other) same (inl memory) = λ is. cc (sym is ∙ same ∙ memory)
+writes_never fault (Err other) same (inr start) = λ is. cc (sym is ∙ same ∙ start)

@@ -11,6 +11,7 @@ use Rattle.bohm_base.specs.Pending.{HasBegunReport}
 use Rattle.bohm_base.specs.declared.fault.EngineFault.{EngineFault}
 use Rattle.engine.specs.Engine.{finished}
 use Rattle.batched_text.specs.Batching.{Deals, IsBatchReady, IsOpen, ReportsLines}
+use Rattle.batched_text.specs.Faults.{IsOfBatch}
 use Rattle.batched_text.specs.Foretold.{BeginsFrom, Runs, TakesAt, TakesFrom, log_names}
 use Rattle.batched_text.specs.declared.batching.Batching.{Batching}
 use Rattle.batched_text.specs.declared.history.Plan.{Plan}
@@ -51,9 +52,9 @@ module _ (plan : Plan) (bytes : List ℕ) (given : ℕ) where
       runs_none 0 batching (omega arith)
       (record { room = ready.room; bounded = λ left. ready.bounded (omega (arith, left)); numbered = omega (arith, ready.numbered) })
 
-  -- memory was refused, and what was pending is
+  -- memory was refused or no thread started, and what was pending is
   pub runs_fault : (from : ℕ) (old new : Batching) (result : Result ℕ EngineFault) → new.pending.items ≡ old.pending.items
-      → IsErrAnd result (λ fault. fault ≡ EngineFault.NoMemory) → Runs plan bytes given from old new result
+      → IsErrAnd result IsOfBatch → Runs plan bytes given from old new result
   runs_fault from old new (Ok to) same is = absurd is
   runs_fault from old new (Err fault) same is = record {
     within = tt;
@@ -136,7 +137,7 @@ module _ (plan : Plan) (bytes : List ℕ) (given : ℕ) where
       }
 
   pub runs_early_fault : (from to : ℕ) (old mid new : Batching) (result : Result ℕ EngineFault) → Runs plan bytes given from old mid (Ok to)
-      → new.pending.items ≡ mid.pending.items → IsErrAnd result (λ fault. fault ≡ EngineFault.NoMemory) → Runs plan bytes given from old new result
+      → new.pending.items ≡ mid.pending.items → IsErrAnd result IsOfBatch → Runs plan bytes given from old new result
   runs_early_fault from to old mid new (Ok other) runs same is = absurd is
   runs_early_fault from to old mid new (Err fault) runs same is = record {
     within = tt;
@@ -148,3 +149,9 @@ module _ (plan : Plan) (bytes : List ℕ) (given : ℕ) where
     begins = tt;
     err = is;
   }
+
+  -- and that fault is told on
+  pub runs_early_told : (from to : ℕ) (old mid new : Batching) (fault : EngineFault) (result : Result ℕ EngineFault) → Runs plan bytes given from old mid (Ok to)
+      → new.pending.items ≡ mid.pending.items → IsOfBatch fault → IsErrAnd result (λ other. other ≡ fault) → Runs plan bytes given from old new result
+  runs_early_told from to old mid new fault result runs same stops is =
+      runs_told from old new fault result (runs_early_fault from to old mid new (Err fault) runs same stops) is

@@ -1,4 +1,6 @@
--- A fault of a run of a text, as one of an engine.
+-- A fault of a run of a text, as one of an engine, and a fault of the run of a batch, as one of a text.
+use Rattle.std.specs.Prelude.{◌≡◌, ◌⊎◌}
+use Rattle.workers.specs.declared.fault.RunFault.{RunFault}
 use Rattle.bohm_base.specs.declared.fault.EngineFault.{EngineFault as TextFault}
 use Rattle.engine.specs.declared.fault.EngineFault.{EngineFault}
 
@@ -6,3 +8,12 @@ abbrev pub of_text : TextFault → EngineFault
 of_text TextFault.NoMemory = EngineFault.NoMemory
 of_text TextFault.Read = EngineFault.Read
 of_text TextFault.Write = EngineFault.Write
+of_text TextFault.Spawn = EngineFault.Spawn
+
+abbrev pub of_batch : RunFault → TextFault
+of_batch RunFault.NoMemory = TextFault.NoMemory
+of_batch RunFault.Spawn = TextFault.Spawn
+
+-- neither the reader nor the writer failed: memory was refused, or a worker's thread could not be started
+abbrev pub IsOfBatch : TextFault → Type 0
+IsOfBatch fault = (fault ≡ TextFault.NoMemory) ⊎ (fault ≡ TextFault.Spawn)

@@ -9,6 +9,7 @@ use Rattle.report.specs.Report.{Reading}
 use Rattle.bohm_base.specs.Collecting.{ReadsAs}
 use Rattle.bohm_base.specs.Pending.{HasBegunReport}
 use Rattle.bohm_base.specs.declared.fault.EngineFault.{EngineFault}
+use Rattle.batched_text.specs.Faults.{IsOfBatch}
 use Rattle.batched_text.specs.Batching.{BatchedUpTo, IsBatchReady, Takes}
 use Rattle.batched_text.specs.declared.batching.Batching.{Batching}
 use Rattle.batched_text.specs.declared.history.Plan.{Plan}
@@ -60,4 +61,4 @@ pub record Runs (plan : Plan) (bytes : List ℕ) (given from : ℕ) (old new : B
   pub taken : IfOk result (λ to. TakesFrom bytes from to old new)
   pub begun : BeginsFrom bytes from old new
   pub begins : OnOk result (Begins (log_names old) (log_names new))
-  pub err : IfErr result (λ fault. fault ≡ EngineFault.NoMemory)
+  pub err : IfErr result IsOfBatch

@@ -1,18 +1,19 @@
 //! Lines that are taken, and run as a batch once there are enough of them.
 
-ghost use Rattle.std.specs.Prelude.{◌≡◌, ◌<◌, ◌≤◌, ◌+◌, ◌-◌, ◌++◌, OnErr, OnOk, [], true, length, if◌then◌else◌, nat_lt};
+ghost use Rattle.std.specs.Prelude.{◌≡◌, ◌<◌, ◌≤◌, ◌+◌, ◌-◌, ◌++◌, IfErr, OnErr, OnOk, [], true, length, if◌then◌else◌, nat_lt};
 ghost use Rattle.engine.specs.Engine.{finished};
 ghost use Rattle.batched_text.specs.Batching.{IsFilling, IsOpen, ReportsLines, lines_text};
+ghost use Rattle.batched_text.specs.Faults.{IsOfBatch, of_batch};
 ghost use Rattle.batched_text.specs.History.{KeepsAll, NoneWait, dropped_by};
 ghost use Rattle.batched_text.specs.Settings.{are_within_limits, mark_behind};
 
 use crate::history::{History, Plan};
 use crate::reporting::put_lines;
 use crate::settings::{Settings, mark_behind};
-use bohm_base::Became;
-use engine::{Crew, Engine};
+use bohm_base::{Became, EngineFault};
+use engine::{Crew, Engine, RunFault};
 use model_base::Place;
-use std::alloc::{AllocError, Global};
+use std::alloc::Global;
 use std::sync::Wait;
 use std::thread::Threads;
 use workers::NoGate;
@@ -71,16 +72,28 @@ fn crew_of(settings: &Settings) -> Crew
     }
 }
 
-/// Runs the places that wait as a batch, and trims the rows behind it. Where none wait nothing is done. On `Err` memory was
-/// refused, and the engine is as it was.
+/// The fault of a batch, as one of a text.
+fn text_fault(fault: RunFault) -> EngineFault
+    ensures same { result ≡ of_batch fault }
+    ensures stops { IsOfBatch result }
+{
+    match fault {
+        RunFault::NoMemory => EngineFault::NoMemory,
+        RunFault::Spawn => EngineFault::Spawn,
+    }
+}
+
+/// Runs the places that wait as a batch, and trims the rows behind it. Where none wait nothing is done. After an error the engine
+/// is as it was.
 fn run_waiting<T: Threads + Wait + Sync>(
     rt: &T,
     alloc: Global,
     engine: &mut Engine,
     settings: &Settings,
-) -> Result<(), AllocError>
+) -> Result<(), EngineFault>
     requires settings { are_within_limits settings.now ≡ true }
     requires mark { engine.old.store.mark ≤ mark_behind settings.now (finished engine.old) (length engine.old.log.statements) }
+    ensures stops { IfErr result IsOfBatch }
     ensures log { engine.new.log ≡ engine.old.log }
     ensures dropped { engine.new.dropped ≡ engine.old.dropped }
     ensures all { OnOk result (finished engine.new ≡ length engine.old.log.statements) }
@@ -90,8 +103,10 @@ fn run_waiting<T: Threads + Wait + Sync>(
     let start = engine.finished();
     let end = engine.log().len();
     if start < end {
-        engine.run_to(rt, alloc, end, crew_of(settings), &NoGate)?;
-        trim_to(engine, mark_behind(settings, start, end));
+        match engine.run_to(rt, alloc, end, crew_of(settings), &NoGate) {
+            Ok(()) => trim_to(engine, mark_behind(settings, start, end)),
+            Err(fault) => return Err(text_fault(fault)),
+        }
     }
     Ok(())
 }
@@ -109,14 +124,16 @@ fn forget_finished(engine: &mut Engine, history: History)
 }
 
 /// Runs the places that wait as a batch, trims the rows behind it, and appends the report's lines for the waiting lines to what is
-/// pending. Then what is finished is forgotten, unless all of it is kept. On `Err` memory was refused, and what was pending is.
+/// pending. Then what is finished is forgotten, unless all of it is kept. After an error what was pending is.
+#[tactic(auto, using(crate::proofs::Faults::stops_memory, crate::proofs::Faults::stops_told))]
 pub(crate) fn report_batch<T: Threads + Wait + Sync>(
     rt: &T,
     alloc: Global,
     batching: &mut Batching,
     plan: &Plan,
-) -> Result<(), AllocError>
+) -> Result<(), EngineFault>
     requires filling { IsFilling plan.now batching.old }
+    ensures stops { IfErr result IsOfBatch }
     ensures kept { OnOk result (batching.new.engine.dropped ≡ dropped_by plan.now.history batching.new.engine) }
     ensures told { OnOk result (batching.new.pending.items ≡ batching.old.pending.items ++ lines_text batching.old.engine.log
         (batching.old.number - length batching.old.waiting.items) (finished batching.old.engine) batching.old.waiting.items) }
@@ -148,13 +165,15 @@ pub(crate) fn report_batch<T: Threads + Wait + Sync>(
 }
 
 /// Reports the waiting lines, as `report_batch`, if their batch is full.
+#[tactic(auto, using(crate::proofs::Faults::stops_memory, crate::proofs::Faults::stops_told))]
 pub(crate) fn report_full<T: Threads + Wait + Sync>(
     rt: &T,
     alloc: Global,
     batching: &mut Batching,
     plan: &Plan,
-) -> Result<(), AllocError>
+) -> Result<(), EngineFault>
     requires filling { IsFilling plan.now batching.old }
+    ensures stops { IfErr result IsOfBatch }
     ensures reports { OnOk result (ReportsLines batching.old.engine.log (finished batching.old.engine) (finished batching.new.engine)
         batching.old.waiting.items batching.new.waiting.items batching.old.number batching.old.pending.items batching.new.pending.items) }
     ensures log { OnOk result (batching.new.engine.log ≡ batching.old.engine.log) }
@@ -170,13 +189,15 @@ pub(crate) fn report_full<T: Threads + Wait + Sync>(
 }
 
 /// Reports the waiting lines, as `report_batch`, though their batch isn't full, unless all that is finished is kept.
+#[tactic(auto, using(crate::proofs::Faults::stops_memory, crate::proofs::Faults::stops_told))]
 pub(crate) fn report_early<T: Threads + Wait + Sync>(
     rt: &T,
     alloc: Global,
     batching: &mut Batching,
     plan: &Plan,
-) -> Result<(), AllocError>
+) -> Result<(), EngineFault>
     requires room { IsOpen plan.now batching.old }
+    ensures stops { IfErr result IsOfBatch }
     ensures reports { OnOk result (ReportsLines batching.old.engine.log (finished batching.old.engine) (finished batching.new.engine)
         batching.old.waiting.items batching.new.waiting.items batching.old.number batching.old.pending.items batching.new.pending.items) }
     ensures log { OnOk result (batching.new.engine.log ≡ batching.old.engine.log) }

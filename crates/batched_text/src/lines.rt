@@ -7,6 +7,7 @@ ghost use Rattle.report.specs.Report.{Reading, read};
 ghost use Rattle.bohm_base.specs.Collecting.{LineMayLackMemory, ReadsAs, became, reading_of, with_reading};
 ghost use Rattle.engine.specs.Engine.{finished};
 ghost use Rattle.batched_text.specs.Batching.{Deals, IsOpen, Takes};
+ghost use Rattle.batched_text.specs.Faults.{IsOfBatch};
 
 use crate::batching::{Batching, report_full};
 use crate::history::Plan;
@@ -91,6 +92,7 @@ pub(crate) fn take_line<'a>(
 }
 
 /// Takes a line, as `take_line`, and reports the waiting lines if their batch is full. On `Err` what was pending is.
+#[tactic(auto, using(crate::proofs::Faults::stops_memory, crate::proofs::Faults::stops_told))]
 pub(crate) fn deal<'a, T: Threads + Wait + Sync>(
     rt: &T,
     alloc: Global,
@@ -104,7 +106,7 @@ pub(crate) fn deal<'a, T: Threads + Wait + Sync>(
     ensures dealt { OnOk result ((reading : Reading) × (ReadsAs line.now reading × Deals reading batching.old batching.new)) }
     ensures room { OnOk result (IsOpen plan.now batching.new) }
     ensures pending { OnErr result (batching.new.pending.items ≡ batching.old.pending.items) }
-    ensures err { IfErr result (λ f. f ≡ EngineFault.NoMemory) }
+    ensures err { IfErr result IsOfBatch }
 {
     take_line(alloc, batching, line, raw)?;
     let _dropped = batching.engine.log().dropped();

@@ -10,7 +10,7 @@ ghost use Rattle.batched_text.specs.Batching.{IsLogOfText};
 
 use crate::batching::trim_to;
 use crate::lines::take_read;
-use engine::{Crew, Engine};
+use engine::{Crew, Engine, RunFault};
 use log_text::{RawRoom, read_line};
 use log_text_base::{Counted, LineReader, ReadFault};
 use std::alloc::{AllocError, Global};
@@ -72,9 +72,14 @@ fn run_next<T: Threads + Wait + Sync>(
         workers: 1,
         partitions: 1,
     };
-    engine.run_to(rt, alloc, end, crew, &NoGate)?;
-    trim_to(engine, end);
-    Ok(())
+    match engine.run_to(rt, alloc, end, crew, &NoGate) {
+        Ok(()) => {
+            trim_to(engine, end);
+            Ok(())
+        }
+        Err(RunFault::NoMemory) => Err(AllocError),
+        Err(RunFault::Spawn) => unreachable!(),
+    }
 }
 
 /// Runs the places that wait.

@@ -329,6 +329,7 @@ fn engine_fault(fault: TextFault) -> EngineFault
         TextFault::NoMemory => EngineFault::NoMemory,
         TextFault::Read => EngineFault::Read,
         TextFault::Write => EngineFault::Write,
+        TextFault::Spawn => EngineFault::Spawn,
     }
 }
 
@@ -341,9 +342,9 @@ fn engine_fault(fault: TextFault) -> EngineFault
 /// is 0. Refused lines wait for the end of their batch, so that the report's lines keep their order: two bytes or so for each.
 ///
 /// `BadSettings` comes exactly where a setting is outside its limits, and nothing is done then. `NoMemory` comes where a growth was
-/// refused, `Read` where the reader failed, `Write` where the writer failed, or took no byte of a piece that wasn't empty. After a
-/// fault a beginning of the report stands: after `NoMemory` and `Read` the batches that were finished, after `Write` what the writer
-/// took.
+/// refused, `Spawn` where a worker's thread could not be started, `Read` where the reader failed, `Write` where the writer failed, or
+/// took no byte of a piece that wasn't empty. After a fault a beginning of the report stands: after `NoMemory`, `Spawn` and `Read` the
+/// batches that were finished, after `Write` what the writer took.
 pub fn run_text<T: Threads + Wait + Sync, R: Read, W: Write>(
     rt: &T,
     alloc: Global,

@@ -1,4 +1,4 @@
-use Rattle.std.proofs.Common.{subst, sym, ◌∙◌, arith}
+use Rattle.std.proofs.Common.{inl, subst, sym, ◌∙◌, arith}
 use Rattle.std.specs.Prelude.{Err, Ok}
 use Rattle.sequencer.specs.Taken.{IsWhole}
 use Rattle.batched_text.specs.Foretold.{Runs}
@@ -17,7 +17,7 @@ pub returns-in_err-count-clause-runs : goal.returns-in_err-count-clause-runs
 returns-in_err-count-clause-runs g c =
     let fault = c.in_err-count.field-0.0 in
     runs_told c.args.plan.now c.args.bytes.now c.args.given c.args.from c.args.batching.now c.take_next.new.batching fault c.from_residual.result
-    (runs_fault c.args.plan.now c.args.bytes.now c.args.given c.args.from c.args.batching.now c.take_next.new.batching (Err fault) c.in_err-count.ensures.pending c.in_err-count.ensures.err)
+    (runs_fault c.args.plan.now c.args.bytes.now c.args.given c.args.from c.args.batching.now c.take_next.new.batching (Err fault) c.in_err-count.ensures.pending (inl c.in_err-count.ensures.err))
     c.from_residual.ensures.1
 
 pub returns-in_default-clause-runs : goal.returns-in_default-clause-runs
@@ -28,8 +28,11 @@ returns-in_default-clause-runs g c =
 
 pub returns-in_err-report_full-clause-runs : goal.returns-in_err-report_full-clause-runs
 returns-in_err-report_full-clause-runs g c =
-    runs_fault c.args.plan.now c.args.bytes.now c.args.given c.args.from c.args.batching.now c.report_full.new.batching c.from_residual-in_err-report_full.result
-    (c.in_err-report_full.ensures.err ∙ c.in_ok-count.ensures.pending) c.from_residual-in_err-report_full.ensures.1
+    let fault = c.in_err-report_full.field-0.0 in
+    runs_told c.args.plan.now c.args.bytes.now c.args.given c.args.from c.args.batching.now c.report_full.new.batching fault c.from_residual-in_err-report_full.result
+    (runs_fault c.args.plan.now c.args.bytes.now c.args.given c.args.from c.args.batching.now c.report_full.new.batching (Err fault)
+    (c.in_err-report_full.ensures.err ∙ c.in_ok-count.ensures.pending) c.in_err-report_full.ensures.stops)
+    c.from_residual-in_err-report_full.ensures.1
 
 pub returns-clause-runs : goal.returns-clause-runs
 returns-clause-runs g c =

@@ -1,4 +1,4 @@
-use Rattle.std.proofs.Common.{ℕ, subst, sym, ◌∙◌}
+use Rattle.std.proofs.Common.{inl, ℕ, subst, sym, ◌∙◌}
 use Rattle.std.specs.Prelude.{Err, Ok}
 use Rattle.sequencer.specs.Taken.{IsWhole}
 use Rattle.batched_text.specs.Foretold.{Runs, TakesAt}
@@ -17,7 +17,7 @@ pub returns-in_err-count : goal.returns-in_err-count
 returns-in_err-count g c =
     let fault = c.in_err-count.field-0.0 in
     runs_told c.args.plan.now c.args.bytes.now c.args.given c.args.from c.args.batching.now c.take_ahead.new.batching fault c.from_residual.result
-    (runs_fault c.args.plan.now c.args.bytes.now c.args.given c.args.from c.args.batching.now c.take_ahead.new.batching (Err fault) c.in_err-count.ensures.pending c.in_err-count.ensures.err)
+    (runs_fault c.args.plan.now c.args.bytes.now c.args.given c.args.from c.args.batching.now c.take_ahead.new.batching (Err fault) c.in_err-count.ensures.pending (inl c.in_err-count.ensures.err))
     c.from_residual.ensures.1
 
 pub returns-in_default : goal.returns-in_default
@@ -28,8 +28,11 @@ returns-in_default g c =
 
 pub returns-in_err-report_full : goal.returns-in_err-report_full
 returns-in_err-report_full g c =
-    runs_fault c.args.plan.now c.args.bytes.now c.args.given c.args.from c.args.batching.now c.report_full.new.batching c.from_residual-in_err-report_full.result
-    (c.in_err-report_full.ensures.err ∙ c.in_ok-count.ensures.pending) c.from_residual-in_err-report_full.ensures.1
+    let fault = c.in_err-report_full.field-0.0 in
+    runs_told c.args.plan.now c.args.bytes.now c.args.given c.args.from c.args.batching.now c.report_full.new.batching fault c.from_residual-in_err-report_full.result
+    (runs_fault c.args.plan.now c.args.bytes.now c.args.given c.args.from c.args.batching.now c.report_full.new.batching (Err fault)
+    (c.in_err-report_full.ensures.err ∙ c.in_ok-count.ensures.pending) c.in_err-report_full.ensures.stops)
+    c.from_residual-in_err-report_full.ensures.1
 
 pub returns : goal.returns
 returns g c =

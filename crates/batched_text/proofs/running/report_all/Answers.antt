@@ -2,6 +2,7 @@ use Rattle.std.proofs.Common.{◌∙◌, length, ap, sym, subst}
 use Rattle.sequencer.specs.Log.{Accepted}
 use Rattle.batched_text.specs.Batching.{IsLogOfText}
 use Rattle.batched_text.proofs.Cutting.{trimmed_all}
+use Rattle.batched_text.proofs.Faults.{reads_told, writes_told}
 use Rattle.batched_text.proofs.Ended.{begun_whole, ended_batched, log_ended}
 use Rattle.batched_text.proofs.running.report_all.Goals as goal
 
@@ -33,3 +34,15 @@ pub returns-clause-begun : goal.returns-clause-begun
 returns-clause-begun g c =
     begun_whole _ _ _ c.report_batch.new.batching.pending.items
     (ended_batched _ _ c.report_lines.new.batching c.report_batch.new.batching.pending.items c.in_ok-report_batch.ensures.told _ c.in_ok-report_lines.ensures.done)
+
+pub returns-in_err-report_batch-clause-reads : goal.returns-in_err-report_batch-clause-reads
+returns-in_err-report_batch-clause-reads g c =
+    c.in_ok-report_lines.ensures.reads
+    ∙ reads_told _ c.in_err-report_batch.field-0.0 c.from_residual-in_err-report_batch.result c.args.reader.now.errors
+    c.from_residual-in_err-report_batch.ensures.1 c.in_err-report_batch.ensures.stops
+
+pub returns-in_err-report_batch-clause-writes : goal.returns-in_err-report_batch-clause-writes
+returns-in_err-report_batch-clause-writes g c =
+    c.in_ok-report_lines.ensures.writes
+    ∙ writes_told _ c.in_err-report_batch.field-0.0 c.from_residual-in_err-report_batch.result c.args.writer.now.errors
+    c.from_residual-in_err-report_batch.ensures.1 c.in_err-report_batch.ensures.stops

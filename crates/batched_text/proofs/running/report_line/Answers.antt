@@ -1,6 +1,7 @@
-use Rattle.std.proofs.Common.{arith, rules}
+use Rattle.std.proofs.Common.{◌∙◌, arith, rules}
 use Rattle.log_text_base.specs.Ahead.{found_line}
 use Rattle.log_text.proofs.Total.{total}
+use Rattle.batched_text.proofs.Faults.{reads_told, writes_never}
 use Rattle.batched_text.proofs.ForetoldLines.{begins_dealt}
 use Rattle.batched_text.proofs.Sofar.{batched_step, begun_batched}
 use Rattle.batched_text.proofs.running.report_line.Goals as goal
@@ -60,3 +61,12 @@ pub returns-clause-begins : goal.returns-clause-begins
 returns-clause-begins g c =
     let dealt = c.in_ok-deal.ensures.dealt in
     begins_dealt dealt.0 c.args.batching.now c.deal.new.batching dealt.1.1
+
+pub returns-in_err-deal-clause-reads : goal.returns-in_err-deal-clause-reads
+returns-in_err-deal-clause-reads g c =
+    c.in_ok-next_line.ensures.other (λ is. cc is)
+    ∙ reads_told _ c.in_err-deal.field-0.0 c.from_residual-in_err-deal.result c.args.reader.now.errors c.from_residual-in_err-deal.ensures.1 c.in_err-deal.ensures.err
+
+pub returns-in_err-deal-clause-err : goal.returns-in_err-deal-clause-err
+returns-in_err-deal-clause-err g c =
+    writes_never c.in_err-deal.field-0.0 c.from_residual-in_err-deal.result c.from_residual-in_err-deal.ensures.1 c.in_err-deal.ensures.err

@@ -2,6 +2,7 @@ use Rattle.std.proofs.Common.{◌≡◌, ◌-◌, length, ap, refl, ◌∙◌, a
 use Rattle.log_text_base.specs.Ahead.{ahead}
 use Rattle.log_text.proofs.Total.{total}
 use Rattle.batched_text.proofs.Ended.{batched_written, begun_cut}
+use Rattle.batched_text.proofs.Faults.{reads_told, writes_told}
 use Rattle.batched_text.proofs.Sofar.{begun_batched}
 use Rattle.batched_text.proofs.running.report_turn.Goals as goal
 
@@ -80,3 +81,14 @@ pub report_at_hand-requires-clause-ready : goal.report_at_hand-requires-clause-r
 report_at_hand-requires-clause-ready g c κs within =
     let took = (rw c.if-not-branch.false at (c.in_ok-report_line.ensures.turn (g.W.Write.contents c.args.writer.now.inner)).taken) refl in
     rw c.bytes_ahead-bytes.ensures took.ready
+
+pub returns-in_err-taken-clause-reads : goal.returns-in_err-taken-clause-reads
+returns-in_err-taken-clause-reads g c =
+    c.in_ok-report_line.ensures.reads
+    ∙ reads_told _ c.in_err-taken.field-0.0 c.from_residual-in_err-taken.result c.args.reader.now.errors c.from_residual-in_err-taken.ensures.1
+    c.in_err-taken.ensures.runs.err
+
+pub returns-in_err-taken-clause-writes : goal.returns-in_err-taken-clause-writes
+returns-in_err-taken-clause-writes g c =
+    writes_told _ c.in_err-taken.field-0.0 c.from_residual-in_err-taken.result c.args.writer.now.errors c.from_residual-in_err-taken.ensures.1
+    c.in_err-taken.ensures.runs.err
