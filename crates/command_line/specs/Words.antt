@@ -42,6 +42,7 @@ work_message WorkFault.NoMemory = codes "bohm: out of memory"
 work_message WorkFault.Read = codes "bohm: cannot read"
 work_message WorkFault.Write = codes "bohm: cannot write"
 work_message WorkFault.NoSuchPlace = codes "bohm: no such place"
+work_message WorkFault.Spawn = codes "bohm: cannot start a worker"
 
 -- the text of a fault
 abbrev pub message_of : ProgramFault → List ℕ

@@ -8,6 +8,7 @@ abbrev pub of_run : EngineFault → WorkFault
 of_run EngineFault.NoMemory = WorkFault.NoMemory
 of_run EngineFault.Read = WorkFault.Read
 of_run EngineFault.Write = WorkFault.Write
+of_run EngineFault.Spawn = WorkFault.Spawn
 
 -- the fault of a question
 abbrev pub of_audit : AuditFault → WorkFault

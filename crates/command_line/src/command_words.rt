@@ -192,5 +192,6 @@ pub fn ending(fault: &ProgramFault) -> (u8, &str)
         ProgramFault::Work(WorkFault::Read) => (1, "bohm: cannot read"),
         ProgramFault::Work(WorkFault::Write) => (1, "bohm: cannot write"),
         ProgramFault::Work(WorkFault::NoSuchPlace) => (1, "bohm: no such place"),
+        ProgramFault::Work(WorkFault::Spawn) => (1, "bohm: cannot start a worker"),
     }
 }

@@ -33,6 +33,8 @@ pub enum WorkFault {
     Write,
     /// The log has no such place.
     NoSuchPlace,
+    /// A worker's thread could not be started.
+    Spawn,
 }
 
 /// Work on a log by an order, from the log's bytes to those that it tells.
@@ -74,6 +76,7 @@ fn run_fault(fault: EngineFault) -> WorkFault
         EngineFault::NoMemory => WorkFault::NoMemory,
         EngineFault::Read => WorkFault::Read,
         EngineFault::Write => WorkFault::Write,
+        EngineFault::Spawn => WorkFault::Spawn,
     }
 }
 
@@ -87,6 +90,7 @@ fn batched_fault(fault: engine::EngineFault) -> EngineFault
         engine::EngineFault::Read => EngineFault::Read,
         engine::EngineFault::Write => EngineFault::Write,
         engine::EngineFault::BadSettings => unreachable!(),
+        engine::EngineFault::Spawn => EngineFault::Spawn,
     }
 }
 
