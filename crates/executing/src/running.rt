@@ -11,10 +11,10 @@ use std::sync::Wait;
 use std::thread::Threads;
 use workers::{Gate, RunFault, run_workers};
 
-/// Runs all places of a batch that was placed, on shared words, by so many workers, of which this thread is the first: each has then what its place in
-/// the log comes to, and what its revocation ended, whatever the workers do in which order. What they left, which is nothing once all
-/// places are done, is completed on this thread. An error is out of memory, of any of the workers or of the batch itself, or a
-/// worker's thread that could not be started. No thread runs any more afterwards.
+/// Runs all places of a batch that was placed, on shared words, by so many workers, of which this thread is the first: each has
+/// then what its place in the log comes to, and what its revocation ended, whatever the workers do in which order. What they left,
+/// which is nothing once all places are done, is completed on this thread. An error is out of memory, of any of the workers or of
+/// the batch itself, or a worker's thread that could not be started. No thread runs any more afterwards.
 pub fn execute<'a, R: Threads + Wait + Sync, G: Gate + Sync>(
     rt: &R,
     alloc: Global,
