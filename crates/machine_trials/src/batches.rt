@@ -1,6 +1,6 @@
 //! Ranges of logs as batches of the machine.
 
-ghost use Rattle.std.specs.Prelude.{◌≡◌, ◌<◌, ◌≤◌, ◌-◌, IfOk, List, false, length, map, true};
+ghost use Rattle.std.specs.Prelude.{◌≡◌, ◌<◌, ◌≤◌, ◌-◌, IfOk, List, length, map, true};
 ghost use Rattle.std.specs.List.{range_with_len};
 ghost use Rattle.model_base.specs.declared.statement.Statement.{Statement};
 ghost use Rattle.placing.specs.Parts.{part_of};
@@ -109,30 +109,6 @@ pub fn batch_of<'a>(
         partitions,
         references,
     )
-}
-
-/// A range of the log as a batch that so many partitions are to place.
-pub fn open_batch_of<'a>(
-    alloc: Global,
-    log: &'a LogTail,
-    before: &'a Before,
-    range: Range<Place>,
-    partitions: usize,
-) -> Result<LogBatch<'a>, AllocError>
-    requires partitions { 0 < partitions }
-    requires order { range.start ≤ range.end }
-    requires kept { log.now.dropped ≤ range.start }
-    requires within { range.end ≤ length log.now.log.statements }
-    requires before { IsBefore before.now log.now.log.statements range.start }
-    ensures { IfOk result (λ batch. batch ≡ record {
-      log = log.now.log;
-      first = range.start;
-      size = range.end - range.start;
-      partitions = partitions;
-      placed = false;
-    }) }
-{
-    LogBatch::open(alloc, log, &before.chains, &before.book, range, partitions)
 }
 
 /// The machine over a range of the log, before any event.

@@ -1,6 +1,6 @@
 //! A log completed on one thread, behind words of which nothing is stored.
 
-ghost use Rattle.std.specs.Prelude.{◌≡◌, ◌<◌, IfOk, length};
+ghost use Rattle.std.specs.Prelude.{◌≡◌, ◌<◌, IfOk, length, true};
 ghost use Rattle.machine_trials.specs.Before.{IsBefore};
 
 use crate::batches::{Before, batch_of, log_of, nothing};
@@ -66,6 +66,7 @@ fn tell_outcomes(
 
 /// Finishes a batch behind words of which nothing is stored.
 fn finish_unstored<'a>(alloc: Global, key: LogKey<'a>) -> Result<Finished<'a>, AllocError>
+    requires { key.batch.placed ≡ true }
     ensures { IfOk result (λ done. done
         ≡ record { log = key.entry.batch.log; first = key.entry.batch.first; size = key.entry.batch.size }) }
 {

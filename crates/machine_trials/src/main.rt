@@ -1,6 +1,6 @@
 //! The machine over logs, tried. Rows of events on a whole log and on a batch in the middle of it, each event told with what it
-//! changed, and the calls of a batch; a row of calls of two passes on the shared words of two places, the same places asked for
-//! while they are placed, which grants a batch may end, and a log completed on one thread; and drawn lists of events against the slow serial run. What is printed is compared
+//! changed, and the calls of a batch; a row of calls of two passes on the shared words of two places, which grants a batch may
+//! end, and a log completed on one thread; and drawn lists of events against the slow serial run. What is printed is compared
 //! with `stdout`.
 #![tactic(auto)]
 
@@ -12,7 +12,6 @@ mod drawn_events;
 mod ended;
 mod fault;
 mod middle;
-mod opened;
 mod outcome;
 mod shared;
 mod telling;
@@ -25,7 +24,6 @@ use drawn::tell_drawn;
 use ended::tell_ended;
 use fault::TrialFault;
 use middle::tell_middle;
-use opened::tell_opened;
 use shared::tell_shared;
 use std::alloc::Global;
 use std::process::ExitCode;
@@ -37,7 +35,6 @@ fn run(rt: &impl Print, alloc: Global) -> Result<(), TrialFault> {
     tell_middle(rt, alloc)?;
     tell_calls(rt, alloc)?;
     tell_shared(rt, alloc)?;
-    tell_opened(rt, alloc)?;
     tell_ended(rt, alloc)?;
     tell_completed(rt, alloc)?;
     tell_drawn(rt, alloc)
