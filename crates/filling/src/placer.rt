@@ -28,7 +28,7 @@ pub enum Advanced {
     NoMemory,
 }
 
-/// The placer of one partition of a batch of a log, which places one place after another. It may be handed to any thread.
+/// The placer of one partition of a batch of a log, which places one place after another.
 #[derive(Drop)]
 pub struct Placer {
     pub(crate) token: words::Placer,
