@@ -1,13 +1,13 @@
 -- A pass that goes on, and what it knows of the places.
-use Rattle.std.proofs.Common.{◌≡◌, ◌⊎◌, ◌<◌, ◌++◌, ℕ, List, [], ◌∷◌, length, refl, subst, ◌∙◌, arith, inl, inr}
+use Rattle.std.proofs.Common.{◌≡◌, ◌⊎◌, ◌<◌, ◌++◌, ℕ, Bool, true, false, List, [], ◌∷◌, length, refl, subst, ◌∙◌, arith, inl, inr}
 use Rattle.words.specs.declared.view.View.{View}
 use Rattle.words.specs.Passes.{Passing, cut_first, joined_pass}
 use Rattle.words.specs.Views.{In, KeepsFronts}
 use Rattle.bohm_core_base.specs.Batch.{Batch}
 use Rattle.filling_base.specs.declared.run.Tried.{Tried}
 use Rattle.filling_base.specs.declared.run.Tried.TheVariants.{Done, Busy, NotPlaced, NoMemory}
-use Rattle.filling_base.specs.Goings.{IsSamePass}
-use Rattle.filling_base.specs.Tries.{TriedTells}
+use Rattle.filling_base.specs.Goings.{IsSamePass, OnlyLearns}
+use Rattle.filling_base.specs.Tries.{PlacedTells, TriedTells, UnplacedTells}
 use Rattle.workers.specs.declared.work.Worked.{Worked}
 use Rattle.workers.specs.declared.work.Worked.TheVariants.{Done as WorkedDone, NoMemory as WorkedNoMemory, NotStarted}
 use Rattle.workers.specs.Working.{AreLeft, GoesOn, KnowsAll, worse}
@@ -156,3 +156,22 @@ worse_done WorkedNoMemory NotStarted is = absurd (cc is)
 worse_done WorkedNoMemory WorkedNoMemory is = absurd (cc is)
 worse_done WorkedNoMemory WorkedDone is = absurd (cc is)
 worse_done WorkedDone other is = refl
+
+-- a pass that only learnt goes on, and so does one that looked whether all is placed
+learnt_on : (pass after : Passing) → IsSamePass pass after → OnlyLearns pass.view after.view → GoesOn pass after
+learnt_on pass after same learns =
+    record { table = same.table; number = same.number; knows = learns.goes.knows; fronts = learns.goes.fronts }
+
+pub looked_on : (batch : Batch) (pass after : Passing) (is_placed : Bool) → IsSamePass pass after
+    → (is_placed ≡ true → PlacedTells batch pass.view after.view) → (is_placed ≡ false → UnplacedTells batch pass.view after.view)
+    → GoesOn pass after
+looked_on batch pass after true same all short = learnt_on pass after same (all refl).learns
+looked_on batch pass after false same all short = learnt_on pass after same (short refl).3.learns
+
+-- who knows more has no more left
+pub left_more : (size : ℕ) (known after rest : List ℕ) → ((other : ℕ) → In other known → In other after) → AreLeft size known rest
+    → AreLeft size after rest
+left_more size known after rest keeps left = record {
+  within = left.within;
+  every = λ index less. elim (left.every index less) [ inl before ↦ inl (keeps index before) | inr there ↦ inr there ];
+}

@@ -1,7 +1,7 @@
 -- The placers of workers. Each partition of a batch has a placer of its own: J. M. Faleiro and D. J. Abadi, "Rethinking
 -- Serializable Multiversion Concurrency Control", PVLDB 8 (2015), section 3.2; that workers share them out, and go on to run
 -- places while others still place, is this project's own.
-use Rattle.std.specs.Prelude.{◌≡◌, ◌==◌, ◌%◌, ◌≤◌, ◌++◌, ℕ, suc, List, [], ◌∷◌, Some, slice_get, if◌then◌else◌}
+use Rattle.std.specs.Prelude.{◌≡◌, ◌≢◌, ◌⊎◌, ◌==◌, ◌%◌, ◌≤◌, ◌++◌, ℕ, suc, List, [], ◌∷◌, Some, slice_get, if◌then◌else◌}
 
 -- each of the placers is one of these words, and has placed so many places at least
 abbrev pub HavePlaced : {W P : Type 0} → (W → P → Type 0) → (P → ℕ) → W → ℕ → List P → Type 0
@@ -13,6 +13,13 @@ abbrev pub dealt : {P : Type 0} → ℕ → ℕ → ℕ → List P → List P
 dealt worker workers number [] = []
 dealt worker workers number (placer ∷ placers) =
     (if number % workers == worker then placer ∷ [] else []) ++ dealt worker workers (suc number) placers
+
+-- the worker has this placer more, and each other one has what it had
+abbrev pub IsGiven : {P H : Type 0} → (H → List P) → ℕ → P → List H → List H → Type 0
+IsGiven {P} {H} items worker placer hands after =
+    (other : ℕ) (hand : H) → slice_get after other ≡ Some hand
+    → (before : H) × (slice_get hands other ≡ Some before)
+    × (((other ≡ worker) × (items hand ≡ items before ++ placer ∷ [])) ⊎ ((other ≢ worker) × (items hand ≡ items before)))
 
 -- each of the workers has its placers
 abbrev pub AreDealt : {P H : Type 0} → (H → List P) → ℕ → List P → List H → Type 0

@@ -1,11 +1,12 @@
 //! How a worker places its partitions, and which these are.
 
-ghost use Rattle.std.specs.Prelude.{◌≡◌, ◌<◌, ◌++◌, ◌∷◌, [], ℕ, IfOk, OnOk, Some, length, min, slice_get, suc, true};
-ghost use Rattle.workers.specs.Placing.{AreDealt, HavePlaced, dealt};
+ghost use Rattle.std.specs.Prelude.{◌≡◌, ◌<◌, ◌≤◌, [], ℕ, IfOk, OnOk, Some, length, slice_get, suc, true};
+ghost use Rattle.workers.specs.Placing.{AreDealt, HavePlaced, IsGiven};
 
 use crate::gate::Gate;
 use filling_base::{Advanced, Batch, BatchPlacer, Fills};
 use std::alloc::{AllocError, Global};
+use std::collections::VecDeque;
 use std::sync::atomic::{AtomicBool, Ordering};
 
 /// Places one place more, if there is one. Where memory is refused it stops the workers, and returns false.
@@ -85,6 +86,17 @@ fn no_placers<P: Drop>(alloc: Global, workers: usize) -> Result<Vec<Vec<P>>, All
     Ok(hands)
 }
 
+/// Gives a worker one placer more. On `Err` memory was refused.
+fn give<P: Drop>(hands: &mut Vec<Vec<P>>, worker: usize, placer: P) -> Result<(), AllocError>
+    requires { worker < length hands.old.items }
+    ensures len { length hands.new.items ≡ length hands.old.items }
+    ensures given { OnOk result (IsGiven (λ hand. hand.items) worker placer hands.old.items hands.new.items) }
+{
+    let hand: &mut Vec<P> = &mut hands[worker];
+    hand.push(placer)?;
+    Ok(())
+}
+
 /// The placers of each of so many workers: worker w has those whose numbers have the remainder w. An error is out of memory.
 pub(crate) fn deal<P: Drop>(
     alloc: Global,
@@ -96,11 +108,12 @@ pub(crate) fn deal<P: Drop>(
     ensures dealt { IfOk result (λ hands. AreDealt (λ hand. hand.items) workers placers.items hands.items) }
 {
     let mut hands = no_placers(alloc, workers)?;
-    let mut worker = 0;
-    for placer in placers {
-        let hand: &mut Vec<P> = &mut hands[worker];
-        hand.push(placer)?;
-        worker = (worker + 1) % workers;
+    let mut rest = VecDeque::from_vec(placers);
+    for number in 0..rest.len() {
+        let Some(placer) = rest.pop_front() else {
+            return Ok(hands);
+        };
+        give(&mut hands, number % workers, placer)?;
     }
     Ok(hands)
 }

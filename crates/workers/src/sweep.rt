@@ -74,8 +74,8 @@ fn ask<K: Fills, G: Gate>(
 
 /// Looks whether all is placed. Once that is found, no front is looked at any more.
 fn look<K: Fills>(batch: &Batch<K>, pass: Pass) -> Pass
-    requires ours { IsPassOf batch.now pass }
-    ensures on { GoesOn pass result }
+    requires { IsPassOf batch.now pass }
+    ensures { GoesOn pass result }
 {
     let (looked, _is_placed) = batch.all_placed(pass);
     looked

@@ -1,6 +1,6 @@
 //! Several workers.
 
-ghost use Rattle.std.specs.Prelude.{◌≡◌, ◌<◌, ◌≤◌, ◌+◌, ◌^◌, length, suc};
+ghost use Rattle.std.specs.Prelude.{◌≡◌, ◌<◌, ◌≤◌, ◌+◌, ◌^◌, IfOk, length, suc};
 ghost use Rattle.std.specs.Thread.{IsSync};
 ghost use Rattle.words.specs.Passes.{IsPassOf};
 ghost use Rattle.workers.specs.Placing.{HavePlaced, HaveDealt};
@@ -12,7 +12,7 @@ use crate::placing::{deal, place_all};
 use crate::sweep::{Swept, all_places, sweep};
 use filling_base::{Batch, BatchPlacer, Fills};
 use model_base::Place;
-use std::alloc::Global;
+use std::alloc::{AllocError, Global};
 use std::sync::Wait;
 use std::sync::atomic::{AtomicBool, Ordering};
 use std::thread;
@@ -147,7 +147,9 @@ fn work_below<
         unreachable!()
     };
     if worker == 0 {
-        return work(rt, alloc, batch, gate, stop, pass, placers, start, worker, workers);
+        return work(
+            rt, alloc, batch, gate, stop, pass, placers, start, worker, workers,
+        );
     }
     let (pass, other) = batch.split(pass);
     let started = scope.spawn_with(
@@ -156,7 +158,11 @@ fn work_below<
             requires { IsPassOf batch.now other × HavePlaced P.is_of P.front batch.now 0 placers.items
                 × (start + (K.batch batch.now.key).size < 2 ^ 64) × (worker < workers) }
             ensures { IsPassOf batch.entry.now result.0 }
-        { work(rt, alloc, batch, gate, stop, other, placers, start, worker, workers) },
+        {
+            work(
+                rt, alloc, batch, gate, stop, other, placers, start, worker, workers,
+            )
+        },
     );
     let Ok(thread) = started else {
         stop.store(true, Ordering::SeqCst);
@@ -177,6 +183,23 @@ fn work_below<
     );
     let (other, theirs) = thread.join(rt);
     (batch.join(pass, other), both(mine, theirs))
+}
+
+/// The placers of a batch, dealt to so many workers. An error is out of memory.
+fn hands_of<K: Fills, P: BatchPlacer<K>>(
+    alloc: Global,
+    batch: &Batch<K>,
+    placers: Vec<P>,
+    workers: usize,
+) -> Result<Vec<Vec<P>>, AllocError>
+    requires some { 0 < workers }
+    requires placers { HavePlaced P.is_of P.front batch.now 0 placers.items }
+    ensures len { IfOk result (λ hands. length hands.items ≡ workers) }
+    ensures placers { IfOk result (λ hands. HaveDealt (λ hand. hand.items) P.is_of P.front batch.now hands.items) }
+{
+    let _batch = batch;
+    let hands = deal(alloc, placers, workers)?;
+    Ok(hands)
 }
 
 /// Runs all places of a batch by so many workers, at least one: the caller's thread is the first, and each further one has a
@@ -208,7 +231,7 @@ pub fn run_workers<
     ensures all { result.1 ≡ Worked.Done → KnowsAll (K.batch batch.now.key).size result.0.view }
 {
     let workers = workers.max(1);
-    let Ok(hands) = deal(alloc, placers, workers) else {
+    let Ok(hands) = hands_of(alloc, batch, placers, workers) else {
         return (pass, Worked::NoMemory);
     };
     let flag = AtomicBool::new(false);

@@ -1,5 +1,5 @@
 use Rattle.std.proofs.Common.{◌≡◌, length, sym, ◌∙◌}
-use Rattle.workers.proofs.Going.{left_none, none_of, on_and_on}
+use Rattle.workers.proofs.Going.{left_more, left_none, none_of, on_and_on}
 use Rattle.workers.proofs.sweep.sweep.Goals as goal
 
 pub returns-then-count-eq0-clause-all : goal.returns-then-count-eq0-clause-all
@@ -8,16 +8,24 @@ returns-then-count-eq0-clause-all g c = λ all.
     left_none (g.K.Placed.batch c.args.batch.now.key).size c.loop.last.view c.loop.rest.items (none_of c.loop.rest.items none) c.loop.invariant.left
 
 pub returns-then-not-is_over-clause-on : goal.returns-then-not-is_over-clause-on
-returns-then-not-is_over-clause-on g c = on_and_on c.args.pass c.loop.last c.go_round-next.result.0 c.loop.invariant.on c.go_round-next.ensures.on
+returns-then-not-is_over-clause-on g c = on_and_on c.args.pass c.look-looked.result c.go_round-next.result.0
+    (on_and_on c.args.pass c.loop.last c.look-looked.result c.loop.invariant.on c.look-looked.ensures) c.go_round-next.ensures.on
 
 pub loop-preserved-then-len-count : goal.loop-preserved-then-len-count
 loop-preserved-then-len-count g c = record {
-  on = on_and_on c.args.pass c.loop.last c.go_round-next.result.0 c.loop.invariant.on c.go_round-next.ensures.on;
+  on = on_and_on c.args.pass c.look-looked.result c.go_round-next.result.0
+      (on_and_on c.args.pass c.loop.last c.look-looked.result c.loop.invariant.on c.look-looked.ensures) c.go_round-next.ensures.on;
   left = c.go_round-next.ensures.left c.if-not-is_over.false;
 }
 
 pub loop-preserved : goal.loop-preserved
 loop-preserved g c = record {
-  on = on_and_on c.args.pass c.loop.last c.go_round-next.result.0 c.loop.invariant.on c.go_round-next.ensures.on;
+  on = on_and_on c.args.pass c.look-looked.result c.go_round-next.result.0
+      (on_and_on c.args.pass c.loop.last c.look-looked.result c.loop.invariant.on c.look-looked.ensures) c.go_round-next.ensures.on;
   left = c.go_round-next.ensures.left c.if-not-is_over.false;
 }
+
+pub go_round-next-requires-clause-left : goal.go_round-next-requires-clause-left
+go_round-next-requires-clause-left g c =
+    left_more (g.K.Placed.batch c.args.batch.now.key).size c.loop.last.view.known c.look-looked.result.view.known c.loop.rest.items
+    c.look-looked.ensures.knows c.loop.invariant.left
