@@ -12,19 +12,27 @@ use std::thread::Threads;
 use workers::Gate;
 
 /// How often a gate looks whether a place is done, before it gives up.
-const LOOKS: u32 = 10_000_000;
+const LOOKS: u32 = 100_000_000;
 
-/// Holds back who asks for one place until another place is done.
+/// A place that a gate waits for.
 #[derive(Drop)]
-struct Waiting {
-    held: Place,
-    awaited: Place,
+struct Awaited {
+    place: Place,
     done: AtomicBool,
     vain: AtomicUsize,
 }
 
-impl Waiting {
-    /// Waits until the other place is done. False if that doesn't come.
+impl Awaited {
+    /// A place that isn't done yet.
+    fn new(place: Place) -> Self {
+        Awaited {
+            place,
+            done: AtomicBool::new(false),
+            vain: AtomicUsize::new(0),
+        }
+    }
+
+    /// Whether the place is done at last.
     fn sees_done(&self) -> bool {
         for _ in 0..LOOKS {
             if self.done.load(Ordering::SeqCst) {
@@ -34,18 +42,64 @@ impl Waiting {
         }
         false
     }
-}
 
-impl Gate for Waiting {
-    fn before(&self, place: Place) {
-        if place == self.held && !self.sees_done() {
+    /// Waits until the place is done, and counts where that doesn't come.
+    fn wait(&self) {
+        if !self.sees_done() {
             self.vain.fetch_add(1, Ordering::SeqCst);
         }
     }
 
-    fn after(&self, place: Place) {
-        if place == self.awaited {
+    /// Notes that a place is done.
+    fn note(&self, place: Place) {
+        if place == self.place {
             self.done.store(true, Ordering::SeqCst);
+        }
+    }
+
+    /// How often it was waited for in vain.
+    fn vain(&self) -> usize {
+        self.vain.load(Ordering::SeqCst)
+    }
+}
+
+/// Holds back who is the first to ask for one place until another place is done.
+#[derive(Drop)]
+struct Waiting {
+    held: Place,
+    asked: AtomicUsize,
+    awaited: Awaited,
+}
+
+impl Gate for Waiting {
+    fn before(&self, place: Place) {
+        if place == self.held && self.asked.fetch_add(1, Ordering::SeqCst) == 0 {
+            self.awaited.wait();
+        }
+    }
+
+    fn after(&self, place: Place) {
+        self.awaited.note(place);
+    }
+}
+
+/// Holds back the placer of a partition, once it has placed a place, until that place is done.
+#[derive(Drop)]
+struct Holding {
+    partition: usize,
+    awaited: Awaited,
+}
+
+impl Gate for Holding {
+    fn before(&self, _place: Place) {}
+
+    fn after(&self, place: Place) {
+        self.awaited.note(place);
+    }
+
+    fn placed(&self, partition: usize, place: Place) {
+        if partition == self.partition && place == self.awaited.place {
+            self.awaited.wait();
         }
     }
 }
@@ -97,7 +151,7 @@ fn begin<R: Threads + Wait + Sync>(
     run_up_to(rt, alloc, engine, 2, crew_of(1, 1))
 }
 
-/// Tells what comes of the two statements by two workers, where who asks for one waits for the other.
+/// Tells what comes of the two statements by two workers, where who is the first to ask for one waits for the other.
 fn tell_held<R: Threads + Wait + Print + Sync>(
     rt: &R,
     alloc: Global,
@@ -108,15 +162,36 @@ fn tell_held<R: Threads + Wait + Print + Sync>(
     begin(rt, alloc, engine)?;
     let gate = Waiting {
         held,
-        awaited,
-        done: AtomicBool::new(false),
-        vain: AtomicUsize::new(0),
+        asked: AtomicUsize::new(0),
+        awaited: Awaited::new(awaited),
     };
     let answer = engine.run_batch(rt, alloc, 2..4, crew_of(2, 2), &gate);
-    let vain = gate.vain.load(Ordering::SeqCst);
+    let vain = gate.awaited.vain();
     let finished = engine.finished();
     println!(rt;
         "place {held} waits for place {awaited}: {answer:?}, {vain} in vain, {finished} finished"
+    )?;
+    Ok(())
+}
+
+/// Tells what comes of the two statements by two workers, where the placer of a partition that has placed the first of them goes on
+/// only once that one is done.
+fn tell_placed<R: Threads + Wait + Print + Sync>(
+    rt: &R,
+    alloc: Global,
+    engine: &mut Engine,
+    partition: usize,
+) -> Result<(), TrialFault> {
+    begin(rt, alloc, engine)?;
+    let gate = Holding {
+        partition,
+        awaited: Awaited::new(2),
+    };
+    let answer = engine.run_batch(rt, alloc, 2..4, crew_of(2, 2), &gate);
+    let vain = gate.awaited.vain();
+    let finished = engine.finished();
+    println!(rt;
+        "the placer of partition {partition} waits for place 2: {answer:?}, {vain} in vain, {finished} finished"
     )?;
     Ok(())
 }
@@ -156,6 +231,16 @@ fn tell_waiting<R: Threads + Wait + Print + Sync>(
     tell_held(rt, alloc, &mut engine, held, awaited)
 }
 
+/// Tells of a batch of which one place is done before the other one is placed.
+fn tell_placing<R: Threads + Wait + Print + Sync>(
+    rt: &R,
+    alloc: Global,
+    partition: usize,
+) -> Result<(), TrialFault> {
+    let mut engine = Engine::new(alloc);
+    tell_placed(rt, alloc, &mut engine, partition)
+}
+
 /// Tells of a batch run by so many workers.
 fn tell_counting<R: Threads + Wait + Print + Sync>(
     rt: &R,
@@ -173,6 +258,8 @@ pub fn tell_gates<R: Threads + Wait + Print + Sync>(
 ) -> Result<(), TrialFault> {
     tell_waiting(rt, alloc, 2, 3)?;
     tell_waiting(rt, alloc, 3, 2)?;
+    tell_placing(rt, alloc, 0)?;
+    tell_placing(rt, alloc, 1)?;
     for workers in [1, 2, 4, 64] {
         tell_counting(rt, alloc, workers)?;
     }
