@@ -9,7 +9,7 @@ ghost use Rattle.audit_text.specs.Answer.{HasNoPlace, AnswersAccepted, IsExplana
 use crate::fault::AuditFault;
 use crate::putting::put_answer;
 use crate::question::Question;
-use batched_text::run_quietly;
+use batched_text::run_quietly_to;
 use engine::Engine;
 use log_text_base::{Counted, flush, write_out, writing_laws};
 use std::alloc::Global;
@@ -24,7 +24,7 @@ fn write_answer<W: Write>(
     engine: &Engine,
     question: Question,
 ) -> Result<(), AuditFault>
-    requires kept { engine.now.dropped ≡ 0 }
+    requires kept { engine.now.dropped ≤ question.place }
     requires all { finished engine.now ≡ length engine.now.log.statements }
     ensures done { OnOk result ((text : List ℕ)
         × (AnswersAccepted engine.now.log question text × Appends (W.contents writer.old.inner) (W.contents writer.new.inner) text)) }
@@ -74,6 +74,6 @@ pub fn explain_text<T: Threads + Wait + Sync, R: Read, W: Write>(
     // Ok says that neither of them failed, in the flush at the end neither.
     ensures whole { OnOk result ((reader.new.errors ≡ reader.old.errors) × (writer.new.errors ≡ writer.old.errors)) }
 {
-    let engine = run_quietly(rt, alloc, reader)?;
+    let engine = run_quietly_to(rt, alloc, reader, Some(question.place))?;
     write_answer(alloc, writer, &engine, question)
 }

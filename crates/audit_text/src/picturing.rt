@@ -7,7 +7,7 @@ ghost use Rattle.engine.specs.Engine.{finished};
 ghost use Rattle.audit_text.specs.Picture.{EndsBefore, IsPicture, IsPictureOf, place_before};
 
 use crate::fault::AuditFault;
-use batched_text::run_quietly;
+use batched_text::run_quietly_to;
 use engine::Engine;
 use grants_graph::put_graph;
 use log_text_base::{Counted, flush, write_out, writing_laws};
@@ -89,6 +89,6 @@ pub fn grants_text<T: Threads + Wait + Sync, R: Read, W: Write>(
     // Ok says that neither of them failed, in the flush at the end neither.
     ensures whole { OnOk result ((reader.new.errors ≡ reader.old.errors) × (writer.new.errors ≡ writer.old.errors)) }
 {
-    let engine = run_quietly(rt, alloc, reader)?;
+    let engine = run_quietly_to(rt, alloc, reader, limit)?;
     write_picture(alloc, writer, &engine, limit)
 }
