@@ -19,7 +19,6 @@ use model_base::{
     Statement,
 };
 use past::{Past, forget_first};
-use placers::references_of;
 use sequencer::{LogTail, Refused};
 use standing::{RememberingBook, advance, run_in_order};
 use std::alloc::{AllocError, Global};
@@ -65,7 +64,7 @@ impl Model for Engine {
         engine.past.items };
 }
 
-/// The outcomes and the versions of the places of a range, run as a batch on shared words.
+/// The outcomes and the versions of the places of a range, placed and run as a batch on shared words.
 fn ran<T: Threads + Wait + Sync, G: Gate + Sync>(
     rt: &T,
     alloc: Global,
@@ -86,16 +85,7 @@ fn ran<T: Threads + Wait + Sync, G: Gate + Sync>(
     ensures versions { IfOk result (λ taken. taken.versions.items ≡ versions_between log.now.log.statements range.start range.end) }
 {
     let (start, end) = (range.start, range.end);
-    let references = references_of(rt, alloc, log, range, crew.partitions)?;
-    let batch = LogBatch::new(
-        alloc,
-        log,
-        chains,
-        book,
-        start..end,
-        crew.partitions,
-        references,
-    )?;
+    let batch = LogBatch::open(alloc, log, chains, book, start..end, crew.partitions)?;
     let done = execute(rt, alloc, batch, gate, crew.workers)?;
     let taken = take(alloc, log, &done, start..end)?;
     Ok(taken)

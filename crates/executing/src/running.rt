@@ -1,20 +1,38 @@
 //! A batch, run.
 
-ghost use Rattle.std.specs.Prelude.{◌≡◌, ◌<◌, IfOk, true};
+ghost use Rattle.std.specs.Prelude.{◌≡◌, ◌<◌, IfOk, false, true};
+ghost use Rattle.words.specs.Passes.{IsPassOf};
+ghost use Rattle.workers.specs.Working.{KnowsAll};
 
-use filling::RangeKey;
+use filling::{RangeKey, open};
 use filling_base::Batch;
 use finishing::{Finished, finish};
 use log_batch::LogBatch;
 use std::alloc::Global;
 use std::sync::Wait;
 use std::thread::Threads;
+use words::Pass;
 use workers::{Gate, RunFault, run_workers};
 
-/// Runs all places of a batch that was placed, on shared words, by so many workers, of which this thread is the first: each has
-/// then what its place in the log comes to, and what its revocation ended, whatever the workers do in which order. What they left,
-/// which is nothing once all places are done, is completed on this thread. An error is out of memory, of any of the workers or of
-/// the batch itself, or a worker's thread that could not be started. No thread runs any more afterwards.
+/// The pass, which knows all places done, and knows from now on that all is placed too.
+fn settled(batch: &Batch<RangeKey<'_>>, pass: Pass) -> Pass
+    requires ours { IsPassOf batch.now pass }
+    requires all { KnowsAll batch.now.key.batch.size pass.view }
+    ensures ours { IsPassOf batch.now result }
+    ensures placed { result.view.placed ≡ true }
+{
+    let _partitions = batch.key().batch().partition_count();
+    let (pass, is_placed) = batch.all_placed(pass);
+    if !is_placed {
+        unreachable!()
+    }
+    pass
+}
+
+/// Places and runs all places of a batch that isn't placed, on shared words, by so many workers, of which this thread is the
+/// first: each has then what its place in the log comes to, and what its revocation ended, whatever the workers do in which
+/// order, and also while others still place. An error is out of memory, of any of the workers or of the batch itself, or a
+/// worker's thread that could not be started. No thread runs any more afterwards.
 pub fn execute<'a, R: Threads + Wait + Sync, G: Gate + Sync>(
     rt: &R,
     alloc: Global,
@@ -22,15 +40,15 @@ pub fn execute<'a, R: Threads + Wait + Sync, G: Gate + Sync>(
     gate: &G,
     workers: usize,
 ) -> Result<Finished<'a>, RunFault>
-    requires placed { batch.placed ≡ true }
+    requires open { batch.placed ≡ false }
     requires some { 0 < batch.size }
     ensures { IfOk result (λ done. done ≡ record { log = batch.entry.log; first = batch.entry.first; size = batch.entry.size }) }
 {
     let start = batch.first_place();
-    let key = RangeKey::of(alloc, batch)?;
-    let (words, pass) = Batch::new(alloc, key)?;
-    let (pass, worked) = run_workers(rt, alloc, &words, gate, pass, start, workers);
-    let (key, closed) = words.close(pass);
+    let (words, pass, placers) = open(alloc, batch)?;
+    let (pass, worked) = run_workers(rt, alloc, &words, gate, pass, placers, start, workers);
     worked.ended()?;
+    let pass = settled(&words, pass);
+    let (key, closed) = words.close(pass);
     Ok(finish(alloc, key.into_key(), &closed)?)
 }

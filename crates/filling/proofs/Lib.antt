@@ -7,3 +7,4 @@ pub mod Decoding
 pub mod Admitting
 pub mod Learnt
 pub mod Placing
+pub mod Advancing

@@ -14,8 +14,8 @@ use Rattle.words.specs.Layout.{partition_at}
 use Rattle.words.specs.Passes.{IsPlacerOf, Placing, Words, placed_on}
 use Rattle.words.specs.Views.{In, front_in, placer_view, with_placing}
 use Rattle.filling.specs.declared.placer.Placer.{Placer}
-use Rattle.filling.specs.declared.placer.Advanced.{Advanced}
-use Rattle.filling.specs.declared.placer.Advanced.TheVariants.{Next, End, NoMemory}
+use Rattle.filling_base.specs.declared.placer.Advanced.{Advanced}
+use Rattle.filling_base.specs.declared.placer.Advanced.TheVariants.{Next, End, NoMemory}
 
 -- how many places it has placed, which is the index of the one that it places next
 abbrev pub placer_front : Placer → ℕ

@@ -20,5 +20,6 @@ mod storing;
 pub use key::RangeKey;
 pub use opening::open;
 pub use outcomes::outcome;
-pub use placer::{Advanced, Placer};
+pub use filling_base::Advanced;
+pub use placer::Placer;
 pub use running::{Ran, run_place};

@@ -10,23 +10,12 @@ ghost use Rattle.filling.specs.Placers.{IsAt};
 
 use crate::key::RangeKey;
 use crate::storing::{store_rows, store_tables};
-use filling_base::Batch;
+use filling_base::{Advanced, Batch, BatchPlacer};
 use log_batch::LogBatch;
-use model_base::{Place, Statement};
+use model_base::Statement;
 use placing::Finder;
 use std::alloc::AllocError;
 use words::BatchWords;
-
-/// What came of a placer's step.
-#[derive(Clone, Copy, PartialEq, Eq, Debug)]
-pub enum Advanced {
-    /// It placed this place.
-    Next(Place),
-    /// It has placed every place of the batch.
-    End,
-    /// Out of memory. It can be asked again.
-    NoMemory,
-}
 
 /// The placer of one partition of a batch of a log, which places one place after another.
 #[derive(Drop)]
@@ -126,5 +115,21 @@ impl Placer {
             }
             Err(_) => Advanced::NoMemory,
         }
+    }
+}
+
+impl<'a> BatchPlacer<RangeKey<'a>> for Placer {
+    ghost use Rattle.filling.specs.Placers.{IsPlacerIn, placer_front};
+
+    ghost is_of = { IsPlacerIn };
+
+    ghost front = { placer_front };
+
+    fn partition(&self) -> usize {
+        self.token.partition()
+    }
+
+    fn advance(&mut self, batch: &Batch<RangeKey<'a>>) -> Advanced {
+        self.place_next(batch)
     }
 }

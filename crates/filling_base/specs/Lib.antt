@@ -1,3 +1,4 @@
+pub mod Advances
 pub mod Counting
 pub mod Goings
 pub mod References

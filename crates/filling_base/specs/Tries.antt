@@ -43,10 +43,12 @@ pub record MeetsUnplaced (batch : Batch) (index partition : ℕ) (view after : V
   pub past : List (ℕ × ℕ × ℕ)
   pub sighting : after.front_sightings ≡ view.front_sightings ++ (past ++ (partition, found, length view.events) ∷ [])
 
--- the pass only learnt, and knows each front past the last place; or it was found that one isn't
+-- the pass only learnt, and knows each front past the last place, and, if there is a front, that all is placed; or it was
+-- found that one isn't
 pub record PlacedTells (batch : Batch) (view after : View) : Type 0 where
   pub learns : OnlyLearns view after
   pub past : (index : ℕ) → index < batch.size → KnowsPast batch after index
+  pub placed : 0 < batch.partitions → after.placed ≡ true
 
 abbrev pub UnplacedTells : Batch → View → View → Type 0
 UnplacedTells batch view after = (last : ℕ) × (partition : ℕ) × (last + 1 ≡ batch.size) × MeetsUnplaced batch last partition view after

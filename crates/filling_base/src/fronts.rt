@@ -88,6 +88,7 @@ impl<K: Fills> Batch<K> {
         requires past { KnowsPast (K.batch self.now.key) holding.view last }
         ensures same { IsSamePass holding result }
         ensures learns { OnlyLearns holding.view result.view }
+        ensures placed { 0 < (K.batch self.now.key).partitions → result.view.placed ≡ true }
     {
         if self.key.partitions() > 0 {
             self.words.settle_fronts(&mut holding, last);

@@ -3,7 +3,7 @@
 use crate::asking::ask_for_all;
 use crate::chain::Chain;
 use crate::fault::TrialFault;
-use filling_base::Batch;
+use filling_base::{Advanced, Batch, BatchPlacer, Fills};
 use model_base::Place;
 use std::alloc::Global;
 use std::sync::Wait;
@@ -28,6 +28,28 @@ impl Gate for Counting {
     }
 }
 
+/// A placer that has placed all of so many places.
+#[derive(Drop)]
+struct AtItsEnd {
+    places: usize,
+}
+
+impl<K: Fills> BatchPlacer<K> for AtItsEnd {
+    ghost use Rattle.std.specs.Prelude.{◌≡◌};
+
+    ghost is_of = { λ words placer. placer.places ≡ (K.batch words.key).size };
+
+    ghost front = { λ placer. placer.places };
+
+    fn partition(&self) -> usize {
+        0
+    }
+
+    fn advance(&mut self, _batch: &Batch<K>) -> Advanced {
+        Advanced::End
+    }
+}
+
 /// Tells what comes of a chain that so many workers run, whether each was told each place done, and how many places are done
 /// once they are joined.
 pub fn tell_workers<R: Threads + Wait + Print + Sync>(
@@ -39,7 +61,8 @@ pub fn tell_workers<R: Threads + Wait + Print + Sync>(
     let gate = Counting {
         done: AtomicUsize::new(0),
     };
-    let (pass, worked) = run_workers(rt, alloc, &batch, &gate, pass, 0, workers);
+    let placers: Vec<AtItsEnd> = Vec::new(alloc);
+    let (pass, worked) = run_workers(rt, alloc, &batch, &gate, pass, placers, 0, workers);
     let told = gate.done.load(Ordering::SeqCst) == PLACES.saturating_mul(workers.max(1));
     let (_, done) = ask_for_all(&batch, PLACES, pass);
     println!(rt;

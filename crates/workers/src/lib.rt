@@ -6,6 +6,7 @@
 
 mod fault;
 mod gate;
+mod placing;
 mod sweep;
 mod work;
 

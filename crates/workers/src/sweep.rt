@@ -72,6 +72,15 @@ fn ask<K: Fills, G: Gate>(
     }
 }
 
+/// Looks whether all is placed. Once that is found, no front is looked at any more.
+fn look<K: Fills>(batch: &Batch<K>, pass: Pass) -> Pass
+    requires ours { IsPassOf batch.now pass }
+    ensures on { GoesOn pass result }
+{
+    let (looked, _is_placed) = batch.all_placed(pass);
+    looked
+}
+
 /// Asks once for each place of the rest, in order: one that is done leaves the rest, and any other goes to its end. False if
 /// the workers were stopped.
 fn go_round<K: Fills, G: Gate>(
@@ -127,7 +136,8 @@ pub(crate) fn sweep<K: Fills, G: Gate, R: Wait>(
         if count == 0 {
             return (last, Swept::All);
         }
-        let (next, is_over) = go_round(batch, gate, stop, last, start, &mut rest);
+        let looked = look(batch, last);
+        let (next, is_over) = go_round(batch, gate, stop, looked, start, &mut rest);
         last = next;
         if !is_over {
             return (last, Swept::Stopped);

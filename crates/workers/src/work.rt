@@ -1,14 +1,16 @@
 //! Several workers.
 
-ghost use Rattle.std.specs.Prelude.{◌≡◌, ◌<◌, ◌≤◌, ◌+◌, ◌^◌};
+ghost use Rattle.std.specs.Prelude.{◌≡◌, ◌<◌, ◌≤◌, ◌+◌, ◌^◌, length, suc};
 ghost use Rattle.std.specs.Thread.{IsSync};
 ghost use Rattle.words.specs.Passes.{IsPassOf};
+ghost use Rattle.workers.specs.Placing.{HavePlaced, HaveDealt};
 ghost use Rattle.workers.specs.Working.{GoesOn, KnowsAll, came_of, worse};
 
 use crate::fault::RunFault;
 use crate::gate::Gate;
+use crate::placing::{deal, place_all};
 use crate::sweep::{Swept, all_places, sweep};
-use filling_base::{Batch, Fills};
+use filling_base::{Batch, BatchPlacer, Fills};
 use model_base::Place;
 use std::alloc::Global;
 use std::sync::Wait;
@@ -49,19 +51,22 @@ fn first_of(worker: usize, workers: usize, size: usize) -> usize
     (worker as u128 * size as u128 / workers as u128) as usize
 }
 
-/// One worker, of so many. Where memory is refused it stops the others.
-fn work<K: Fills, G: Gate, R: Wait>(
+/// One worker, of so many: it places its partitions, and then goes round over the places. Where memory is refused it stops the
+/// others.
+fn work<K: Fills, P: BatchPlacer<K>, G: Gate, R: Wait>(
     rt: &R,
     alloc: Global,
     batch: &Batch<K>,
     gate: &G,
     stop: &AtomicBool,
     pass: Pass,
+    mut placers: Vec<P>,
     start: Place,
     worker: usize,
     workers: usize,
 ) -> (Pass, Worked)
     requires ours { IsPassOf batch.now pass }
+    requires placers { HavePlaced P.is_of P.front batch.now 0 placers.items }
     requires places { start + (K.batch batch.now.key).size < 2 ^ 64 }
     requires number { worker < workers }
     ensures on { GoesOn pass result.0 }
@@ -73,6 +78,9 @@ fn work<K: Fills, G: Gate, R: Wait>(
         stop.store(true, Ordering::SeqCst);
         return (pass, Worked::NoMemory);
     };
+    if !place_all(batch, gate, stop, &mut placers) {
+        return (pass, Worked::NoMemory);
+    }
     let (pass, swept) = sweep(rt, batch, gate, stop, pass, start, rest);
     match swept {
         Swept::All => (pass, Worked::Done),
@@ -107,7 +115,14 @@ impl<'a, K: Fills> Promise<(Pass, Worked)> for OfBatch<'a, K> {
 
 /// A worker, of so many, on a thread of its own, and those below it, the lowest on this thread. If the thread can't be started, all
 /// are stopped.
-fn work_below<'s, E, K: Fills + Sync, G: Gate + Sync, R: Threads + Wait + Sync>(
+fn work_below<
+    's,
+    E,
+    K: Fills + Sync,
+    P: BatchPlacer<K> + Send + 's,
+    G: Gate + Sync,
+    R: Threads + Wait + Sync,
+>(
     rt: &'s R,
     scope: &Scope<'s, E>,
     alloc: Global,
@@ -115,26 +130,33 @@ fn work_below<'s, E, K: Fills + Sync, G: Gate + Sync, R: Threads + Wait + Sync>(
     gate: &'s G,
     stop: &'s AtomicBool,
     pass: Pass,
+    mut hands: Vec<Vec<P>>,
     start: Place,
     worker: usize,
     workers: usize,
 ) -> (Pass, Worked)
     requires ours { IsPassOf batch.now pass }
+    requires hands { HaveDealt (λ hand. hand.items) P.is_of P.front batch.now hands.items }
+    requires all { length hands.items ≡ suc worker }
     requires places { start + (K.batch batch.now.key).size < 2 ^ 64 }
     requires number { worker < workers }
     ensures on { GoesOn pass result.0 }
     ensures all { result.1 ≡ Worked.Done → KnowsAll (K.batch batch.now.key).size result.0.view }
 {
+    let Some(placers) = hands.pop() else {
+        unreachable!()
+    };
     if worker == 0 {
-        return work(rt, alloc, batch, gate, stop, pass, start, worker, workers);
+        return work(rt, alloc, batch, gate, stop, pass, placers, start, worker, workers);
     }
     let (pass, other) = batch.split(pass);
     let started = scope.spawn_with(
         OfBatch(batch),
         move || -> (Pass, Worked)
-            requires { IsPassOf batch.now other × (start + (K.batch batch.now.key).size < 2 ^ 64) × (worker < workers) }
+            requires { IsPassOf batch.now other × HavePlaced P.is_of P.front batch.now 0 placers.items
+                × (start + (K.batch batch.now.key).size < 2 ^ 64) × (worker < workers) }
             ensures { IsPassOf batch.entry.now result.0 }
-        { work(rt, alloc, batch, gate, stop, other, start, worker, workers) },
+        { work(rt, alloc, batch, gate, stop, other, placers, start, worker, workers) },
     );
     let Ok(thread) = started else {
         stop.store(true, Ordering::SeqCst);
@@ -148,6 +170,7 @@ fn work_below<'s, E, K: Fills + Sync, G: Gate + Sync, R: Threads + Wait + Sync>(
         gate,
         stop,
         pass,
+        hands,
         start,
         worker - 1,
         workers,
@@ -163,28 +186,39 @@ fn work_below<'s, E, K: Fills + Sync, G: Gate + Sync, R: Threads + Wait + Sync>(
 /// can't be started or memory is refused, all workers stop. No thread runs any more afterwards. The pass knows what it knew and
 /// what the workers know. `Done` tells that all places are done, `NotStarted` that a thread couldn't be started. With one worker no
 /// thread is started.
-pub fn run_workers<K: Fills + Sync, G: Gate + Sync, R: Threads + Wait + Sync>(
+pub fn run_workers<
+    K: Fills + Sync,
+    P: BatchPlacer<K> + Send,
+    G: Gate + Sync,
+    R: Threads + Wait + Sync,
+>(
     rt: &R,
     alloc: Global,
     batch: &Batch<K>,
     gate: &G,
     pass: Pass,
+    placers: Vec<P>,
     start: Place,
     workers: usize,
 ) -> (Pass, Worked)
     requires ours { IsPassOf batch.now pass }
+    requires placers { HavePlaced P.is_of P.front batch.now 0 placers.items }
     requires places { start + (K.batch batch.now.key).size < 2 ^ 64 }
     ensures on { GoesOn pass result.0 }
     ensures all { result.1 ≡ Worked.Done → KnowsAll (K.batch batch.now.key).size result.0.view }
 {
     let workers = workers.max(1);
+    let Ok(hands) = deal(alloc, placers, workers) else {
+        return (pass, Worked::NoMemory);
+    };
     let flag = AtomicBool::new(false);
     let stop = &flag;
     thread::scope(
         thread::scope_env(),
         rt,
         move |scope| -> (Pass, Worked)
-            requires { IsPassOf batch.now pass × (start + (K.batch batch.now.key).size < 2 ^ 64) × (0 < workers) }
+            requires { IsPassOf batch.now pass × HaveDealt (λ hand. hand.items) P.is_of P.front batch.now hands.items
+                × (length hands.items ≡ workers) × (start + (K.batch batch.now.key).size < 2 ^ 64) × (0 < workers) }
             ensures { GoesOn pass result.0 × (result.1 ≡ Worked.Done → KnowsAll (K.batch batch.entry.now.key).size result.0.view) }
         {
             work_below(
@@ -195,6 +229,7 @@ pub fn run_workers<K: Fills + Sync, G: Gate + Sync, R: Threads + Wait + Sync>(
                 gate,
                 stop,
                 pass,
+                hands,
                 start,
                 workers - 1,
                 workers,

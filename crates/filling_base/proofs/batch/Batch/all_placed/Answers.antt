@@ -23,4 +23,5 @@ returns-in-None-clause-all g c _ =
     record {
       learns = again c.args.pass.view u c.settled.result.view learns c.settled.ensures.learns;
       past = λ index below. past-later b u c.settled.result.view last index c.settled.ensures.learns.goes.fronts (omega arith) past;
+      placed = c.settled.ensures.placed;
     }

@@ -1,0 +1,38 @@
+//! Who places a batch for one of its partitions.
+
+ghost use Rattle.std.specs.Prelude.{ℕ};
+ghost use Rattle.words.specs.Passes.{Words};
+ghost use Rattle.filling_base.specs.Advances.{Advances};
+
+use crate::batch::Batch;
+use crate::fills::Fills;
+use model_base::Place;
+
+/// What came of a placer's step.
+#[derive(Clone, Copy, PartialEq, Eq, Debug)]
+pub enum Advanced {
+    /// It placed this place.
+    Next(Place),
+    /// It has placed every place of the batch.
+    End,
+    /// Out of memory. It can be asked again.
+    NoMemory,
+}
+
+/// Who places a batch for one of its partitions, one place after another. `is_of` tells whether it is a placer of these words,
+/// and `front` how many places it has placed, which is the index of the one that it places next.
+pub trait BatchPlacer<K: Fills>: Drop {
+    ghost is_of: { Words K → Self → Type 0 };
+
+    ghost front: { Self → ℕ };
+
+    /// Its partition.
+    fn partition(&self) -> usize;
+
+    /// Places the next place of the batch, if there is one. After `NoMemory` nothing is placed, and the next call places the
+    /// same place.
+    fn advance(&mut self, batch: &Batch<K>) -> Advanced
+        requires ours { is_of batch.now self.old }
+        ensures ours { is_of batch.now self.new }
+        ensures advances { Advances (K.batch batch.now.key) (front self.old) result (front self.new) };
+}

@@ -1,0 +1,106 @@
+//! How a worker places its partitions, and which these are.
+
+ghost use Rattle.std.specs.Prelude.{◌≡◌, ◌<◌, ◌++◌, ◌∷◌, [], ℕ, IfOk, OnOk, Some, length, min, slice_get, suc, true};
+ghost use Rattle.workers.specs.Placing.{AreDealt, HavePlaced, dealt};
+
+use crate::gate::Gate;
+use filling_base::{Advanced, Batch, BatchPlacer, Fills};
+use std::alloc::{AllocError, Global};
+use std::sync::atomic::{AtomicBool, Ordering};
+
+/// Places one place more, if there is one. Where memory is refused it stops the workers, and returns false.
+fn place_one<K: Fills, P: BatchPlacer<K>, G: Gate>(
+    batch: &Batch<K>,
+    gate: &G,
+    stop: &AtomicBool,
+    placer: &mut P,
+) -> bool
+    requires ours { P.is_of batch.now placer.old }
+    ensures ours { P.is_of batch.now placer.new }
+    ensures further { result ≡ true → (count : ℕ) → count < (K.batch batch.now.key).size → count ≤ P.front placer.old → suc count ≤ P.front placer.new }
+{
+    match placer.advance(batch) {
+        Advanced::Next(place) => {
+            gate.placed(placer.partition(), place);
+            true
+        }
+        Advanced::End => true,
+        Advanced::NoMemory => {
+            stop.store(true, Ordering::SeqCst);
+            false
+        }
+    }
+}
+
+/// Places one place more for each partition, unless the workers were stopped: then it returns false.
+fn place_round<K: Fills, P: BatchPlacer<K>, G: Gate>(
+    batch: &Batch<K>,
+    gate: &G,
+    stop: &AtomicBool,
+    placers: &mut [P],
+    count: usize,
+) -> bool
+    requires within { count < (K.batch batch.now.key).size }
+    requires placed { HavePlaced P.is_of P.front batch.now count placers.old }
+    ensures { result ≡ true → HavePlaced P.is_of P.front batch.now (suc count) placers.new }
+{
+    if stop.load(Ordering::SeqCst) {
+        return false;
+    }
+    for placer in placers.iter_mut() {
+        if !place_one(batch, gate, stop, placer) {
+            return false;
+        }
+    }
+    true
+}
+
+/// Places the whole batch for these partitions, one place for each in turn, unless the workers are stopped: then it returns false.
+pub(crate) fn place_all<K: Fills, P: BatchPlacer<K>, G: Gate>(
+    batch: &Batch<K>,
+    gate: &G,
+    stop: &AtomicBool,
+    placers: &mut [P],
+) -> bool
+    requires placed { HavePlaced P.is_of P.front batch.now 0 placers.old }
+    ensures { result ≡ true → HavePlaced P.is_of P.front batch.now (K.batch batch.now.key).size placers.new }
+{
+    for count in 0..batch.key().places() {
+        if !place_round(batch, gate, stop, placers, count) {
+            return false;
+        }
+    }
+    true
+}
+
+/// No placer for each of so many workers. An error is out of memory.
+fn no_placers<P: Drop>(alloc: Global, workers: usize) -> Result<Vec<Vec<P>>, AllocError>
+    ensures len { IfOk result (λ hands. length hands.items ≡ workers) }
+    ensures none { IfOk result (λ hands. (worker : ℕ) (hand : _) → slice_get hands.items worker ≡ Some hand → hand.items ≡ []) }
+{
+    let mut hands = Vec::with_capacity(alloc, workers)?;
+    for _ in 0..workers {
+        hands.push_reserved(Vec::new(alloc));
+    }
+    Ok(hands)
+}
+
+/// The placers of each of so many workers: worker w has those whose numbers have the remainder w. An error is out of memory.
+pub(crate) fn deal<P: Drop>(
+    alloc: Global,
+    placers: Vec<P>,
+    workers: usize,
+) -> Result<Vec<Vec<P>>, AllocError>
+    requires { 0 < workers }
+    ensures len { IfOk result (λ hands. length hands.items ≡ workers) }
+    ensures dealt { IfOk result (λ hands. AreDealt (λ hand. hand.items) workers placers.items hands.items) }
+{
+    let mut hands = no_placers(alloc, workers)?;
+    let mut worker = 0;
+    for placer in placers {
+        let hand: &mut Vec<P> = &mut hands[worker];
+        hand.push(placer)?;
+        worker = (worker + 1) % workers;
+    }
+    Ok(hands)
+}
