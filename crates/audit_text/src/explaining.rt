@@ -44,9 +44,13 @@ fn write_answer<W: Write>(
     Ok(())
 }
 
-/// Reads a log to its end and runs it, and writes why a place of it was admitted or denied: the report's line for the place, then a
-/// line for each need of its statement up to the first that isn't held, as `explained_text` spells it, and `checked` where that is
-/// asked. Then the writer is flushed. The log's report isn't made.
+/// Reads a log up to the line of a place, or to its end where it hasn't the place, and runs what it read; then it writes why the place
+/// was admitted or denied: the report's line for the place, then a line for each need of its statement up to the first that isn't held,
+/// as `explained_text` spells it, and `checked` where that is asked. Then the writer is flushed. The log's report isn't made.
+///
+/// What comes after the place's line changes nothing of its explanation. It isn't taken, and the reader isn't asked for more once that
+/// line is at hand: a reader that fails later is never met. Names, rows and grants are kept, and of statements and outcomes those of one
+/// batch.
 ///
 /// `NoSuchPlace` comes only where the log has no such place, `NoMemory` where a growth was refused, `Read` where the reader failed,
 /// `Write` where the writer failed, or took no byte of a piece that wasn't empty. After `Write` a beginning of the answer stands, and
@@ -58,7 +62,7 @@ pub fn explain_text<T: Threads + Wait + Sync, R: Read, W: Write>(
     writer: &mut Counted<W>,
     question: Question,
 ) -> Result<(), AuditFault>
-    // What was written is the explanation of the place of what was read.
+    // What was written is the explanation of the place of the whole log, of which only the lines up to the place's were taken.
     ensures done { OnOk result (IfSome (R.remaining reader.old.inner) (λ input. (text : List ℕ)
         × (IsExplanation input question text × Appends (W.contents writer.old.inner) (W.contents writer.new.inner) text))) }
     // After a fault it is a beginning of it, or nothing.

@@ -23,7 +23,11 @@ use workers::NoGate;
 pub(crate) const BATCH: u64 = 1024;
 
 /// Reads a line, and takes its statement into the log if it is one that is not refused.
-pub(crate) fn take_quietly(alloc: Global, engine: &mut Engine, line: &[u8]) -> Result<(), AllocError>
+pub(crate) fn take_quietly(
+    alloc: Global,
+    engine: &mut Engine,
+    line: &[u8],
+) -> Result<(), AllocError>
     ensures { OnOk result ((reading : Reading) × (ReadsAs line.now reading
         × (engine.new ≡ record engine.old { log = with_reading engine.old.log reading }))) }
 {

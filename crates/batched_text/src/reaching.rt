@@ -103,11 +103,11 @@ fn run_until<T: Threads + Wait + Sync, R: Read>(
 }
 
 /// Reads a log up to the line of a place, or to its end where it hasn't the place or none is named; runs what it read by one worker, in
-/// batches of 1,024 places; and makes no report. The answer is the engine with the log up to there, all of it finished. Of its
+/// batches of 1,024 places; and makes no report. It returns the engine with the log up to there, all of it finished. Of its
 /// statements and outcomes those of the last batch are kept, the named place's among them, and no rows before its end.
 ///
-/// No line behind that of the place is taken, and the reader isn't asked again once the place's line is at hand: a line that can't be
-/// read, or a reader that fails, behind it is never met.
+/// No line after that of the place is taken, and the reader isn't asked for more once that line is at hand: a line after it that can't
+/// be read, and a reader that fails later, are never met.
 ///
 /// `Read` comes exactly where the reader failed, `NoMemory` where a growth was refused.
 pub fn run_quietly_to<T: Threads + Wait + Sync, R: Read>(
