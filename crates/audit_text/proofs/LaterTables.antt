@@ -20,7 +20,7 @@ use Rattle.model_base.proofs.Recorded.{part-kept_grants}
 use Rattle.model_base.proofs.Replay.{by_cases}
 use Rattle.grant_paths.specs.declared.line.Line.{Line}
 use Rattle.grant_paths.specs.declared.line.Shown.{Shown}
-use Rattle.grant_paths.specs.Lines.{cause_before, holds_before, kept_before, made_places, path_before, shown_lost, shown_of}
+use Rattle.grant_paths.specs.Lines.{cause_before, holds_before, made_places, path_before, shown_lost, shown_of}
 use Rattle.explain_base.specs.Explained.{explaining_lines, line_of}
 use Rattle.explain_base.proofs.Asked.{lines-held, lines-missing}
 

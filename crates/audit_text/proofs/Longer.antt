@@ -7,7 +7,7 @@ use Rattle.std.proofs.lemmas.Option.{slice_get_within}
 use Rattle.model_base.specs.declared.deed.Deed.{Deed}
 use Rattle.model_base.specs.declared.deed.Need.{Need}
 use Rattle.model_base.specs.declared.statement.Statement.{Statement}
-use Rattle.model_base.specs.Outcomes.{World, deeds_before, needs, owners, world_before}
+use Rattle.model_base.specs.Outcomes.{World, deeds_before, needs, owners}
 use Rattle.model_base.proofs.Growing.{get-front, owners-append, world-stands}
 use Rattle.model_base.proofs.Growth.{deeds_before-stands}
 use Rattle.grant_paths.specs.declared.line.Line.{Line}

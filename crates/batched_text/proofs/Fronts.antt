@@ -1,10 +1,9 @@
 -- The log of the first lines of a text, up to a place.
-use Rattle.std.proofs.Common.{◌≡◌, ◌<◌, ◌≤◌, ◌⊎◌, ℕ, List, [], ◌∷◌, ◌++◌, length, None, Option, Some, refl, ap, sym, ◌∙◌, subst, arith, append_assoc, inl, inr}
+use Rattle.std.proofs.Common.{◌≡◌, ◌<◌, ◌≤◌, ◌⊎◌, ℕ, List, [], ◌∷◌, ◌++◌, length, None, Option, Some, refl, ap, sym, subst, arith, append_assoc, inl, inr}
 use Rattle.std.specs.Prelude.{◌&&◌, Bool, IfSome, MatchBool, false, nat_le, true, unwrap_or}
 use Rattle.std.proofs.lemmas.Bool.{leb-false}
 use Rattle.std.specs.Io.KnownBytes.{IsAtEnd, prepend_known}
 use Rattle.model_base.specs.declared.limits.TheConstants.{MOST_PLACES}
-use Rattle.model_base.specs.declared.statement.Statement.{Statement}
 use Rattle.log_text.proofs.Total.{total}
 use Rattle.log_text_base.specs.Known.{HadSome, TookLine}
 use Rattle.log_text_base.specs.Lines.{first_line, lines_of, other_lines}
@@ -13,10 +12,10 @@ use Rattle.sequencer.specs.Catalog.{no_names}
 use Rattle.sequencer.specs.Log.{Accepted, empty_log}
 use Rattle.report.specs.Report.{AreReadings, IsReading, Reading, log_of}
 use Rattle.report.proofs.Readings.{readings}
-use Rattle.bohm_base.specs.Collecting.{AreReadBefore, IsLogOf, ReadsAs, became, with_reading}
+use Rattle.bohm_base.specs.Collecting.{AreReadBefore, ReadsAs, became, with_reading}
 use Rattle.bohm_base.specs.declared.collecting.Became.{Became}
 use Rattle.bohm_base.proofs.Logs.{log_step}
-use Rattle.batched_text.specs.Reaching.{AreFewest, EndsTaking, HasPlace, HasTaken, IsFrontTaken, IsLogOfFront, IsLogUpTo}
+use Rattle.batched_text.specs.Reaching.{AreFewest, EndsTaking, HasTaken, IsFrontTaken, IsLogOfFront, IsLogUpTo}
 
 -- the last of some items, and those before it
 snoc-front : {X : Type 0} (xs ys : List X) (x y : X) → xs ++ x ∷ [] ≡ ys ++ y ∷ [] → xs ≡ ys

@@ -1,4 +1,4 @@
-use Rattle.std.proofs.Common.{◌≡◌, ◌≤◌, ◌∙◌, ap, arith, length}
+use Rattle.std.proofs.Common.{◌≡◌, ◌∙◌, ap, arith, length}
 use Rattle.log_text_base.specs.Ahead.{found_line}
 use Rattle.engine.specs.Engine.{Run, finished}
 use Rattle.batched_text.proofs.Fronts.{front_step}
