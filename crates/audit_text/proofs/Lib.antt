@@ -1,2 +1,4 @@
 pub mod Explained
+pub mod LaterTables
+pub mod Longer
 pub mod Pictured

@@ -7,7 +7,8 @@ use Rattle.grants_base.specs.Book.{Entries, ShowsBook}
 use Rattle.grants_graph.specs.Graph.{graph_text}
 use Rattle.sequencer.specs.Catalog.{Names, no_names}
 use Rattle.sequencer.specs.Log.{Accepted}
-use Rattle.report.specs.Report.{AreReadings, Reading, log_of, names_after}
+use Rattle.report.specs.Report.{AreReadings, Reading, log_of}
+use Rattle.batched_text.specs.Reaching.{IsLogOfFront}
 
 -- the place that is asked of, or the end of the log
 abbrev pub place_before : List Statement → Option ℕ → ℕ
@@ -24,11 +25,10 @@ Pictures log names limit text =
 abbrev pub IsPictureOf : Accepted → Option ℕ → List ℕ → Type 0
 IsPictureOf log limit text = Pictures log.statements log.names limit text
 
--- the text pictures the grants of the log that the lines of the input make
+-- the text pictures the grants before the place of the log that the lines of the input make as far as it, and with it: of as few
+-- lines as make a log with the place, or of all lines
 abbrev pub IsPicture : List ℕ → Option ℕ → List ℕ → Type 0
-IsPicture input limit text =
-    (readings : List Reading)
-    × (AreReadings (lines_of input) readings × Pictures (log_of no_names readings) (names_after no_names readings) limit text)
+IsPicture input limit text = (log : Accepted) × (IsLogOfFront input limit log × IsPictureOf log limit text)
 
 -- the log that the lines of the input make ends before the place
 abbrev pub EndsBefore : List ℕ → Option ℕ → Type 0

@@ -9,7 +9,7 @@ ghost use Rattle.audit_text.specs.Answer.{HasNoPlace, AnswersAccepted, IsExplana
 use crate::fault::AuditFault;
 use crate::putting::put_answer;
 use crate::question::Question;
-use batched_text::run_quietly;
+use batched_text::run_quietly_to;
 use engine::Engine;
 use log_text_base::{Counted, flush, write_out, writing_laws};
 use std::alloc::Global;
@@ -24,7 +24,7 @@ fn write_answer<W: Write>(
     engine: &Engine,
     question: Question,
 ) -> Result<(), AuditFault>
-    requires kept { engine.now.dropped ≡ 0 }
+    requires kept { engine.now.dropped ≤ question.place }
     requires all { finished engine.now ≡ length engine.now.log.statements }
     ensures done { OnOk result ((text : List ℕ)
         × (AnswersAccepted engine.now.log question text × Appends (W.contents writer.old.inner) (W.contents writer.new.inner) text)) }
@@ -44,9 +44,13 @@ fn write_answer<W: Write>(
     Ok(())
 }
 
-/// Reads a log to its end and runs it, and writes why a place of it was admitted or denied: the report's line for the place, then a
-/// line for each need of its statement up to the first that isn't held, as `explained_text` spells it, and `checked` where that is
-/// asked. Then the writer is flushed. The log's report isn't made.
+/// Reads a log up to the line of a place, or to its end where it hasn't the place, and runs what it read; then it writes why the place
+/// was admitted or denied: the report's line for the place, then a line for each need of its statement up to the first that isn't held,
+/// as `explained_text` spells it, and `checked` where that is asked. Then the writer is flushed. The log's report isn't made.
+///
+/// What comes after the place's line changes nothing of its explanation. It isn't taken, and the reader isn't asked for more once that
+/// line is at hand: a reader that fails later is never met. Names, rows and grants are kept, and of statements and outcomes those of one
+/// batch.
 ///
 /// `NoSuchPlace` comes only where the log has no such place, `NoMemory` where a growth was refused, `Read` where the reader failed,
 /// `Write` where the writer failed, or took no byte of a piece that wasn't empty. After `Write` a beginning of the answer stands, and
@@ -58,7 +62,7 @@ pub fn explain_text<T: Threads + Wait + Sync, R: Read, W: Write>(
     writer: &mut Counted<W>,
     question: Question,
 ) -> Result<(), AuditFault>
-    // What was written is the explanation of the place of what was read.
+    // What was written is the explanation of the place of the whole log, of which only the lines up to the place's were taken.
     ensures done { OnOk result (IfSome (R.remaining reader.old.inner) (λ input. (text : List ℕ)
         × (IsExplanation input question text × Appends (W.contents writer.old.inner) (W.contents writer.new.inner) text))) }
     // After a fault it is a beginning of it, or nothing.
@@ -74,6 +78,6 @@ pub fn explain_text<T: Threads + Wait + Sync, R: Read, W: Write>(
     // Ok says that neither of them failed, in the flush at the end neither.
     ensures whole { OnOk result ((reader.new.errors ≡ reader.old.errors) × (writer.new.errors ≡ writer.old.errors)) }
 {
-    let engine = run_quietly(rt, alloc, reader)?;
+    let engine = run_quietly_to(rt, alloc, reader, Some(question.place))?;
     write_answer(alloc, writer, &engine, question)
 }

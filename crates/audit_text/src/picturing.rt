@@ -7,7 +7,7 @@ ghost use Rattle.engine.specs.Engine.{finished};
 ghost use Rattle.audit_text.specs.Picture.{EndsBefore, IsPicture, IsPictureOf, place_before};
 
 use crate::fault::AuditFault;
-use batched_text::run_quietly;
+use batched_text::run_quietly_to;
 use engine::Engine;
 use grants_graph::put_graph;
 use log_text_base::{Counted, flush, write_out, writing_laws};
@@ -60,8 +60,9 @@ fn write_picture<W: Write>(
     Ok(())
 }
 
-/// Reads a log to its end and runs it, and writes the grants in force before a place, or at its end where none is told, as a
-/// digraph of Graphviz, as `grants_graph` spells it. Then the writer is flushed. The log's report isn't made.
+/// Reads a log up to the line of a place, or to its end where none is named or it hasn't the place, and runs what it read; then it
+/// writes the grants in force before the place, or at the end where none is named, as a digraph of Graphviz, as `grants_graph` spells
+/// it. Then the writer is flushed. The log's report isn't made. What comes after the place's line isn't taken, as in `explain_text`.
 ///
 /// `NoSuchPlace` comes only where the log ends before the place, `NoMemory` where a growth was refused, `Read` where the reader
 /// failed, `Write` where the writer failed, or took no byte of a piece that wasn't empty. After `Write` a beginning of the picture
@@ -73,7 +74,7 @@ pub fn grants_text<T: Threads + Wait + Sync, R: Read, W: Write>(
     writer: &mut Counted<W>,
     limit: Option<Place>,
 ) -> Result<(), AuditFault>
-    // What was written is the picture of the grants before the place of what was read.
+    // What was written is the picture of the grants before the place, by the log's beginning up to the place and with it.
     ensures done { OnOk result (IfSome (R.remaining reader.old.inner) (λ input. (text : List ℕ)
         × (IsPicture input limit text × Appends (W.contents writer.old.inner) (W.contents writer.new.inner) text))) }
     // After a fault it is a beginning of it, or nothing.
@@ -89,6 +90,6 @@ pub fn grants_text<T: Threads + Wait + Sync, R: Read, W: Write>(
     // Ok says that neither of them failed, in the flush at the end neither.
     ensures whole { OnOk result ((reader.new.errors ≡ reader.old.errors) × (writer.new.errors ≡ writer.old.errors)) }
 {
-    let engine = run_quietly(rt, alloc, reader)?;
+    let engine = run_quietly_to(rt, alloc, reader, limit)?;
     write_picture(alloc, writer, &engine, limit)
 }

@@ -97,7 +97,7 @@ pub(crate) fn put_answer(
     engine: &Engine,
     question: Question,
 ) -> Result<(), AuditFault>
-    requires kept { engine.now.dropped ≡ 0 }
+    requires kept { engine.now.dropped ≤ question.place }
     requires all { finished engine.now ≡ length engine.now.log.statements }
     requires empty { text.old.items ≡ [] }
     ensures answer { OnOk result (AnswersAccepted engine.now.log question text.new.items) }

@@ -5,5 +5,6 @@ pub mod Ended
 pub mod Faults
 pub mod Cutting
 pub mod TakenLines
+pub mod Fronts
 pub mod ForetoldLines
 pub mod RunLines

@@ -18,7 +18,7 @@ use Rattle.model_base.proofs.Growing.{get-front, outcome-stands}
 use Rattle.batched_text.specs.Places.{places_in}
 use Rattle.bohm_base.proofs.Reporting.{text-longer}
 
-needs-own : (log : Accepted) → IsWhole log → NeedsOwnTables log.statements
+pub needs-own : (log : Accepted) → IsWhole log → NeedsOwnTables log.statements
 needs-own log whole =
     let count : length log.names.tables ≡ length (owners log.statements) = sym whole.owned ∙ ap length whole.owners in
     subst (λ (n : ℕ). All (NeedsWithin n) log.statements) count
@@ -31,7 +31,7 @@ module _ (log : Accepted) (whole : IsWhole log) (more : List Statement) (extra :
   text-same place (Some statement) None named = refl
   text-same place None found named = refl
 
-  place-same : (place : ℕ) → place < length log.statements → place_text (log.statements ++ more) (log.names.tables ++ extra) place ≡ place_text log.statements log.names.tables place
+  pub place-same : (place : ℕ) → place < length log.statements → place_text (log.statements ++ more) (log.names.tables ++ extra) place ≡ place_text log.statements log.names.tables place
   place-same place less =
       ap (λ (s : Option Statement). text_of (log.names.tables ++ extra) place s (outcome (log.statements ++ more) place)) (get-front log.statements more place less)
       ∙ ap (text_of (log.names.tables ++ extra) place (slice_get log.statements place)) (outcome-stands log.statements more place (needs-own log whole) less)

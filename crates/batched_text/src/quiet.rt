@@ -20,10 +20,14 @@ use std::thread::Threads;
 use workers::NoGate;
 
 /// How many places a batch has, but for the last one.
-const BATCH: u64 = 1024;
+pub(crate) const BATCH: u64 = 1024;
 
 /// Reads a line, and takes its statement into the log if it is one that is not refused.
-fn take_quietly(alloc: Global, engine: &mut Engine, line: &[u8]) -> Result<(), AllocError>
+pub(crate) fn take_quietly(
+    alloc: Global,
+    engine: &mut Engine,
+    line: &[u8],
+) -> Result<(), AllocError>
     ensures { OnOk result ((reading : Reading) × (ReadsAs line.now reading
         × (engine.new ≡ record engine.old { log = with_reading engine.old.log reading }))) }
 {
@@ -83,7 +87,7 @@ fn run_next<T: Threads + Wait + Sync>(
 }
 
 /// Runs the places that wait.
-fn run_rest<T: Threads + Wait + Sync>(
+pub(crate) fn run_rest<T: Threads + Wait + Sync>(
     rt: &T,
     alloc: Global,
     engine: &mut Engine,

@@ -113,7 +113,8 @@ fn with_writer<R: Threads + Wait + Sync>(
     }
 }
 
-/// Counts how a run ends where the reader fails at each of its reads. The end of the log is found by a read too.
+/// Counts how a run ends where the reader fails at each of its reads. The end of the log is found by a read too. A read that the run
+/// didn't make fails nothing.
 fn count_reads<R: Threads + Wait + Sync>(
     rt: &R,
     alloc: Global,
@@ -125,7 +126,7 @@ fn count_reads<R: Threads + Wait + Sync>(
     let length = log.len() as u64;
     for reads in 0..length.saturating_add(TRIES) {
         let trial = with_reads(rt, alloc, log, run, reads);
-        if reads <= length {
+        if trial.failures > 0 {
             counts.add_failed(&trial, wanted.as_slice(), TrialFault::Read);
         } else {
             counts.add_whole(&trial, wanted.as_slice());

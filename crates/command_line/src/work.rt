@@ -46,7 +46,7 @@ pub trait Work<O: Copy> {
     // Which texts it tells of a log by an order.
     ghost tells: { Self → O → List ℕ → List ℕ → Type 0 };
 
-    /// Reads the log to its end, and writes what it tells of it. After a fault a beginning of that was written, or nothing;
+    /// Reads the log, as far as it has to, and writes what it tells of it. After a fault a beginning of that was written, or nothing;
     /// `Read` and `Write` come only where the log's reader or the writer failed, and Ok only where neither did.
     fn work<T: Threads + Wait + Sync, R: Read, W: Write>(
         &self,

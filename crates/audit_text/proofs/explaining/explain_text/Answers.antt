@@ -3,10 +3,10 @@ use Rattle.audit_text.proofs.Explained.{begun, explained, no_place}
 use Rattle.audit_text.proofs.explaining.explain_text.Goals as goal
 
 pub returns-clause-done : goal.returns-clause-done
-returns-clause-done g c = explained _ _ _ _ _ c.args.question c.in_ok-engine.ensures.log c.write_answer.ensures.done
+returns-clause-done g c = explained _ _ _ _ _ c.args.question c.in_ok-engine.ensures.whole c.in_ok-engine.ensures.log c.write_answer.ensures.done
 
 pub returns-clause-begun : goal.returns-clause-begun
-returns-clause-begun g c = begun _ _ _ _ c.args.question c.in_ok-engine.ensures.log c.write_answer.ensures.begun
+returns-clause-begun g c = begun _ _ _ _ c.args.question c.in_ok-engine.ensures.whole c.in_ok-engine.ensures.log c.write_answer.ensures.begun
 
 pub returns-clause-none : goal.returns-clause-none
 returns-clause-none g c is =

@@ -1,0 +1,18 @@
+use Rattle.std.proofs.Common.{◌≡◌, ◌<◌, ◌≤◌, ◌+◌, ◌-◌, length}
+use Rattle.std.specs.Io.KnownBytes.{prepend_known}
+use Rattle.log_text_base.specs.Ahead.{ahead}
+use Rattle.engine.specs.Engine.{finished}
+use Rattle.batched_text.specs.Reaching.{HasTaken}
+use Rattle.log_text_base.specs.declared.limits.TheConstants.{BUFFER_BYTES, MOST_GIVEN_BYTES}
+use Rattle.batched_text.proofs.reaching.run_until.Given as goal
+
+abbrev pub invariant-batches : goal.invariant-batches
+invariant-batches g l = record {
+  taken : HasTaken (g.R.Read.remaining l.initial.reader.inner) (prepend_known (ahead l.lines) (g.R.Read.remaining l.reader.inner)) l.place l.engine.log;
+  kept : l.engine.dropped ≤ l.place;
+  bounded : 0 < length (ahead l.lines) → l.reader.given ≤ MOST_GIVEN_BYTES + BUFFER_BYTES;
+  read_errors : l.reader.errors ≡ l.initial.reader.errors;
+}
+
+abbrev pub decreases-batches : goal.decreases-batches
+decreases-batches g l = l.place + 1 - finished l.engine

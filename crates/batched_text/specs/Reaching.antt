@@ -1,0 +1,55 @@
+-- The log of a text as far as a place: of as few of its first lines as make a log with the place, or of all of them. That an
+-- explanation reads no further is this project's own.
+use Rattle.std.specs.Prelude.{◌≡◌, ◌<◌, ◌++◌, ◌∷◌, ◌⊎◌, [], ⊤, ℕ, List, None, Option, Some, length}
+use Rattle.std.specs.Io.KnownBytes.{IsAtEnd}
+use Rattle.model_base.specs.declared.statement.Statement.{Statement}
+use Rattle.log_text_base.specs.Lines.{lines_of}
+use Rattle.sequencer.specs.Catalog.{no_names}
+use Rattle.sequencer.specs.Log.{Accepted}
+use Rattle.report.specs.Report.{AreReadings, Reading, log_of}
+use Rattle.bohm_base.specs.Collecting.{AreReadBefore, IsLogOf}
+use Rattle.bohm_base.specs.declared.collecting.Became.{Became}
+
+-- the log has the place that is named, if one is
+abbrev pub HasPlace : Option ℕ → List Statement → Type 0
+HasPlace None log = ⊥
+HasPlace (Some place) log = place < length log
+
+-- without the last of these lines the log hasn't the place: none was taken once it had
+abbrev pub AreFewest : Option ℕ → List Reading → Type 0
+AreFewest limit readings =
+    (front : List Reading) (last : Reading) → readings ≡ front ++ last ∷ [] → HasPlace limit (log_of no_names front) → ⊥
+
+-- the log is that of the first lines of the input, of as few as make a log with the place, or of all of them
+pub record IsLogOfFront (input : List ℕ) (limit : Option ℕ) (log : Accepted) : Type 0 where
+  pub earlier : List Reading
+  pub later : List Reading
+  pub read : AreReadings (lines_of input) (earlier ++ later)
+  pub lines : List Became
+  pub made : IsLogOf earlier log lines
+  pub fewest : AreFewest limit earlier
+  pub enough : HasPlace limit log.statements ⊎ (later ≡ [])
+
+-- so it is where the input is known
+abbrev pub IsLogUpTo : Option (List ℕ) → Option ℕ → Accepted → Type 0
+IsLogUpTo None limit log = ⊤
+IsLogUpTo (Some input) limit log = IsLogOfFront input limit log
+
+-- the log is that of the lines of the input before what is still to come, the last of which was taken while the log hadn't the place
+pub record IsFrontTaken (input rest : List ℕ) (place : ℕ) (log : Accepted) : Type 0 where
+  pub earlier : List Reading
+  pub leads : AreReadBefore input rest earlier
+  pub lines : List Became
+  pub made : IsLogOf earlier log lines
+  pub fewest : AreFewest (Some place) earlier
+
+-- so it is where the input is known
+abbrev pub HasTaken : Option (List ℕ) → Option (List ℕ) → ℕ → Accepted → Type 0
+HasTaken None rest place log = ⊤
+HasTaken (Some input) None place log = ⊥
+HasTaken (Some input) (Some rest) place log = IsFrontTaken input rest place log
+
+-- and the log has the place, or nothing is still to come
+abbrev pub EndsTaking : Option (List ℕ) → ℕ → Accepted → Type 0
+EndsTaking input place log =
+    (rest : Option (List ℕ)) × (HasTaken input rest place log × ((place < length log.statements) ⊎ IsAtEnd rest))

@@ -1,0 +1,135 @@
+//! A log that is read and run up to a place, and of which no report is made.
+
+ghost use Rattle.std.specs.Prelude.{◌≡◌, ◌<◌, ◌≤◌, ◌+◌, ℕ, Err, IfOk, IfSome, List, MatchBool, Ok, OnOk, Option, length, true};
+ghost use Rattle.std.specs.Io.KnownBytes.{prepend_known};
+ghost use Rattle.log_text_base.specs.Ahead.{ahead};
+ghost use Rattle.log_text_base.specs.Known.{raised};
+ghost use Rattle.sequencer.specs.Log.{empty_log};
+ghost use Rattle.sequencer.specs.Taken.{IsWhole};
+ghost use Rattle.engine.specs.Engine.{finished};
+ghost use Rattle.batched_text.specs.Reaching.{EndsTaking, HasTaken, IsLogUpTo};
+
+use crate::quiet::{BATCH, run_rest, take_quietly};
+use engine::Engine;
+use log_text_base::{BUFFER_BYTES, Counted, LineReader, MOST_GIVEN_BYTES, ReadFault};
+use model_base::{MOST_PLACES, Place};
+use std::alloc::Global;
+use std::io::Read;
+use std::sync::Wait;
+use std::thread::Threads;
+
+/// Takes lines into the log until it has a place. False where the input ended before. None of them is run.
+fn take_until<R: Read>(
+    alloc: Global,
+    reader: &mut Counted<R>,
+    lines: &mut LineReader,
+    engine: &mut Engine,
+    place: Place,
+) -> Result<bool, ReadFault>
+    requires { 0 < length (ahead lines.old) → reader.old.given ≤ MOST_GIVEN_BYTES + BUFFER_BYTES }
+    ensures taken { IfOk result (λ more. (input : Option (List ℕ)) (end : ℕ) → place ≤ end
+        → HasTaken input (prepend_known (ahead lines.old) (R.remaining reader.old.inner)) end engine.old.log
+        → MatchBool more
+        ((place < length engine.new.log.statements)
+        × HasTaken input (prepend_known (ahead lines.new) (R.remaining reader.new.inner)) end engine.new.log)
+        (EndsTaking input end engine.new.log)) }
+    ensures more { result ≡ Ok true → place < length engine.new.log.statements }
+    ensures none { OnOk result (finished engine.new ≡ finished engine.old) }
+    ensures kept { OnOk result (engine.new.dropped ≡ engine.old.dropped) }
+    ensures bound { 0 < length (ahead lines.new) → reader.new.given ≤ MOST_GIVEN_BYTES + BUFFER_BYTES }
+    ensures read { result ≡ Err ReadFault.Read → reader.new.errors ≡ raised reader.old.errors }
+    ensures other { (result ≡ Err ReadFault.Read → ⊥) → reader.new.errors ≡ reader.old.errors }
+{
+    'lines: while engine.log().len() <= place {
+        if !lines.next_line(reader)? {
+            return Ok(false);
+        }
+        take_quietly(alloc, engine, lines.line())?;
+    }
+    Ok(true)
+}
+
+/// Takes lines until the log has a place, but no more than a batch of them, and runs the places that wait. False once the log has the
+/// place, or has all lines of the input.
+fn run_some<T: Threads + Wait + Sync, R: Read>(
+    rt: &T,
+    alloc: Global,
+    reader: &mut Counted<R>,
+    lines: &mut LineReader,
+    engine: &mut Engine,
+    place: Place,
+) -> Result<bool, ReadFault>
+    requires { 0 < length (ahead lines.old) → reader.old.given ≤ MOST_GIVEN_BYTES + BUFFER_BYTES }
+    ensures taken { IfOk result (λ more. (input : Option (List ℕ))
+        → HasTaken input (prepend_known (ahead lines.old) (R.remaining reader.old.inner)) place engine.old.log
+        → MatchBool more
+        (HasTaken input (prepend_known (ahead lines.new) (R.remaining reader.new.inner)) place engine.new.log)
+        (EndsTaking input place engine.new.log)) }
+    ensures more { result ≡ Ok true → (finished engine.old < finished engine.new) × (finished engine.new ≤ place) }
+    ensures all { OnOk result (finished engine.new ≡ length engine.new.log.statements) }
+    ensures kept { OnOk result (engine.new.dropped ≡ engine.old.dropped) }
+    ensures bound { 0 < length (ahead lines.new) → reader.new.given ≤ MOST_GIVEN_BYTES + BUFFER_BYTES }
+    ensures read { result ≡ Err ReadFault.Read → reader.new.errors ≡ raised reader.old.errors }
+    ensures other { (result ≡ Err ReadFault.Read → ⊥) → reader.new.errors ≡ reader.old.errors }
+{
+    let last = place.min(engine.finished().saturating_add(BATCH - 1));
+    let more = take_until(alloc, reader, lines, engine, last)?;
+    run_rest(rt, alloc, engine)?;
+    let goes_on = engine.finished() <= place;
+    Ok(more & goes_on)
+}
+
+/// Takes lines until the log has a place, and runs them batch by batch. Each batch but the last one is forgotten.
+fn run_until<T: Threads + Wait + Sync, R: Read>(
+    rt: &T,
+    alloc: Global,
+    reader: &mut Counted<R>,
+    engine: &mut Engine,
+    place: Place,
+) -> Result<(), ReadFault>
+    requires first { engine.old.log ≡ empty_log }
+    requires none { engine.old.dropped ≡ 0 }
+    ensures taken { OnOk result (EndsTaking (R.remaining reader.old.inner) place engine.new.log) }
+    ensures all { OnOk result (finished engine.new ≡ length engine.new.log.statements) }
+    ensures kept { OnOk result (engine.new.dropped ≤ place) }
+    ensures read { result ≡ Err ReadFault.Read → reader.new.errors ≡ raised reader.old.errors }
+    ensures other { (result ≡ Err ReadFault.Read → ⊥) → reader.new.errors ≡ reader.old.errors }
+{
+    let mut lines = LineReader::new(alloc)?;
+    'batches: while run_some(rt, alloc, reader, &mut lines, engine, place)? {
+        engine.forget();
+    }
+    Ok(())
+}
+
+/// Reads a log up to the line of a place, or to its end where it hasn't the place or none is named; runs what it read by one worker, in
+/// batches of 1,024 places; and makes no report. It returns the engine with the log up to there, all of it finished. Of its
+/// statements and outcomes those of the last batch are kept, the named place's among them, and no rows before its end.
+///
+/// No line after that of the place is taken, and the reader isn't asked for more once that line is at hand: a line after it that can't
+/// be read, and a reader that fails later, are never met.
+///
+/// `Read` comes exactly where the reader failed, `NoMemory` where a growth was refused.
+pub fn run_quietly_to<T: Threads + Wait + Sync, R: Read>(
+    rt: &T,
+    alloc: Global,
+    reader: &mut Counted<R>,
+    limit: Option<Place>,
+) -> Result<Engine, ReadFault>
+    // The engine has the log of what was read up to the place, or all of it, and all of that is finished.
+    ensures log { IfOk result (λ engine. IsLogUpTo (R.remaining reader.old.inner) limit engine.log) }
+    ensures all { IfOk result (λ engine. finished engine ≡ length engine.log.statements) }
+    ensures whole { IfOk result (λ engine. IsWhole engine.log) }
+    // The place's statement and outcome aren't dropped.
+    ensures kept { IfOk result (λ engine. IfSome limit (λ place. engine.dropped ≤ place)) }
+    // Read says that the reader failed, and nothing else does.
+    ensures read { result ≡ Err ReadFault.Read → reader.new.errors ≡ raised reader.old.errors }
+    ensures other { (result ≡ Err ReadFault.Read → ⊥) → reader.new.errors ≡ reader.old.errors }
+{
+    let mut engine = Engine::new(alloc);
+    let place = limit.unwrap_or(MOST_PLACES);
+    run_until(rt, alloc, reader, &mut engine, place)?;
+    let _len = engine.log().len();
+    let _dropped = engine.log().dropped();
+    Ok(engine)
+}
