@@ -63,6 +63,12 @@ fn push_places(alloc: Global, log: &mut WholeLog, rows: usize) -> Result<(), Tri
     Ok(())
 }
 
+/// What a place of this index has to put out.
+fn output_of(index: usize, rows: usize) -> i64 {
+    let turns = index / rows.max(1);
+    i64::try_from(turns).unwrap_or(i64::MAX).saturating_add(1)
+}
+
 /// Whether a place is done with this output alone.
 fn is_output(found: &Outcome, wanted: i64) -> bool {
     match found {
@@ -87,10 +93,7 @@ fn is_right(batch: &Batch<RangeKey<'_>>, pass: Pass, index: usize, rows: usize) 
     }
     let (pass, found) = outcome(batch, pass, index);
     match found {
-        Ok(Some(found)) => (
-            pass,
-            is_output(&found, (index.min(PLACES) / rows.max(1)) as i64 + 1),
-        ),
+        Ok(Some(found)) => (pass, is_output(&found, output_of(index, rows))),
         Ok(None) | Err(_) => (pass, false),
     }
 }

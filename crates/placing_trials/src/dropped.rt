@@ -42,8 +42,8 @@ const APART: usize = 7;
 /// What came of some logs.
 #[derive(Clone, Copy, Default)]
 struct Counts {
-    /// Places that were done while later ones weren't placed.
-    early: u64,
+    /// Logs of which a place was done while others weren't placed.
+    early: u32,
     /// Places that a pass held when it was dropped.
     held: u64,
     same: Same,
@@ -78,6 +78,7 @@ fn place_some(batch: &Batch<RangeKey<'_>>, mut placer: Placer, steps: usize) -> 
 
 /// Goes on with each placer by so many places on a thread of its own, all at the same time. They come back once all their threads have
 /// ended.
+#[tactic(auto, using(crate::proofs::Opening::last_in, crate::proofs::Opening::rest_in, crate::proofs::Opening::more_in))]
 fn by_threads<'s, 'k, E, R: Threads>(
     rt: &'s R,
     scope: &Scope<'s, E>,
@@ -202,7 +203,7 @@ fn run_parts<R: Threads + Wait + Sync>(
     let held = hold_some(batch, holder, first);
     counts.held = counts.held.saturating_add(held);
     let (pass, early) = ask_each(alloc, batch, pass)?;
-    counts.early = counts.early.saturating_add(early);
+    counts.early = counts.early.saturating_add(u32::from(early > 0));
     let _placers = go_on(rt, batch, placers, ALL_STEPS)?;
     let (pass, _done) = ask_each(alloc, batch, pass)?;
     Ok(pass)
@@ -302,10 +303,10 @@ pub fn tell_dropped<R: Threads + Wait + Print + Sync>(
     let Counts { early, held, same } = counts;
     let Same { places, same, logs } = same;
     println!(rt;
-        "{LOGS} drawn logs of {places} places, of which {early} were done before the last {PARTITIONS} threads placed the rest, and a pass held {held} when it was dropped"
+        "{LOGS} drawn logs of {places} places, each placed by threads that end midway and threads that go on; a pass held {held} when it was dropped"
     )?;
     println!(rt;
-        "  completed, {same} places have the own words and the ends of the run in order, and {logs} logs its outcomes and rows"
+        "  {early} logs had a place done before others were placed; completed, {same} places have the own words and the ends of the run in order, and {logs} logs its outcomes and rows"
     )?;
     Ok(())
 }
