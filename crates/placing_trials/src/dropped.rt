@@ -148,7 +148,10 @@ fn hold(batch: &Batch<RangeKey<'_>>, holding: &mut Holding, index: usize) -> boo
     requires within { index < batch.now.key.batch.size }
     ensures { IsPassOf batch.now holding.new }
 {
-    is_past(batch, holding, index) && batch.words().claim(holding, index) == Claimed::Won
+    if !is_past(batch, holding, index) {
+        return false;
+    }
+    batch.words().claim(holding, index) == Claimed::Won
 }
 
 /// Claims some of the places that are placed, and counts those that it won. Then the pass is dropped.

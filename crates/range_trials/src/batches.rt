@@ -85,7 +85,7 @@ fn place_all(batch: &Batch<RangeKey<'_>>, placer: &mut Placer) -> Result<(), Tri
 }
 
 /// Places all of a batch, one partition after another.
-
+#[tactic(auto, using(crate::proofs::Placers::last_in, crate::proofs::Placers::rest_in))]
 fn place_each(batch: &Batch<RangeKey<'_>>, mut placers: Vec<Placer>) -> Result<(), TrialFault>
     requires { All (IsPlacerIn batch.now) placers.items }
 {

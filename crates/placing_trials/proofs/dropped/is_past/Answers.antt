@@ -1,5 +1,6 @@
 use Rattle.std.proofs.Common.{◌≡◌, ℕ, ap, sym, subst, ◌∙◌, inl, inr, arith}
 use Rattle.std.proofs.lemmas.Bool.{cases_eq}
+use Rattle.log_words.specs.Keys.{Key}
 use Rattle.words.specs.declared.view.View.{View}
 use Rattle.words.specs.Passes.{Passing}
 use Rattle.words.specs.Views.{KnowsFront, with_front}
@@ -25,3 +26,9 @@ loop-partition-preserved c =
             | inr ne ↦ front-later old.view (with_front old.view partition found) p index (keeps-found old.view partition found) (i.past p (omega arith))
           ]);
     }
+
+pub returns-clause-past : goal.returns-clause-past
+returns-clause-past c = λ yes p low.
+    let end : c.partitions-partition-end.result ≡ c.args.batch.now.key.batch.partitions =
+    c.partitions-partition-end.ensures ∙ ap (λ (key : Key). key.batch.partitions) c.key.ensures in
+    c.loop-partition.invariant.past p (omega (arith, low, end, c.loop-partition-test.false))
