@@ -1,5 +1,5 @@
 -- A whole log as one batch.
-use Rattle.std.specs.Prelude.{◌≡◌, ℕ, List, length, true}
+use Rattle.std.specs.Prelude.{◌≡◌, ℕ, List, length, false}
 use Rattle.model_base.specs.declared.statement.Statement.{Statement}
 use Rattle.model_base.specs.Outcomes.{deeds_before, owners}
 use Rattle.chains.specs.Store.{IsRight}
@@ -14,6 +14,6 @@ pub record IsNothing (before : Before) (log : List Statement) : Type 0 where
   pub right : IsRight log before.chains
   pub book : ShowsBook before.book (owners log) (deeds_before log 0)
 
--- all places of the log, placed by so many
+-- all places of the log, which so many partitions are to place
 abbrev pub whole : Accepted → ℕ → Ranged
-whole log placers = record { log = log; first = 0; size = length log.statements; partitions = placers; placed = true }
+whole log partitions = record { log = log; first = 0; size = length log.statements; partitions = partitions; placed = false }

@@ -12,7 +12,6 @@ use crate::logs::WholeLog;
 use filling_base::{Batch, Fills};
 use finishing::Finished;
 use std::alloc::Global;
-use std::thread::Threads;
 use taking::{Closed, take};
 use trials_base::Generator;
 use words::{Claimed, Holding, Pass};
@@ -85,8 +84,7 @@ fn taken_text(alloc: Global, log: &WholeLog, done: &Finished<'_>) -> Result<Stri
 }
 
 /// Runs a log by a pass that goes round once beside one that was dropped, and completes it.
-fn run_beside<'a, R: Threads + Sync>(
-    rt: &R,
+fn run_beside<'a>(
     alloc: Global,
     log: &'a WholeLog,
     before: &'a Before,
@@ -96,18 +94,17 @@ fn run_beside<'a, R: Threads + Sync>(
     requires { IsNothing before.now log.now.statements }
     ensures { IfOk result (λ done. done ≡ record { log = log.now; first = 0; size = length log.now.statements }) }
 {
-    let (batch, pass) = words_of(rt, alloc, log, before, 1)?;
+    let (batch, pass) = words_of(alloc, log, before, 1)?;
     let (pass, other) = batch.split(pass);
     let held = hold_some(&batch, other, first);
     let (pass, found) = ask_round(&batch, pass, 0);
     counts.held = counts.held.saturating_add(held);
     counts.done = counts.done.saturating_add(found.done);
-    Ok(finished(alloc, batch, pass)?)
+    finished(alloc, batch, pass)
 }
 
 /// A log completed in order, on one thread, behind words of which nothing is stored.
-fn in_order<'a, R: Threads + Sync>(
-    rt: &R,
+fn in_order<'a>(
     alloc: Global,
     log: &'a WholeLog,
     before: &'a Before,
@@ -115,8 +112,8 @@ fn in_order<'a, R: Threads + Sync>(
     requires { IsNothing before.now log.now.statements }
     ensures { IfOk result (λ done. done ≡ record { log = log.now; first = 0; size = length log.now.statements }) }
 {
-    let (batch, pass) = words_of(rt, alloc, log, before, 1)?;
-    Ok(finished(alloc, batch, pass)?)
+    let (batch, pass) = words_of(alloc, log, before, 1)?;
+    finished(alloc, batch, pass)
 }
 
 /// Whether the same is taken from both.
@@ -154,8 +151,7 @@ fn compare_both(
 }
 
 /// Compares a log completed behind a dropped pass with one that was run in order.
-fn compare_with<R: Threads + Sync>(
-    rt: &R,
+fn compare_with(
     alloc: Global,
     log: &WholeLog,
     before: &Before,
@@ -166,26 +162,24 @@ fn compare_with<R: Threads + Sync>(
     requires before { IsNothing before.now log.now.statements }
     requires plain { plain.now ≡ record { log = log.now; first = 0; size = length log.now.statements } }
 {
-    let done = run_beside(rt, alloc, log, before, first, counts)?;
+    let done = run_beside(alloc, log, before, first, counts)?;
     compare_both(alloc, log, plain, &done, counts)
 }
 
 /// Compares a log completed behind a dropped pass with the same run in order.
-fn compare<R: Threads + Sync>(
-    rt: &R,
+fn compare(
     alloc: Global,
     log: &WholeLog,
     first: usize,
     counts: &mut Counts,
 ) -> Result<(), TrialFault> {
     let before = nothing(alloc, log);
-    let plain = in_order(rt, alloc, log, &before)?;
-    compare_with(rt, alloc, log, &before, &plain, first, counts)
+    let plain = in_order(alloc, log, &before)?;
+    compare_with(alloc, log, &before, &plain, first, counts)
 }
 
 /// Compares one more drawn log.
-fn compare_drawn<R: Threads + Sync>(
-    rt: &R,
+fn compare_drawn(
     alloc: Global,
     generator: &mut Generator,
     first: usize,
@@ -193,15 +187,15 @@ fn compare_drawn<R: Threads + Sync>(
 ) -> Result<(), TrialFault> {
     let mut log = WholeLog::new(alloc);
     push_drawn(alloc, &mut log, generator)?;
-    compare(rt, alloc, &log, first, counts)
+    compare(alloc, &log, first, counts)
 }
 
 /// Tells what comes of drawn logs of which a pass held some places when it was dropped.
-pub fn tell_dropped<R: Threads + Print + Sync>(rt: &R, alloc: Global) -> Result<(), TrialFault> {
+pub fn tell_dropped(rt: &impl Print, alloc: Global) -> Result<(), TrialFault> {
     let mut generator = Generator::new(2015);
     let mut counts = Counts::default();
     for number in 0..LOGS {
-        compare_drawn(rt, alloc, &mut generator, number as usize, &mut counts)?;
+        compare_drawn(alloc, &mut generator, number as usize, &mut counts)?;
     }
     let Counts {
         places,

@@ -21,6 +21,9 @@ pub enum TrialFault {
     /// A log has too few places.
     #[error("a log has too few places")]
     Short,
+    /// A log isn't placed.
+    #[error("a log is not placed")]
+    Unplaced,
     /// A growth was refused.
     #[error("out of memory")]
     NoMemory,

@@ -29,19 +29,19 @@ pub trait Trial {
         requires pass { IsPassOf batch.now pass };
 }
 
-/// Makes a trial on the words of all places of a log, found by so many placers.
+/// Makes a trial on the words of all places of a log, placed by so many partitions.
 pub fn try_words<R: Threads + Print + Sync, T: Trial>(
     rt: &R,
     alloc: Global,
     log: &WholeLog,
-    placers: usize,
+    partitions: usize,
     wanted: &[String],
     trial: &mut T,
 ) -> Result<(), TrialFault>
-    requires { 0 < placers }
+    requires { 0 < partitions }
 {
     let before = nothing(alloc, log);
-    let (batch, pass) = words_of(rt, alloc, log, &before, placers)?;
+    let (batch, pass) = words_of(alloc, log, &before, partitions)?;
     trial.run(rt, alloc, &batch, pass, wanted)
 }
 
@@ -50,13 +50,13 @@ pub fn try_log<R: Threads + Print + Sync, T: Trial>(
     rt: &R,
     alloc: Global,
     log: &WholeLog,
-    placers: usize,
+    partitions: usize,
     trial: &mut T,
 ) -> Result<(), TrialFault>
-    requires { 0 < placers }
+    requires { 0 < partitions }
 {
     let wanted = wanted(alloc, log)?;
-    try_words(rt, alloc, log, placers, wanted.as_slice(), trial)
+    try_words(rt, alloc, log, partitions, wanted.as_slice(), trial)
 }
 
 /// Makes a trial, as `try_log`, on the log of these lines.
@@ -64,11 +64,11 @@ pub fn try_lines<R: Threads + Print + Sync, T: Trial>(
     rt: &R,
     alloc: Global,
     lines: &[&str],
-    placers: usize,
+    partitions: usize,
     trial: &mut T,
 ) -> Result<(), TrialFault>
-    requires { 0 < placers }
+    requires { 0 < partitions }
 {
     let log = log_of(alloc, lines)?;
-    try_log(rt, alloc, &log, placers, trial)
+    try_log(rt, alloc, &log, partitions, trial)
 }

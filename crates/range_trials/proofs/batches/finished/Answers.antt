@@ -1,5 +1,4 @@
 use Rattle.std.proofs.Common.{◌≡◌, ap, subst, ◌∙◌}
-use Rattle.std.specs.Prelude.{IfOk}
 use Rattle.log_batch.specs.Supplied.{Ranged}
 use Rattle.log_words.specs.Keys.{Key}
 use Rattle.range_trials.proofs.batches.finished.Goals as goal
@@ -7,4 +6,4 @@ use Rattle.range_trials.proofs.batches.finished.Goals as goal
 pub returns : goal.returns
 returns c =
     let same : c.into_key.result.batch ≡ c.args.words.key.batch = ap (λ (key : Key). key.batch) (c.into_key.ensures ∙ c.close-key.ensures.key) in
-    subst (λ (batch : Ranged). IfOk c.finish.result (λ done. done ≡ record { log = batch.log; first = batch.first; size = batch.size })) same c.finish.ensures
+    subst (λ (batch : Ranged). c.in_ok-finish.field-0 ≡ record { log = batch.log; first = batch.first; size = batch.size }) same c.in_ok-finish.ensures

@@ -1,0 +1,3 @@
+pub mod Knowing
+pub mod Opening
+pub mod Standing

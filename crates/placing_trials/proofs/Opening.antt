@@ -1,0 +1,28 @@
+-- The placers of a batch.
+use Rattle.std.proofs.Common.{◌≡◌, ◌<◌, ◌++◌, ℕ, List, [], ◌∷◌, Some, length, get_or}
+use Rattle.std.specs.Prelude.{All}
+use Rattle.std.proofs.lemmas.Option.{slice_get-get_or}
+use Rattle.std.proofs.lemmas.List.Elements.{All-pop, All-push, All-same}
+use Rattle.log_words.specs.Keys.{Key}
+use Rattle.words.specs.Passes.{Words}
+use Rattle.filling.specs.declared.placer.Placer.{Placer}
+use Rattle.filling.specs.Placers.{AreNewPlacers, IsPlacerIn}
+
+-- new placers are placers of the batch
+pub all_in : (words : Words Key) (partitions : ℕ) (placers : List Placer) → AreNewPlacers words partitions placers → All (IsPlacerIn words) placers
+all_in words partitions placers new k d less = (new.each k (get_or placers k d) (slice_get-get_or placers k d less)).0
+
+-- so is the last of them, and so are the others
+pub last_in : (words : Words Key) (placers rest : List Placer) (placer : Placer) → placers ≡ rest ++ placer ∷ [] → All (IsPlacerIn words) placers
+    → IsPlacerIn words placer
+last_in words placers rest placer is all = (All-pop (IsPlacerIn words) placers rest (Some placer) is all).1
+
+pub rest_in : (words : Words Key) (placers rest : List Placer) (placer : Placer) → placers ≡ rest ++ placer ∷ [] → All (IsPlacerIn words) placers
+    → All (IsPlacerIn words) rest
+rest_in words placers rest placer is all = (All-pop (IsPlacerIn words) placers rest (Some placer) is all).0
+
+-- one more behind them
+pub more_in : (words : Words Key) (placers more : List Placer) (placer : Placer) → more ≡ placers ++ placer ∷ [] → All (IsPlacerIn words) placers
+    → IsPlacerIn words placer → All (IsPlacerIn words) more
+more_in words placers more placer is all one =
+    All-same (IsPlacerIn words) more (placers ++ placer ∷ []) is (All-push (IsPlacerIn words) placers placer all one)

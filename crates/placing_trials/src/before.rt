@@ -1,0 +1,58 @@
+//! What stands before a place of a log.
+
+ghost use Rattle.std.specs.Prelude.{◌≡◌, ◌≤◌, OnOk, length};
+ghost use Rattle.placing_trials.specs.Before.{IsBefore};
+
+use crate::fault::TrialFault;
+use crate::known::are_known;
+use crate::logs::WholeLog;
+use chains::Chains;
+use model_base::Place;
+use standing::{RememberingBook, run_in_order};
+use std::alloc::Global;
+use workers::NoGate;
+
+/// What stands before a place of a log: the versions of rows, and the book of grants.
+#[derive(Drop)]
+pub struct Before {
+    pub chains: Chains,
+    pub book: RememberingBook,
+}
+
+/// Nothing stands before a log.
+pub fn nothing(alloc: Global, log: &WholeLog) -> Before
+    ensures { IsBefore result log.now.statements 0 }
+{
+    let _log = log;
+    Before {
+        chains: Chains::new(alloc),
+        book: RememberingBook::new(alloc),
+    }
+}
+
+/// Runs the first places of a log in order, behind nothing.
+pub fn run_first(
+    alloc: Global,
+    log: &WholeLog,
+    before: &mut Before,
+    place: Place,
+) -> Result<(), TrialFault>
+    requires before { IsBefore before.old log.now.statements 0 }
+    requires within { place ≤ length log.now.statements }
+    ensures { OnOk result (IsBefore before.new log.now.statements place) }
+{
+    if !are_known(log.statements()) {
+        return Err(TrialFault::Unknown);
+    }
+    let mut outcomes = Vec::new(alloc);
+    run_in_order(
+        alloc,
+        &mut before.chains,
+        &mut before.book,
+        log.tail(),
+        0..place,
+        &NoGate,
+        &mut outcomes,
+    )?;
+    Ok(())
+}

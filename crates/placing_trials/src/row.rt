@@ -1,0 +1,153 @@
+//! A reader, and behind it the revocation of the grant by which it reads, asked for while they are placed.
+
+ghost use Rattle.std.specs.Prelude.{◌≡◌, ◌<◌, ◌≤◌, ◌+◌, All, IfOk, length};
+ghost use Rattle.words.specs.Passes.{IsPassOf};
+ghost use Rattle.filling.specs.Placers.{IsPlacerIn};
+ghost use Rattle.placing_trials.specs.Before.{IsBefore};
+
+use crate::before::{Before, nothing, run_first};
+use crate::fault::TrialFault;
+use crate::logs::{WholeLog, log_of};
+use crate::opening::opened;
+use filling::{Placer, RangeKey, run_place};
+use filling_base::Batch;
+use model_base::Place;
+use std::alloc::Global;
+use words::Pass;
+
+/// The worked log: the last two lines are the batch.
+const LINES: [&str; 5] = [
+    "alice CREATE t 1",
+    "alice RUN t:1:I | CONST 0 9 | INSERT t 1 0",
+    "alice GRANT READ t bob",
+    "bob RUN t:1:R | LOAD 1 t 1 0 | OUT 1",
+    "alice REVOKE READ t bob",
+];
+
+/// Asks for a place, and tells what came of it.
+pub fn tell_run(
+    rt: &impl Print,
+    batch: &Batch<RangeKey<'_>>,
+    pass: Pass,
+    place: Place,
+) -> Result<Pass, TrialFault>
+    requires pass { IsPassOf batch.now pass }
+    requires begins { batch.now.key.batch.first ≤ place }
+    requires within { place < batch.now.key.batch.first + batch.now.key.batch.size }
+    ensures { IfOk result (λ pass. IsPassOf batch.now pass) }
+{
+    let (pass, ran) = run_place(batch, pass, place);
+    println!(rt; "asked for {place}: {ran:?}")?;
+    Ok(pass)
+}
+
+/// Tells whether all is placed.
+pub fn tell_placed(
+    rt: &impl Print,
+    batch: &Batch<RangeKey<'_>>,
+    pass: Pass,
+) -> Result<Pass, TrialFault>
+    requires { IsPassOf batch.now pass }
+    ensures { IfOk result (λ pass. IsPassOf batch.now pass) }
+{
+    let (pass, all) = batch.all_placed(pass);
+    println!(rt; "all is placed: {all}")?;
+    Ok(pass)
+}
+
+/// Tells so many steps of a placer.
+pub fn tell_steps(
+    rt: &impl Print,
+    batch: &Batch<RangeKey<'_>>,
+    placer: &mut Placer,
+    steps: usize,
+) -> Result<(), TrialFault>
+    requires { IsPlacerIn batch.now placer.old }
+    ensures { IsPlacerIn batch.now placer.new }
+{
+    for _ in 0..steps {
+        let advanced = placer.place_next(batch);
+        println!(rt; "  partition {}: {advanced:?}", placer.partition())?;
+    }
+    Ok(())
+}
+
+/// Tells the row of calls: one partition places both places before the other places any.
+fn tell_row(
+    rt: &impl Print,
+    batch: &Batch<RangeKey<'_>>,
+    pass: Pass,
+    first: &mut Placer,
+    second: &mut Placer,
+) -> Result<(), TrialFault>
+    requires pass { IsPassOf batch.now pass }
+    requires begins { batch.now.key.batch.first ≡ 3 }
+    requires size { batch.now.key.batch.size ≡ 2 }
+    requires first { IsPlacerIn batch.now first.old }
+    requires second { IsPlacerIn batch.now second.old }
+{
+    let pass = tell_run(rt, batch, pass, 3)?;
+    tell_steps(rt, batch, first, 3)?;
+    let pass = tell_run(rt, batch, pass, 3)?;
+    tell_steps(rt, batch, second, 1)?;
+    let pass = tell_run(rt, batch, pass, 3)?;
+    let pass = tell_run(rt, batch, pass, 4)?;
+    let pass = tell_placed(rt, batch, pass)?;
+    tell_steps(rt, batch, second, 1)?;
+    let pass = tell_placed(rt, batch, pass)?;
+    let _pass = tell_run(rt, batch, pass, 4)?;
+    Ok(())
+}
+
+/// Tells the row of calls, with the two placers of the batch.
+#[tactic(auto, using(crate::proofs::Opening::last_in, crate::proofs::Opening::rest_in))]
+fn tell_placers(
+    rt: &impl Print,
+    batch: &Batch<RangeKey<'_>>,
+    pass: Pass,
+    mut placers: Vec<Placer>,
+) -> Result<(), TrialFault>
+    requires pass { IsPassOf batch.now pass }
+    requires begins { batch.now.key.batch.first ≡ 3 }
+    requires size { batch.now.key.batch.size ≡ 2 }
+    requires placers { All (IsPlacerIn batch.now) placers.items }
+{
+    let Some(mut second) = placers.pop() else {
+        return Err(TrialFault::Short);
+    };
+    let Some(mut first) = placers.pop() else {
+        return Err(TrialFault::Short);
+    };
+    tell_row(rt, batch, pass, &mut first, &mut second)
+}
+
+/// Tells the row of calls on the last two places of the log, with what stands before them.
+fn tell_last(
+    rt: &impl Print,
+    alloc: Global,
+    log: &WholeLog,
+    before: &Before,
+) -> Result<(), TrialFault>
+    requires within { 5 ≤ length log.now.statements }
+    requires before { IsBefore before.now log.now.statements 3 }
+{
+    let (batch, pass, placers) = opened(alloc, log, before, 3..5, 2)?;
+    tell_placers(rt, &batch, pass, placers)
+}
+
+/// Runs the first three places, and tells the row of calls on the other two.
+fn tell_log(rt: &impl Print, alloc: Global, log: &WholeLog) -> Result<(), TrialFault> {
+    if log.len() < 5 {
+        return Err(TrialFault::Short);
+    }
+    let mut before = nothing(alloc, log);
+    run_first(alloc, log, &mut before, 3)?;
+    tell_last(rt, alloc, log, &before)
+}
+
+/// Tells the row of calls on the reader and the revocation, which are asked for while they are placed.
+pub fn tell_opened(rt: &impl Print, alloc: Global) -> Result<(), TrialFault> {
+    println!(rt; "a reader and a revocation, asked for while they are placed")?;
+    let log = log_of(alloc, &LINES)?;
+    tell_log(rt, alloc, &log)
+}
