@@ -7,8 +7,8 @@ use Rattle.standing.specs.Stands.{Stands}
 use Rattle.placing_trials.specs.declared.before.Before.{Before}
 
 -- the versions of rows end there and are those of the log, and the book has the deeds before it
-abbrev pub IsBefore : Before → List Statement → ℕ → Type 0
-IsBefore before log place = Stands log place before.chains before.book
+abbrev pub StandsBefore : Before → List Statement → ℕ → Type 0
+StandsBefore before log place = Stands log place before.chains before.book
 
 -- so many places of the log from one on, which so many partitions are to place
 abbrev pub open_range : Accepted → ℕ → ℕ → ℕ → Ranged

@@ -3,7 +3,7 @@
 ghost use Rattle.std.specs.Prelude.{◌≡◌, ◌<◌, ◌≤◌, All, IfOk, length};
 ghost use Rattle.words.specs.Passes.{IsPassOf};
 ghost use Rattle.filling.specs.Placers.{IsPlacerIn};
-ghost use Rattle.placing_trials.specs.Before.{IsBefore};
+ghost use Rattle.placing_trials.specs.Before.{StandsBefore};
 
 use crate::before::{Before, nothing, run_first};
 use crate::crew::{Met, run_crew};
@@ -184,7 +184,7 @@ fn run_adding<R: Threads + Wait + Sync>(
 ) -> Result<Ended, TrialFault>
     requires crew { 0 < crew }
     requires first { first < length log.now.statements }
-    requires before { IsBefore before.now log.now.statements first }
+    requires before { StandsBefore before.now log.now.statements first }
 {
     let (batch, pass, placers) = opened(alloc, log, before, first..log.len(), crew)?;
     count_ended(rt, alloc, &batch, pass, placers, rows)
@@ -193,7 +193,7 @@ fn run_adding<R: Threads + Wait + Sync>(
 /// What stands before the places that add to so many rows, and the first of these places.
 fn before_adding(alloc: Global, log: &WholeLog, rows: usize) -> Result<(Before, u64), TrialFault>
     ensures first { IfOk result (λ made. made.1 < length log.now.statements) }
-    ensures before { IfOk result (λ made. IsBefore made.0 log.now.statements made.1) }
+    ensures before { IfOk result (λ made. StandsBefore made.0 log.now.statements made.1) }
 {
     let first = (rows as u64).saturating_add(1);
     if first >= log.len() {
@@ -244,7 +244,7 @@ fn count_rounds<R: Threads + Wait + Sync>(
     first: u64,
 ) -> Result<(u32, Met), TrialFault>
     requires first { first < length log.now.statements }
-    requires before { IsBefore before.now log.now.statements first }
+    requires before { StandsBefore before.now log.now.statements first }
 {
     let mut right = 0u32;
     let mut met = Met::default();

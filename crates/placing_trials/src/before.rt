@@ -1,7 +1,7 @@
 //! What stands before a place of a log.
 
 ghost use Rattle.std.specs.Prelude.{◌≡◌, ◌≤◌, OnOk, length};
-ghost use Rattle.placing_trials.specs.Before.{IsBefore};
+ghost use Rattle.placing_trials.specs.Before.{StandsBefore};
 
 use crate::fault::TrialFault;
 use crate::known::are_known;
@@ -21,7 +21,7 @@ pub struct Before {
 
 /// Nothing stands before a log.
 pub fn nothing(alloc: Global, log: &WholeLog) -> Before
-    ensures { IsBefore result log.now.statements 0 }
+    ensures { StandsBefore result log.now.statements 0 }
 {
     let _log = log;
     Before {
@@ -37,9 +37,9 @@ pub fn run_first(
     before: &mut Before,
     place: Place,
 ) -> Result<(), TrialFault>
-    requires before { IsBefore before.old log.now.statements 0 }
+    requires before { StandsBefore before.old log.now.statements 0 }
     requires within { place ≤ length log.now.statements }
-    ensures { OnOk result (IsBefore before.new log.now.statements place) }
+    ensures { OnOk result (StandsBefore before.new log.now.statements place) }
 {
     if !are_known(log.statements()) {
         return Err(TrialFault::Unknown);

@@ -5,7 +5,7 @@ ghost use Rattle.words.specs.Passes.{IsPassOf};
 ghost use Rattle.words.specs.Views.{KnowsPast};
 ghost use Rattle.log_batch.specs.Supplied.{batch_in};
 ghost use Rattle.filling.specs.Placers.{IsPlacerIn};
-ghost use Rattle.placing_trials.specs.Before.{IsBefore};
+ghost use Rattle.placing_trials.specs.Before.{StandsBefore};
 
 use crate::before::{Before, nothing};
 use crate::crew::{Met, all_from, ask_round};
@@ -222,7 +222,7 @@ fn run_midway<'a, R: Threads + Wait + Sync>(
     counts: &mut Counts,
 ) -> Result<Finished<'a>, TrialFault>
     requires some { 0 < length log.now.statements }
-    requires before { IsBefore before.now log.now.statements 0 }
+    requires before { StandsBefore before.now log.now.statements 0 }
     ensures { IfOk result (λ done. done ≡ record { log = log.now; first = 0; size = length log.now.statements }) }
 {
     let (batch, pass, placers) = opened(alloc, log, before, 0..log.len(), PARTITIONS)?;
@@ -238,7 +238,7 @@ fn in_order<'a>(
     before: &'a Before,
 ) -> Result<Finished<'a>, TrialFault>
     requires some { 0 < length log.now.statements }
-    requires before { IsBefore before.now log.now.statements 0 }
+    requires before { StandsBefore before.now log.now.statements 0 }
     ensures { IfOk result (λ done. done ≡ record { log = log.now; first = 0; size = length log.now.statements }) }
 {
     let (batch, pass, placers) = opened(alloc, log, before, 0..log.len(), 1)?;
@@ -257,7 +257,7 @@ fn compare_with<R: Threads + Wait + Sync>(
     counts: &mut Counts,
 ) -> Result<(), TrialFault>
     requires some { 0 < length log.now.statements }
-    requires before { IsBefore before.now log.now.statements 0 }
+    requires before { StandsBefore before.now log.now.statements 0 }
     requires plain { plain.now ≡ record { log = log.now; first = 0; size = length log.now.statements } }
 {
     let done = run_midway(rt, alloc, log, before, first, counts)?;

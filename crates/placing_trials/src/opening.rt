@@ -3,7 +3,7 @@
 ghost use Rattle.std.specs.Prelude.{◌≡◌, ◌<◌, ◌≤◌, ◌-◌, All, IfOk, length};
 ghost use Rattle.words.specs.Passes.{IsPassOf};
 ghost use Rattle.filling.specs.Placers.{IsPlacerIn};
-ghost use Rattle.placing_trials.specs.Before.{IsBefore, open_range};
+ghost use Rattle.placing_trials.specs.Before.{StandsBefore, open_range};
 
 use crate::before::Before;
 use crate::fault::TrialFault;
@@ -27,7 +27,7 @@ fn range_of<'a>(
     requires partitions { 0 < partitions }
     requires order { range.start ≤ range.end }
     requires within { range.end ≤ length log.now.statements }
-    requires before { IsBefore before.now log.now.statements range.start }
+    requires before { StandsBefore before.now log.now.statements range.start }
     ensures { IfOk result (λ batch. batch ≡ open_range log.now range.start (range.end - range.start) partitions) }
 {
     let book = before.book.book();
@@ -46,7 +46,7 @@ pub fn opened<'a>(
     requires partitions { 0 < partitions }
     requires order { range.start < range.end }
     requires within { range.end ≤ length log.now.statements }
-    requires before { IsBefore before.now log.now.statements range.start }
+    requires before { StandsBefore before.now log.now.statements range.start }
     ensures batch { IfOk result (λ made. made.0.key.batch
         ≡ open_range log.now range.start (range.end - range.start) partitions) }
     ensures pass { IfOk result (λ made. IsPassOf made.0 made.1) }

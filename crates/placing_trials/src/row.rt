@@ -3,7 +3,7 @@
 ghost use Rattle.std.specs.Prelude.{◌≡◌, ◌<◌, ◌≤◌, ◌+◌, All, IfOk, length};
 ghost use Rattle.words.specs.Passes.{IsPassOf};
 ghost use Rattle.filling.specs.Placers.{IsPlacerIn};
-ghost use Rattle.placing_trials.specs.Before.{IsBefore};
+ghost use Rattle.placing_trials.specs.Before.{StandsBefore};
 
 use crate::before::{Before, nothing, run_first};
 use crate::fault::TrialFault;
@@ -129,7 +129,7 @@ fn tell_last(
     before: &Before,
 ) -> Result<(), TrialFault>
     requires within { 5 ≤ length log.now.statements }
-    requires before { IsBefore before.now log.now.statements 3 }
+    requires before { StandsBefore before.now log.now.statements 3 }
 {
     let (batch, pass, placers) = opened(alloc, log, before, 3..5, 2)?;
     tell_placers(rt, &batch, pass, placers)
