@@ -136,7 +136,7 @@ fn word_at(line: &[u8], start: usize) -> Option<(&[u8], usize)>
 
 /// The number of two to nine digits that is the word at an index of a line, in decimal form, and the index behind it, or that index itself
 /// where no such number is the word.
-#[inline(never)]
+#[inline(always)]
 fn long_number_at(line: &[u8], start: usize) -> (u32, usize)
     ensures behind { start ≤ result.1 }
     ensures within { start < result.1 → result.1 ≤ length line.now }
