@@ -51,6 +51,18 @@ fn same_four(text: &[u8], word: &[u8], at: usize) -> bool
     own == other
 }
 
+/// Whether a text begins with a word of one to three bytes: its first byte, the middle one and the last are all of it.
+#[inline(always)]
+fn begins_with_few(text: &[u8], word: &[u8]) -> bool
+    requires within { length word.now ≤ length text.now }
+    requires some { 0 < length word.now }
+    requires few { length word.now < 4 }
+    ensures { OnTrue result (take (length word.now) text.now ≡ word.now) }
+{
+    let (middle, last) = (word.len() / 2, word.len() - 1);
+    text[last] == word[last] && text[middle] == word[middle] && text[0] == word[0]
+}
+
 /// Whether a text begins with a word. One of four to eight bytes, as most names are, is compared by its first four and its last four.
 #[inline(always)]
 fn begins_with(text: &[u8], word: &[u8]) -> bool
@@ -58,8 +70,11 @@ fn begins_with(text: &[u8], word: &[u8]) -> bool
     ensures { OnTrue result (take (length word.now) text.now ≡ word.now) }
 {
     let len = word.len();
-    if len < 4 || len > 8 {
+    if len == 0 || len > 8 {
         return &text[..len] == word;
+    }
+    if len < 4 {
+        return begins_with_few(text, word);
     }
     same_four(text, word, 0) && same_four(text, word, len - 4)
 }
