@@ -1,13 +1,14 @@
 //! Versions that newer ones replaced.
 
-ghost use Rattle.std.specs.Prelude.{◌≡◌, ◌+◌, ◌++◌, ◌∷◌, [], ◌<◌, ◌≤◌, None, IfSome, IfNone, List, length, map};
+ghost use Rattle.std.specs.Prelude.{◌≡◌, ◌+◌, ◌++◌, ◌∷◌, [], ◌<◌, ◌≤◌, None, IfSome, IfNone, List, length, map, slice_set};
 ghost use Rattle.std.specs.Option.{option_to_list};
 ghost use Rattle.std.specs.VecDeque.{deque_len};
 ghost use Rattle.chains.specs.Kept.{AreWrittenBelow, IsFrom};
 ghost use Rattle.chains.specs.Keyed.{newest_below, replaced_of, replacing_write};
 ghost use Rattle.chains.specs.declared.replaced.Replaced.{Replaced as Older};
 
-use model_base::{Key, Place, Row};
+use body::Window;
+use model_base::{Key, MOST_ACCESSES, Place, Row};
 use std::collections::VecDeque;
 
 /// What a row was after a place that declared to write it: a version without its key.
@@ -37,6 +38,25 @@ pub(crate) fn replaced_before(older: &VecDeque<Replaced>, place: Place, key: Key
         }
     }
     None
+}
+
+/// Sets the row of an access of a window to what `replaced_before` returns, with the index of the key's entry. A run in order never comes
+/// here: apart from `Rows::find` its row costs that no stack.
+#[inline(never)]
+pub(crate) fn set_replaced(
+    older: &VecDeque<Replaced>,
+    place: Place,
+    key: Key,
+    access: usize,
+    index: usize,
+    window: &mut Window,
+)
+    requires { access < MOST_ACCESSES }
+    ensures rows { window.new.rows ≡ slice_set window.old.rows access (newest_below None (replaced_of key older.now.items) place) }
+    ensures outputs { window.new.outputs ≡ window.old.outputs }
+{
+    let row = replaced_before(older, place, key);
+    window.set_found(access, &row, index);
 }
 
 /// Takes out the first and returns it, if it was replaced below the mark.

@@ -1,7 +1,7 @@
 //! The versions of all rows, found by their keys.
 
 use crate::finding::index_of;
-use crate::replaced::{Dated, Replaced, replaced_before, take_below, take_last_from};
+use crate::replaced::{Dated, Replaced, replaced_before, set_replaced, take_below, take_last_from};
 use crate::version::Version;
 use crate::writes::{Written, take_write_below};
 use body::Window;
@@ -195,8 +195,7 @@ impl Rows {
                 window.set_found(access, &newest.row, index)
             }
             Some((index, _key, _newest)) => {
-                let row = replaced_before(&self.older, place, key);
-                window.set_found(access, &row, index)
+                set_replaced(&self.older, place, key, access, index, window)
             }
         }
     }

@@ -106,3 +106,13 @@ pub name-no_space : (w : List ℕ) → is_name w ≡ true → list_all (λ b. no
 name-no_space w e =
     let all = (name_all w e).0 in
     list_all-from_AllPass (λ b. not (eqb b 32)) w (λ k d lt. ap not (no_space (get_or w k d) (AllPass-from_list_all is_name_byte w all k d lt)))
+
+-- a name ends where a colon stands behind it
+pub name_end_there : (line : List ℕ) (start : ℕ) (name : List ℕ) → is_name name ≡ true → start + length name < length line
+    → take (length name) (drop start line) ≡ name → get_or line (start + length name) 0 ≡ 58
+    → start + length name ≡ start + prefix_len is_name_byte (drop start line)
+name_end_there line start name named within same colon =
+    name_end_is line start (start + length name) (omega arith) (omega arith)
+    (λ k lt. ap is_name_byte (sym (get_or-drop start line k 0) ∙ sym (get_or-take (length name) (drop start line) k 0 (omega arith)) ∙ ap (λ w. get_or w k 0) same)
+    ∙ AllPass-from_list_all is_name_byte name (name_all name named).0 k 0 (omega arith))
+    (λ lt. ap is_name_byte colon)

@@ -1,8 +1,8 @@
 -- A line's words, one after another.
-use Rattle.std.proofs.Common.{◌≡◌, ℕ, ◌+◌, ◌-◌, ◌<◌, ◌≤◌, true, false, not, eqb, leb, inl, inr, List, [], ◌∷◌, length, take, drop, get_or, ap, sym, ◌∙◌, arith}
+use Rattle.std.proofs.Common.{◌≡◌, ℕ, ◌+◌, ◌-◌, ◌<◌, ◌≤◌, true, false, not, eqb, leb, inl, inr, List, [], ◌∷◌, length, take, drop, get_or, ap, refl, sym, ◌∙◌, arith}
 use Rattle.std.specs.List.{position_or_len, before_first, after_first}
 use Rattle.std.proofs.lemmas.List.Splits.{slice_split_first, slice_split_none}
-use Rattle.std.proofs.lemmas.List.Sums.{prefix_len_passes, position_or_len_is}
+use Rattle.std.proofs.lemmas.List.Sums.{prefix_len_passes, prefix_len-le-length, position_or_len_is}
 use Rattle.std.proofs.lemmas.List.{length-drop, get_or-drop, drop-drop}
 use Rattle.std.proofs.Math.Seq.{take-length}
 use Rattle.std.proofs.lemmas.Bool.{not-true, cases_lt, cond-true, cond-false, lt-leb, le-leb}
@@ -54,3 +54,11 @@ next_word line start end left view within e bound =
           (let f : end + 1 ≡ start + (position_or_len (λ b. eqb b 32) rest + 1) = omega (arith, e) in ap (λ n. drop n line) f ∙ sym (drop-drop (position_or_len (λ b. eqb b 32) rest + 1) start line))
           ∙ ap (λ ws. take (end - start) rest ∷ ws) (sym (some_left (end + 1) line (omega arith)))
     ]
+
+-- up to the line's end there is one
+pub some_word : (line : List ℕ) (start : ℕ) (left : List (List ℕ)) → words_from start line ≡ left → start ≤ length line → left ≡ [] → ⊥
+some_word line start left view within none =
+    let place = position_or_len (λ b. eqb b 32) (drop start line) in
+    let bound : start + place ≤ length line = omega (arith, length-drop start line, prefix_len-le-length (λ b. not (eqb b 32)) (drop start line)) in
+    let some = next_word line start (start + place) left view within refl bound in
+    cc

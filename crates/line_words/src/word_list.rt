@@ -1,5 +1,5 @@
 //! The words of a line, one after another.
-ghost use Rattle.std.specs.Prelude.{◌≡◌, ◌+◌, ◌-◌, ◌<◌, ◌≤◌, ◌==◌, ◌^◌, ◌++◌, List, ℕ, [], ◌∷◌, codes, decimal, drop, false, true, length, slice_index_or, take, MatchBool, MatchOption};
+ghost use Rattle.std.specs.Prelude.{◌≡◌, ◌≢◌, ◌+◌, ◌-◌, ◌<◌, ◌≤◌, ◌==◌, ◌^◌, ◌++◌, List, ℕ, [], ◌∷◌, codes, decimal, drop, false, true, length, slice_index_or, take, MatchBool, MatchOption};
 ghost use Rattle.std.specs.Bool.{OnTrue};
 ghost use Rattle.std.specs.List.{position_or_len, prefix_len};
 ghost use Rattle.std.specs.Str.Parse.{AllDigits, digits_value};
@@ -39,6 +39,73 @@ fn name_end(bytes: &[u8], start: usize) -> usize
     place
 }
 
+/// Whether the four bytes at an index are the same in both. They are compared as one number.
+#[inline(always)]
+fn same_four(text: &[u8], word: &[u8], at: usize) -> bool
+    requires text { at + 4 ≤ length text.now }
+    requires word { at + 4 ≤ length word.now }
+    ensures { OnTrue result ((k : ℕ) → at ≤ k → k < at + 4 → slice_index_or text.now k 0 ≡ slice_index_or word.now k 0) }
+{
+    let own = u32::from_le_bytes([text[at], text[at + 1], text[at + 2], text[at + 3]]);
+    let other = u32::from_le_bytes([word[at], word[at + 1], word[at + 2], word[at + 3]]);
+    own == other
+}
+
+/// Whether a text begins with a word of one to three bytes: its first byte, the middle one and the last are all of it.
+#[inline(always)]
+fn begins_with_few(text: &[u8], word: &[u8]) -> bool
+    requires within { length word.now ≤ length text.now }
+    requires some { 0 < length word.now }
+    requires few { length word.now < 4 }
+    ensures { OnTrue result (take (length word.now) text.now ≡ word.now) }
+{
+    let (middle, last) = (word.len() / 2, word.len() - 1);
+    text[last] == word[last] && text[middle] == word[middle] && text[0] == word[0]
+}
+
+/// Whether a text begins with a word. One of four to eight bytes, as most names are, is compared by its first four and its last four.
+#[inline(always)]
+fn begins_with(text: &[u8], word: &[u8]) -> bool
+    requires { length word.now ≤ length text.now }
+    ensures { OnTrue result (take (length word.now) text.now ≡ word.now) }
+{
+    let len = word.len();
+    if len == 0 || len > 8 {
+        return &text[..len] == word;
+    }
+    if len < 4 {
+        return begins_with_few(text, word);
+    }
+    same_four(text, word, 0) && same_four(text, word, len - 4)
+}
+
+/// Whether a name stands at an index of a line, with a colon behind it.
+#[inline(always)]
+fn has_name_at(line: &[u8], start: usize, name: &Name<'_>) -> bool
+    requires { start ≤ length line.now }
+    ensures within { OnTrue result (start + length name.now < length line.now) }
+    ensures name { OnTrue result (take (length name.now) (drop start line.now) ≡ name.now) }
+    ensures colon { OnTrue result (slice_index_or line.now (start + length name.now) 0 ≡ 58) }
+{
+    let text = &line[start..];
+    let word = name.as_str().as_bytes();
+    text.len() > word.len() && text[word.len()] == b':' && begins_with(text, word)
+}
+
+/// The index of the first byte at or behind `start` that can't stand in a name, as `name_end`. One name is compared first: where it
+/// stands there, with a colon behind it, its bytes aren't gone over one by one.
+#[inline(always)]
+fn name_end_by(line: &[u8], start: usize, near: Option<&Name<'_>>) -> usize
+    requires { start ≤ length line.now }
+    ensures value { result ≡ start + prefix_len is_name_byte (drop start line.now) }
+    ensures bound { result ≤ length line.now }
+{
+    match near {
+        Some(name) if has_name_at(line, start, name) => start + name.as_str().len(),
+        _ => name_end(line, start),
+    }
+}
+
 /// Whether a word ends before an index of a line: a space stands there, or the line ends.
 #[inline(always)]
 fn ends_at(line: &[u8], end: usize) -> bool
@@ -68,6 +135,38 @@ fn digits_from(line: &[u8], start: usize) -> (u32, usize)
         place += 1;
     }
     (value, place)
+}
+
+/// The word at an index of a line, and the index of the word behind it. None past the line's end.
+#[inline(never)]
+fn word_at(line: &[u8], start: usize) -> Option<(&[u8], usize)>
+    ensures { MatchOption result (words_from start line.now ≡ []) (λ w. words_from start line.now ≡ w.0.now ∷ words_from w.1 line.now) }
+{
+    if start > line.len() {
+        return None;
+    }
+    let end = place_from(line, start, b' ');
+    Some((&line[start..end], end + 1))
+}
+
+/// The number of two to nine digits that is the word at an index of a line, in decimal form, and the index behind it, or that index itself
+/// where no such number is the word.
+#[inline(always)]
+fn long_number_at(line: &[u8], start: usize) -> (u32, usize)
+    ensures behind { start ≤ result.1 }
+    ensures within { start < result.1 → result.1 ≤ length line.now }
+    ensures number { start < result.1 → (words_from start line.now ≡ decimal result.0 ∷ words_from (result.1 + 1) line.now)
+        × (result.0 < 2 ^ 32) }
+{
+    if start >= line.len() || line[start] == b'0' {
+        return (0, start);
+    }
+    let (number, end) = digits_from(line, start);
+    if ends_at(line, end) {
+        (number, end)
+    } else {
+        (0, start)
+    }
 }
 
 /// Whether a letter stands at an index of the line, and the index behind it.
@@ -117,28 +216,42 @@ impl<'a> Words<'a> {
         Words { line, start: 0 }
     }
 
+    /// These words, to be taken apart from where they are.
+    #[inline(always)]
+    pub fn same(&self) -> Words<'a>
+        ensures { result ≡ self.now }
+    {
+        Words {
+            line: self.line,
+            start: self.start,
+        }
+    }
+
+    /// Whether no word is left.
+    #[inline(always)]
+    pub fn is_empty(&self) -> bool
+        ensures { MatchBool result (self.now ≡ []) (self.now ≢ []) }
+    {
+        self.start > self.line.len()
+    }
+
     /// The next word.
+    #[inline(always)]
     pub fn next(&mut self) -> Option<&'a [u8]>
         ensures { MatchOption result ((self.old ≡ []) × (self.new ≡ [])) (λ w. self.old ≡ w.now ∷ self.new) }
     {
-        let start = self.start;
-        if start > self.line.len() {
-            return None;
-        }
-        let end = place_from(self.line, start, b' ');
-        self.start = end + 1;
-        Some(&self.line[start..end])
+        let (word, behind) = word_at(self.line, self.start)?;
+        self.start = behind;
+        Some(word)
     }
 
     /// The next word, which stays.
+    #[inline(always)]
     pub fn first(&self) -> Option<&'a [u8]>
         ensures { MatchOption result (self.now ≡ []) (λ w. (left : List (List ℕ)) × (self.now ≡ w.now ∷ left)) }
     {
-        if self.start > self.line.len() {
-            return None;
-        }
-        let end = place_from(self.line, self.start, b' ');
-        Some(&self.line[self.start..end])
+        let (word, _behind) = word_at(self.line, self.start)?;
+        Some(word)
     }
 
     /// Takes a bar, if it is the next word and stands as it does in most lines; otherwise the words stay as they are.
@@ -179,15 +292,12 @@ impl<'a> Words<'a> {
     }
 
     /// Takes a number of two to nine digits, as `next_number`.
+    #[inline(always)]
     fn next_long_number(&mut self) -> Option<u32>
         ensures { MatchOption result (self.new ≡ self.old) (λ n. (self.old ≡ decimal n ∷ self.new) × (n < 2 ^ 32)) }
     {
-        let start = self.start;
-        if start >= self.line.len() || self.line[start] == b'0' {
-            return None;
-        }
-        let (number, end) = digits_from(self.line, start);
-        if end == start || !ends_at(self.line, end) {
+        let (number, end) = long_number_at(self.line, self.start);
+        if end == self.start {
             return None;
         }
         self.start = end + 1;
@@ -253,7 +363,7 @@ impl<'a> Words<'a> {
         if text.len() <= word.len() || text[word.len()] != b' ' {
             return false;
         }
-        if &text[..word.len()] != word {
+        if !begins_with(text, word) {
             return false;
         }
         self.start = start + word.len() + 1;
@@ -276,16 +386,16 @@ impl<'a> Words<'a> {
     }
 
     /// Takes an access, if the next word is one and its row has nine digits at most; otherwise the words stay as they are. It goes over the
-    /// bytes once.
+    /// bytes once. One name is compared with the table's first: where it is the same, its bytes aren't gone over one by one.
     #[inline(always)]
-    pub fn next_access(&mut self) -> Option<RawAccess<'a>>
+    pub fn next_access(&mut self, near: Option<&Name<'_>>) -> Option<RawAccess<'a>>
         ensures { MatchOption result (self.new ≡ self.old) (λ a. (self.old ≡ access_word a ∷ self.new) × IsAccess a) }
     {
         let start = self.start;
         if start >= self.line.len() || !self.line[start].is_ascii_lowercase() {
             return None;
         }
-        let colon = name_end(self.line, start);
+        let colon = name_end_by(self.line, start, near);
         if colon - start > MOST_NAME_BYTES || colon >= self.line.len() || self.line[colon] != b':' {
             return None;
         }
@@ -317,6 +427,7 @@ impl<'a> Words<'a> {
     }
 
     /// The next word, if it is a name; otherwise the words stay as they are. It goes over the bytes once.
+    #[inline(always)]
     pub fn next_name(&mut self) -> Option<&'a [u8]>
         ensures { MatchOption result ((is_name (first_word self.old) ≡ false) × (self.new ≡ self.old))
             (λ w. (self.old ≡ w.now ∷ self.new) × (is_name w.now ≡ true)) }

@@ -12,6 +12,7 @@ use line_words::{LineFault, Words};
 use model_base::Operation;
 
 /// What stands behind CONST, up to the next step or the end.
+#[inline(always)]
 pub(super) fn constant<'a>(words: &mut Words<'a>, step: &mut RawStep<'a>) -> Result<bool, LineFault>
     ensures ok { IfOk result (λ more. TakesStep (step_word Const ∷ words.old) step.new more words.new
         × IsStep step.new × (outs_of step.new ≡ 0)) }
@@ -26,6 +27,7 @@ pub(super) fn constant<'a>(words: &mut Words<'a>, step: &mut RawStep<'a>) -> Res
 }
 
 /// What stands behind the word of an operation, up to the next step or the end.
+#[inline(always)]
 pub(super) fn compute<'a>(
     operation: Operation,
     words: &mut Words<'a>,
@@ -51,6 +53,7 @@ pub(super) fn compute<'a>(
 }
 
 /// What stands behind CHECK, up to the next step or the end.
+#[inline(always)]
 pub(super) fn check<'a>(words: &mut Words<'a>, step: &mut RawStep<'a>) -> Result<bool, LineFault>
     ensures ok { IfOk result (λ more. TakesStep (step_word Check ∷ words.old) step.new more words.new
         × IsStep step.new × (outs_of step.new ≡ 0)) }
@@ -64,6 +67,7 @@ pub(super) fn check<'a>(words: &mut Words<'a>, step: &mut RawStep<'a>) -> Result
 }
 
 /// What stands behind SKIP, up to the next step or the end.
+#[inline(always)]
 pub(super) fn skip<'a>(words: &mut Words<'a>, step: &mut RawStep<'a>) -> Result<bool, LineFault>
     ensures ok { IfOk result (λ more. TakesStep (step_word Skip ∷ words.old) step.new more words.new
         × IsStep step.new × (outs_of step.new ≡ 0)) }
@@ -78,6 +82,7 @@ pub(super) fn skip<'a>(words: &mut Words<'a>, step: &mut RawStep<'a>) -> Result<
 }
 
 /// What stands behind OUT, up to the next step or the end.
+#[inline(always)]
 pub(super) fn out<'a>(words: &mut Words<'a>, step: &mut RawStep<'a>) -> Result<bool, LineFault>
     ensures ok { IfOk result (λ more. TakesStep (step_word Out ∷ words.old) step.new more words.new
         × IsStep step.new × (outs_of step.new ≡ 1)) }

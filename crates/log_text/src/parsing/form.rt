@@ -45,7 +45,7 @@ pub(crate) fn run<'a>(
 }
 
 /// Takes the word RUN, if it is the next word, in whatever form it stands; otherwise the words stay as they are.
-#[inline(never)]
+#[inline(always)]
 fn other_run(words: &mut Words<'_>) -> bool
     ensures { MatchBool result (words.old ≡ codes "RUN" ∷ words.new) ((words.new ≡ words.old) × (first_word words.old ≢ codes "RUN")) }
 {

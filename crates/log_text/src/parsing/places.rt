@@ -12,6 +12,7 @@ use line_words::{LineFault, Name, Words, plain_value, whole_value};
 use model_base::{Kind, MOST_REGISTERS, Register, RowName};
 
 /// Takes a name.
+#[inline(always)]
 pub(crate) fn name<'a>(words: &mut Words<'a>) -> Result<Name<'a>, LineFault>
     ensures ok { IfOk result (λ n. (words.old ≡ n ∷ words.new) × IsTrue (is_name n)) }
     ensures fault { IfErr result (λ f. misfit OfName (first_word words.old) ≡ Some f) }
@@ -41,7 +42,7 @@ pub(crate) fn grantee<'a>(words: &mut Words<'a>) -> Result<RawGrantee<'a>, LineF
 
 /// Takes a plain number, as `number`, in whatever form it stands.
 #[tactic(auto, using(line_words::proofs::Plain::plain_some, line_words::proofs::Plain::plain_empty))]
-#[inline(never)]
+#[inline(always)]
 fn other_number(words: &mut Words<'_>) -> Result<u32, LineFault>
     ensures ok { IfOk result (λ n. (words.old ≡ decimal n ∷ words.new) × (n < 2 ^ 32) × (plain (decimal n) ≡ Some n)) }
     ensures fault { IfErr result (λ f. misfit OfPlain (first_word words.old) ≡ Some f) }
@@ -67,6 +68,7 @@ pub(crate) fn number(words: &mut Words<'_>) -> Result<u32, LineFault>
 
 /// Takes a whole number.
 #[tactic(auto, using(line_words::proofs::Whole::whole_some, line_words::proofs::Whole::whole_of_decimal, crate::proofs::Missing::whole_missing))]
+#[inline(always)]
 pub(crate) fn whole_number(words: &mut Words<'_>) -> Result<i64, LineFault>
     ensures ok { IfOk result (λ z. (words.old ≡ signed_decimal z ∷ words.new) × IsTrue (fits_64_bits z)
         × (signed_of (signed_decimal z) ≡ Some z)) }
@@ -109,7 +111,7 @@ pub(crate) fn register_of(word: &[u8]) -> Result<Register, LineFault>
 
 /// Takes a register, as `register`, in whatever form it stands.
 #[tactic(auto, using(line_words::proofs::Plain::plain_empty))]
-#[inline(never)]
+#[inline(always)]
 fn other_register(words: &mut Words<'_>) -> Result<Register, LineFault>
     ensures ok { IfOk result (λ n. (words.old ≡ decimal n ∷ words.new) × (n < MOST_REGISTERS) × (misfit OfRegister (decimal n) ≡ None)) }
     ensures fault { IfErr result (λ f. misfit OfRegister (first_word words.old) ≡ Some f) }
@@ -168,12 +170,16 @@ pub(crate) fn kind(words: &mut Words<'_>) -> Result<Kind, LineFault>
 }
 
 /// Takes a bar, or finds the end.
+#[inline(always)]
 pub(crate) fn bar_or_end(words: &mut Words<'_>) -> Result<bool, LineFault>
     ensures ok { IfOk result (λ more. MatchBool more (words.old ≡ codes "|" ∷ words.new) (words.old ≡ [])) }
     ensures fault { IfErr result (λ f. (steps outs : ℕ) → fault_from (OfBar steps outs ∷ []) words.old ≡ Some f) }
 {
     if words.next_bar() {
         return Ok(true);
+    }
+    if words.is_empty() {
+        return Ok(false);
     }
     match words.next() {
         None => Ok(false),

@@ -29,7 +29,7 @@ fn next_name(words: &mut Words<'_>) -> Option<StepName>
 
 /// Takes the word of a step, as `next_name`, in whatever form it stands.
 #[tactic(auto, using(line_words::proofs::StepNames::named_word))]
-#[inline(never)]
+#[inline(always)]
 fn other_name(words: &mut Words<'_>) -> Option<StepName>
     ensures { MatchOption result ((step_name (first_word words.old) ≡ None) × (words.new ≡ words.old))
         (λ s. words.old ≡ step_word s ∷ words.new) }
@@ -111,6 +111,7 @@ fn step<'a>(
 }
 
 /// Takes the deed with which a line ends, where no step begins.
+#[inline(never)]
 fn ending<'a>(words: &mut Words<'a>) -> Result<Option<RawDeed<'a>>, LineFault>
     requires { step_name (first_word words.old) ≡ None }
     ensures ok { IfOk result (λ deed. (codes "|" ∷ words.old ≡ last_deed deed) × IsLastDeed deed) }
@@ -148,23 +149,26 @@ pub(crate) fn steps<'a>(
         × AllByRecursion IsStep found.new.items × IsLastDeed deed) }
     ensures fault { IfErr result (λ f. IsFault f (fault_from (OfStep 0 0 ∷ []) words.old)) }
 {
+    // The steps are taken from a copy of the words, so that the place in the line is kept in a register.
+    let mut left = words.same();
     found.clear();
     found.reserve(MOST_STEPS)?;
     let mut outs = 0;
     'steps: loop {
-        let Some(name) = next_name(words) else {
+        let Some(name) = next_name(&mut left) else {
+            *words = left;
             return ending(words);
         };
         let place = found.len();
         one_more(name, place, outs)?;
-        if let Some(step) = computing(name, words) {
+        if let Some(step) = computing(name, &mut left) {
             found.push_reserved(step);
             continue 'steps;
         }
         found.push_reserved(RawStep::Check {
             of: Register::new(0),
         });
-        let more = step(name, words, near, &mut found[place], place, outs)?;
+        let more = step(name, &mut left, near, &mut found[place], place, outs)?;
         outs += out_count(&found[place]);
         if !more {
             return Ok(None);

@@ -26,6 +26,7 @@ fn table<'a>(words: &mut Words<'a>, near: &Name<'a>) -> Result<Name<'a>, LineFau
 }
 
 /// What stands behind HAS, up to the next step or the end.
+#[inline(always)]
 pub(super) fn has<'a>(
     words: &mut Words<'a>,
     near: &Name<'a>,
@@ -60,6 +61,7 @@ fn cell<'a>(words: &mut Words<'a>, near: &Name<'a>) -> Result<(Name<'a>, RowName
 }
 
 /// What stands behind LOAD, up to the next step or the end.
+#[inline(always)]
 pub(super) fn load<'a>(
     words: &mut Words<'a>,
     near: &Name<'a>,
@@ -83,6 +85,7 @@ pub(super) fn load<'a>(
 }
 
 /// What stands behind STORE, up to the next step or the end.
+#[inline(always)]
 pub(super) fn store<'a>(
     words: &mut Words<'a>,
     near: &Name<'a>,
@@ -106,6 +109,7 @@ pub(super) fn store<'a>(
 }
 
 /// The further registers of an INSERT, up to the next step or the end.
+#[inline(always)]
 fn more_registers(words: &mut Words<'_>, registers: &mut Registers) -> Result<bool, LineFault>
     requires { AreInsertable registers.old }
     ensures ok { IfOk result (λ more. TakesRegisters registers.old words.old registers.new more words.new) }
@@ -129,6 +133,7 @@ fn more_registers(words: &mut Words<'_>, registers: &mut Registers) -> Result<bo
 }
 
 /// What stands behind INSERT, up to the next step or the end.
+#[inline(always)]
 pub(super) fn insert<'a>(
     words: &mut Words<'a>,
     near: &Name<'a>,
@@ -150,6 +155,7 @@ pub(super) fn insert<'a>(
 }
 
 /// What stands behind DELETE, up to the next step or the end.
+#[inline(always)]
 pub(super) fn delete<'a>(
     words: &mut Words<'a>,
     near: &Name<'a>,

@@ -24,8 +24,7 @@ pub returns-in-Some-2-clause-rows : goal.returns-in-Some-2-clause-rows
 returns-in-Some-2-clause-rows c =
     let newest = c.in-Some.newest.now in
     let miss : ltb newest.place c.args.place ≡ false = grind (arith, nat_tests, c.if-newest-place.false) in
-    c.set_found-in-Some-2.ensures.rows
+    c.set_replaced.ensures.rows
     ∙ ap (slice_set c.args.window.now.rows c.args.access)
-    (c.replaced_before-row.ensures
-    ∙ rw miss at (newest-told c.self.inside.older.items c.self.inside.newest.entries c.args.self.now c.args.key c.args.place (Some newest)
+    (rw miss at (newest-told c.self.inside.older.items c.self.inside.newest.entries c.args.self.now c.args.key c.args.place (Some newest)
     c.self.view_is c.self.invariant c.in-Some.ensures.value))

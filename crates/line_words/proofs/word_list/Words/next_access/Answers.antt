@@ -13,7 +13,7 @@ pub of-requires : goal.of-requires
 of-requires c =
     let line = c.self.inside.line.now in
     let start = c.self.inside.start in
-    let colon = c.name_end-colon in
+    let colon = c.name_end_by-colon in
     let letter = sym c.if-not-is_ascii_lowercase.ensures.value in
     let some = letter_some line start colon.result (omega arith) colon.ensures.value letter in
     front_name line start colon.result some colon.ensures.bound colon.ensures.value letter (omega arith)
@@ -22,7 +22,7 @@ pub returns : goal.returns
 returns c =
     let line = c.self.inside.line.now in
     let start = c.self.inside.start in
-    let colon = c.name_end-colon in
+    let colon = c.name_end_by-colon in
     let digits = c.digits_from-row in
     let letter = sym c.if-not-is_ascii_lowercase.ensures.value in
     let some = letter_some line start colon.result (omega arith) colon.ensures.value letter in
@@ -46,7 +46,7 @@ returns c =
       kinds = record { read = c.behind_letter-read.result.0; insert = c.behind_letter-insert.result.0; update = c.behind_letter-update.result.0; delete = c.behind_letter-delete.result.0 };
     }
 
-    lone : get_or c.self.inside.line.now (c.name_end-colon.result + 1) 0 ≡ 48 → c.digits_from-row.result.1 ≡ c.name_end-colon.result + 1 + 1
+    lone : get_or c.self.inside.line.now (c.name_end_by-colon.result + 1) 0 ≡ 48 → c.digits_from-row.result.1 ≡ c.name_end_by-colon.result + 1 + 1
     lone first =
         elim c.else-self-colon-eq48.branch [
           | else-self-colon-eq48-via-then-self-colon-eq48+else-end-colon-2 w ↦ omega (arith, w.if-end-colon-2.false, c.digits_from-row.ensures.behind, c.if-end-colon.false)

@@ -1,15 +1,9 @@
-use Rattle.std.proofs.Common.{◌≡◌, ◌+◌, ◌-◌, ◌<◌, ◌∷◌, ℕ, Bool, false, true, not, List, length, take, drop, get_or, length-drop, ap, ◌∙◌, sym, refl, subst, arith}
-use Rattle.std.specs.Prelude.{bytes_eq}
+use Rattle.std.proofs.Common.{◌≡◌, ◌+◌, ◌-◌, ◌<◌, ◌∷◌, ℕ, true, List, length, take, drop, get_or, length-drop, ap, ◌∙◌, sym, subst, arith}
 use Rattle.std.proofs.lemmas.List.{take_all}
-use Rattle.std.proofs.lemmas.Slice.Eq.{bytes_eq-Decides}
 use Rattle.line_words.specs.Words.{words_from, is_name}
 use Rattle.line_words.proofs.NameWords.{name-no_space}
 use Rattle.line_words.proofs.TakenWords.{front_taken}
 use Rattle.line_words.proofs.word_list.Words.next_same.Goals as goal
-
-passes : (b : Bool) → false ≡ not b → b ≡ true
-passes true e = refl
-passes false e = absurd (cc)
 
 pub returns : goal.returns
 returns c =
@@ -19,7 +13,7 @@ returns c =
     let whole = take (length line - start) (drop start line) in
     let named : word ≡ c.args.name.now = c.as_bytes-word.ensures.value ∙ c.as_str.ensures.text in
     let text : whole ≡ drop start line = take_all (length line - start) (drop start line) (omega (arith, length-drop start line)) in
-    let same : take (length word) whole ≡ word = (bytes_eq-Decides (take (length word) whole) word).0 (passes (bytes_eq (take (length word) whole) word) (sym c.if-ne.false ∙ c.ne.ensures)) in
+    let same : take (length word) whole ≡ word = c.if-not-begins_with.ensures in
     let name : is_name word ≡ true = ap is_name named ∙ c.as_str.ensures.name in
     front_taken line start word c.args.self.now c.self.view_is (omega arith) (subst (λ (w : List ℕ). length word < length w) text c.if-text-word.false)
     (ap (take (length word)) (sym text) ∙ same) (name-no_space word name) (subst (λ (w : List ℕ). get_or w (length word) 0 ≡ 32) text c.if-text-word-ne32.false)

@@ -1,4 +1,5 @@
-use Rattle.std.proofs.Common.{◌≡◌, ◌+◌, ◌∷◌, [], ap, ◌∙◌, sym, refl, arith, true, vec_len}
+use Rattle.std.proofs.Common.{◌≡◌, ℕ, List, ◌+◌, ◌∷◌, [], ap, ◌∙◌, sym, refl, arith, true, vec_len}
+use Rattle.std.specs.Prelude.{codes}
 use Rattle.log_text.specs.Fault.{OfStep, fault_from}
 use Rattle.line_words.specs.StepWords.{step_word}
 use Rattle.line_words.proofs.StepNames.{named_step}
@@ -8,13 +9,13 @@ use Rattle.log_text.proofs.parsing.steps.steps.Goals as goal
 
 pub steps-init : goal.steps-init
 steps-init c = rw (c.reserve.ensures.items, c.reserve.ensures.len, c.clear.ensures.items, c.clear.ensures.len) (record {
-  same = refl;
+  same = ap (λ (ws : List (List ℕ)). codes "|" ∷ ws) (sym c.same-left.ensures);
   room = omega arith;
   reserved = omega (arith, c.in_ok-reserve.ensures.ok);
   outputs = refl;
   few = omega arith;
   each = tt;
-  fits = refl;
+  fits = ap (fault_from (OfStep 0 0 ∷ [])) (sym c.same-left.ensures);
 })
 
 pub push_reserved-requires : goal.push_reserved-requires
@@ -40,7 +41,7 @@ steps-preserved-in-Some-computing c =
     let free = c.in_ok-one_more.ensures.ok in
     let low = few_steps name n outs free in
     let none : outs + 0 ≡ outs = omega arith in
-    let before = c.steps.words in
+    let before = c.steps.left in
     let after = c.next_name.new.words in
     let left = c.computing.new.words in
     let fit = goes_on (step_word name ∷ after) after left name n outs 0 true refl (named_step name) free refl (c.in-Some-computing.ensures.fits n outs) in

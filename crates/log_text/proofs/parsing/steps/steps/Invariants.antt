@@ -8,13 +8,13 @@ use Rattle.log_text.proofs.parsing.steps.steps.Given as goal
 
 abbrev pub invariant-steps : goal.invariant-steps
 invariant-steps l = record {
-  same : codes "|" ∷ l.initial.words ≡ flat_map further_step l.found.items ++ codes "|" ∷ l.words;
+  same : codes "|" ∷ l.fn.words ≡ flat_map further_step l.found.items ++ codes "|" ∷ l.left;
   room : vec_len l.found ≤ 64;
   reserved : 64 ≤ vec_capacity l.found;
   outputs : l.outs ≡ sum_by outs_of l.found.items;
   few : l.outs ≤ 8;
   each : AllByRecursion IsStep l.found.items;
-  fits : fault_from (OfStep 0 0 ∷ []) l.initial.words ≡ fault_from (OfStep (vec_len l.found) l.outs ∷ []) l.words;
+  fits : fault_from (OfStep 0 0 ∷ []) l.fn.words ≡ fault_from (OfStep (vec_len l.found) l.outs ∷ []) l.left;
 }
 
 abbrev pub decreases-steps : goal.decreases-steps
