@@ -1,3 +1,3 @@
 pub mod Knowing
-pub mod Opening
+pub mod Opened
 pub mod Standing

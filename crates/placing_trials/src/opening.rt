@@ -35,7 +35,7 @@ fn range_of<'a>(
 }
 
 /// The words of a range of a log that has a place, of which nothing is placed, with its first pass and its placers.
-#[tactic(auto, using(crate::proofs::Opening::all_in))]
+#[tactic(auto, using(crate::proofs::Opened::all_in))]
 pub fn opened<'a>(
     alloc: Global,
     log: &'a WholeLog,
