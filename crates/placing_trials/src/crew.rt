@@ -174,7 +174,7 @@ impl<'s, 'k> Promise<(Pass, Met)> for PassOf<'s, 'k> {
 
 /// A pass and a placer on threads of their own for each of these placers, all at the same time. The first pass is kept back, and
 /// knows in the end what all know. A pass begins after as many places as those before it have.
-#[tactic(auto, using(crate::proofs::Opened::last_in, crate::proofs::Opening::rest_in))]
+#[tactic(auto, using(crate::proofs::Opened::last_in, crate::proofs::Opened::rest_in))]
 pub fn run_crew<'s, 'k, E, R: Threads + Wait + Sync>(
     rt: &'s R,
     scope: &Scope<'s, E>,

@@ -78,7 +78,7 @@ fn place_some(batch: &Batch<RangeKey<'_>>, mut placer: Placer, steps: usize) -> 
 
 /// Goes on with each placer by so many places on a thread of its own, all at the same time. They come back once all their threads have
 /// ended.
-#[tactic(auto, using(crate::proofs::Opened::last_in, crate::proofs::Opening::rest_in, crate::proofs::Opening::more_in))]
+#[tactic(auto, using(crate::proofs::Opened::last_in, crate::proofs::Opened::rest_in, crate::proofs::Opened::more_in))]
 fn by_threads<'s, 'k, E, R: Threads>(
     rt: &'s R,
     scope: &Scope<'s, E>,

@@ -100,7 +100,7 @@ fn tell_row(
 }
 
 /// Tells the row of calls, with the two placers of the batch.
-#[tactic(auto, using(crate::proofs::Opened::last_in, crate::proofs::Opening::rest_in))]
+#[tactic(auto, using(crate::proofs::Opened::last_in, crate::proofs::Opened::rest_in))]
 fn tell_placers(
     rt: &impl Print,
     batch: &Batch<RangeKey<'_>>,

@@ -42,7 +42,7 @@ fn tell_each(rt: &impl Print, batch: &Batch<RangeKey<'_>>, pass: Pass) -> Result
 }
 
 /// Tells what comes of the places, of which one partition places some, and the others all.
-#[tactic(auto, using(crate::proofs::Opened::last_in, crate::proofs::Opening::rest_in))]
+#[tactic(auto, using(crate::proofs::Opened::last_in, crate::proofs::Opened::rest_in))]
 fn tell_some(
     rt: &impl Print,
     batch: &Batch<RangeKey<'_>>,

@@ -50,7 +50,6 @@ fn batch_of<'a>(
 }
 
 /// The shared words of all places of a log, of which none is placed, with their first pass and their placers.
-#[tactic(auto, using(crate::proofs::Placers::all_in))]
 fn opened<'a>(
     alloc: Global,
     log: &'a WholeLog,
@@ -85,7 +84,6 @@ fn place_all(batch: &Batch<RangeKey<'_>>, placer: &mut Placer) -> Result<(), Tri
 }
 
 /// Places all of a batch, one partition after another.
-#[tactic(auto, using(crate::proofs::Placers::last_in, crate::proofs::Placers::rest_in))]
 fn place_each(batch: &Batch<RangeKey<'_>>, mut placers: Vec<Placer>) -> Result<(), TrialFault>
     requires { All (IsPlacerIn batch.now) placers.items }
 {
