@@ -26,7 +26,6 @@ pub struct Same {
 }
 
 /// Places all of a batch, one partition after another.
-#[tactic(auto, using(crate::proofs::Opened::last_in, crate::proofs::Opened::rest_in))]
 pub fn place_each(batch: &Batch<RangeKey<'_>>, mut placers: Vec<Placer>)
     requires { All (IsPlacerIn batch.now) placers.items }
 {

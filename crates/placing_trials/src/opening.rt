@@ -35,7 +35,6 @@ fn range_of<'a>(
 }
 
 /// The words of a range of a log that has a place, of which nothing is placed, with its first pass and its placers.
-#[tactic(auto, using(crate::proofs::Opened::all_in))]
 pub fn opened<'a>(
     alloc: Global,
     log: &'a WholeLog,
