@@ -2,7 +2,7 @@
 use Rattle.std.proofs.Common.{◌≡◌, ◌<◌, ◌++◌, ℕ, List, [], ◌∷◌, Some, length, get_or}
 use Rattle.std.specs.Prelude.{All}
 use Rattle.std.proofs.lemmas.Option.{slice_get-get_or}
-use Rattle.std.proofs.lemmas.List.Elements.{All-pop, All-push, All-same}
+use Rattle.std.proofs.lemmas.List.Elements.{All-pop}
 use Rattle.log_words.specs.Keys.{Key}
 use Rattle.words.specs.Passes.{Words}
 use Rattle.filling.specs.declared.placer.Placer.{Placer}
@@ -20,9 +20,3 @@ last_in words placers rest placer is all = (All-pop (IsPlacerIn words) placers r
 pub rest_in : (words : Words Key) (placers rest : List Placer) (placer : Placer) → placers ≡ rest ++ placer ∷ [] → All (IsPlacerIn words) placers
     → All (IsPlacerIn words) rest
 rest_in words placers rest placer is all = (All-pop (IsPlacerIn words) placers rest (Some placer) is all).0
-
--- one more behind them
-pub more_in : (words : Words Key) (placers more : List Placer) (placer : Placer) → more ≡ placers ++ placer ∷ [] → All (IsPlacerIn words) placers
-    → IsPlacerIn words placer → All (IsPlacerIn words) more
-more_in words placers more placer is all one =
-    All-same (IsPlacerIn words) more (placers ++ placer ∷ []) is (All-push (IsPlacerIn words) placers placer all one)

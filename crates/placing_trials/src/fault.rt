@@ -18,12 +18,6 @@ pub enum TrialFault {
     /// A log has too few places.
     #[error("a log has too few places")]
     Short,
-    /// A log that is to be finished isn't placed.
-    #[error("a log is not placed")]
-    Unplaced,
-    /// A thread could not be started.
-    #[error("cannot start a thread")]
-    NotStarted,
     /// A growth was refused.
     #[error("out of memory")]
     NoMemory,

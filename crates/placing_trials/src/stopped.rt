@@ -6,9 +6,9 @@ ghost use Rattle.filling.specs.Placers.{IsPlacerIn};
 
 use crate::before::nothing;
 use crate::fault::TrialFault;
-use crate::finished::place_each;
 use crate::logs::{WholeLog, log_of};
 use crate::opening::opened;
+use crate::placers::place_each;
 use crate::row::{tell_placed, tell_run, tell_steps};
 use filling::{Placer, RangeKey};
 use filling_base::Batch;

@@ -1,5 +1,5 @@
 use Rattle.placing_trials.proofs.Opened.{last_in, rest_in}
-use Rattle.placing_trials.proofs.finished.place_each.Goals as goal
+use Rattle.placing_trials.proofs.placers.place_each.Goals as goal
 
 pub place_all-is_placed-requires : goal.place_all-is_placed-requires
 place_all-is_placed-requires c =

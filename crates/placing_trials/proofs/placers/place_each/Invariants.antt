@@ -1,7 +1,7 @@
 use Rattle.std.proofs.Common.{vec_len}
 use Rattle.std.specs.Prelude.{All}
 use Rattle.filling.specs.Placers.{IsPlacerIn}
-use Rattle.placing_trials.proofs.finished.place_each.Given as goal
+use Rattle.placing_trials.proofs.placers.place_each.Given as goal
 
 abbrev pub invariant-loop-placer : goal.invariant-loop-placer
 invariant-loop-placer l = All (IsPlacerIn l.batch) l.placers.items
