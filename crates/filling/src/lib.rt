@@ -17,9 +17,9 @@ mod reader;
 mod running;
 mod storing;
 
+pub use filling_base::Advanced;
 pub use key::RangeKey;
 pub use opening::open;
 pub use outcomes::outcome;
-pub use filling_base::Advanced;
 pub use placer::Placer;
 pub use running::{Ran, run_place};
