@@ -202,8 +202,9 @@ fn hands_of<K: Fills, P: BatchPlacer<K>>(
     Ok(hands)
 }
 
-/// Runs all places of a batch by so many workers, at least one: the caller's thread is the first, and each further one has a
-/// thread of its own. Each begins with a part of the batch of its own and goes round over the places that it hasn't had done yet,
+/// Places and runs all places of a batch by so many workers, at least one: the caller's thread is the first, and each further one
+/// has a thread of its own. The placers are those of the partitions that aren't placed whole yet; worker w of W has those whose
+/// numbers have the remainder w, and first places all of the batch for these. Then each begins with a part of the batch of its own and goes round over the places that it hasn't had done yet,
 /// until it has had each done; where another has a place at hand, it goes on with the next. The gate is told places of the log,
 /// of which the batch's first is `start`: each worker tells it of a place before it asks for it, and once when it is done. If a thread
 /// can't be started or memory is refused, all workers stop. No thread runs any more afterwards. The pass knows what it knew and
