@@ -19,3 +19,4 @@ pub mod MoreOwners
 pub mod Unended
 pub mod Growing
 pub mod Reaching
+pub mod Admitted

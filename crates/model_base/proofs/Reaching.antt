@@ -25,7 +25,7 @@ or_true true = refl
 or_true false = refl
 
 -- each kind is the same as itself
-kind-same : (kind : Kind) → same_kind kind kind ≡ true
+pub kind-same : (kind : Kind) → same_kind kind kind ≡ true
 kind-same Read = refl
 kind-same Insert = refl
 kind-same Update = refl

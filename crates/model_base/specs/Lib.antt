@@ -7,6 +7,7 @@ pub mod Outcomes
 pub mod Versions
 pub mod References
 pub mod Laws
+pub mod Admitted
 pub mod Paths
 pub mod Records
 pub mod Growing

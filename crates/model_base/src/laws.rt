@@ -1,10 +1,12 @@
 //! What holds of every list of deeds, of the grants in force after it, and of every log.
 
-ghost use Rattle.std.specs.Prelude.{◌==◌, ◌≡◌, ◌↔◌, ℕ, ◌+◌, ◌<◌, true, false, List, [], ◌∷◌, ◌++◌, All, Contains, take, if◌then◌else◌};
+ghost use Rattle.std.specs.Prelude.{◌==◌, ◌≡◌, ◌↔◌, ℕ, ◌+◌, ◌<◌, true, false, List, [], ◌∷◌, ◌++◌, All, Any, Contains, take, if◌then◌else◌};
+ghost use Rattle.model_base.specs.Admitted.{IsAsked, IsDenial, IsPrivileged, WasAdmitted, WasDenied};
 ghost use Rattle.model_base.specs.Laws.{GrowsAt, IsLastLoss, IsPart, IsRising};
-ghost use Rattle.model_base.specs.Outcomes.{cause, deeds_before, owners};
+ghost use Rattle.model_base.specs.Outcomes.{cause, deeds_before, needs, outcome, owners};
 ghost use Rattle.model_base.specs.Paths.{LeadsTo, path};
 ghost use Rattle.model_base.specs.Privileges.{IsProper, gives, has, holds, is_among, kept, lends_to, option_of, owns, place_of, replayed};
+ghost use Rattle.model_base.specs.declared.deed.Cause.{Cause};
 ghost use Rattle.model_base.specs.declared.deed.Cause.TheVariants.{Never, Taken};
 ghost use Rattle.model_base.specs.declared.deed.Deed.TheVariants.{Granting, Revoking};
 ghost use Rattle.model_base.specs.declared.deed.Deed.{Deed};
@@ -12,7 +14,27 @@ ghost use Rattle.model_base.specs.declared.deed.Grant.{Grant};
 ghost use Rattle.model_base.specs.declared.deed.Grantee.TheVariants.{Public, User};
 ghost use Rattle.model_base.specs.declared.deed.Need.{Need};
 ghost use Rattle.model_base.specs.declared.deed.Revocation.{Revocation};
+ghost use Rattle.model_base.specs.declared.outcome.Outcome.TheVariants.{Denied};
 ghost use Rattle.model_base.specs.declared.statement.Statement.{Statement};
+
+/// Exactly who is admitted. A RUN or a deed of a log is run if its user holds each of its needs by the deeds before its
+/// place, and is denied if one of them isn't held: as the owner of the table, by a grant in force to the user, or by one to
+/// PUBLIC. A denial names the first such need in order, and its cause: the revocation that took it away last, or that it
+/// was never given.
+pub fn admitted_exactly_when_privileged()
+    ensures admitted { (log : List Statement) (place : ℕ) (statement : Statement) → IsAsked log place statement
+        → WasAdmitted (outcome log place)
+        ↔ All (IsPrivileged (owners log) (deeds_before log place) statement.user) (needs statement.form) }
+    ensures denied { (log : List Statement) (place : ℕ) (statement : Statement) → IsAsked log place statement
+        → WasDenied (outcome log place)
+        ↔ Any (λ need. ¬ IsPrivileged (owners log) (deeds_before log place) statement.user need) (needs statement.form) }
+    ensures first { (log : List Statement) (place : ℕ) (statement : Statement) (need : Need) (cause : Cause)
+        → IsAsked log place statement
+        → (outcome log place ≡ Some (Denied need cause))
+        ↔ IsDenial (owners log) (deeds_before log place) statement.user (needs statement.form) need cause }
+    ensures held { (owners : List ℕ) (deeds : List Deed) (user : ℕ) (need : Need)
+        → (holds owners deeds user need ≡ true) ↔ IsPrivileged owners deeds user need }
+{}
 
 /// A grant to PUBLIC gives every user its kind on its table, and nobody the option. Any other gives its grantee alone: the
 /// kind, and the option if it is with it.

@@ -19,10 +19,10 @@ mod statement;
 pub use deed::{Cause, Deed, Grant, Grantee, Kind, Kinds, Need, Record, Revocation};
 pub use growing_laws::earlier_places_stand;
 pub use laws::{
-    causes_are_last_losses, causes_are_revocations, deeds_before_are_proper,
-    ended_grants_stay_ended, fewer_grants_keep_fewer, grants_end_none, held_needs_have_paths,
-    paths_take_the_earliest, places_make_one_deed_at_most, public_is_every_user,
-    revocations_add_none,
+    admitted_exactly_when_privileged, causes_are_last_losses, causes_are_revocations,
+    deeds_before_are_proper, ended_grants_stay_ended, fewer_grants_keep_fewer, grants_end_none,
+    held_needs_have_paths, paths_take_the_earliest, places_make_one_deed_at_most,
+    public_is_every_user, revocations_add_none,
 };
 pub use limits::{
     MOST_ACCESSES, MOST_BATCH_STATEMENTS, MOST_COLUMNS, MOST_KEPT_BATCHES, MOST_NAME_BYTES,
