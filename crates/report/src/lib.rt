@@ -4,5 +4,5 @@
 mod laws;
 mod text;
 
-pub use laws::each_text_has_one_report;
+pub use laws::{each_text_has_one_report, reports_tell_who_was_denied};
 pub use text::{put_cause, put_fault, put_need, put_outcome, put_places, put_refused};
