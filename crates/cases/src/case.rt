@@ -4,6 +4,7 @@ use crate::failing::Failing;
 use crate::logs::Log;
 use crate::run::Run;
 use crate::tail::Bits;
+use model_base::RowNumber;
 use trials_base::Drawing;
 
 /// A log, and the runs of it.
@@ -11,6 +12,24 @@ use trials_base::Drawing;
 pub struct Runs<'a> {
     pub log: Log<'a>,
     pub runs: Vec<Run>,
+}
+
+/// A log of which one byte is changed to another value, and the runs of it.
+#[derive(Drop)]
+pub struct Changed<'a> {
+    /// One of so many changes is tried.
+    pub every: usize,
+    pub runs: Runs<'a>,
+}
+
+/// What is changed of the lines that are drawn.
+#[derive(Clone, Copy, Debug, PartialEq, Eq)]
+pub enum Change {
+    Nothing,
+    /// One byte.
+    Byte,
+    /// One word of some lines.
+    Word,
 }
 
 /// Drawn logs, and the runs of each.
@@ -21,8 +40,7 @@ pub struct Drawn<'a> {
     /// How many logs are drawn.
     pub logs: u32,
     pub drawing: Drawing,
-    /// Whether one byte of each line that is drawn is changed.
-    pub is_spoilt: bool,
+    pub change: Change,
     /// The log whose lines come after those that are drawn.
     pub last: Option<Log<'a>>,
     pub runs: Vec<Run>,
@@ -38,6 +56,11 @@ pub enum Case<'a> {
     /// `beginnings LOG RUN..`: for how many of its beginnings the report of the run in order has as many lines as the beginning, and is
     /// that of the other runs too.
     Beginnings(Runs<'a>),
+    /// `changes EVERY LOG RUN..`: the same of the log with one byte changed to another value, for each EVERY-th of these changes.
+    Changes(Changed<'a>),
+    /// `rows ROW LOG RUN..`: the mark of the engine that each run returns, and this row of the first table before each place. The runs
+    /// are `kept:..`.
+    Rows(RowNumber, Runs<'a>),
     /// `print LOG RUN..`: the texts that the runs write.
     Print(Runs<'a>),
     /// `ends LOG RUN..`: how each run ends, and how much it reads and writes.
@@ -49,7 +72,7 @@ pub enum Case<'a> {
     Tail(Bits, Runs<'a>),
     /// `drawn SEED LOGS LINES USERS DEEDS LAST RUN..`: how many runs of drawn logs write the report of the run in order, and how often
     /// each ending is in these. LAST is a log whose lines end each drawn one, or `-`. `spoilt ..`: the same with one byte of each line
-    /// changed.
+    /// changed; `reworded ..`: with one word of some lines.
     Drawn(Drawn<'a>),
     /// `words WORD..`: what a command line asks for, or with which status it ends.
     Words(&'a str),

@@ -1,11 +1,13 @@
 //! What a case results in.
 
 use crate::case::Case;
+use crate::changed::changed_logs;
 use crate::command::{endings, read_command};
 use crate::drawn::drawn_reports;
 use crate::failing::failing_runs;
 use crate::fault::TrialFault;
 use crate::guide::guide_examples;
+use crate::kept_rows::kept_rows;
 use crate::printing::{ended_runs, printed_texts};
 use crate::reports::{beginnings, same_reports, worked_reports};
 use crate::spelling::{spellings, statement_parts};
@@ -25,6 +27,8 @@ pub fn outcome_of<R: Files + Threads + Wait + Sync>(
         Case::Report(runs) => worked_reports(rt, alloc, runs),
         Case::Same(runs) => same_reports(rt, alloc, runs),
         Case::Beginnings(runs) => beginnings(rt, alloc, runs),
+        Case::Changes(changed) => changed_logs(rt, alloc, changed),
+        Case::Rows(row, runs) => kept_rows(rt, alloc, *row, runs),
         Case::Print(runs) => printed_texts(rt, alloc, runs),
         Case::Ends(runs) => ended_runs(rt, alloc, runs),
         Case::Fail(failing, runs) => failing_runs(rt, alloc, *failing, runs),

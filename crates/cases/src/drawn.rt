@@ -1,6 +1,6 @@
 //! Drawn logs, whose reports by other runs are compared with that of the run in order.
 
-use crate::case::Drawn;
+use crate::case::{Change, Drawn};
 use crate::fault::TrialFault;
 use crate::printing::put_part;
 use crate::run::{Run, right_runs};
@@ -74,6 +74,104 @@ fn spoilt_log(
     Ok(log)
 }
 
+/// The words that are put in place of others.
+const OTHER_WORDS: [&str; 32] = [
+    "",
+    "|",
+    "ann",
+    "bob",
+    "PUBLIC",
+    "s",
+    "t",
+    "u",
+    "0",
+    "1",
+    "15",
+    "16",
+    "r0",
+    "-1",
+    "9223372036854775808",
+    "4294967296",
+    "READ",
+    "DELETE",
+    "OPTION",
+    "RUN",
+    "GRANT",
+    "REVOKE",
+    "CREATE",
+    "t:1:RU",
+    "s:0:I",
+    "LOAD",
+    "STORE",
+    "DELETE",
+    "CHECK",
+    "SKIP",
+    "OUT",
+    "ADD",
+];
+
+/// Appends a line with the word of this number exchanged for another.
+fn put_with_word(
+    log: &mut Vec<u8>,
+    line: &[u8],
+    number: usize,
+    other: &str,
+) -> Result<(), AllocError> {
+    for (index, word) in line.split(|byte| *byte == b' ').enumerate() {
+        if index > 0 {
+            log.push(b' ')?;
+        }
+        if index == number {
+            log.extend_from_slice(other.as_bytes())?;
+        } else {
+            log.extend_from_slice(word)?;
+        }
+    }
+    log.push(b'\n')?;
+    Ok(())
+}
+
+/// Appends a line with a drawn word exchanged for another, or as it is where it has fewer words.
+fn put_reworded(
+    log: &mut Vec<u8>,
+    line: &[u8],
+    generator: &mut Generator,
+) -> Result<(), AllocError> {
+    let line = line.strip_suffix(b"\n".as_slice()).unwrap_or(line);
+    let number = generator.below(24) as usize;
+    let other = OTHER_WORDS[generator.below(32) as usize];
+    put_with_word(log, line, number, other)
+}
+
+/// A drawn log, of some of whose lines one word is changed.
+fn reworded_log(
+    alloc: Global,
+    generator: &mut Generator,
+    drawing: Drawing,
+) -> Result<Vec<u8>, AllocError> {
+    let mut log = Vec::from_slice(alloc, FIRST_LINES)?;
+    let mut line = Vec::new(alloc);
+    for _ in 0..drawing.lines {
+        line.clear();
+        put_drawn_line(&mut line, generator, drawing)?;
+        put_reworded(&mut log, line.as_slice(), generator)?;
+    }
+    Ok(log)
+}
+
+/// A drawn log, changed as the case says.
+fn log_of(
+    alloc: Global,
+    generator: &mut Generator,
+    case: &Drawn<'_>,
+) -> Result<Vec<u8>, AllocError> {
+    match case.change {
+        Change::Nothing => drawn_log(alloc, generator, case.drawing),
+        Change::Byte => spoilt_log(alloc, generator, case.drawing),
+        Change::Word => reworded_log(alloc, generator, case.drawing),
+    }
+}
+
 /// Draws a log that ends with these lines, appends its report by the run in order to those before it, and returns by how many of the runs
 /// it has that.
 fn compare_log<R: Threads + Wait + Sync>(
@@ -84,11 +182,7 @@ fn compare_log<R: Threads + Wait + Sync>(
     last: &[u8],
     reports: &mut Vec<u8>,
 ) -> Result<usize, TrialFault> {
-    let mut log = if case.is_spoilt {
-        spoilt_log(alloc, generator, case.drawing)?
-    } else {
-        drawn_log(alloc, generator, case.drawing)?
-    };
+    let mut log = log_of(alloc, generator, case)?;
     log.extend_from_slice(last)?;
     let wanted = Run::in_order().text(rt, alloc, log.as_slice())?;
     reports.extend_from_slice(wanted.as_slice())?;

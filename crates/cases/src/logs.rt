@@ -16,6 +16,8 @@ pub enum Log<'a> {
     Worked(&'a str),
     /// `letters:COUNT`: a line of so many letters, and then a good one.
     Letters(u32),
+    /// `unended:COUNT`: the creation of a table, and then a line of so many letters without its line feed.
+    Unended(u32),
     /// `users:COUNT`: so many lines of users who weren't named before, and then one of the user who was named first.
     Users(u32),
     /// `tables:COUNT`: so many creations of tables, and then a line that reads the first.
@@ -40,13 +42,26 @@ pub fn text_of(bytes: &[u8]) -> Result<&str, TrialFault> {
     str::from_utf8(bytes).map_err(|_| TrialFault::NotText)
 }
 
-/// A line of so many letters, and then a good one.
-fn log_of_letters(alloc: Global, count: u32) -> Result<Vec<u8>, AllocError> {
-    let mut log = Vec::new(alloc);
+/// Appends so many letters.
+fn put_letters(log: &mut Vec<u8>, count: u32) -> Result<(), AllocError> {
     for _ in 0..count {
         log.push(b'a')?;
     }
+    Ok(())
+}
+
+/// A line of so many letters, and then a good one.
+fn log_of_letters(alloc: Global, count: u32) -> Result<Vec<u8>, AllocError> {
+    let mut log = Vec::new(alloc);
+    put_letters(&mut log, count)?;
     log.extend_from_slice(b"\nalice CREATE t 1\n")?;
+    Ok(log)
+}
+
+/// A good line, and then so many letters without a line feed.
+fn unended_log(alloc: Global, count: u32) -> Result<Vec<u8>, AllocError> {
+    let mut log = Vec::from_slice(alloc, b"alice CREATE t 1\n")?;
+    put_letters(&mut log, count)?;
     Ok(log)
 }
 
@@ -103,6 +118,7 @@ impl Log<'_> {
                 read_file(rt, alloc, path.as_str())
             }
             Log::Letters(count) => Ok(log_of_letters(alloc, count)?),
+            Log::Unended(count) => Ok(unended_log(alloc, count)?),
             Log::Users(count) => Ok(log_of_users(alloc, count)?),
             Log::Tables(count) => Ok(log_of_tables(alloc, count)?),
             Log::Rows(lines, rows) => Ok(log_of_rows(alloc, lines, rows)?),

@@ -4,6 +4,7 @@
 #![tactic(auto)]
 
 mod case;
+mod changed;
 mod command;
 mod doing;
 mod doubles;
@@ -11,6 +12,7 @@ mod drawn;
 mod failing;
 mod fault;
 mod guide;
+mod kept_rows;
 mod logs;
 mod parsing;
 mod printing;

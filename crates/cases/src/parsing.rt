@@ -1,6 +1,6 @@
 //! A line of a file of cases, read as a case.
 
-use crate::case::{Case, Drawn, Runs};
+use crate::case::{Case, Change, Changed, Drawn, Runs};
 use crate::failing::Failing;
 use crate::fault::TrialFault;
 use crate::logs::Log;
@@ -12,8 +12,26 @@ use model_base::Place;
 use std::alloc::Global;
 use trials_base::Drawing;
 
-/// How many settings there are of one, two or four workers, as many partitions, and batches of 1, 3 or 1,024 places.
-const CUTS: u64 = 27;
+/// Workers, partitions, and places of a batch: three of each, and so 27 settings.
+struct Choices {
+    workers: [u64; 3],
+    partitions: [u64; 3],
+    batch: [u64; 3],
+}
+
+/// The settings of `cuts`.
+const CUTS: Choices = Choices {
+    workers: [1, 2, 4],
+    partitions: [1, 2, 4],
+    batch: [1, 3, 1024],
+};
+
+/// The settings of `wide`, up to the limits.
+const WIDE: Choices = Choices {
+    workers: [1, 2, 64],
+    partitions: [1, 7, 64],
+    batch: [1, 3, 65536],
+};
 
 /// The ways of `aheads` to read lines ahead: how many threads, and the bytes of a stretch.
 const AHEADS: [(usize, usize); 7] = [
@@ -104,25 +122,21 @@ fn parse_run(alloc: Global, word: &str) -> Result<Run, TrialFault> {
     }
 }
 
-/// One, two or four, by turns.
-fn one_two_or_four(number: u64) -> usize {
+/// One of three numbers, by turns.
+fn one_of(choices: &[u64; 3], number: u64) -> u64 {
     match number % 3 {
-        0 => 1,
-        1 => 2,
-        _ => 4,
+        0 => choices[0],
+        1 => choices[1],
+        _ => choices[2],
     }
 }
 
-/// One of the settings of `cuts`, by its number.
-fn cut(number: u64, keep: u64) -> Settings {
+/// One of the 27 settings, by its number.
+fn chosen(choices: &Choices, number: u64, keep: u64) -> Settings {
     Settings {
-        workers: one_two_or_four(number),
-        partitions: one_two_or_four(number / 3),
-        batch: match number / 9 {
-            0 => 1,
-            1 => 3,
-            _ => 1024,
-        },
+        workers: one_of(&choices.workers, number) as usize,
+        partitions: one_of(&choices.partitions, number / 3) as usize,
+        batch: one_of(&choices.batch, number / 9),
         keep,
     }
 }
@@ -140,28 +154,38 @@ fn push_aheads(runs: &mut Vec<Run>) -> Result<(), TrialFault> {
     Ok(())
 }
 
-/// Appends the runs in all settings of `cuts`, in batches that are kept and in batches that aren't.
-fn push_cuts(runs: &mut Vec<Run>, keep: u64) -> Result<(), TrialFault> {
-    for number in 0..CUTS {
-        runs.push(Run::Batches(cut(number, keep)))?;
-        runs.push(Run::Kept(cut(number, keep)))?;
+/// Appends the runs in all 27 settings, in batches that are kept and in batches that aren't.
+fn push_chosen(runs: &mut Vec<Run>, choices: &Choices, keep: u64) -> Result<(), TrialFault> {
+    for number in 0..27 {
+        runs.push(Run::Batches(chosen(choices, number, keep)))?;
+        runs.push(Run::Kept(chosen(choices, number, keep)))?;
     }
     Ok(())
 }
 
-/// The runs that words name, one at least, each a run, `cuts:KEEP`, which is all settings of `cuts`, or `aheads`, which is all ways of
-/// `aheads`.
+/// Appends the runs that a word names.
+fn push_runs(alloc: Global, runs: &mut Vec<Run>, word: &str) -> Result<(), TrialFault> {
+    let (name, keep) = word.split_once(':').unwrap_or((word, ""));
+    match name {
+        "cuts" => push_chosen(runs, &CUTS, parse_number(keep)?),
+        "wide" => push_chosen(runs, &WIDE, parse_number(keep)?),
+        "aheads" => push_aheads(runs),
+        _ => {
+            runs.push(parse_run(alloc, word)?)?;
+            Ok(())
+        }
+    }
+}
+
+/// The runs that words name, one at least, each a run, `cuts:KEEP` or `wide:KEEP`, which are 27 settings each, or `aheads`, which is all
+/// ways of `aheads`.
 fn parse_run_list(alloc: Global, words: &[&str]) -> Result<Vec<Run>, TrialFault> {
     if words.is_empty() {
         return Err(TrialFault::Words);
     }
     let mut runs = Vec::new(alloc);
     for word in words {
-        match word.strip_prefix("cuts:") {
-            Some(keep) => push_cuts(&mut runs, parse_number(keep)?)?,
-            None if *word == "aheads" => push_aheads(&mut runs)?,
-            None => runs.push(parse_run(alloc, word)?)?,
-        }
+        push_runs(alloc, &mut runs, word)?;
     }
     Ok(runs)
 }
@@ -176,6 +200,7 @@ fn parse_log(word: &str) -> Result<Log<'_>, TrialFault> {
     };
     match name {
         "letters" => Ok(Log::Letters(parse_count(number)?)),
+        "unended" => Ok(Log::Unended(parse_count(number)?)),
         "users" => Ok(Log::Users(parse_count(number)?)),
         "tables" => Ok(Log::Tables(parse_count(number)?)),
         "rows" => {
@@ -224,11 +249,30 @@ fn parse_fail<'a>(alloc: Global, words: &[&'a str]) -> Result<Case<'a>, TrialFau
     Ok(Case::Fail(failing, parse_runs(alloc, rest)?))
 }
 
-/// How logs are drawn, whether their lines are spoilt then, and their runs.
+/// How many changes there are for each that is tried, and then the log and its runs.
+fn parse_changes<'a>(alloc: Global, words: &[&'a str]) -> Result<Case<'a>, TrialFault> {
+    let [every, rest @ ..] = words else {
+        return Err(TrialFault::Words);
+    };
+    let every = parse_number(every)? as usize;
+    let runs = parse_runs(alloc, rest)?;
+    Ok(Case::Changes(Changed { every, runs }))
+}
+
+/// A row, and then the log and its runs.
+fn parse_rows<'a>(alloc: Global, words: &[&'a str]) -> Result<Case<'a>, TrialFault> {
+    let [row, rest @ ..] = words else {
+        return Err(TrialFault::Words);
+    };
+    let row = parse_count(row)?;
+    Ok(Case::Rows(row, parse_runs(alloc, rest)?))
+}
+
+/// How logs are drawn, what is changed of their lines then, and their runs.
 fn parse_drawn<'a>(
     alloc: Global,
     words: &[&'a str],
-    is_spoilt: bool,
+    change: Change,
 ) -> Result<Case<'a>, TrialFault> {
     let [seed, logs, lines, users, deeds, last, runs @ ..] = words else {
         return Err(TrialFault::Words);
@@ -248,7 +292,7 @@ fn parse_drawn<'a>(
         seed,
         logs,
         drawing,
-        is_spoilt,
+        change,
         last,
         runs,
     }))
@@ -266,10 +310,13 @@ fn parse_case_of_runs<'a>(
         "beginnings" => Ok(Case::Beginnings(parse_runs(alloc, words)?)),
         "print" => Ok(Case::Print(parse_runs(alloc, words)?)),
         "ends" => Ok(Case::Ends(parse_runs(alloc, words)?)),
+        "changes" => parse_changes(alloc, words),
+        "rows" => parse_rows(alloc, words),
         "fail" => parse_fail(alloc, words),
         "tail" => parse_tail(alloc, words),
-        "drawn" => parse_drawn(alloc, words, false),
-        "spoilt" => parse_drawn(alloc, words, true),
+        "drawn" => parse_drawn(alloc, words, Change::Nothing),
+        "spoilt" => parse_drawn(alloc, words, Change::Byte),
+        "reworded" => parse_drawn(alloc, words, Change::Word),
         _ => Err(TrialFault::NoSuchVerb),
     }
 }

@@ -67,7 +67,7 @@ pub fn same_reports<R: Files + Threads + Wait + Sync>(
 }
 
 /// Whether the report of a log by the run in order has a line for each of its lines, and is that of the runs too.
-fn is_reported<R: Threads + Wait + Sync>(
+pub fn is_reported<R: Threads + Wait + Sync>(
     rt: &R,
     alloc: Global,
     log: &[u8],

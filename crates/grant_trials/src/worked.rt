@@ -1,8 +1,9 @@
 //! Worked examples of grants and revocations.
 
 use crate::examples::Act::{Creates, Gives, Grows, Lets, Takes};
-use crate::examples::{READ, tell_example};
+use crate::examples::{OPTION, READ, tell_example};
 use crate::fault::{TrialFault, first_fault};
+use model_base::{Kind, Need};
 use std::alloc::Global;
 
 const OLGA: u32 = 0;
@@ -16,6 +17,49 @@ const CAROL: u32 = 3;
 const DAVE: u32 = 4;
 
 const EVE: u32 = 5;
+
+/// What a grantee granted further falls with the grant that let it.
+fn tell_a_cascade(rt: &impl Print, alloc: Global) -> Result<(), TrialFault> {
+    tell_example(
+        rt,
+        alloc,
+        "a cascade falls",
+        &[
+            Creates(0, ALICE),
+            Lets(2, ALICE, BOB),
+            Gives(3, BOB, CAROL),
+            Takes(5, ALICE, BOB),
+        ],
+        &[
+            (4, CAROL, READ),
+            (5, CAROL, READ),
+            (6, CAROL, READ),
+            (6, BOB, READ),
+            (6, BOB, OPTION),
+        ],
+    )
+}
+
+/// A grant without the option lets its grantee read, and not grant that further.
+fn tell_no_option(rt: &impl Print, alloc: Global) -> Result<(), TrialFault> {
+    let update = Need {
+        kind: Kind::Update,
+        ..READ
+    };
+    tell_example(
+        rt,
+        alloc,
+        "a grant without the option",
+        &[Creates(0, ALICE), Gives(1, ALICE, BOB)],
+        &[
+            (1, BOB, READ),
+            (2, BOB, READ),
+            (3, BOB, OPTION),
+            (4, BOB, update),
+            (4, CAROL, READ),
+        ],
+    )
+}
 
 /// A cycle of options doesn't bear itself.
 fn tell_a_cycle(rt: &impl Print, alloc: Global) -> Result<(), TrialFault> {
@@ -116,6 +160,8 @@ fn tell_chains(rt: &impl Print, alloc: Global) -> Result<(), TrialFault> {
 /// Tells the examples.
 pub fn tell_worked(rt: &impl Print, alloc: Global) -> Result<(), TrialFault> {
     first_fault(&[
+        tell_a_cascade(rt, alloc),
+        tell_no_option(rt, alloc),
         tell_a_cycle(rt, alloc),
         tell_a_second_way(rt, alloc),
         tell_a_repeated_grant(rt, alloc),
