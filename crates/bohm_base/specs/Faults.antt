@@ -1,5 +1,5 @@
 -- A fault of reading, as a fault of the run; and what a run's answer tells of its reader and its writer.
-use Rattle.std.specs.Prelude.{ℕ, Result, Ok, Err}
+use Rattle.std.specs.Prelude.{ℕ, Result, Ok, Err, List, codes}
 use Rattle.log_text_base.specs.Known.{raised}
 use Rattle.log_text_base.specs.declared.fault.ReadFault.{ReadFault}
 use Rattle.bohm_base.specs.declared.fault.EngineFault.{EngineFault}
@@ -23,3 +23,10 @@ write_errors (Err EngineFault.NoMemory) errors = errors
 write_errors (Err EngineFault.Read) errors = errors
 write_errors (Err EngineFault.Write) errors = raised errors
 write_errors (Err EngineFault.Spawn) errors = errors
+
+-- what a fault says to a reader
+abbrev pub run_fault_text : EngineFault → List ℕ
+run_fault_text EngineFault.NoMemory = codes "out of memory"
+run_fault_text EngineFault.Read = codes "cannot read"
+run_fault_text EngineFault.Write = codes "cannot write"
+run_fault_text EngineFault.Spawn = codes "cannot start a worker"

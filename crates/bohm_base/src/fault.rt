@@ -2,27 +2,48 @@
 
 ghost use Rattle.std.specs.Prelude.{◌≡◌};
 ghost use Rattle.bohm_base.specs.declared.fault.EngineFault.TheVariants.{NoMemory, Read, Write};
-ghost use Rattle.bohm_base.specs.Faults.{of_reading};
+ghost use Rattle.bohm_base.specs.Faults.{run_fault_text, of_reading};
 
 use log_text_base::{ReadFault, WriteFault};
 use std::alloc::{AllocError, AllocFailed};
+use std::fmt;
 use thiserror::Error;
 
 /// Why a run ended before the end of its log.
 #[derive(Clone, Copy, Debug, PartialEq, Eq, Error)]
 pub enum EngineFault {
     /// A growth was refused.
-    #[error("out of memory")]
     NoMemory = 1,
     /// The reader failed.
-    #[error("cannot read")]
     Read = 2,
     /// The writer failed, or took no byte of a piece that wasn't empty.
-    #[error("cannot write")]
     Write = 3,
     /// A worker's thread could not be started.
-    #[error("cannot start a worker")]
     Spawn = 5,
+}
+
+impl EngineFault {
+    /// What it says to a reader.
+    fn text(self) -> &'static str
+        ensures { result.now ≡ run_fault_text self }
+    {
+        match self {
+            EngineFault::NoMemory => "out of memory",
+            EngineFault::Read => "cannot read",
+            EngineFault::Write => "cannot write",
+            EngineFault::Spawn => "cannot start a worker",
+        }
+    }
+}
+
+impl fmt::Display for EngineFault {
+    ghost use Rattle.std.specs.Prelude.{Some};
+
+    ghost output = { λ fault. Some (run_fault_text fault) };
+
+    fn fmt<W: fmt::Write>(&self, f: &mut fmt::Formatter<W>) -> fmt::Result {
+        f.write_str(self.text())
+    }
 }
 
 impl From<AllocError> for EngineFault {

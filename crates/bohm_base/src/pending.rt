@@ -21,6 +21,7 @@ pub(crate) fn put_out<W: Write>(
     ensures begun { HasBegun (W.contents writer.old.inner) (W.contents writer.new.inner)
         pending.new.items (pending.old.items ++ line.now) }
     ensures errors { writer.new.errors ≡ write_errors result writer.old.errors }
+    ensures flushes { writer.new.flushes ≡ writer.old.flushes }
     ensures err { IfErr result (λ f. f ≢ EngineFault.Read) }
 {
     pending.extend_from_slice(line)?;

@@ -1,8 +1,8 @@
 //! The serial path: the whole log is read, then run place by place, and then reported line by line.
 
-ghost use Rattle.std.specs.Prelude.{◌≡◌, ◌≢◌, ◌<◌, ◌++◌, ◌-◌, ◌^◌, ℕ, [], List, IfErr, IfSome, OnErr, OnOk, Err, slice_get};
+ghost use Rattle.std.specs.Prelude.{◌≡◌, ◌≢◌, ◌<◌, ◌++◌, ◌-◌, ◌^◌, ℕ, [], List, IfErr, IfSome, OnErr, OnOk, Err, slice_get, true};
 ghost use Rattle.std.specs.Io.KnownBytes.{Appends};
-ghost use Rattle.log_text_base.specs.Known.{AppendsFront, HasBegun, MovesOut};
+ghost use Rattle.log_text_base.specs.Known.{AppendsFront, HasBegun, MovesOut, raised};
 ghost use Rattle.model_base.specs.Outcomes.{outcome};
 ghost use Rattle.report.specs.Report.{IsReport, place_text};
 ghost use Rattle.bohm_base.specs.Collecting.{MayLackRoom, became_text, log_text};
@@ -82,6 +82,7 @@ fn report_line<W: Write>(
     ensures begun { HasBegun (W.contents writer.old.inner) (W.contents writer.new.inner) pending.new.items
         (pending.old.items ++ became_text log.now.statements log.now.names.tables number place line) }
     ensures errors { writer.new.errors ≡ write_errors result writer.old.errors }
+    ensures flushes { writer.new.flushes ≡ writer.old.flushes }
     ensures err { IfErr result (λ f. f ≢ EngineFault.Read) }
 {
     text.clear();
@@ -106,6 +107,7 @@ fn report_lines<W: Write>(
     ensures begun { HasBegun (W.contents writer.old.inner) (W.contents writer.new.inner) pending.new.items
         (log_text collected.now.log collected.now.lines.items) }
     ensures errors { writer.new.errors ≡ write_errors result writer.old.errors }
+    ensures flushes { writer.new.flushes ≡ writer.old.flushes }
     ensures err { IfErr result (λ f. f ≢ EngineFault.Read) }
 {
     let mut text = Vec::new(alloc);
@@ -145,6 +147,7 @@ fn write_report<W: Write>(
     ensures err { IfErr result (λ f. f ≢ EngineFault.Read) }
     ensures write { result ≡ Err EngineFault.Write → writer.old.errors < 2 ^ 64 - 1 → writer.old.errors < writer.new.errors }
     ensures whole { OnOk result (writer.new.errors ≡ writer.old.errors) }
+    ensures flushed { OnOk result ((writer.new.flushes ≡ raised writer.old.flushes) × (writer.new.is_flushed ≡ true)) }
 {
     let ended = report_lines(alloc, writer, collected, outcomes, pending);
     let written = write_out(writer, pending.as_slice());
@@ -170,6 +173,7 @@ fn run_log<W: Write>(
     ensures err { IfErr result (λ f. f ≢ EngineFault.Read) }
     ensures write { result ≡ Err EngineFault.Write → writer.old.errors < 2 ^ 64 - 1 → writer.old.errors < writer.new.errors }
     ensures whole { OnOk result (writer.new.errors ≡ writer.old.errors) }
+    ensures flushed { OnOk result ((writer.new.flushes ≡ raised writer.old.flushes) × (writer.new.is_flushed ≡ true)) }
 {
     let outcomes = serial(alloc, collected.log.statements())?;
     write_report(alloc, writer, collected, &outcomes, pending)
@@ -198,6 +202,8 @@ pub fn serial_text<R: Read, W: Write>(
     ensures write { result ≡ Err EngineFault.Write → writer.old.errors < 2 ^ 64 - 1 → writer.old.errors < writer.new.errors }
     // Ok says that neither of them failed, in the flush at the end neither.
     ensures whole { OnOk result ((reader.new.errors ≡ reader.old.errors) × (writer.new.errors ≡ writer.old.errors)) }
+    // Ok says that the writer was flushed once, and not written to since.
+    ensures flushed { OnOk result ((writer.new.flushes ≡ raised writer.old.flushes) × (writer.new.is_flushed ≡ true)) }
 {
     let mut pending = Vec::with_capacity(alloc, PENDING_BYTES)?;
     let collected = collect_lines(alloc, reader)?;

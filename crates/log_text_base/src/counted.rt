@@ -1,5 +1,5 @@
 //! A reader or a writer that counts its failures.
-ghost use Rattle.std.specs.Prelude.{◌≡◌, ◌<◌, ◌+◌, ◌^◌, IfOk, OnOk, OnErr, length};
+ghost use Rattle.std.specs.Prelude.{◌≡◌, ◌<◌, ◌+◌, ◌^◌, IfOk, OnOk, OnErr, length, true};
 ghost use Rattle.std.specs.Io.{ReadsAtMost, WritesAtMost};
 ghost use Rattle.std.specs.Io.KnownBytes.{ReadConsumes, WriteAppends, Keeps};
 ghost use Rattle.log_text_base.specs.Known.{raised};
@@ -8,7 +8,7 @@ use super::limits::MOST_GIVEN_BYTES;
 use std::io;
 use std::io::{ErrorKind, Read, Write};
 
-/// A reader or a writer, with how often it failed and how many bytes it gave.
+/// A reader or a writer, with how often it failed, how many bytes it gave, and how often it was flushed.
 #[derive(Drop)]
 pub struct Counted<T> {
     /// The reader or the writer itself.
@@ -18,19 +18,26 @@ pub struct Counted<T> {
     pub errors: u64,
     /// The bytes that a reader gave.
     pub given: u64,
+    /// The flushes of a writer that succeeded. The count stops at `u64::MAX`.
+    pub flushes: u64,
+    /// Whether a writer was flushed, and not written to since.
+    pub is_flushed: bool,
 }
 
 impl<T> Counted<T> {
-    /// Begins to count, both at 0.
+    /// Begins to count, all at 0.
     pub fn new(inner: T) -> Counted<T>
         ensures inner { result.inner ≡ inner }
         ensures errors { result.errors ≡ 0 }
         ensures given { result.given ≡ 0 }
+        ensures flushes { result.flushes ≡ 0 }
     {
         Counted {
             inner,
             errors: 0,
             given: 0,
+            flushes: 0,
+            is_flushed: false,
         }
     }
 }
@@ -77,7 +84,9 @@ impl<W: Write> Write for Counted<W> {
         ensures ok { IfOk result (λ n. (0 < n → self.new.errors ≡ self.old.errors)
             × (n ≡ 0 → 0 < length buf.now → self.new.errors ≡ raised self.old.errors)) }
         ensures err { OnErr result (self.new.errors ≡ raised self.old.errors) }
+        ensures flushes { self.new.flushes ≡ self.old.flushes }
     {
+        self.is_flushed = false;
         match self.inner.write(buf) {
             Ok(n) => {
                 if n == 0 && !buf.is_empty() {
@@ -92,15 +101,20 @@ impl<W: Write> Write for Counted<W> {
         }
     }
 
-    /// Flushes, and counts an error.
+    /// Flushes, and counts that, or an error.
     fn flush(&mut self) -> io::Result<()>
         ensures bytes { Keeps (W.contents self.old.inner) (W.contents self.new.inner) }
         ensures ok { OnOk result (self.new.errors ≡ self.old.errors) }
         ensures err { OnErr result (self.new.errors ≡ raised self.old.errors) }
+        ensures flushed { OnOk result ((self.new.flushes ≡ raised self.old.flushes) × (self.new.is_flushed ≡ true)) }
+        ensures unflushed { OnErr result (self.new.flushes ≡ self.old.flushes) }
     {
         let flushed = self.inner.flush();
         if flushed.is_err() {
             self.errors = self.errors.saturating_add(1);
+        } else {
+            self.flushes = self.flushes.saturating_add(1);
+            self.is_flushed = true;
         }
         flushed
     }

@@ -8,6 +8,7 @@ mod fault;
 mod laws;
 mod limits;
 mod line_reader;
+mod memory;
 mod writing;
 
 pub use counted::Counted;
@@ -18,4 +19,5 @@ pub use limits::{
     BUFFER_BYTES, FIRST_BUFFER_BYTES, KEPT_BYTES, MOST_GIVEN_BYTES, MOST_LINE_BYTES, PENDING_BYTES,
 };
 pub use line_reader::LineReader;
+pub use memory::{MemoryReader, MemoryWriter};
 pub use writing::{PIECE_LEN, flush, write_much, write_out, write_pending};

@@ -1,5 +1,5 @@
 //! Writing that tries no piece again, and gathers bytes so that few pieces are written.
-ghost use Rattle.std.specs.Prelude.{◌≡◌, ◌<◌, ◌≤◌, [], IsOk, OnOk, OnErr, vec_len};
+ghost use Rattle.std.specs.Prelude.{◌≡◌, ◌<◌, ◌≤◌, [], IsOk, OnOk, OnErr, true, vec_len};
 ghost use Rattle.std.specs.Io.KnownBytes.{Keeps, Appends};
 ghost use Rattle.log_text_base.specs.Known.{raised, AppendsFront, MovesOut};
 
@@ -20,6 +20,7 @@ pub fn write_out<W: Write>(writer: &mut Counted<W>, bytes: &[u8]) -> Result<(), 
         bytes.now }
     ensures same { OnOk result (writer.new.errors ≡ writer.old.errors) }
     ensures err { OnErr result (writer.new.errors ≡ raised writer.old.errors) }
+    ensures flushes { writer.new.flushes ≡ writer.old.flushes }
 {
     let mut done = 0;
     while done < bytes.len() {
@@ -46,6 +47,7 @@ pub fn write_pending<W: Write>(
     ensures empty { pending.new.items ≡ [] }
     ensures same { OnOk result (writer.new.errors ≡ writer.old.errors) }
     ensures err { OnErr result (writer.new.errors ≡ raised writer.old.errors) }
+    ensures flushes { writer.new.flushes ≡ writer.old.flushes }
 {
     let written = write_out(writer, pending.as_slice());
     pending.clear();
@@ -69,6 +71,7 @@ pub fn write_much<W: Write>(
     ensures empty { OnErr result (pending.new.items ≡ []) }
     ensures same { OnOk result (writer.new.errors ≡ writer.old.errors) }
     ensures err { OnErr result (writer.new.errors ≡ raised writer.old.errors) }
+    ensures flushes { writer.new.flushes ≡ writer.old.flushes }
 {
     if pending.len() < PIECE_LEN {
         return Ok(());
@@ -82,6 +85,8 @@ pub fn flush<W: Write>(writer: &mut Counted<W>) -> Result<(), WriteFault>
     ensures bytes { Keeps (W.contents writer.old.inner) (W.contents writer.new.inner) }
     ensures same { OnOk result (writer.new.errors ≡ writer.old.errors) }
     ensures err { OnErr result (writer.new.errors ≡ raised writer.old.errors) }
+    ensures flushed { OnOk result ((writer.new.flushes ≡ raised writer.old.flushes) × (writer.new.is_flushed ≡ true)) }
+    ensures unflushed { OnErr result (writer.new.flushes ≡ writer.old.flushes) }
 {
     writer.flush().map_err(|_| WriteFault)
 }

@@ -24,4 +24,5 @@ loop-index-preserved g c =
           (rw c.deref-line-items.ensures.value at c.in_ok-report_line.ensures.ok);
       places = omega (arith, c.places-place.ensures.most, c.loop-index.invariant.places);
       write_errors = writes ∙ c.loop-index.invariant.write_errors;
+      flushes = c.report_line.ensures.flushes ∙ c.loop-index.invariant.flushes;
     }

@@ -10,4 +10,5 @@ invariant-loop-index g l = record {
       (l.pending.items ++ report_text l.collected.log.statements l.collected.log.names.tables (l.index + 1) l.place (drop l.index l.collected.lines.items));
   places : l.place ≤ l.index;
   write_errors : l.writer.errors ≡ l.initial.writer.errors;
+  flushes : l.writer.flushes ≡ l.initial.writer.flushes;
 }

@@ -15,4 +15,5 @@ loop-done-preserved g c =
       within = omega (arith, bound, length-drop done bytes);
       written = appends_more _ _ _ bytes done c.in-Ok.n c.loop-done.invariant.written wrote;
       errors = c.in-Ok.ensures.ok.0 (omega arith) ∙ c.loop-done.invariant.errors;
+      flushes = c.in-Ok.ensures.flushes ∙ c.loop-done.invariant.flushes;
     }

@@ -8,6 +8,7 @@ invariant-loop-done g l = record {
   within : l.done ≤ length l.bytes;
   written : Appends (g.W.Write.contents l.initial.writer.inner) (g.W.Write.contents l.writer.inner) (take l.done l.bytes);
   errors : l.writer.errors ≡ l.initial.writer.errors;
+  flushes : l.writer.flushes ≡ l.initial.writer.flushes;
 }
 
 abbrev pub decreases-loop-done : goal.decreases-loop-done
