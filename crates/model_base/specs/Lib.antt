@@ -11,3 +11,4 @@ pub mod Paths
 pub mod Records
 pub mod Growing
 pub mod OwnedTables
+pub mod Seeds
