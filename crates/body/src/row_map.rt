@@ -6,7 +6,7 @@ ghost use Rattle.body.specs.Room.{IsLean};
 ghost use Rattle.body.specs.RowMap.{HasEntry, rows_of};
 
 use crate::row_store::{RowSource, RowStore};
-use model_base::{Key, Row};
+use model_base::{HashSeed, Key, Row};
 use std::alloc::{AllocError, Global};
 use std::collections::HashMap;
 
@@ -15,7 +15,7 @@ use std::collections::HashMap;
 /// entries that it had at once.
 #[derive(Drop)]
 pub struct RowMap {
-    entries: HashMap<Key, Option<Row>>,
+    entries: HashMap<Key, Option<Row>, HashSeed>,
 }
 
 impl RowMap {
@@ -24,8 +24,16 @@ impl RowMap {
         ensures rows { rows_of result ≡ no_rows }
         ensures lean { IsLean (HasEntry result) (rows_of result) }
     {
+        RowMap::seeded(alloc, HashSeed::fixed())
+    }
+
+    /// The same, whose rows are found under this seed.
+    pub fn seeded(alloc: Global, seed: HashSeed) -> Self
+        ensures rows { rows_of result ≡ no_rows }
+        ensures lean { IsLean (HasEntry result) (rows_of result) }
+    {
         RowMap {
-            entries: HashMap::new(alloc),
+            entries: HashMap::with_hasher(alloc, seed),
         }
     }
 }

@@ -6,7 +6,7 @@ use crate::version::Version;
 use crate::writes::{Written, take_write_below};
 use body::Window;
 use indexmap::IndexMap;
-use model_base::{Key, MOST_ACCESSES, Place, Row};
+use model_base::{HashSeed, Key, MOST_ACCESSES, Place, Row};
 use std::alloc::{AllocError, Global};
 use std::collections::VecDeque;
 use std::marker::Model;
@@ -15,7 +15,7 @@ use std::marker::Model;
 /// A key without an entry has no replaced version.
 #[derive(Drop)]
 pub(crate) struct Rows {
-    newest: IndexMap<Key, Dated>,
+    newest: IndexMap<Key, Dated, HashSeed>,
     older: VecDeque<Replaced>,
 }
 
@@ -38,12 +38,12 @@ impl Rows {
     ghost use Rattle.chains.specs.Store.{AreBetween, is_spent, newest_or, of_key, swept, trimmed};
     ghost use Rattle.chains.specs.declared.writes.Written.{Written as Noted};
 
-    /// No version. It takes no memory.
-    pub(crate) fn new(alloc: Global) -> Self
+    /// No version, and keys are found under this seed. It takes no memory.
+    pub(crate) fn seeded(alloc: Global, seed: HashSeed) -> Self
         ensures { result ≡ record { versions = []; replacing = [] } }
     {
         Rows {
-            newest: IndexMap::new(alloc),
+            newest: IndexMap::with_hasher(alloc, seed),
             older: VecDeque::new(alloc),
         }
     }

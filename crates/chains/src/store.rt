@@ -4,7 +4,7 @@ use crate::rows::Rows;
 use crate::version::Version;
 use crate::writes::{Written, cut_writes, note_absent, note_if};
 use body::{RowSource, Window};
-use model_base::{Access, Key, MOST_ACCESSES, Place, Row, Statement};
+use model_base::{Access, HashSeed, Key, MOST_ACCESSES, Place, Row, Statement};
 use std::alloc::{AllocError, Global};
 use std::collections::VecDeque;
 use std::marker::Model;
@@ -59,8 +59,19 @@ impl Chains {
         ensures empty { result.versions ≡ [] }
         ensures right { (log : List Statement) → IsRight log result }
     {
+        Chains::seeded(alloc, HashSeed::fixed())
+    }
+
+    /// The store before the first place, whose rows are found under this seed. It takes no memory.
+    pub fn seeded(alloc: Global, seed: HashSeed) -> Self
+        ensures mark { result.mark ≡ 0 }
+        ensures end { result.end ≡ 0 }
+        ensures none { (place : ℕ) (key : Key) → row_in result place key ≡ None }
+        ensures empty { result.versions ≡ [] }
+        ensures right { (log : List Statement) → IsRight log result }
+    {
         Chains {
-            rows: Rows::new(alloc),
+            rows: Rows::seeded(alloc, seed),
             absent: VecDeque::new(alloc),
             is_noted: true,
             mark: 0,

@@ -13,7 +13,7 @@ mod needs;
 mod replay;
 mod serial_state;
 
-use model_base::{Outcome, Place, Statement};
+use model_base::{HashSeed, Outcome, Place, Statement};
 use replay::owners;
 use serial_state::State;
 use std::alloc::{AllocError, Global};
@@ -27,8 +27,20 @@ pub fn serial(alloc: Global, statements: &[Statement]) -> Result<Vec<Outcome>, A
     requires { All IsRunnable statements.now }
     ensures { IfOk result (λ outcomes. (place : ℕ) → slice_get outcomes.items place ≡ outcome statements.now place) }
 {
+    serial_seeded(alloc, statements, HashSeed::fixed())
+}
+
+/// The same, whose rows are found under this seed.
+pub fn serial_seeded(
+    alloc: Global,
+    statements: &[Statement],
+    seed: HashSeed,
+) -> Result<Vec<Outcome>, AllocError>
+    requires { All IsRunnable statements.now }
+    ensures { IfOk result (λ outcomes. (place : ℕ) → slice_get outcomes.items place ≡ outcome statements.now place) }
+{
     let owners = owners(alloc, statements)?;
-    let mut state = State::new(alloc);
+    let mut state = State::seeded(alloc, seed);
     let mut outcomes = Vec::new(alloc);
     for (place, statement) in statements.iter().enumerate() {
         let outcome = state.execute(alloc, &owners, place as Place, statement)?;

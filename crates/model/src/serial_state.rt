@@ -10,7 +10,7 @@ use crate::deeds::make;
 use crate::needs::{first_missing, needs};
 use crate::replay::{cause, kept};
 use body::{BodyEnd, RowMap, run_on};
-use model_base::{Deed, Form, Grant, Outcome, Place, Statement, User};
+use model_base::{Deed, Form, Grant, HashSeed, Outcome, Place, Statement, User};
 use std::alloc::{AllocError, Global};
 
 /// What stands before a place of a log: the rows, and the deeds made so far.
@@ -21,12 +21,12 @@ pub(crate) struct State {
 }
 
 impl State {
-    /// Before the first place there is no row and no deed. It takes no memory.
-    pub(crate) fn new(alloc: Global) -> Self
+    /// Before the first place there is no row and no deed. Rows are found under this seed. It takes no memory.
+    pub(crate) fn seeded(alloc: Global, seed: HashSeed) -> Self
         ensures { world_of result ≡ empty_world }
     {
         State {
-            rows: RowMap::new(alloc),
+            rows: RowMap::seeded(alloc, seed),
             deeds: Vec::new(alloc),
         }
     }

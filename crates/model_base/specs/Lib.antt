@@ -12,3 +12,4 @@ pub mod Paths
 pub mod Records
 pub mod Growing
 pub mod OwnedTables
+pub mod Seeds

@@ -6,6 +6,7 @@
 
 mod deed;
 mod growing_laws;
+mod hash_seed;
 mod laws;
 mod limits;
 mod list;
@@ -18,6 +19,7 @@ mod statement;
 
 pub use deed::{Cause, Deed, Grant, Grantee, Kind, Kinds, Need, Record, Revocation};
 pub use growing_laws::earlier_places_stand;
+pub use hash_seed::HashSeed;
 pub use laws::{
     admitted_exactly_when_privileged, causes_are_last_losses, causes_are_revocations,
     deeds_before_are_proper, ended_grants_stay_ended, fewer_grants_keep_fewer, grants_end_none,
