@@ -3,7 +3,7 @@
 use crate::both::Both;
 use crate::fault::TrialFault;
 use crate::telling::tell;
-use grants::{BookView, NextInForce, Records, denial, holds, to_end};
+use grants::{BookView, NextBy, NextInForce, Records, denial, holds, to_end};
 use model_base::{Grant, Grantee, Kind, Need, Place, Revocation, Table, User};
 use std::alloc::Global;
 
@@ -79,6 +79,17 @@ impl<V: Records> Records for Counting<V> {
         from: usize,
     ) -> Option<NextInForce> {
         self.view.next_in_force(grantee, kind, table, option, from)
+    }
+
+    fn next_in_force_by(
+        &mut self,
+        user: User,
+        grantee: Grantee,
+        kind: Kind,
+        table: Table,
+        from: usize,
+    ) -> Option<NextBy> {
+        self.view.next_in_force_by(user, grantee, kind, table, from)
     }
 }
 
@@ -214,7 +225,8 @@ fn put_grantees(both: &mut Both) -> Result<(), TrialFault> {
 }
 
 /// Where all options of a user end, his grants and those to him are gone through once, and not once for each of the others:
-/// each of the 40 is judged, and each of the 20 to the user is looked at to find out whether it is named and whether it stands.
+/// each of the 40 is judged, and each of the 20 to the user is looked at to find out whether it is named, whether it still stands
+/// when the one before it ends, and that it doesn't any more when it has ended itself.
 fn tell_a_cascade(rt: &impl Print, alloc: Global, both: &mut Both) -> Result<(), TrialFault> {
     put_options(both)?;
     put_grantees(both)?;

@@ -15,12 +15,12 @@ use Rattle.grants_base.specs.Force.{gives_to}
 use Rattle.grants_base.specs.View.{View, flatten, grant_in, slot_at}
 use Rattle.grants.specs.Pass.{concerned}
 use Rattle.grants_base.specs.Index.{is_one_of}
-use Rattle.grants.specs.Work.{bears, has_in_force}
+use Rattle.grants.specs.Work.{bears, has_in_force, is_named}
 use Rattle.grants_base.specs.Index.{AreAsked, is_by, is_to, passes_at}
 use Rattle.grants.proofs.SlotLaws.{about_concerned}
 use Rattle.grants.proofs.Worklist.{borne_by}
 
-same-grantee : (a b : Grantee) → a ≡ b → same_grantee a b ≡ true
+pub same-grantee : (a b : Grantee) → a ≡ b → same_grantee a b ≡ true
 same-grantee a b is = ap (same_grantee a) (sym is) ∙ grantee-same a
 
 in_slot : (slot : Option Record) (revocation : Revocation) (grant : Grant) → concerned slot revocation ≡ Some grant → grant_in slot ≡ Some grant
@@ -150,7 +150,7 @@ pub record HaveNamed (view : View) (revocation : Revocation) (due : List ℕ) (f
 
 pub named_step : (view : View) (revocation : Revocation) (due more : List ℕ) (from i : ℕ)
     → i < length view.slots
-    → ((k : ℕ) → from ≤ k → k < i → has_in_force revocation revocation.grantee false (slot_at view k) ≡ false)
+    → ((k : ℕ) → from ≤ k → k < i → is_named revocation (slot_at view k) ≡ false)
     → HaveNamed view revocation due from
     → ((j : ℕ) → is_one_of due j ≡ true → is_one_of more j ≡ true)
     → (option_map_or (names revocation) (concerned (slot_at view i) revocation) false ≡ true → is_one_of more i ≡ true)
@@ -161,7 +161,7 @@ named_step view revocation due more from i there skipped so_far kept new old = r
       elim (cases_lt j i) [
         | inl earlier ↦ elim (cases_lt j from) [
           | inl before ↦ kept j (so_far.found j grant before is named)
-          | inr after ↦ absurd (named-skipped view revocation j grant (skipped j after earlier) is named)
+          | inr after ↦ absurd (true≢false (sym named ∙ sym (ap (λ found. option_map_or (names revocation) found false) is) ∙ skipped j after earlier))
         ]
         | inr later ↦
             let here : j ≡ i = omega arith in

@@ -9,32 +9,25 @@ use Rattle.model_base.specs.declared.deed.Revocation.{Revocation}
 use Rattle.model_base.proofs.Replay.{by_cases}
 use Rattle.grants_base.specs.Index.{is_one_of}
 use Rattle.grants_base.specs.View.{View, slot_at}
-use Rattle.grants.specs.Work.{AllPassed, ArePassed, AreWalked, HaveSameKeys, bears, keepers}
+use Rattle.grants.specs.Work.{AllPassed, ArePassed, bears, keepers}
 use Rattle.grants.proofs.Asked.{not_false}
 use Rattle.grants.proofs.Worklist.{keepers-none, keeps_by}
 
 at_user : (user other : ℕ) → is_at (nat_cmp user) other ≡ (user == other)
 at_user user other = grind (arith, nat_tests)
 
--- one user more
-pub asked_more : (old now : BTreeMap ℕ ℕ) (user slot : ℕ) → ((q : ℕ) → get nat_cmp now q ≡ cond (is_at (nat_cmp user) q) (Some slot) (get nat_cmp old q))
-    → (u : ℕ) → is_some (get nat_cmp now u) ≡ ((user == u) || is_some (get nat_cmp old u))
-asked_more old now user slot updates u =
-    ap is_some (updates u) ∙ by_cases (is_at (nat_cmp user) u)
-    (λ here. rw (here, sym (at_user user u) ∙ here) refl)
-    (λ apart. rw (apart, sym (at_user user u) ∙ apart) refl)
-
 module _ (revocation : Revocation) (view : View) where
-  -- of whom nothing is known yet
-  pub passed_more : (ended : List ℕ) (old now : BTreeMap ℕ ℕ) (user : ℕ) → ((q : ℕ) → get nat_cmp now q ≡ cond (is_at (nat_cmp user) q) (Some 0) (get nat_cmp old q))
-      → AllPassed revocation view ended old → AllPassed revocation view ended now
-  passed_more ended old now user updates passed = λ u slot is.
+  -- what is put there for one user
+  pub passed_put : (ended : List ℕ) (old now : BTreeMap ℕ ℕ) (user slot : ℕ) → ((q : ℕ) → get nat_cmp now q ≡ cond (is_at (nat_cmp user) q) (Some slot) (get nat_cmp old q))
+      → ArePassed revocation view ended user slot → AllPassed revocation view ended old → AllPassed revocation view ended now
+  passed_put ended old now user slot updates here passed = λ u s is.
       by_cases (is_at (nat_cmp user) u)
-      (λ here.
-      let zero_is : Some 0 ≡ Some slot = sym (updates u ∙ rw here refl) ∙ is in
-      let none : 0 ≡ slot = cc in
-      λ k less stays. absurd (omega arith))
-      (λ apart. passed u slot (sym (updates u ∙ rw apart refl) ∙ is))
+      (λ at.
+      let one : Some slot ≡ Some s = sym (updates u ∙ rw at refl) ∙ is in
+      let same : slot ≡ s = cc in
+      let who : user ≡ u = eqb-true user u (sym (at_user user u) ∙ at) in
+      subst (λ v. ArePassed revocation view ended v s) who (subst (ArePassed revocation view ended user) same here))
+      (λ apart. passed u s (sym (updates u ∙ rw apart refl) ∙ is))
 
   -- what is known stays so when a slot ends
   pub passed_ended : (ended after : List ℕ) (slot : ℕ) (asked : BTreeMap ℕ ℕ) → ((k : ℕ) → is_one_of after k ≡ ((slot == k) || is_one_of ended k))
@@ -72,20 +65,3 @@ module _ (revocation : Revocation) (view : View) where
         let at : user ≡ u = eqb-true user u (and_parts (user == u) (is_some (get nat_cmp old user)) both).0 in
         subst (λ v. ArePassed revocation view ended v s) at (subst (ArePassed revocation view ended user) same here))
         (λ neither. passed u s (sym (told u ∙ rw neither refl) ∙ is))
-
-  pub walked_same : (due : List ℕ) (old now : BTreeMap ℕ ℕ) (next : ℕ) → HaveSameKeys old now → AreWalked revocation view due old next → AreWalked revocation view due now next
-  walked_same due old now next same state = record { each = λ u j grant is. state.each u j grant (sym (same u) ∙ is) }
-
-pub same_keys : (old now : BTreeMap ℕ ℕ) (user slot : ℕ)
-    → ((other : ℕ) → get nat_cmp now other ≡ (if (user == other) && is_some (get nat_cmp old user) then Some slot else get nat_cmp old other)) → HaveSameKeys old now
-same_keys old now user slot told = λ u.
-    by_cases ((user == u) && is_some (get nat_cmp old user))
-    (λ both.
-    let parts = and_parts (user == u) (is_some (get nat_cmp old user)) both in
-    let at : user ≡ u = eqb-true user u parts.0 in
-    let there : is_some (get nat_cmp old u) ≡ true = subst (λ v. is_some (get nat_cmp old v) ≡ true) at parts.1 in
-    let here : get nat_cmp now u ≡ Some slot = told u ∙ rw both refl in
-    ap is_some here ∙ sym there)
-    (λ neither.
-    let here : get nat_cmp now u ≡ get nat_cmp old u = told u ∙ rw neither refl in
-    ap is_some here)

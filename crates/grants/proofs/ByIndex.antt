@@ -19,6 +19,7 @@ use Rattle.grants_base.specs.InForce.{IsNextInForce, ShowsNextInForce}
 use Rattle.grants_base.specs.Index.{IsFirst}
 use Rattle.grants_base.specs.Sides.{kind_code}
 use Rattle.grants_base.specs.View.{View, flatten, slot_at, slot_gives}
+use Rattle.grants_base.specs.declared.force.NextBy.{NextBy}
 use Rattle.grants_base.specs.declared.force.NextInForce.{NextInForce}
 use Rattle.grants_base.proofs.Indexing.{code-same, first_as, other_order}
 use Rattle.grants.specs.Loss.{last_end, loss_of, narrowed, only_to, standing_in_slots}
@@ -141,14 +142,20 @@ module _ (book : Entries) (place : ℕ) (below : (slot : ℕ) (entry : Record) �
   entries-whole [] = refl
   entries-whole (entry ∷ records) = ap (λ rest. entry ∷ rest) (entries-whole records)
 
+  -- what is found of the records is what the view's slots show
+  pub shows_slot : (passes : Grant → Bool) (from : ℕ) (found : Option ℕ) → IsFirst (λ k. is_in_force passes (slice_get book.records k)) from found
+      → IsFirst (λ k. is_in_force passes (slot_at (view_of book place) k)) from found
+  shows_slot passes from found is =
+      let whole = slots-whole book.records below in
+      first_as (λ k. is_in_force passes (slice_get book.records k)) (λ k. is_in_force passes (slot_at (view_of book place) k))
+      (λ k. ap (is_in_force passes) (sym (ap (λ (slots : List (Option Record)). flatten (slice_get slots k)) whole ∙ at-whole book.records k)))
+      from found is
+
   pub shows_next : (passes : Grant → Bool) (from : ℕ) (next : NextInForce) → IsNextInForce passes book.records from next → ShowsNextInForce passes (view_of book place) from next
   shows_next passes from next is =
       let whole = slots-whole book.records below in
       record {
-        slot =
-            first_as (λ k. is_in_force passes (slice_get book.records k)) (λ k. is_in_force passes (slot_at (view_of book place) k))
-            (λ k. ap (is_in_force passes) (sym (ap (λ (slots : List (Option Record)). flatten (slice_get slots k)) whole ∙ at-whole book.records k)))
-            from next.slot is.slot;
+        slot = shows_slot passes from next.slot is.slot;
         lost = is.lost ∙ ap (greatest_end passes) (sym (ap (λ (slots : List (Option Record)). flat_map option_to_list slots) whole ∙ entries-whole book.records));
       }
 
@@ -158,3 +165,9 @@ pub shows_found : (book : Entries) (place : ℕ) (below : (slot : ℕ) (entry : 
     → IfSome found (λ next. ShowsNextInForce passes (view_of book place) from next)
 shows_found book place below passes from None is = tt
 shows_found book place below passes from (Some next) is = shows_next book place below passes from next is
+
+pub shows_by : (book : Entries) (place : ℕ) (below : (slot : ℕ) (entry : Record) → slice_get book.records slot ≡ Some entry → lies_below place entry ≡ true)
+    (passes : Grant → Bool) (from : ℕ) (found : Option NextBy) → IfSome found (λ next. IsFirst (λ k. is_in_force passes (slice_get book.records k)) from next.slot)
+    → IfSome found (λ next. IsFirst (λ k. is_in_force passes (slot_at (view_of book place) k)) from next.slot)
+shows_by book place below passes from None is = tt
+shows_by book place below passes from (Some next) is = shows_slot book place below passes from next.slot is

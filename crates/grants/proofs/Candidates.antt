@@ -28,7 +28,7 @@ closed revocation grantee option (Some entry) is =
     (λ other. rw other refl)
 
 -- a slot with a grant in force is there
-in_force-within : (slots : List (Option Record)) (passes : Grant → Bool) (i : ℕ) → is_in_force passes (flatten (slice_get slots i)) ≡ true → i < length slots
+pub in_force-within : (slots : List (Option Record)) (passes : Grant → Bool) (i : ℕ) → is_in_force passes (flatten (slice_get slots i)) ≡ true → i < length slots
 in_force-within [] passes i is = absurd (cc)
 in_force-within (slot ∷ slots) passes zero is = omega arith
 in_force-within (slot ∷ slots) passes (suc i) is = let less = in_force-within slots passes i is in omega arith

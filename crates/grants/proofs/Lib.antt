@@ -21,3 +21,4 @@ pub mod ByIndex
 pub mod Found
 pub mod EndedLaws
 pub mod Candidates
+pub mod Named

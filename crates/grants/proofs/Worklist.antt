@@ -1,7 +1,6 @@
 -- The slots that are due are all that the recursive revocation has to judge.
 use Rattle.std.proofs.Common.{◌≡◌, ℕ, zero, suc, ◌<◌, ◌≤◌, ◌+◌, ◌||◌, true, false, List, [], ◌∷◌, ◌++◌, Option, Some, None, length, drop, add-one, refl, sym, ◌∙◌, ap, arith, inl, inr, eq-eqb, append_assoc, Less}
 use Rattle.std.specs.Prelude.{◌==◌, ◌⊎◌, All, is_some}
-use Rattle.std.specs.BTreeMap.{BTreeMap, get}
 use Rattle.std.specs.Option.{option_map_or}
 use Rattle.std.specs.Ordering.{nat_cmp}
 use Rattle.std.specs.BTreeSet.{BTreeSet, Updates}
@@ -17,7 +16,7 @@ use Rattle.model_base.proofs.Replay.{by_cases}
 use Rattle.grants_base.specs.View.{View, slot_at}
 use Rattle.grants.specs.Pass.{cascade, concerned, concerned_grants, holders_after, outlasts}
 use Rattle.grants_base.specs.Index.{is_one_of}
-use Rattle.grants.specs.Work.{AreBorne, AreDue, AreWalked, bears, keepers, keepers_after}
+use Rattle.grants.specs.Work.{AreBorne, AreDue, IsStillBorne, bears, keepers, keepers_after}
 use Rattle.grants.proofs.Holders.{inserted}
 use Rattle.grants.proofs.Passing.{one_of-after}
 use Rattle.grants.proofs.SlotLaws.{about_concerned, step_on, step_over}
@@ -162,21 +161,23 @@ module _ (revocation : Revocation) (view : View) where
       not_due p grant from free found =
           elim (borne.each p grant found) [
             | inl own ↦ rw (unnamed, own) refl
-            | inr by ↦
-                let has : is_one_of (keepers revocation view ended p) grant.grantor ≡ true = keepers-bear ended p by.0 grant.grantor by.1 (stood by.0 by.2) by.2 in
-                rw (unnamed, has) (or_right (owner == grant.grantor) true refl)
+            | inr by ↦ rw (unnamed, keeps by.0 by.1 by.2) (or_right (owner == grant.grantor) true refl)
           ]
         where
           unnamed : names revocation grant ≡ false
           unnamed = by_cases (names revocation grant) (λ named. absurd (true≢false (sym (state.named p grant from found named) ∙ free))) (λ not_named. not_named)
 
-          stood : (k : ℕ) → bears revocation grant.grantor (slot_at view k) ≡ true → is_one_of ended k ≡ false
-          stood k bear =
+          -- whom a slot below gave the option keeps it, by that slot or by another
+          keeps : (k : ℕ) → k < p → bears revocation grant.grantor (slot_at view k) ≡ true → is_one_of (keepers revocation view ended p) grant.grantor ≡ true
+          keeps k less bear =
               by_cases (is_one_of ended k)
               (λ gone.
               let by = borne_by revocation (slot_at view k) grant.grantor bear in
-              absurd (true≢false (sym (state.lost k p by.0 grant gone by.1 by.2 from found) ∙ free)))
-              (λ here. here)
+              elim (state.lost k p by.0 grant gone by.1 by.2 from found) [
+                | inl is ↦ absurd (true≢false (sym is ∙ free))
+                | inr kept ↦ keepers-bear ended p kept.0 grant.grantor kept.1 kept.2 kept.3
+              ])
+              (λ here. keepers-bear ended p k grant.grantor less here bear)
 
       over_one : (p : ℕ) → next ≤ p → p < length view.slots → is_one_of due p ≡ false → ends_from ended (p + 1) ≡ ends_from ended p
       over_one p from within free = by_found (concerned (slot_at view p) revocation) refl
@@ -207,7 +208,7 @@ module _ (revocation : Revocation) (view : View) (slot : ℕ) where
       → ((j : ℕ) → is_one_of due j ≡ true → is_one_of more j ≡ true)
       → ((j : ℕ) → is_one_of more j ≡ true → (is_one_of due j ≡ true) ⊎ ((next ≤ j) × (j < length view.slots)))
       → ((j : ℕ) (other : Grant) → option_holder grant ≡ Some other.grantor → next ≤ j → concerned (slot_at view j) revocation ≡ Some other
-      → is_one_of more j ≡ true)
+      → (is_one_of more j ≡ true) ⊎ IsStillBorne revocation view after other.grantor j)
       → AreDue revocation view more after next
   due_more due more ended after grant next ahead_of state found ends kept within later = record {
     named = λ j other from here named. kept j (state.named j other from here named);
@@ -218,7 +219,10 @@ module _ (revocation : Revocation) (view : View) (slot : ℕ) where
               let same : Some grant ≡ Some gone = sym found ∙ ap (λ i. concerned (slot_at view i) revocation) at_slot ∙ of in
               let one : grant ≡ gone = cc in
               later j other (ap option_holder one ∙ heir) from here
-          | inr before ↦ kept j (state.lost e j gone other before of heir from here)
+          | inr before ↦ elim (state.lost e j gone other before of heir from here) [
+            | inl is ↦ inl (kept j is)
+            | inr by ↦ still j other from here by.0 by.1 by.2 by.3
+          ]
         ];
     ahead = λ j is. elim (within j is) [ inl before ↦ state.ahead j before | inr new ↦ new ];
     behind = λ e is.
@@ -227,6 +231,18 @@ module _ (revocation : Revocation) (view : View) (slot : ℕ) where
           | inr before ↦ state.behind e before
         ];
   }
+    where
+      -- a slot by which a user kept the option stands yet, or is the one that ends
+      still : (j : ℕ) (other : Grant) → next ≤ j → concerned (slot_at view j) revocation ≡ Some other → (k : ℕ) → k < j → is_one_of ended k ≡ false
+          → bears revocation other.grantor (slot_at view k) ≡ true → (is_one_of more j ≡ true) ⊎ IsStillBorne revocation view after other.grantor j
+      still j other from here k less stands bear =
+          by_cases (slot == k)
+          (λ now.
+          let by = borne_by revocation (slot_at view k) other.grantor bear in
+          let same : Some grant ≡ Some by.0 = sym found ∙ ap (λ i. concerned (slot_at view i) revocation) (eqb-true slot k now) ∙ by.1 in
+          let one : grant ≡ by.0 = cc in
+          later j other (ap option_holder one ∙ by.2) from here)
+          (λ apart. inr (k, less, ends k ∙ rw (apart, stands) refl, bear))
 
 -- what isn't before has not ended
 pub unended_at : (ended : List ℕ) (slot : ℕ) → ((e : ℕ) → is_one_of ended e ≡ true → e < slot) → is_one_of ended slot ≡ false
@@ -282,7 +298,8 @@ module _ (revocation : Revocation) (view : View) where
         (λ none. none);
     after = λ later later_is. record {
       named = λ j grant from is named. left j (omega arith) (state.named j grant (omega (arith, lies.0)) is named);
-      lost = λ e j gone grant ended_e of heir from is. left j (omega arith) (state.lost e j gone grant ended_e of heir (omega (arith, lies.0)) is);
+      lost = λ e j gone grant ended_e of heir from is.
+          elim (state.lost e j gone grant ended_e of heir (omega (arith, lies.0)) is) [ inl was ↦ inl (left j (omega arith) was) | inr by ↦ inr by ];
       ahead = λ j is. let more = above_all slot rest above j is in (omega arith, (state.ahead j (ap (λ ks. is_one_of ks j) parts ∙ or_right (slot == j) (is_one_of rest j) is)).1);
       behind = λ e is. let less = state.behind e is in omega (arith, lies.0);
     };
@@ -301,29 +318,3 @@ module _ (revocation : Revocation) (view : View) where
 pub none_due : (due : List ℕ) → (0 < length due → ⊥) → (j : ℕ) → is_one_of due j ≡ false
 none_due [] empty j = refl
 none_due (slot ∷ due) empty j = absurd (empty (omega arith))
-
--- one user more whose grants are due
-pub walked_more : (revocation : Revocation) (view : View) (due more : List ℕ) (asked now : BTreeMap ℕ ℕ) (user next : ℕ)
-    → ((u : ℕ) → is_some (get nat_cmp now u) ≡ ((user == u) || is_some (get nat_cmp asked u))) → AreWalked revocation view due asked next
-    → ((j : ℕ) → is_one_of due j ≡ true → is_one_of more j ≡ true)
-    → ((j : ℕ) (grant : Grant) → next ≤ j → concerned (slot_at view j) revocation ≡ Some grant → grant.grantor ≡ user → is_one_of more j ≡ true)
-    → AreWalked revocation view more now next
-walked_more revocation view due more asked now user next has state kept found = record {
-  each = λ u j grant is from at by.
-      elim (or_cases (user == u) (is_some (get nat_cmp asked u)) (sym (has u) ∙ is)) [
-        | inl here ↦ let same : user ≡ u = eqb-true user u here in found j grant from at (by ∙ sym same)
-        | inr before ↦ kept j (state.each u j grant before from at by)
-      ];
-}
-
--- behind the first that is due the others still are
-pub walked_rest : (revocation : Revocation) (view : View) (due rest : List ℕ) (asked : BTreeMap ℕ ℕ) (next later slot : ℕ) → next ≤ slot → later ≡ slot + 1 → due ≡ slot ∷ rest
-    → AreWalked revocation view due asked next → AreWalked revocation view rest asked later
-walked_rest revocation view due rest asked next later slot from later_is parts state = record {
-  each = λ u j grant is low at by.
-      let was = state.each u j grant is (omega arith) at by in
-      elim (or_cases (slot == j) (is_one_of rest j) (sym (ap (λ ks. is_one_of ks j) parts) ∙ was)) [
-        | inl here ↦ let same : slot ≡ j = eqb-true slot j here in absurd (omega arith)
-        | inr left ↦ left
-      ];
-}

@@ -6,17 +6,17 @@ ghost use Rattle.model_base.specs.declared.deed.Deed.{Deed};
 ghost use Rattle.model_base.specs.Privileges.{ended_by, option_of, place_of};
 ghost use Rattle.model_base.specs.Records.{deeds_below, ended_at, recorded};
 ghost use Rattle.model_base.specs.declared.deed.Record.{Record};
-ghost use Rattle.grants_base.specs.Force.{gives_to};
+ghost use Rattle.grants_base.specs.Force.{gives_by, gives_to, is_in_force};
 ghost use Rattle.grants_base.specs.InForce.{IsNextInForce};
-ghost use Rattle.grants_base.specs.Index.{IsNext, is_by, is_to};
+ghost use Rattle.grants_base.specs.Index.{IsFirst, IsNext, is_by, is_to};
 ghost use Rattle.grants_base.specs.declared.entries.End.{End};
 ghost use Rattle.grants_base.specs.declared.entries.Creation.{Creation};
 
 use crate::cascade::cascade;
 use crate::ended::Ended;
 use grants_base::{
-    Creation, End, IndexedRecords, NextInForce, Records, append_tables, lies_below, records_below,
-    tables_below,
+    Creation, End, IndexedRecords, NextBy, NextInForce, Records, append_tables, lies_below,
+    records_below, tables_below,
 };
 use model_base::{Grant, Grantee, Kind, MOST_NAMES, Place, Record, Revocation, Table, User};
 use std::alloc::{AllocError, Global};
@@ -151,6 +151,23 @@ impl Book {
     {
         self.records
             .next_in_force(grantee, kind, table, option, from)
+    }
+
+    /// The least slot at or above this one of a grant in force by the user to the grantee, of the kind on the table. None where that
+    /// isn't known.
+    fn next_in_force_by(
+        &self,
+        user: User,
+        grantee: Grantee,
+        kind: Kind,
+        table: Table,
+        from: usize,
+    ) -> Option<NextBy>
+        ensures { IfSome result (λ next.
+            IsFirst (λ k. is_in_force (gives_by user grantee kind table) (slice_get self.now.records k)) from next.slot) }
+    {
+        self.records
+            .next_in_force_by(user, grantee, kind, table, from)
     }
 
     /// Whether each grant and each end lies below a place. It looks at the last of each alone. Where it says no, some may not.
@@ -331,5 +348,19 @@ impl Records for BookView<'_> {
             return None;
         }
         self.book.next_in_force(grantee, kind, table, option, from)
+    }
+
+    fn next_in_force_by(
+        &mut self,
+        user: User,
+        grantee: Grantee,
+        kind: Kind,
+        table: Table,
+        from: usize,
+    ) -> Option<NextBy> {
+        if !self.book.lies_below(self.place) {
+            return None;
+        }
+        self.book.next_in_force_by(user, grantee, kind, table, from)
     }
 }

@@ -9,7 +9,7 @@ ghost use Rattle.model_base.specs.declared.deed.Deed.{Deed};
 ghost use Rattle.model_base.specs.declared.deed.Grant.{Grant};
 ghost use Rattle.grants.specs.Pass.{cascade, concerned, concerned_grants, outlasts};
 ghost use Rattle.grants_base.specs.Index.{is_one_of};
-ghost use Rattle.grants.specs.Work.{AllPassed, AreDue, AreEnds, ArePassed, AreWalked, HaveSameKeys, IsNextCandidate, bears, keepers, slots_of};
+ghost use Rattle.grants.specs.Work.{AllPassed, AreDue, AreEnds, ArePassed, IsStillBorne, IsNextCandidate, IsNextNamed, bears, keepers, slots_of};
 ghost use Rattle.grants_base.specs.View.{ShowsDeeds, slot_at};
 
 use crate::ended::Ended;
@@ -61,20 +61,32 @@ fn stands<V: Records>(
 }
 
 /// A slot at or above another such that no slot from that one on and before it has a grant in force, of the revocation's kind and
-/// table, to the grantee, and with the option where it is asked for. None where no later slot has. It goes through the slots only
-/// where the view doesn't know which grants are in force.
+/// table, to the grantee and with the option. None where no later slot has. It goes through the slots only where the view doesn't
+/// know which grants are in force.
 fn next_candidate<V: Records>(
     view: &mut V,
     revocation: &Revocation,
     grantee: &Grantee,
-    option: bool,
     from: usize,
 ) -> Option<usize>
-    ensures next { IsNextCandidate revocation.now grantee.now option (V.shown view.old) from result }
+    ensures next { IsNextCandidate revocation.now grantee.now true (V.shown view.old) from result }
     ensures same { V.shown view.new ≡ V.shown view.old }
 {
     let (kind, table) = (revocation.kind, revocation.table);
-    match view.next_in_force(*grantee, kind, table, option, from) {
+    match view.next_in_force(*grantee, kind, table, true, from) {
+        Some(next) => next.slot,
+        None => view.next_to(*grantee, kind, table, from),
+    }
+}
+
+/// A slot at or above another such that no slot from that one on and before it has a grant in force that the revocation names. None where
+/// no later slot has. It goes through the slots only where the view doesn't know which grants are in force.
+fn next_named<V: Records>(view: &mut V, revocation: &Revocation, from: usize) -> Option<usize>
+    ensures next { IsNextNamed revocation.now (V.shown view.old) from result }
+    ensures same { V.shown view.new ≡ V.shown view.old }
+{
+    let (grantee, kind, table) = (&revocation.grantee, revocation.kind, revocation.table);
+    match view.next_in_force_by(revocation.grantor, *grantee, kind, table, from) {
         Some(next) => next.slot,
         None => view.next_to(*grantee, kind, table, from),
     }
@@ -82,6 +94,7 @@ fn next_candidate<V: Records>(
 
 /// The first slot below another that gives the user the option and hasn't ended, where none below `start` does. It is not below
 /// the other where there is none.
+#[inline(always)]
 fn first_bearer<V: Records>(
     view: &mut V,
     revocation: &Revocation,
@@ -99,7 +112,7 @@ fn first_bearer<V: Records>(
 {
     let mut from = start;
     while from < below {
-        match next_candidate(view, revocation, &Grantee::User(user), true, from) {
+        match next_candidate(view, revocation, &Grantee::User(user), from) {
             Some(i) if i < below => {
                 if stands(view, i, revocation, ended, user) {
                     return i;
@@ -145,7 +158,6 @@ fn keeps<V: Records>(
     requires passed { AllPassed revocation.now (V.shown view.old) (slots_of ended.now.ends) asked.old }
     ensures value { result ≡ is_one_of (keepers revocation.now (V.shown view.old) (slots_of ended.now.ends) below) user }
     ensures passed { AllPassed revocation.now (V.shown view.old) (slots_of ended.now.ends) asked.new }
-    ensures users { HaveSameKeys asked.old asked.new }
     ensures same { V.shown view.new ≡ V.shown view.old }
 {
     let start = passed_by(asked, user);
@@ -170,7 +182,6 @@ fn stays<V: Records>(
     ensures value { result ≡ outlasts owner
         (keepers revocation.now (V.shown view.old) (slots_of ended.now.ends) slot) revocation.now grant.now }
     ensures passed { AllPassed revocation.now (V.shown view.old) (slots_of ended.now.ends) asked.new }
-    ensures users { HaveSameKeys asked.old asked.new }
     ensures same { V.shown view.new ≡ V.shown view.old }
 {
     if revocation.names(grant) {
@@ -206,7 +217,7 @@ fn named<V: Records>(
     let end = view.slots();
     let mut from = 0;
     while from < end {
-        match next_candidate(view, revocation, &revocation.grantee, false, from) {
+        match next_named(view, revocation, from) {
             Some(i) => {
                 if is_named(view, i, revocation) {
                     due.insert(i)?;
@@ -219,16 +230,17 @@ fn named<V: Records>(
     Ok(due)
 }
 
-/// Adds the slots from this one on whose grants are by the user, of the revocation's kind and table.
+/// Adds the slots from one on to the last one whose grants are by the user, of the revocation's kind and table.
 fn add_grants_by<V: Records>(
     view: &mut V,
     user: User,
     revocation: &Revocation,
     start: usize,
+    last: usize,
     due: &mut BTreeSet<usize>,
 ) -> Result<(), AllocError>
-    ensures found { OnOk result ((j : ℕ) (grant : Grant) → start ≤ j → concerned (slot_at (V.shown view.old) j) revocation.now ≡ Some grant
-        → grant.grantor ≡ user → is_one_of due.new.keys j ≡ true) }
+    ensures found { OnOk result ((j : ℕ) (grant : Grant) → start ≤ j → j ≤ last
+        → concerned (slot_at (V.shown view.old) j) revocation.now ≡ Some grant → grant.grantor ≡ user → is_one_of due.new.keys j ≡ true) }
     ensures kept { OnOk result ((j : ℕ) → is_one_of due.old.keys j ≡ true → is_one_of due.new.keys j ≡ true) }
     ensures within { OnOk result ((j : ℕ) → is_one_of due.new.keys j ≡ true
         → (is_one_of due.old.keys j ≡ true) ⊎ ((start ≤ j) × (j < length (V.shown view.old).slots))) }
@@ -238,47 +250,48 @@ fn add_grants_by<V: Records>(
     let mut from = start;
     while from < end {
         match view.next_by(user, revocation.kind, revocation.table, from) {
-            Some(i) => {
+            Some(i) if i <= last => {
                 due.insert(i)?;
                 from = i + 1;
             }
-            None => return Ok(()),
+            _ => return Ok(()),
         }
     }
     Ok(())
 }
 
-/// The user lost an option: the slots from this one on whose grants are by the user, of the revocation's kind and table, are
-/// due. They are added once for each user.
+/// The user lost an option: the slots from this one on whose grants are by the user, of the revocation's kind and table, are due, up
+/// to the first slot that still gives the user the option. What lies above that one isn't looked at: it stays, unless that one
+/// ends too.
 fn lose<V: Records>(
     view: &mut V,
     user: User,
     revocation: &Revocation,
+    ended: &Ended,
     start: usize,
     due: &mut BTreeSet<usize>,
     asked: &mut BTreeMap<User, usize>,
 ) -> Result<(), AllocError>
-    requires { AreWalked revocation.now (V.shown view.old) due.old.keys asked.old start }
+    requires { AllPassed revocation.now (V.shown view.old) (slots_of ended.now.ends) asked.old }
     ensures found { OnOk result ((j : ℕ) (grant : Grant) → start ≤ j → concerned (slot_at (V.shown view.old) j) revocation.now ≡ Some grant
-        → grant.grantor ≡ user → is_one_of due.new.keys j ≡ true) }
+        → grant.grantor ≡ user
+        → (is_one_of due.new.keys j ≡ true) ⊎ IsStillBorne revocation.now (V.shown view.old) (slots_of ended.now.ends) user j) }
     ensures kept { OnOk result ((j : ℕ) → is_one_of due.old.keys j ≡ true → is_one_of due.new.keys j ≡ true) }
     ensures within { OnOk result ((j : ℕ) → is_one_of due.new.keys j ≡ true
         → (is_one_of due.old.keys j ≡ true) ⊎ ((start ≤ j) × (j < length (V.shown view.old).slots))) }
-    ensures walked { OnOk result (AreWalked revocation.now (V.shown view.old) due.new.keys asked.new start) }
-    ensures passed { OnOk result ((ended : List ℕ) → AllPassed revocation.now (V.shown view.old) ended asked.old
-        → AllPassed revocation.now (V.shown view.old) ended asked.new) }
+    ensures passed { OnOk result (AllPassed revocation.now (V.shown view.old) (slots_of ended.now.ends) asked.new) }
     ensures same { V.shown view.new ≡ V.shown view.old }
 {
-    if asked.contains_key(&user) {
-        return Ok(());
-    }
-    asked.insert(user, 0)?;
-    add_grants_by(view, user, revocation, start, due)?;
+    let end = view.slots();
+    let passed = passed_by(asked, user);
+    let first = first_bearer(view, revocation, ended, user, passed, end);
+    asked.insert(user, first)?;
+    add_grants_by(view, user, revocation, start, first, due)?;
     Ok(())
 }
 
-/// The slots that are still to be judged; the users who lost an option, whose grants are among them, each with the slot below
-/// which none gives it any more, as far as it was looked at; and the slots that have ended.
+/// The slots that are still to be judged; the users who lost an option, each with the slot below which none gives it any more, as
+/// far as it was looked at; and the slots that have ended.
 #[derive(Drop)]
 struct Work {
     due: BTreeSet<usize>,
@@ -287,7 +300,7 @@ struct Work {
 }
 
 /// One slot that is due: either its grant ends, or its grantee keeps what it gives. With a grant that ends, the later
-/// grants of the user to whom it gave the option are due.
+/// grants of the user to whom it gave the option are due, up to the first slot that still gives it.
 fn judge<V: Records>(
     view: &mut V,
     owner: User,
@@ -299,12 +312,10 @@ fn judge<V: Records>(
     requires within { slot < length (V.shown view.old).slots }
     requires next { next ≡ slot + 1 }
     requires due { AreDue revocation.now (V.shown view.old) work.old.due.keys (slots_of work.old.ended.ends) next }
-    requires walked { AreWalked revocation.now (V.shown view.old) work.old.due.keys work.old.asked next }
     requires passed { AllPassed revocation.now (V.shown view.old) (slots_of work.old.ended.ends) work.old.asked }
     requires behind { (e : ℕ) → is_one_of (slots_of work.old.ended.ends) e ≡ true → e < slot }
     requires ends { AreEnds revocation.now (V.shown view.old) work.old.ended.ends work.old.ended.places }
     ensures due { OnOk result (AreDue revocation.now (V.shown view.old) work.new.due.keys (slots_of work.new.ended.ends) next) }
-    ensures walked { OnOk result (AreWalked revocation.now (V.shown view.old) work.new.due.keys work.new.asked next) }
     ensures passed { OnOk result (AllPassed revocation.now (V.shown view.old) (slots_of work.new.ended.ends) work.new.asked) }
     ensures whole { OnOk result (work.new.ended.places
         ++ cascade owner revocation.now
@@ -333,7 +344,15 @@ fn judge<V: Records>(
     }
     work.ended.push(slot, revocation.place, grant.place)?;
     if let Some(user) = grant.option_holder() {
-        lose(view, user, revocation, next, &mut work.due, &mut work.asked)?;
+        lose(
+            view,
+            user,
+            revocation,
+            &work.ended,
+            next,
+            &mut work.due,
+            &mut work.asked,
+        )?;
     }
     Ok(())
 }
@@ -372,10 +391,10 @@ pub(crate) fn cascade<V: Records>(
 /// give, and without the revoked grants no longer do. It is the recursive revocation of Griffiths and Wade: a grant in force
 /// of this kind and table ends if the revocation names it, or if its grantor isn't the owner and has the option by no earlier
 /// grant that stays. So a cycle of grants doesn't bear itself, and a grant that an earlier way bears stays. Of this kind and
-/// table it goes through the grants to the revocation's grantee, and once through those by each user whose option ends; the
-/// grants to that user it goes through once as well, each of those by the user being judged from where the last one was. Of the
-/// grants to somebody it goes through those in force alone, where the view knows them. The
-/// slots to be judged are kept in a set, in a time that grows with the logarithm of their number. Besides that it takes memory
+/// table it goes through the grants by the revocation's grantor to its grantee, where the view knows which are in force, and else
+/// through all to that grantee. For each user whose option ends it goes through the grants that gave it, each once, and through those
+/// by the user up to the first that still gives it. The slots to be judged are kept in a set, in a time that grows with the logarithm
+/// of their number. Besides that it takes memory
 /// for its answer. On `Err` memory was refused. What the view shows stays in any case.
 pub fn to_end<V: Records>(
     alloc: Global,

@@ -7,7 +7,9 @@ use Rattle.model_base.specs.declared.deed.Grant.{Grant}
 use Rattle.model_base.specs.declared.deed.Record.{Record}
 use Rattle.model_base.proofs.Replay.{by_cases}
 use Rattle.grants_base.specs.Book.{end_slot, unended}
-use Rattle.grants_base.specs.Force.{Force, IsForceOf, IsWithSlot, IsWithoutSlot, end_if, greatest_end, is_in_force, later_of, no_force}
+use Rattle.grants_base.specs.Force.{AreByGrantors, Force, IsForceOf, IsWithSlot, IsWithoutSlot, end_if, greatest_end, is_in_force, later_of, no_force}
+use Rattle.grants_base.specs.GrantorSet.{HasGainedBy, HasLostBy}
+use Rattle.grants_base.specs.declared.grantor_set.Granted.{Granted}
 use Rattle.grants_base.proofs.LaterOf.{later-assoc, later-none, later-swap}
 
 or-none : (a : Bool) → (a || false) ≡ a
@@ -131,3 +133,62 @@ module _ (passes : Grant → Bool) where
           ap (λ n. is_in_force passes (slice_get entries n)) (sym same) ∙ ap (is_in_force passes) at ∙ ap (λ b. is_none found.end && b) failing ∙ and-false (is_none found.end) in
           rw there refl)
           (λ apart. rw apart (and-true (is_in_force passes (slice_get entries k))))
+
+-- the slots under their grantors
+module _ (passes : Grant → Bool) (entries : List Record) (old new : List Granted) (is : AreByGrantors passes entries old) where
+  abbrev of : ℕ → Grant → Bool
+  of user grant = passes grant && (grant.grantor == user)
+
+  lacks : (grant : Grant) (user : ℕ) → passes grant ≡ false → of user grant ≡ false
+  lacks grant user failing = ap (λ b. b && (grant.grantor == user)) failing
+
+  pub by_granted : (grant : Grant) (slot : ℕ) → slot ≡ length entries → passes grant ≡ true → HasGainedBy (record { grantor = grant.grantor; slot = slot }) old new
+      → AreByGrantors passes (entries ++ unended grant ∷ []) new
+  by_granted grant slot last passing given = λ user k.
+      given user k
+      ∙ ap (λ b. b || ((grant.grantor == user) && (slot == k))) (is user k)
+      ∙ ap (λ n. is_in_force (of user) (slice_get entries k) || ((grant.grantor == user) && (n == k))) last
+      ∙ ap (λ b. is_in_force (of user) (slice_get entries k) || b) (turned (grant.grantor == user) (length entries == k))
+      ∙ sym (force-more (of user) entries grant k
+      ∙ ap (λ b. is_in_force (of user) (slice_get entries k) || ((length entries == k) && (b && (grant.grantor == user)))) passing)
+    where
+      turned : (a b : Bool) → (a && b) ≡ (b && a)
+      turned true true = refl
+      turned true false = refl
+      turned false true = refl
+      turned false false = refl
+
+  pub by_apart : (grant : Grant) → passes grant ≡ false → AreByGrantors passes (entries ++ unended grant ∷ []) old
+  by_apart grant failing = λ user k.
+      is user k
+      ∙ sym (force-more (of user) entries grant k
+      ∙ ap (λ b. is_in_force (of user) (slice_get entries k) || ((length entries == k) && b)) (lacks grant user failing)
+      ∙ ap (λ b. is_in_force (of user) (slice_get entries k) || b) (and-false (length entries == k)) ∙ or-none (is_in_force (of user) (slice_get entries k)))
+
+  -- where the grant of a slot doesn't pass, its end changes nothing
+  still : (slot place k : ℕ) (found : Record) (user : ℕ) → slice_get entries slot ≡ Some found → of user found.grant ≡ false
+      → is_in_force (of user) (slice_get (end_slot entries slot place) k) ≡ is_in_force (of user) (slice_get entries k)
+  still slot place k found user at failing =
+      force-less (of user) entries slot place k
+      ∙ by_cases (slot == k)
+      (λ here.
+      let there : is_in_force (of user) (slice_get entries k) ≡ false =
+      ap (λ n. is_in_force (of user) (slice_get entries n)) (sym (eqb-true slot k here)) ∙ ap (is_in_force (of user)) at ∙ ap (λ b. is_none found.end && b) failing ∙ and-false (is_none found.end) in
+      rw there refl)
+      (λ apart. rw apart (and-true (is_in_force (of user) (slice_get entries k))))
+
+  pub by_ended : (slot place : ℕ) (found : Record) → slice_get entries slot ≡ Some found → HasLostBy (record { grantor = found.grant.grantor; slot = slot }) old new
+      → AreByGrantors passes (end_slot entries slot place) new
+  by_ended slot place found at taken = λ user k.
+      taken user k ∙ ap (λ b. b && not ((found.grant.grantor == user) && (slot == k))) (is user k) ∙ by_user user k (found.grant.grantor == user) refl
+    where
+      by_user : (user k : ℕ) (same : Bool) → (found.grant.grantor == user) ≡ same
+          → (is_in_force (of user) (slice_get entries k) && not (same && (slot == k))) ≡ is_in_force (of user) (slice_get (end_slot entries slot place) k)
+      by_user user k true is = sym (force-less (of user) entries slot place k)
+      by_user user k false is =
+          and-true (is_in_force (of user) (slice_get entries k))
+          ∙ sym (still slot place k found user at (ap (λ b. passes found.grant && b) is ∙ and-false (passes found.grant)))
+
+  pub by_other : (slot place : ℕ) (found : Record) → slice_get entries slot ≡ Some found → passes found.grant ≡ false
+      → AreByGrantors passes (end_slot entries slot place) old
+  by_other slot place found at failing = λ user k. is user k ∙ sym (still slot place k found user at (lacks found.grant user failing))

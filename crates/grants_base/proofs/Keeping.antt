@@ -8,12 +8,13 @@ use Rattle.model_base.specs.declared.deed.Kind.{Kind}
 use Rattle.model_base.specs.declared.deed.Record.{Record}
 use Rattle.model_base.proofs.Replay.{by_cases}
 use Rattle.grants_base.specs.Book.{end_slot, unended}
-use Rattle.grants_base.specs.Force.{Force, IsForceOf, IsGranted, IsWithSlot, IsWithdrawn, IsWithoutSlot, Privilege, force_of, gives_to}
-use Rattle.grants_base.specs.InForce.{IsChanged, KeepsInForce, privilege_under}
+use Rattle.grants_base.specs.Force.{AreByGrantors, Force, IsForceChanged, IsForceOf, IsGranted, IsWithSlot, IsWithdrawn, IsWithoutSlot, Privilege, force_of, gives_to}
+use Rattle.grants_base.specs.InForce.{IsChanged, IsPrivilegeOf, KeepsInForce, privilege_under}
+use Rattle.grants_base.specs.declared.grantor_set.Granted.{Granted}
 use Rattle.grants_base.specs.Index.{is_to}
 use Rattle.grants_base.specs.Sides.{side_of, to_side}
 use Rattle.grants_base.specs.declared.in_force.InForceIndex.{InForceIndex}
-use Rattle.grants_base.proofs.ForceLaws.{force_apart, force_ended, force_granted, force_other}
+use Rattle.grants_base.proofs.ForceLaws.{by_apart, by_ended, by_granted, by_other, force_apart, force_ended, force_granted, force_other}
 use Rattle.grants_base.proofs.SideLaws.{to_side-same}
 
 and-false : (a : Bool) → (a && false) ≡ false
@@ -46,11 +47,20 @@ pub of_ok : {A E : Type 0} (result : Result A E) (P : Type 0) → is_err result 
 of_ok (Ok value) P is holds = holds
 of_ok (Err error) P is holds = absurd (cc)
 
+pub when_ok : {A E : Type 0} (result : Result A E) (P Q : Type 0) → OnOk result P → (P → Q) → OnOk result Q
+when_ok (Ok value) P Q holds gives = gives holds
+when_ok (Err error) P Q holds gives = tt
+
 -- what holds of what is found, if something is
 pub next_told : {X : Type 0} (found : Option X) (W : Type 0) (S L Q : X → Type 0) → IfSome found (λ _. W) → IfSome found S → IfSome found L
     → ((x : X) → W → S x → L x → Q x) → IfSome found Q
 next_told None W S L Q whole slot lost gives = tt
 next_told (Some x) W S L Q whole slot lost gives = gives x whole slot lost
+
+-- the same of one fact besides
+pub next_by_told : {X : Type 0} (found : Option X) (W : Type 0) (S Q : X → Type 0) → IfSome found (λ _. W) → IfSome found S → ((x : X) → W → S x → Q x) → IfSome found Q
+next_by_told None W S Q whole slot gives = tt
+next_by_told (Some x) W S Q whole slot gives = gives x whole slot
 
 -- what is put where there was nothing
 pub put_new : {X : Type 0} (here : Bool) (none value : X) (Change : X → X → Type 0) (was now : Option X) → Change none value → (here ≡ true → was ≡ None)
@@ -78,7 +88,7 @@ on_false true P Q both is = absurd (cc)
 -- of one grantee, kind and table
 module _ (entries : List Record) (grantee : Grantee) (kind : Kind) (table : ℕ) (was now : Privilege)
     (before : (asked : Bool) → IsForceOf (gives_to grantee kind table asked) entries (force_of asked was)) where
-  granted_here : (grant : Grant) (slot : ℕ) → slot ≡ length entries → is_to grantee kind table grant ≡ true → IsGranted slot grant.option was now → (asked : Bool)
+  granted_here : (grant : Grant) (slot : ℕ) → slot ≡ length entries → is_to grantee kind table grant ≡ true → IsForceChanged grant.option (IsWithSlot slot) was now → (asked : Bool)
       → IsForceOf (gives_to grantee kind table asked) (entries ++ unended grant ∷ []) (force_of asked now)
   granted_here grant slot last here given false =
       force_granted (gives_to grantee kind table false) entries grant slot was.plain now.plain last (gives-plain grantee kind table grant ∙ here) (before false) given.0
@@ -101,7 +111,7 @@ module _ (entries : List Record) (grantee : Grantee) (kind : Kind) (table : ℕ)
       (force_apart (gives_to grantee kind table asked) entries grant (force_of asked was) (ap (λ b. b && (grant.option || not asked)) apart) (before asked))
 
   ended_here : (slot place : ℕ) (found : Record) → slice_get entries slot ≡ Some found → found.end ≡ None → is_to grantee kind table found.grant ≡ true
-      → IsWithdrawn slot place found.grant.option was now → (asked : Bool)
+      → IsForceChanged found.grant.option (IsWithoutSlot slot place) was now → (asked : Bool)
       → IsForceOf (gives_to grantee kind table asked) (end_slot entries slot place) (force_of asked now)
   ended_here slot place found at free here taken false =
       force_ended (gives_to grantee kind table false) entries slot place found was.plain now.plain at free (gives-plain grantee kind table found.grant ∙ here) (before false) taken.0
@@ -124,6 +134,42 @@ module _ (entries : List Record) (grantee : Grantee) (kind : Kind) (table : ℕ)
       (force_other (gives_to grantee kind table asked) entries slot place found (force_of asked was) at free
       (ap (λ b. b && (found.grant.option || not asked)) apart) (before asked))
 
+-- of one grantee, kind and table, with the grantors
+abbrev made_at : Grant → ℕ → Granted
+made_at grant slot = record { grantor = grant.grantor; slot = slot }
+
+module _ (entries : List Record) (grantee : Grantee) (kind : Kind) (table : ℕ) (was now : Privilege) (before : IsPrivilegeOf grantee kind table entries was) where
+  privilege_granted : (grant : Grant) (slot : ℕ) → slot ≡ length entries → is_to grantee kind table grant ≡ true → IsGranted (made_at grant slot) grant.option was now
+      → IsPrivilegeOf grantee kind table (entries ++ unended grant ∷ []) now
+  privilege_granted grant slot last here given = record {
+    force = granted_here entries grantee kind table was now before.force grant slot last here given.0;
+    by = by_granted (is_to grantee kind table) entries was.by now.by before.by grant slot last here given.1;
+  }
+
+  privilege_apart : (grant : Grant) → is_to grantee kind table grant ≡ false → now ≡ was → IsPrivilegeOf grantee kind table (entries ++ unended grant ∷ []) now
+  privilege_apart grant apart same = record {
+    force = granted_apart entries grantee kind table was now before.force grant apart same;
+    by =
+        subst (λ (p : Privilege). AreByGrantors (is_to grantee kind table) (entries ++ unended grant ∷ []) p.by) (sym same)
+        (by_apart (is_to grantee kind table) entries was.by was.by before.by grant apart);
+  }
+
+  privilege_ended : (slot place : ℕ) (found : Record) → slice_get entries slot ≡ Some found → found.end ≡ None → is_to grantee kind table found.grant ≡ true
+      → IsWithdrawn (made_at found.grant slot) place found.grant.option was now → IsPrivilegeOf grantee kind table (end_slot entries slot place) now
+  privilege_ended slot place found at free here taken = record {
+    force = ended_here entries grantee kind table was now before.force slot place found at free here taken.0;
+    by = by_ended (is_to grantee kind table) entries was.by now.by before.by slot place found at taken.1;
+  }
+
+  privilege_other : (slot place : ℕ) (found : Record) → slice_get entries slot ≡ Some found → found.end ≡ None → is_to grantee kind table found.grant ≡ false → now ≡ was
+      → IsPrivilegeOf grantee kind table (end_slot entries slot place) now
+  privilege_other slot place found at free apart same = record {
+    force = ended_apart entries grantee kind table was now before.force slot place found at free apart same;
+    by =
+        subst (λ (p : Privilege). AreByGrantors (is_to grantee kind table) (end_slot entries slot place) p.by) (sym same)
+        (by_other (is_to grantee kind table) entries was.by was.by before.by slot place found at apart);
+  }
+
 -- of all
 module _ (old new : InForceIndex) (whole : new.is_whole ≡ old.is_whole) (entries : List Record) (keeps : KeepsInForce old entries) where
   -- what changed under the side of a grant is what changed under that of a grantee, kind and table, or nothing
@@ -135,26 +181,26 @@ module _ (old new : InForceIndex) (whole : new.is_whole ≡ old.is_whole) (entri
       subst (λ (b : Bool). OnTrue b (Change (privilege_under old side) (privilege_under new side)) × OnFalse b (privilege_under new side ≡ privilege_under old side))
       (to_side-same grantee kind table grant) (changed side)
 
-  pub keeps_granted : (grant : Grant) (slot : ℕ) → slot ≡ length entries → IsChanged (to_side grant) (IsGranted slot grant.option) old new
+  pub keeps_granted : (grant : Grant) (slot : ℕ) → slot ≡ length entries → IsChanged (to_side grant) (IsGranted (made_at grant slot) grant.option) old new
       → KeepsInForce new (entries ++ unended grant ∷ [])
-  keeps_granted grant slot last changed is grantee kind table option =
+  keeps_granted grant slot last changed is grantee kind table =
       let side = side_of grantee kind table in
       let was = privilege_under old side in
       let now = privilege_under new side in
       let before = keeps (sym whole ∙ is) grantee kind table in
-      let told = changed_at grant grantee kind table (IsGranted slot grant.option) changed in
+      let told = changed_at grant grantee kind table (IsGranted (made_at grant slot) grant.option) changed in
       by_cases (is_to grantee kind table grant)
-      (λ here. granted_here entries grantee kind table was now before grant slot last here (on_true (is_to grantee kind table grant) (IsGranted slot grant.option was now) (now ≡ was) told here) option)
-      (λ apart. granted_apart entries grantee kind table was now before grant apart (on_false (is_to grantee kind table grant) (IsGranted slot grant.option was now) (now ≡ was) told apart) option)
+      (λ here. privilege_granted entries grantee kind table was now before grant slot last here (on_true (is_to grantee kind table grant) (IsGranted (made_at grant slot) grant.option was now) (now ≡ was) told here))
+      (λ apart. privilege_apart entries grantee kind table was now before grant apart (on_false (is_to grantee kind table grant) (IsGranted (made_at grant slot) grant.option was now) (now ≡ was) told apart))
 
   pub keeps_ended : (slot place : ℕ) (found : Record) → slice_get entries slot ≡ Some found → found.end ≡ None
-      → IsChanged (to_side found.grant) (IsWithdrawn slot place found.grant.option) old new → KeepsInForce new (end_slot entries slot place)
-  keeps_ended slot place found at free changed is grantee kind table option =
+      → IsChanged (to_side found.grant) (IsWithdrawn (made_at found.grant slot) place found.grant.option) old new → KeepsInForce new (end_slot entries slot place)
+  keeps_ended slot place found at free changed is grantee kind table =
       let side = side_of grantee kind table in
       let was = privilege_under old side in
       let now = privilege_under new side in
       let before = keeps (sym whole ∙ is) grantee kind table in
-      let told = changed_at found.grant grantee kind table (IsWithdrawn slot place found.grant.option) changed in
+      let told = changed_at found.grant grantee kind table (IsWithdrawn (made_at found.grant slot) place found.grant.option) changed in
       by_cases (is_to grantee kind table found.grant)
-      (λ here. ended_here entries grantee kind table was now before slot place found at free here (on_true (is_to grantee kind table found.grant) (IsWithdrawn slot place found.grant.option was now) (now ≡ was) told here) option)
-      (λ apart. ended_apart entries grantee kind table was now before slot place found at free apart (on_false (is_to grantee kind table found.grant) (IsWithdrawn slot place found.grant.option was now) (now ≡ was) told apart) option)
+      (λ here. privilege_ended entries grantee kind table was now before slot place found at free here (on_true (is_to grantee kind table found.grant) (IsWithdrawn (made_at found.grant slot) place found.grant.option was now) (now ≡ was) told here))
+      (λ apart. privilege_other entries grantee kind table was now before slot place found at free apart (on_false (is_to grantee kind table found.grant) (IsWithdrawn (made_at found.grant slot) place found.grant.option was now) (now ≡ was) told apart))

@@ -10,3 +10,5 @@ pub mod Keeping
 pub mod SlotsLaws
 pub mod SlotSetLaws
 pub mod EndingLaws
+pub mod GrantorLaws
+pub mod IndexedLaws

@@ -1,5 +1,5 @@
 -- What is in force of a privilege, and when it was lost last.
-use Rattle.std.specs.Prelude.{◌≡◌, ◌&&◌, ◌||◌, not, ℕ, Bool, true, false, nat_lt, Option, Some, None, List, [], ◌∷◌, is_none, slice_get, if◌then◌else◌}
+use Rattle.std.specs.Prelude.{◌≡◌, ◌==◌, ◌&&◌, ◌||◌, not, ℕ, Bool, true, false, nat_lt, Option, Some, None, List, [], ◌∷◌, is_none, slice_get, if◌then◌else◌}
 use Rattle.std.specs.Bool.{OnFalse, OnTrue}
 use Rattle.model_base.specs.declared.deed.Grant.{Grant}
 use Rattle.model_base.specs.declared.deed.Grantee.{Grantee}
@@ -7,6 +7,8 @@ use Rattle.model_base.specs.declared.deed.Kind.{Kind}
 use Rattle.model_base.specs.declared.deed.Record.{Record}
 use Rattle.grants_base.specs.Index.{is_one_of, is_to}
 use Rattle.grants_base.specs.SlotSet.{HasGained, HasLost}
+use Rattle.grants_base.specs.GrantorSet.{HasGainedBy, HasLostBy, has_by}
+use Rattle.grants_base.specs.declared.grantor_set.Granted.{Granted}
 
 -- the later of two places, of which either may be missing
 abbrev pub later_of : Option ℕ → Option ℕ → Option ℕ
@@ -32,6 +34,10 @@ greatest_end passes (entry ∷ entries) = later_of (end_if passes entry) (greate
 abbrev pub gives_to : Grantee → Kind → ℕ → Bool → Grant → Bool
 gives_to grantee kind table option grant = is_to grantee kind table grant && (grant.option || not option)
 
+-- whether the grant is by this user, to this grantee, of this kind on this table
+abbrev pub gives_by : ℕ → Grantee → Kind → ℕ → Grant → Bool
+gives_by user grantee kind table grant = is_to grantee kind table grant && (grant.grantor == user)
+
 -- some slots, and a place at which others ended last
 pub record Force : Type 0 where
   pub slots : List ℕ
@@ -55,13 +61,19 @@ pub record IsWithoutSlot (slot place : ℕ) (old new : Force) : Type 0 where
   pub slots : HasLost slot old.slots new.slots
   pub lost : new.lost ≡ later_of old.lost (Some place)
 
--- the same without the option, and with it
+-- the same without the option, and with it, and the slots under their grantors
 pub record Privilege : Type 0 where
   pub plain : Force
   pub with_option : Force
+  pub by : List Granted
 
 abbrev pub no_privilege : Privilege
-no_privilege = record { plain = no_force; with_option = no_force }
+no_privilege = record { plain = no_force; with_option = no_force; by = [] }
+
+-- the slots under each user are those of the records in force whose grants pass and are by the user
+abbrev pub AreByGrantors : (Grant → Bool) → List Record → List Granted → Type 0
+AreByGrantors passes entries slots =
+    (user k : ℕ) → has_by slots user k ≡ is_in_force (λ (grant : Grant). passes grant && (grant.grantor == user)) (slice_get entries k)
 
 -- what is kept of a privilege, of which the option is asked for or not
 abbrev pub force_of : Bool → Privilege → Force
@@ -74,9 +86,11 @@ IsForceChanged option Change old new =
     Change old.plain new.plain × OnTrue option (Change old.with_option new.with_option) × OnFalse option (new.with_option ≡ old.with_option)
 
 -- the privilege after one more grant, which gives the option or not
-abbrev pub IsGranted : ℕ → Bool → Privilege → Privilege → Type 0
-IsGranted slot option = IsForceChanged option (IsWithSlot slot)
+abbrev pub IsGranted : Granted → Bool → Privilege → Privilege → Type 0
+IsGranted granted option old new =
+    IsForceChanged option (IsWithSlot granted.slot) old new × HasGainedBy granted old.by new.by
 
 -- and after the end of one
-abbrev pub IsWithdrawn : ℕ → ℕ → Bool → Privilege → Privilege → Type 0
-IsWithdrawn slot place option = IsForceChanged option (IsWithoutSlot slot place)
+abbrev pub IsWithdrawn : Granted → ℕ → Bool → Privilege → Privilege → Type 0
+IsWithdrawn granted place option old new =
+    IsForceChanged option (IsWithoutSlot granted.slot place) old new × HasLostBy granted old.by new.by

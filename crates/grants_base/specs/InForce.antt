@@ -6,8 +6,8 @@ use Rattle.model_base.specs.declared.deed.Grant.{Grant}
 use Rattle.model_base.specs.declared.deed.Grantee.{Grantee}
 use Rattle.model_base.specs.declared.deed.Kind.{Kind}
 use Rattle.model_base.specs.declared.deed.Record.{Record}
-use Rattle.grants_base.specs.Force.{IsForceOf, Privilege, force_of, gives_to, greatest_end, is_in_force, no_privilege}
-use Rattle.grants_base.specs.Index.{IsFirst}
+use Rattle.grants_base.specs.Force.{AreByGrantors, IsForceOf, Privilege, force_of, gives_to, greatest_end, is_in_force, no_privilege}
+use Rattle.grants_base.specs.Index.{IsFirst, is_to}
 use Rattle.grants_base.specs.Sides.{same_side, side_of}
 use Rattle.grants_base.specs.View.{View, entries, slot_at}
 use Rattle.grants_base.specs.declared.force.NextInForce.{NextInForce}
@@ -24,11 +24,16 @@ IsChanged side Change old new =
     (other : Side) → OnTrue (same_side side other) (Change (privilege_under old other) (privilege_under new other))
     × OnFalse (same_side side other) (privilege_under new other ≡ privilege_under old other)
 
+-- what is kept of a grantee, kind and table is what is in force of the records
+pub record IsPrivilegeOf (grantee : Grantee) (kind : Kind) (table : ℕ) (entries : List Record) (privilege : Privilege) : Type 0 where
+  pub force : (option : Bool) → IsForceOf (gives_to grantee kind table option) entries (force_of option privilege)
+  pub by : AreByGrantors (is_to grantee kind table) entries privilege.by
+
 -- an index that is whole keeps under each grantee, kind and table what is in force of the records
 abbrev pub KeepsInForce : InForceIndex → List Record → Type 0
 KeepsInForce index entries =
-    index.is_whole ≡ true → (grantee : Grantee) (kind : Kind) (table : ℕ) (option : Bool)
-    → IsForceOf (gives_to grantee kind table option) entries (force_of option (privilege_under index (side_of grantee kind table)))
+    index.is_whole ≡ true → (grantee : Grantee) (kind : Kind) (table : ℕ)
+    → IsPrivilegeOf grantee kind table entries (privilege_under index (side_of grantee kind table))
 
 -- the next record in force whose grant passes, and the greatest end of those that pass
 pub record IsNextInForce (passes : Grant → Bool) (entries : List Record) (from : ℕ) (next : NextInForce) : Type 0 where

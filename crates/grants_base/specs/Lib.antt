@@ -4,5 +4,6 @@ pub mod Book
 pub mod Sides
 pub mod Marks
 pub mod SlotSet
+pub mod GrantorSet
 pub mod Force
 pub mod InForce

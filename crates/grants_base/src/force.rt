@@ -2,10 +2,12 @@
 
 ghost use Rattle.std.specs.Prelude.{◌≡◌, OnErr, OnOk};
 ghost use Rattle.grants_base.specs.Force.{IsGranted, IsWithSlot, IsWithdrawn, IsWithoutSlot, force_of, later_of, no_force, no_privilege};
+ghost use Rattle.grants_base.specs.GrantorSet.{has_by};
 ghost use Rattle.grants_base.specs.Index.{IsFirst, is_one_of};
 
+use crate::grantor_set::{Granted, GrantorSet};
 use crate::slot_set::SlotSet;
-use model_base::Place;
+use model_base::{Place, User};
 use std::alloc::{AllocError, Global};
 use std::marker::Model;
 
@@ -25,6 +27,12 @@ pub fn later(place: Option<Place>, other: Option<Place>) -> Option<Place>
 pub struct NextInForce {
     pub slot: Option<usize>,
     pub lost: Option<Place>,
+}
+
+/// The next slot of a grant in force by a user, if there is one.
+#[derive(Clone, Copy, PartialEq, Eq, Debug)]
+pub struct NextBy {
+    pub slot: Option<usize>,
 }
 
 /// The slots of some grants in force, and the last place at which one of them left force.
@@ -86,6 +94,7 @@ impl InForce {
 pub(crate) struct Privilege {
     plain: InForce,
     with_option: InForce,
+    by: GrantorSet,
 }
 
 impl Model for Privilege {
@@ -93,7 +102,7 @@ impl Model for Privilege {
 
     ghost Value = { Privilege };
 
-    ghost view = { λ privilege. record { plain = privilege.plain; with_option = privilege.with_option } };
+    ghost view = { λ privilege. record { plain = privilege.plain; with_option = privilege.with_option; by = privilege.by } };
 }
 
 impl Privilege {
@@ -104,13 +113,16 @@ impl Privilege {
         Privilege {
             plain: InForce::new(alloc),
             with_option: InForce::new(alloc),
+            by: GrantorSet::new(alloc),
         }
     }
 
     /// Adds the slot of a grant. On `Err` memory was refused.
-    pub fn push(&mut self, slot: usize, option: bool) -> Result<(), AllocError>
-        ensures { OnOk result (IsGranted slot option self.old self.new) }
+    pub fn push(&mut self, granted: Granted, option: bool) -> Result<(), AllocError>
+        ensures { OnOk result (IsGranted granted option self.old self.new) }
     {
+        let slot = granted.slot;
+        self.by.insert(granted)?;
         self.plain.push(slot)?;
         if option {
             self.with_option.push(slot)?;
@@ -119,9 +131,11 @@ impl Privilege {
     }
 
     /// Takes away the slot of a grant that left force at a place.
-    pub fn end(&mut self, slot: usize, place: Place, option: bool)
-        ensures { IsWithdrawn slot place option self.old self.new }
+    pub fn end(&mut self, granted: &Granted, place: Place, option: bool)
+        ensures { IsWithdrawn granted.now place option self.old self.new }
     {
+        let slot = granted.slot;
+        self.by.remove(granted);
         self.plain.end(slot, place);
         if option {
             self.with_option.end(slot, place);
@@ -136,6 +150,15 @@ impl Privilege {
             &self.with_option
         } else {
             &self.plain
+        }
+    }
+
+    /// The next slot at or above this one of a grant by the user.
+    pub fn next_by(&self, grantor: User, from: usize) -> NextBy
+        ensures { IsFirst (has_by self.now.by grantor) from result.slot }
+    {
+        NextBy {
+            slot: self.by.next(grantor, from),
         }
     }
 }

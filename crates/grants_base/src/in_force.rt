@@ -4,13 +4,15 @@ ghost use Rattle.std.specs.Prelude.{◌≡◌, ◌++◌, ◌∷◌, [], true, Li
 ghost use Rattle.model_base.specs.declared.deed.Record.{Record};
 ghost use Rattle.grants_base.specs.Book.{end_slot, unended};
 ghost use Rattle.grants_base.specs.Force.{IsGranted, IsWithdrawn, force_of};
+ghost use Rattle.grants_base.specs.GrantorSet.{has_by};
 ghost use Rattle.grants_base.specs.InForce.{IsChanged, KeepsInForce, privilege_under};
 ghost use Rattle.grants_base.specs.Index.{IsFirst, is_one_of};
 ghost use Rattle.grants_base.specs.Sides.{to_side};
 
-use crate::force::{NextInForce, Privilege};
+use crate::force::{NextBy, NextInForce, Privilege};
+use crate::grantor_set::Granted;
 use crate::index::{Side, to_side};
-use model_base::{Grant, Place, Record};
+use model_base::{Grant, Place, Record, User};
 use std::alloc::{AllocError, Global};
 use std::collections::HashMap;
 
@@ -21,6 +23,16 @@ pub(crate) struct InForceIndex {
     alloc: Global,
     sides: HashMap<Side, Privilege>,
     is_whole: bool,
+}
+
+/// The slot of a grant with its grantor.
+fn granted_at(grant: &Grant, slot: usize) -> Granted
+    ensures { result ≡ record { grantor = grant.now.grantor; slot = slot } }
+{
+    Granted {
+        grantor: grant.grantor,
+        slot,
+    }
 }
 
 impl InForceIndex {
@@ -55,27 +67,27 @@ impl InForceIndex {
     }
 
     /// Adds the slot of a grant under its side. On `Err` memory was refused.
-    fn put(&mut self, side: Side, slot: usize, option: bool) -> Result<(), AllocError>
+    fn put(&mut self, side: Side, granted: Granted, option: bool) -> Result<(), AllocError>
         ensures whole { self.new.is_whole ≡ self.old.is_whole }
-        ensures ok { OnOk result (IsChanged side (IsGranted slot option) self.old self.new) }
+        ensures ok { OnOk result (IsChanged side (IsGranted granted option) self.old self.new) }
     {
         if let Some(privilege) = self.sides.get_mut(&side) {
-            return privilege.push(slot, option);
+            return privilege.push(granted, option);
         }
         let mut privilege = Privilege::new(self.alloc);
-        privilege.push(slot, option)?;
+        privilege.push(granted, option)?;
         self.sides.insert(side, privilege)?;
         Ok(())
     }
 
     /// Takes away the slot of a grant that left force at a place, and answers whether there was anything under its side.
-    fn take(&mut self, side: &Side, slot: usize, place: Place, option: bool) -> bool
+    fn take(&mut self, side: &Side, granted: &Granted, place: Place, option: bool) -> bool
         ensures whole { self.new.is_whole ≡ self.old.is_whole }
-        ensures taken { result ≡ true → IsChanged side.now (IsWithdrawn slot place option) self.old self.new }
+        ensures taken { result ≡ true → IsChanged side.now (IsWithdrawn granted.now place option) self.old self.new }
     {
         match self.sides.get_mut(side) {
             Some(privilege) => {
-                privilege.end(slot, place, option);
+                privilege.end(granted, place, option);
                 true
             }
             None => false,
@@ -90,7 +102,10 @@ impl InForceIndex {
         if !self.is_whole {
             return;
         }
-        if self.put(to_side(grant), slot, grant.option).is_err() {
+        if self
+            .put(to_side(grant), granted_at(grant, slot), grant.option)
+            .is_err()
+        {
             self.forget();
         }
     }
@@ -101,7 +116,14 @@ impl InForceIndex {
             → KeepsInForce self.new (end_slot entries slot place) }
     {
         let grant = &entry.grant;
-        if entry.end.is_some() || !self.take(&to_side(grant), slot, place, grant.option) {
+        if entry.end.is_some()
+            || !self.take(
+                &to_side(grant),
+                &granted_at(grant, slot),
+                place,
+                grant.option,
+            )
+        {
             self.forget();
         }
     }
@@ -123,6 +145,20 @@ impl InForceIndex {
                 slot: None,
                 lost: None,
             }),
+        }
+    }
+
+    /// The least slot at or above this one of a grant in force under a side by a user. None where the index isn't whole.
+    pub fn next_by(&self, side: &Side, grantor: User, from: usize) -> Option<NextBy>
+        ensures whole { IfSome result (λ _. self.now.is_whole ≡ true) }
+        ensures slot { IfSome result (λ next. IsFirst (has_by (privilege_under self.now side.now).by grantor) from next.slot) }
+    {
+        if !self.is_whole {
+            return None;
+        }
+        match self.sides.get(side) {
+            Some(privilege) => Some(privilege.next_by(grantor, from)),
+            None => Some(NextBy { slot: None }),
         }
     }
 }

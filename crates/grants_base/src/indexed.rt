@@ -3,18 +3,18 @@
 ghost use Rattle.std.specs.Prelude.{◌+◌, ◌-◌, ◌≡◌, ◌<◌, ◌++◌, ◌∷◌, [], true, ℕ, All, IfSome, OnErr, OnOk, Some, length, map, slice_get, take};
 ghost use Rattle.model_base.specs.Records.{recorded};
 ghost use Rattle.grants_base.specs.Book.{end_slot, end_slots, lies_below, reopened, unended};
-ghost use Rattle.grants_base.specs.Force.{gives_to};
+ghost use Rattle.grants_base.specs.Force.{gives_by, gives_to, is_in_force};
 ghost use Rattle.grants_base.specs.InForce.{IsNextInForce, KeepsInForce};
 ghost use Rattle.model_base.specs.Laws.{IsRising};
 ghost use Rattle.model_base.specs.declared.deed.Record.{Record};
-ghost use Rattle.grants_base.specs.Index.{IsNext, is_by, is_to};
+ghost use Rattle.grants_base.specs.Index.{IsFirst, IsNext, is_by, is_to};
 ghost use Rattle.grants_base.specs.Marks.{AreInOrder, HasEnds};
 ghost use Rattle.grants_base.specs.Sides.{IsPushed, IsSame, by_side, to_side};
 ghost use Rattle.grants_base.specs.declared.entries.End.{End};
 
 use crate::endings::{Ending, note, note_by_place, pop_from, reaches};
 use crate::entries::{End, reopen_slot, set_end};
-use crate::force::NextInForce;
+use crate::force::{NextBy, NextInForce};
 use crate::in_force::InForceIndex;
 use crate::index::{Index, Side, side_of, to_side};
 use model_base::{Grant, Grantee, Kind, Place, Record, Table, User};
@@ -257,6 +257,23 @@ impl IndexedRecords {
     {
         self.in_force
             .next(&side_of(grantee, kind, table), option, from)
+    }
+
+    /// The least slot at or above this one of a grant in force by the user to the grantee, of the kind on the table. It takes a time that
+    /// grows with the logarithm of the number of those in force to the grantee. None where that isn't known, as in `next_in_force`.
+    pub fn next_in_force_by(
+        &self,
+        user: User,
+        grantee: Grantee,
+        kind: Kind,
+        table: Table,
+        from: usize,
+    ) -> Option<NextBy>
+        ensures { IfSome result (λ next.
+            IsFirst (λ k. is_in_force (gives_by user grantee kind table) (slice_get self.now k)) from next.slot) }
+    {
+        self.in_force
+            .next_by(&side_of(grantee, kind, table), user, from)
     }
 
     /// Whether each grant, whose places rise, and each end lies below a place. It looks at the last of each alone. Where it says no,

@@ -4,6 +4,7 @@
 mod endings;
 mod entries;
 mod force;
+mod grantor_set;
 mod in_force;
 mod index;
 mod indexed;
@@ -14,7 +15,7 @@ mod slot_set;
 pub use entries::{
     Creation, End, append_tables, lies_below, records_below, reopened, set_ends, tables_below,
 };
-pub use force::{NextInForce, later};
+pub use force::{NextBy, NextInForce, later};
 pub use index::{holder_code, kind_code};
 pub use indexed::IndexedRecords;
 pub use indexed_grants::IndexedGrants;

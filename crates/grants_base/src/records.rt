@@ -2,12 +2,12 @@
 
 ghost use Rattle.std.specs.Prelude.{◌≡◌, ◌<◌, List, Some, IfSome, IsSome, is_some, length};
 ghost use Rattle.model_base.specs.declared.deed.Grant.{Grant};
-ghost use Rattle.grants_base.specs.Force.{gives_to};
+ghost use Rattle.grants_base.specs.Force.{gives_by, gives_to, is_in_force};
 ghost use Rattle.grants_base.specs.InForce.{ShowsNextInForce};
-ghost use Rattle.grants_base.specs.Index.{AreAsked, IsNext, is_about, is_by, is_to};
+ghost use Rattle.grants_base.specs.Index.{AreAsked, IsFirst, IsNext, is_about, is_by, is_to};
 ghost use Rattle.grants_base.specs.View.{View, IsLawful, end_in, grant_in, slot_at};
 
-use crate::force::NextInForce;
+use crate::force::{NextBy, NextInForce};
 use model_base::{Grant, Grantee, Kind, Place, Table, User};
 
 /// The records of grants as they stand at a place: those of the grants below it, on the tables that the view covers, each
@@ -83,6 +83,25 @@ pub trait Records {
         ensures still { asked self.new ≡ asked self.old }
     {
         let _asked = (grantee, kind, table, option, from);
+        None
+    }
+
+    /// The least slot at or above this one of a grant in force by this user to a user or to PUBLIC, as the grantee says, of this kind on
+    /// this table. None where that isn't known unless one goes through the slots. It takes no memory.
+    fn next_in_force_by(
+        &mut self,
+        user: User,
+        grantee: Grantee,
+        kind: Kind,
+        table: Table,
+        from: usize,
+    ) -> Option<NextBy>
+        ensures next { IfSome result (λ next.
+            IsFirst (λ k. is_in_force (gives_by user grantee kind table) (slot_at (shown self.old) k)) from next.slot) }
+        ensures same { shown self.new ≡ shown self.old }
+        ensures still { asked self.new ≡ asked self.old }
+    {
+        let _asked = (user, grantee, kind, table, from);
         None
     }
 }

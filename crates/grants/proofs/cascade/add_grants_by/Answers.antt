@@ -37,18 +37,28 @@ loop-from-preserved g c =
           ];
     }
 
-pub returns-in-None-clause-found : goal.returns-in-None-clause-found
-returns-in-None-clause-found g c = λ j grant from is by.
+pub returns-in_default-clause-found : goal.returns-in_default-clause-found
+returns-in_default-clause-found g c = λ j grant from low is by.
     let view = g.V.Records.shown c.args.view.now in
     let asked = g.V.Records.asked c.loop-from.view in
-    let are : AreAsked view asked = subst (λ (v : View). AreAsked v asked) c.loop-from.invariant.same c.in-None.ensures.asked in
+    let are : AreAsked view asked = subst (λ (v : View). AreAsked v asked) c.loop-from.invariant.same c.in-Some.ensures.asked in
     elim (cases_lt j c.loop-from.from) [
       | inl before ↦ c.loop-from.invariant.found j grant from before is by
-      | inr after ↦ absurd (by-skipped view asked are c.args.revocation.now c.args.user j grant (c.in-None.ensures.next j after) is by)
+      | inr after ↦ absurd (by-skipped view asked are c.args.revocation.now c.args.user j grant (c.in-Some.ensures.next.2 j after (omega (arith, low, c.if-i-last.false))) is by)
+    ]
+
+pub returns-in_default-2-clause-found : goal.returns-in_default-2-clause-found
+returns-in_default-2-clause-found g c = λ j grant from low is by.
+    let view = g.V.Records.shown c.args.view.now in
+    let asked = g.V.Records.asked c.loop-from.view in
+    let are : AreAsked view asked = subst (λ (v : View). AreAsked v asked) c.loop-from.invariant.same c.in_default.ensures.asked in
+    elim (cases_lt j c.loop-from.from) [
+      | inl before ↦ c.loop-from.invariant.found j grant from before is by
+      | inr after ↦ absurd (by-skipped view asked are c.args.revocation.now c.args.user j grant (c.in_default.ensures.next j after) is by)
     ]
 
 pub returns-clause-found : goal.returns-clause-found
-returns-clause-found g c = λ j grant from is by.
+returns-clause-found g c = λ j grant from low is by.
     let view = g.V.Records.shown c.args.view.now in
     elim (cases_lt j (length view.slots)) [
       | inl within ↦ c.loop-from.invariant.found j grant from (omega (arith, c.loop-from-test.false, c.slots-end.ensures)) is by

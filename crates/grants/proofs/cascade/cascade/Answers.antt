@@ -4,10 +4,10 @@ use Rattle.std.proofs.lemmas.Bool.{true≢false}
 use Rattle.std.proofs.lemmas.List.{append-nil}
 use Rattle.std.proofs.Math.ListN.{drop_of_length-le}
 use Rattle.grants.specs.Pass.{cascade, concerned_grants}
-use Rattle.grants.specs.Work.{AllPassed, AreDue, AreEnds, AreWalked, keepers, slots_of}
+use Rattle.grants.specs.Work.{AllPassed, AreDue, AreEnds, keepers, slots_of}
 use Rattle.grants_base.specs.View.{ShowsDeeds, View}
 use Rattle.grants.proofs.SlotLaws.{pass_ends}
-use Rattle.grants.proofs.Worklist.{IsFirstDue, ends_from, first_due, none_due, over_free, walked_rest}
+use Rattle.grants.proofs.Worklist.{IsFirstDue, ends_from, first_due, none_due, over_free}
 use Rattle.grants_base.proofs.Walks.{nothing}
 use Rattle.grants.proofs.Borne.{shows_borne}
 use Rattle.grants.proofs.cascade.cascade.Goals as goal
@@ -34,15 +34,6 @@ judge-requires-clause-due g c =
     first_due c.args.revocation.now view _ _ _ _ _ c.loop-slot.invariant.due c.in-Some.ensures.removal c.in-Some.ensures.all_above in
     subst (λ (v : View). AreDue c.args.revocation.now v c.pop_first.new.self.keys (slots_of c.loop-slot.work.ended.ends) (c.in-Some.slot + 1)) (sym c.loop-slot.invariant.same)
     (first.after (c.in-Some.slot + 1) refl)
-
-pub judge-requires-clause-walked : goal.judge-requires-clause-walked
-judge-requires-clause-walked g c =
-    let view = g.V.Records.shown c.named.new.view in
-    let first : IsFirstDue c.args.revocation.now view c.loop-slot.work.due.keys c.pop_first.new.self.keys (slots_of c.loop-slot.work.ended.ends) c.loop-slot.next c.in-Some.slot =
-    first_due c.args.revocation.now view _ _ _ _ _ c.loop-slot.invariant.due c.in-Some.ensures.removal c.in-Some.ensures.all_above in
-    subst (λ (v : View). AreWalked c.args.revocation.now v c.pop_first.new.self.keys c.loop-slot.work.asked (c.in-Some.slot + 1)) (sym c.loop-slot.invariant.same)
-    (walked_rest c.args.revocation.now view c.loop-slot.work.due.keys c.pop_first.new.self.keys c.loop-slot.work.asked c.loop-slot.next (c.in-Some.slot + 1) c.in-Some.slot first.from refl
-    c.in-Some.ensures.removal c.loop-slot.invariant.walked)
 
 pub judge-requires-clause-passed : goal.judge-requires-clause-passed
 judge-requires-clause-passed g c =
@@ -80,7 +71,6 @@ loop-slot-preserved g c =
     record {
       same = c.in_ok-judge.ensures.same ∙ seen;
       due = subst (λ (v : View). AreDue revocation v c.judge.new.work.due.keys (slots_of c.judge.new.work.ended.ends) (slot + 1)) seen c.in_ok-judge.ensures.due;
-      walked = subst (λ (v : View). AreWalked revocation v c.judge.new.work.due.keys c.judge.new.work.asked (slot + 1)) seen c.in_ok-judge.ensures.walked;
       passed = subst (λ (v : View). AllPassed revocation v (slots_of c.judge.new.work.ended.ends) c.judge.new.work.asked) seen c.in_ok-judge.ensures.passed;
       ends = subst (λ (v : View). AreEnds revocation v c.judge.new.work.ended.ends c.judge.new.work.ended.places) seen c.in_ok-judge.ensures.ends;
       next = omega (arith, first.within);

@@ -2,9 +2,9 @@ use Rattle.std.proofs.Common.{◌≡◌, ◌<◌, ◌≤◌, ◌++◌, Some, len
 use Rattle.std.specs.Prelude.{◌⊎◌}
 use Rattle.grants.specs.Pass.{concerned, outlasts}
 use Rattle.grants_base.specs.Index.{is_one_of}
-use Rattle.grants.specs.Work.{AllPassed, AreWalked, keepers, slots_of}
+use Rattle.grants.specs.Work.{AllPassed, IsStillBorne, keepers, slots_of}
 use Rattle.grants_base.specs.View.{View, slot_at}
-use Rattle.grants.proofs.Asking.{passed_ended, walked_same}
+use Rattle.grants.proofs.Asking.{passed_ended}
 use Rattle.grants.proofs.EndedLaws.{are_more, end_more}
 use Rattle.grants.proofs.Worklist.{due_more, over_none, over_staying, unended_at, whole_ending}
 use Rattle.grants_base.proofs.Walks.{nothing}
@@ -40,7 +40,11 @@ returns-in_ok-lose-clause-due g c =
     (end_more c.args.work.now.ended.ends c.push.new.self.ends (record { slot = c.args.slot; place = c.args.revocation.now.place }) c.in_ok-push.ensures.ends)
     c.in_ok-lose.ensures.kept
     (λ j is. subst (λ (v : View). (is_one_of c.args.work.now.due.keys j ≡ true) ⊎ ((c.args.next ≤ j) × (j < length v.slots))) same (c.in_ok-lose.ensures.within j is))
-    (λ j other heir from here. c.in_ok-lose.ensures.found j other from (ap (λ (v : View). concerned (slot_at v j) c.args.revocation.now) same ∙ here) (by other.grantor (sym c.in-Some-option_holder.is ∙ c.option_holder.ensures ∙ heir)))
+    (λ j other heir from here.
+    let who = by other.grantor (sym c.in-Some-option_holder.is ∙ c.option_holder.ensures ∙ heir) in
+    subst (λ (v : View). (is_one_of c.lose.new.due.keys j ≡ true) ⊎ IsStillBorne c.args.revocation.now v (slots_of c.push.new.self.ends) other.grantor j) same
+    (subst (λ user. (is_one_of c.lose.new.due.keys j ≡ true) ⊎ IsStillBorne c.args.revocation.now seen (slots_of c.push.new.self.ends) user j) (sym who)
+    (c.in_ok-lose.ensures.found j other from (ap (λ (v : View). concerned (slot_at v j) c.args.revocation.now) same ∙ here) who)))
   where
     by : (grantor : ℕ) → Some c.in-Some-option_holder.user ≡ Some grantor → grantor ≡ c.in-Some-option_holder.user
     by grantor same = cc
@@ -78,35 +82,9 @@ pub stays-requires-clause-passed : goal.stays-requires-clause-passed
 stays-requires-clause-passed g c =
     subst (λ (v : View). AllPassed c.args.revocation.now v (slots_of c.args.work.now.ended.ends) c.args.work.now.asked) (sym c.in-Some.ensures.same) c.requires.passed
 
-pub returns-then-stays-clause-walked : goal.returns-then-stays-clause-walked
-returns-then-stays-clause-walked g c =
-    walked_same c.args.revocation.now (g.V.Records.shown c.args.view.now) c.args.work.now.due.keys c.args.work.now.asked c.stays.new.asked c.args.next c.stays.ensures.users c.requires.walked
-
 pub returns-then-stays-clause-passed : goal.returns-then-stays-clause-passed
 returns-then-stays-clause-passed g c =
     subst (λ (v : View). AllPassed c.args.revocation.now v (slots_of c.args.work.now.ended.ends) c.stays.new.asked) c.in-Some.ensures.same c.stays.ensures.passed
-
-pub lose-requires : goal.lose-requires
-lose-requires g c =
-    subst (λ (v : View). AreWalked c.args.revocation.now v c.args.work.now.due.keys c.stays.new.asked c.args.next) (sym (c.if-stays.ensures.same ∙ c.in-Some.ensures.same))
-    (walked_same c.args.revocation.now (g.V.Records.shown c.args.view.now) c.args.work.now.due.keys c.args.work.now.asked c.stays.new.asked c.args.next c.stays.ensures.users c.requires.walked)
-
-pub returns-in_ok-lose-clause-walked : goal.returns-in_ok-lose-clause-walked
-returns-in_ok-lose-clause-walked g c =
-    subst (λ (v : View). AreWalked c.args.revocation.now v c.lose.new.due.keys c.lose.new.asked c.args.next) (c.if-stays.ensures.same ∙ c.in-Some.ensures.same) c.in_ok-lose.ensures.walked
-
-pub returns-in_ok-lose-clause-passed : goal.returns-in_ok-lose-clause-passed
-returns-in_ok-lose-clause-passed g c =
-    let seen = g.V.Records.shown c.stays.new.view in
-    let before = subst (λ (v : View). AllPassed c.args.revocation.now v (slots_of c.args.work.now.ended.ends) c.stays.new.asked) (sym c.if-stays.ensures.same) c.stays.ensures.passed in
-    subst (λ (v : View). AllPassed c.args.revocation.now v (slots_of c.push.new.self.ends) c.lose.new.asked) (c.if-stays.ensures.same ∙ c.in-Some.ensures.same)
-    (c.in_ok-lose.ensures.passed (slots_of c.push.new.self.ends)
-    (passed_ended c.args.revocation.now seen (slots_of c.args.work.now.ended.ends) (slots_of c.push.new.self.ends) c.args.slot c.stays.new.asked
-    (end_more c.args.work.now.ended.ends c.push.new.self.ends (record { slot = c.args.slot; place = c.args.revocation.now.place }) c.in_ok-push.ensures.ends) before))
-
-pub returns-in_default-option_holder-clause-walked : goal.returns-in_default-option_holder-clause-walked
-returns-in_default-option_holder-clause-walked g c =
-    walked_same c.args.revocation.now (g.V.Records.shown c.args.view.now) c.args.work.now.due.keys c.args.work.now.asked c.stays.new.asked c.args.next c.stays.ensures.users c.requires.walked
 
 pub returns-in_default-option_holder-clause-passed : goal.returns-in_default-option_holder-clause-passed
 returns-in_default-option_holder-clause-passed g c =
@@ -126,3 +104,14 @@ returns-in_default-option_holder-clause-ends g c =
     are_more c.args.revocation.now (g.V.Records.shown c.args.view.now) c.args.work.now.ended.ends c.push.new.self.ends c.args.work.now.ended.places c.push.new.self.places
     (record { slot = c.args.slot; place = c.args.revocation.now.place }) c.in-Some.grant.place c.in_ok-push.ensures.ends c.in_ok-push.ensures.places c.requires.ends
     (record { grant = c.in-Some.grant; found = sym c.in-Some.ensures.value; made_at = refl; place = refl })
+
+pub lose-requires : goal.lose-requires
+lose-requires g c =
+    let seen = g.V.Records.shown c.stays.new.view in
+    let before = subst (λ (v : View). AllPassed c.args.revocation.now v (slots_of c.args.work.now.ended.ends) c.stays.new.asked) (sym c.if-stays.ensures.same) c.stays.ensures.passed in
+    passed_ended c.args.revocation.now seen (slots_of c.args.work.now.ended.ends) (slots_of c.push.new.self.ends) c.args.slot c.stays.new.asked
+    (end_more c.args.work.now.ended.ends c.push.new.self.ends (record { slot = c.args.slot; place = c.args.revocation.now.place }) c.in_ok-push.ensures.ends) before
+
+pub returns-in_ok-lose-clause-passed : goal.returns-in_ok-lose-clause-passed
+returns-in_ok-lose-clause-passed g c =
+    subst (λ (v : View). AllPassed c.args.revocation.now v (slots_of c.push.new.self.ends) c.lose.new.asked) (c.if-stays.ensures.same ∙ c.in-Some.ensures.same) c.in_ok-lose.ensures.passed

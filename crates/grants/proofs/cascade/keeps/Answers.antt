@@ -1,6 +1,6 @@
 use Rattle.std.proofs.Common.{sym, subst}
 use Rattle.grants.specs.Work.{ArePassed, slots_of}
-use Rattle.grants.proofs.Asking.{kept_by_first, passed_kept, passed_start, same_keys}
+use Rattle.grants.proofs.Asking.{kept_by_first, passed_kept, passed_start}
 use Rattle.grants.proofs.cascade.keeps.Goals as goal
 
 pub first_bearer-first-requires-clause-passed : goal.first_bearer-first-requires-clause-passed
@@ -17,6 +17,3 @@ pub returns-clause-passed : goal.returns-clause-passed
 returns-clause-passed g c =
     passed_kept c.args.revocation.now (g.V.Records.shown c.args.view.now) c.args.asked.now c.pass.new.asked c.args.user c.first_bearer-first.result c.pass.ensures (slots_of c.args.ended.now.ends)
     c.first_bearer-first.ensures.passed c.requires.passed
-
-pub returns-clause-users : goal.returns-clause-users
-returns-clause-users g c = same_keys c.args.asked.now c.pass.new.asked c.args.user c.first_bearer-first.result c.pass.ensures

@@ -1,21 +1,44 @@
-use Rattle.std.proofs.Common.{◌≡◌, true, sym, ◌∙◌}
-use Rattle.std.specs.Prelude.{is_some}
-use Rattle.std.specs.BTreeMap.{get}
-use Rattle.std.specs.Ordering.{nat_cmp}
-use Rattle.grants.proofs.Asking.{asked_more, passed_more}
-use Rattle.grants.proofs.Worklist.{walked_more}
+use Rattle.std.proofs.Common.{◌≡◌, ◌<◌, ◌≤◌, ◌&&◌, not, true, length, sym, ◌∙◌, ap, subst, arith, inl, inr}
+use Rattle.std.specs.Prelude.{◌⊎◌}
+use Rattle.std.proofs.lemmas.Bool.{and_parts, cases_lt}
+use Rattle.grants.specs.Pass.{concerned}
+use Rattle.grants.specs.Work.{ArePassed, bears, slots_of}
+use Rattle.grants_base.specs.Index.{is_one_of}
+use Rattle.grants_base.specs.View.{View, slot_at}
+use Rattle.grants.proofs.Asked.{not_false, nothing_past}
+use Rattle.grants.proofs.Asking.{passed_put, passed_start}
 use Rattle.grants.proofs.cascade.lose.Goals as goal
 
-pub returns-then-contains_key-clause-found : goal.returns-then-contains_key-clause-found
-returns-then-contains_key-clause-found g c = λ j grant from is by.
-    let was : is_some (get nat_cmp c.args.asked.now c.args.user) ≡ true = sym c.contains_key.ensures ∙ c.if-contains_key.true in
-    c.requires.each c.args.user j grant was from is by
+pub first_bearer-first-requires-clause-passed : goal.first_bearer-first-requires-clause-passed
+first_bearer-first-requires-clause-passed g c =
+    let view = g.V.Records.shown c.args.view.now in
+    let ended = slots_of c.args.ended.now.ends in
+    subst (ArePassed c.args.revocation.now view ended c.args.user) (sym c.passed_by-passed.ensures)
+    (passed_start c.args.revocation.now view ended c.args.asked.now c.args.user c.requires)
 
-pub returns-clause-walked : goal.returns-clause-walked
-returns-clause-walked g c =
-    walked_more c.args.revocation.now (g.V.Records.shown c.args.view.now) c.args.due.now.keys c.add_grants_by.new.due.keys c.args.asked.now c.insert.new.self c.args.user c.args.start
-    (asked_more c.args.asked.now c.insert.new.self c.args.user 0 c.in_ok-insert.ensures.updates.0) c.requires c.in_ok-add_grants_by.ensures.kept c.in_ok-add_grants_by.ensures.found
+pub returns-clause-found : goal.returns-clause-found
+returns-clause-found g c = λ j grant from is by.
+    let view = g.V.Records.shown c.args.view.now in
+    let ended = slots_of c.args.ended.now.ends in
+    let first = c.first_bearer-first.result in
+    elim (cases_lt first j) [
+      | inl above ↦ elim (cases_lt j (length view.slots)) [
+        | inl within ↦
+            let less : first < c.slots-end.result = omega (arith, above, within, c.slots-end.ensures) in
+            let parts = and_parts (bears c.args.revocation.now c.args.user (slot_at view first)) (not (is_one_of ended first)) (c.first_bearer-first.ensures.found less) in
+            inr (first, above, not_false (is_one_of ended first) parts.1, parts.0)
+        | inr over ↦ absurd (nothing_past view c.args.revocation.now j grant over is)
+      ]
+      | inr low ↦
+          inl (c.in_ok-add_grants_by.ensures.found j grant from (omega (arith, low))
+          (ap (λ (v : View). concerned (slot_at v j) c.args.revocation.now) c.first_bearer-first.ensures.same ∙ is) by)
+    ]
 
 pub returns-clause-passed : goal.returns-clause-passed
-returns-clause-passed g c = λ ended.
-    passed_more c.args.revocation.now (g.V.Records.shown c.args.view.now) ended c.args.asked.now c.insert.new.self c.args.user c.in_ok-insert.ensures.updates.0
+returns-clause-passed g c =
+    passed_put c.args.revocation.now (g.V.Records.shown c.args.view.now) (slots_of c.args.ended.now.ends) c.args.asked.now c.insert.new.self c.args.user c.first_bearer-first.result
+    c.in_ok-insert.ensures.updates.0 c.first_bearer-first.ensures.passed c.requires
+
+pub returns-clause-within : goal.returns-clause-within
+returns-clause-within g c = λ j is.
+    subst (λ (v : View). (is_one_of c.args.due.now.keys j ≡ true) ⊎ ((c.args.start ≤ j) × (j < length v.slots))) c.first_bearer-first.ensures.same (c.in_ok-add_grants_by.ensures.within j is)

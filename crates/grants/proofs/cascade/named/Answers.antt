@@ -4,11 +4,12 @@ use Rattle.std.specs.Option.{option_map_or}
 use Rattle.std.proofs.lemmas.Bool.{true≢false, cases_lt, eqb-true, or_cases, or_right}
 use Rattle.model_base.specs.Privileges.{names}
 use Rattle.grants.specs.Pass.{concerned}
-use Rattle.grants.specs.Work.{IsNextCandidate}
+use Rattle.grants.specs.Work.{IsNextNamed}
 use Rattle.grants_base.specs.Index.{is_one_of}
 use Rattle.grants_base.specs.View.{View, slot_at}
 use Rattle.grants.proofs.Worklist.{one_more}
-use Rattle.grants.proofs.Asked.{HaveNamed, named_step, named-skipped, nothing_past, or_first}
+use Rattle.grants.proofs.Asked.{HaveNamed, named_step, nothing_past, or_first}
+use Rattle.grants.proofs.Named.{unnamed}
 use Rattle.grants.proofs.cascade.named.Goals as goal
 use Rattle.grants.proofs.cascade.named.Goals.{then-is_named+in_ok-insert-in-Some, else-is_named}
 
@@ -17,8 +18,8 @@ loop-from-preserved g c =
     let view = g.V.Records.shown c.args.view.now in
     let revocation = c.args.revocation.now in
     let i = c.in-Some.i in
-    let found : IsNextCandidate revocation revocation.grantee false view c.loop-from.from (Some i) =
-    subst (λ (v : View). IsNextCandidate revocation revocation.grantee false v c.loop-from.from (Some i)) c.loop-from.invariant.same c.in-Some.ensures.next in
+    let found : IsNextNamed revocation view c.loop-from.from (Some i) =
+    subst (λ (v : View). IsNextNamed revocation v c.loop-from.from (Some i)) c.loop-from.invariant.same c.in-Some.ensures.next in
     let same = c.in-Some.ensures.same ∙ c.loop-from.invariant.same in
     let told : c.is_named.result ≡ option_map_or (names revocation) (concerned (slot_at view i) revocation) false =
     c.is_named.ensures.value ∙ ap (λ (v : View). option_map_or (names revocation) (concerned (slot_at v i) revocation) false) same in
@@ -48,11 +49,11 @@ pub returns-in-None-clause-found : goal.returns-in-None-clause-found
 returns-in-None-clause-found g c = λ j grant is named.
     let view = g.V.Records.shown c.args.view.now in
     let revocation = c.args.revocation.now in
-    let none : IsNextCandidate revocation revocation.grantee false view c.loop-from.from None =
-    subst (λ (v : View). IsNextCandidate revocation revocation.grantee false v c.loop-from.from None) c.loop-from.invariant.same c.in-None.ensures.next in
+    let none : IsNextNamed revocation view c.loop-from.from None =
+    subst (λ (v : View). IsNextNamed revocation v c.loop-from.from None) c.loop-from.invariant.same c.in-None.ensures.next in
     elim (cases_lt j c.loop-from.from) [
       | inl before ↦ c.loop-from.invariant.found j grant before is named
-      | inr after ↦ absurd (named-skipped view revocation j grant (none.passed j after tt) is named)
+      | inr after ↦ absurd (unnamed revocation (slot_at view j) grant (none.passed j after tt) is named)
     ]
 
 pub returns-clause-found : goal.returns-clause-found

@@ -25,3 +25,6 @@ invariant_of-self-2 c =
       order = c.in_ok-note.ensures.order;
       kept = subst (λ (es : List Record). KeepsInForce c.end_each.new.in_force es) (c.end_each.ensures.ended ∙ ap (λ (es : List Record). end_slots es ends) c.deref_mut.ensures.value) c.end_each.ensures.kept;
     })
+
+pub end_each-requires-clause-kept : goal.end_each-requires-clause-kept
+end_each-requires-clause-kept c = subst (λ (es : List Record). KeepsInForce c.self.inside.in_force es) (sym c.deref_mut.ensures.value) c.self.invariant.kept

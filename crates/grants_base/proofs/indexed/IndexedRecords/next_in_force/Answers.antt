@@ -16,7 +16,7 @@ returns c =
     let index = c.self.inside.in_force in
     next_told c.next.result (index.is_whole ≡ true) _ _ (IsNextInForce passes c.args.self.now c.args.from) c.next.ensures.whole c.next.ensures.slot c.next.ensures.lost
     (λ next whole slot lost.
-    let kept = c.self.invariant.kept whole c.args.grantee c.args.kind c.args.table c.args.option in
+    let kept = (c.self.invariant.kept whole c.args.grantee c.args.kind c.args.table).force c.args.option in
     let found =
     subst (λ (side : Side). IsFirst (is_one_of (force_of c.args.option (privilege_under index side)).slots) c.args.from next.slot) c.side_of.ensures slot in
     let last = subst (λ (side : Side). next.lost ≡ (force_of c.args.option (privilege_under index side)).lost) c.side_of.ensures lost in

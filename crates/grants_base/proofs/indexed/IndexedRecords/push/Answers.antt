@@ -5,6 +5,7 @@ use Rattle.grants_base.specs.Index.{is_to}
 use Rattle.grants_base.specs.Marks.{AreIndexed}
 use Rattle.grants_base.specs.Sides.{by_side, is_made_by, to_side}
 use Rattle.grants_base.proofs.Indexing.{ends_more}
+use Rattle.grants_base.proofs.IndexedLaws.{indexed_same}
 use Rattle.grants_base.proofs.SideLaws.{by_side-same, indexes_more, to_side-same}
 use Rattle.grants_base.proofs.indexed.IndexedRecords.push.Goals as goal
 
@@ -23,3 +24,8 @@ invariant_of-self-2 c =
       order = c.self.invariant.order;
       kept = c.push.ensures entries count c.self.invariant.kept;
     })
+
+pub invariant_of-self-in_err-push_slot : goal.invariant_of-self-in_err-push_slot
+invariant_of-self-in_err-push_slot c =
+    indexed_same c.self.inside.records.items c.reserve.new.self.items c.self.inside.to c.self.inside.by c.push_slot.new.to c.push_slot.new.by c.self.inside.endings.items c.self.inside.in_force
+    c.self.invariant c.reserve.ensures.items c.in_err-push_slot.ensures.err_to c.in_err-push_slot.ensures.err_by
