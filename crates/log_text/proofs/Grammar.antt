@@ -1,15 +1,15 @@
 -- Lines and the statements that they read as.
-use Rattle.std.proofs.Common.{◌≡◌, ◌≢◌, ℕ, ◌≤◌, Bool, true, false, ltb, cond, eqb, List, [], ◌∷◌, length, Option, Some, None, Result, Ok, Err, refl, ap, sym, ◌∙◌, subst, arith}
+use Rattle.std.proofs.Common.{◌≡◌, ◌≢◌, ℕ, ◌<◌, ◌≤◌, Bool, true, false, ltb, cond, eqb, List, [], ◌∷◌, length, Option, Some, None, Result, Ok, Err, refl, ap, sym, ◌∙◌, subst, arith}
 use Rattle.std.specs.Prelude.{MatchResult, IfOk, IfErr, OnOk}
 use Rattle.std.specs.List.{list_all, join_with_byte}
 use Rattle.std.proofs.lemmas.List.Splits.{join_with_byte-slice_split}
-use Rattle.std.proofs.lemmas.Bool.{le-ltb, cond-true, cond-false, ne_eqb}
+use Rattle.std.proofs.lemmas.Bool.{le-ltb, lt-ltb, cond-true, cond-false, ne_eqb}
 use Rattle.line_words.specs.Words.{words, is_name}
 use Rattle.log_text.specs.Statement.{Sentence, form_words, statement_words, spelling, IsFormInGrammar, IsInGrammar, Reads}
 use Rattle.log_text.specs.declared.statement.RawForm.{RawForm}
 use Rattle.log_text.specs.declared.statement.RawForm.TheVariants.{Create, Run, Deed}
 use Rattle.log_text.specs.declared.statement.RawDeed.TheVariants.{Grant, Revoke}
-use Rattle.log_text.specs.Fault.{line_fault, fault_from, OfName, OfForm}
+use Rattle.log_text.specs.Fault.{line_fault, fault_from, whole_fault, OfName, OfForm}
 use Rattle.line_words.specs.Words.{is_printable}
 use Rattle.line_words.specs.Faults.{IsFault}
 use Rattle.line_words.specs.declared.fault.LineFault.{LineFault}
@@ -118,3 +118,25 @@ found_fault NoMemory o h ne = absurd (ne refl)
 pub other_fault : (line : List ℕ) (r : Result Sentence LineFault) → IfErr r (λ f. IsFault f (line_fault line)) → IfErr r (λ f. f ≢ NoMemory → line_fault line ≡ Some f)
 other_fault line (Ok s) h = tt
 other_fault line (Err f) h = λ ne. found_fault f (line_fault line) h ne
+
+-- the fault of a whole line is the line's
+whole_first : (long empty printable : Bool) (words : Option LineFault) (f : LineFault)
+    → cond long (Some TooLong) (cond empty (Some Empty) (cond printable None (Some NotAscii))) ≡ Some f
+    → cond long (Some TooLong) (cond empty (Some Empty) (cond printable words (Some NotAscii))) ≡ Some f
+whole_first true empty printable words f is = is
+whole_first false true printable words f is = is
+whole_first false false true words f is = absurd (cc)
+whole_first false false false words f is = is
+
+whole_line : (line : List ℕ) (f : LineFault) → whole_fault line ≡ Some f → line_fault line ≡ Some f
+whole_line line f is =
+    whole_first (ltb 4096 (length line)) (eqb (length line) 0) (list_all is_printable line) (fault_from (OfName ∷ OfForm ∷ []) (words line)) f is
+
+-- so a line that reads as a statement has none
+pub whole_none : (line : List ℕ) (f : LineFault) (s : Sentence) → Reads line s → whole_fault line ≡ Some f → ⊥
+whole_none line f s reads is = faulty line s f (whole_line line f is) reads
+
+-- a line that is too long has that fault
+pub whole_long : (line : List ℕ) (f : LineFault) → 4096 < length line → whole_fault line ≡ Some f → TooLong ≡ f
+whole_long line f long is =
+    let there : Some TooLong ≡ Some f = sym (cond-true (ltb 4096 (length line)) (Some TooLong) _ (lt-ltb 4096 (length line) long)) ∙ is in cc

@@ -161,3 +161,11 @@ line_fault line =
     else if length line == 0 then Some Empty
     else if list_all is_printable line then words_fault line
     else Some NotAscii
+
+-- the fault of a line as a whole, whatever its words are: its length, or a byte that isn't printable
+abbrev pub whole_fault : List ℕ → Option LineFault
+whole_fault line =
+    if nat_lt MOST_LINE_BYTES (length line) then Some TooLong
+    else if length line == 0 then Some Empty
+    else if list_all is_printable line then None
+    else Some NotAscii

@@ -4,7 +4,7 @@ ghost use Rattle.std.specs.List.{list_all};
 ghost use Rattle.log_text.specs.Statement.{Sentence, IsInGrammar, Reads};
 ghost use Rattle.log_text.specs.declared.statement.RawForm.TheVariants.{Run};
 ghost use Rattle.line_words.specs.Faults.{IsFault};
-ghost use Rattle.log_text.specs.Fault.{line_fault, words_fault};
+ghost use Rattle.log_text.specs.Fault.{line_fault, whole_fault, words_fault};
 ghost use Rattle.line_words.specs.Words.{is_printable};
 
 use super::form::{other_form, run, takes_run};
@@ -34,7 +34,8 @@ fn first_fault(line: &[u8], fault: LineFault) -> LineFault
     requires short { length line.now ≤ MOST_LINE_BYTES }
     requires some { 0 < length line.now }
     requires fault { IsFault fault (words_fault line.now) }
-    ensures { IsFault result (line_fault line.now) }
+    ensures fault { IsFault result (line_fault line.now) }
+    ensures whole { (f : LineFault) → whole_fault line.now ≡ Some f → result ≡ f }
 {
     if is_printable_text(line) {
         fault
@@ -80,6 +81,8 @@ pub fn read_line<'a>(
     ensures sound { OnOk result (line_fault line.now ≡ None) }
     // Any other fault is the first of the line's.
     ensures fault { IfErr result (λ f. f ≢ LineFault.NoMemory → line_fault line.now ≡ Some f) }
+    // A line that is too long or empty, or has a byte that isn't printable, is returned as such, and never as out of memory.
+    ensures whole { (f : LineFault) → whole_fault line.now ≡ Some f → result ≡ Err f }
 {
     // Whether each byte is printable is asked only where the words have a fault: a line that reads as a statement has printable bytes alone.
     if line.len() > MOST_LINE_BYTES {
@@ -115,6 +118,8 @@ pub fn parse_line<'a>(alloc: Global, line: &'a [u8]) -> Result<RawStatement<'a>,
     ensures sound { OnOk result (line_fault line.now ≡ None) }
     // Any other fault is the first of the line's.
     ensures fault { IfErr result (λ f. f ≢ LineFault.NoMemory → line_fault line.now ≡ Some f) }
+    // A line that is too long or empty, or has a byte that isn't printable, is returned as such, and never as out of memory.
+    ensures whole { (f : LineFault) → whole_fault line.now ≡ Some f → result ≡ Err f }
 {
     read_line(alloc, line, &mut RawRoom::new(alloc))
 }

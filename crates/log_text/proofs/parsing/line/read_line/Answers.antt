@@ -1,4 +1,4 @@
-use Rattle.std.proofs.Common.{Ok, Some, ◌<◌, length, ◌≡◌, List, ℕ, ◌∷◌, ap, ◌∙◌, sym, subst}
+use Rattle.std.proofs.Common.{Ok, Err, Some, ◌<◌, length, ◌≡◌, List, ℕ, ◌∷◌, ap, ◌∙◌, sym, subst}
 use Rattle.line_words.specs.Words.{words}
 use Rattle.log_text.specs.Statement.{Reads, form_words}
 use Rattle.log_text.specs.declared.statement.RawForm.TheVariants.{Run}
@@ -6,7 +6,7 @@ use Rattle.std.proofs.Common.{ltb}
 use Rattle.std.proofs.lemmas.Bool.{cond-true, lt-ltb}
 use Rattle.log_text.specs.Fault.{line_fault}
 use Rattle.line_words.specs.declared.fault.LineFault.TheVariants.{TooLong}
-use Rattle.log_text.proofs.Grammar.{faulty, only_one, reads, sound}
+use Rattle.log_text.proofs.Grammar.{faulty, only_one, reads, sound, whole_long, whole_none}
 use Rattle.log_text.proofs.parsing.line.read_line.Goals as goal
 
 too_long : (line : List ℕ) → 4096 < length line → line_fault line ≡ Some TooLong
@@ -61,3 +61,13 @@ returns-in-Ok-other_form-clause-only c = only_one c.args.line.now (Ok c.of.resul
 
 pub returns-in-Ok-other_form-clause-sound : goal.returns-in-Ok-other_form-clause-sound
 returns-in-Ok-other_form-clause-sound c = sound c.args.line.now (Ok c.of.result) (returns-in-Ok-other_form-clause-read c)
+
+pub returns-then-line-gt-MOST_LINE_BYTES-clause-whole : goal.returns-then-line-gt-MOST_LINE_BYTES-clause-whole
+returns-then-line-gt-MOST_LINE_BYTES-clause-whole c =
+    λ f is. ap Err (whole_long c.args.line.now f c.if-line-gt-MOST_LINE_BYTES.true is)
+
+pub returns-in-Ok-run-clause-whole : goal.returns-in-Ok-run-clause-whole
+returns-in-Ok-run-clause-whole c = λ f is. absurd (whole_none c.args.line.now f c.run_by.result (returns-in-Ok-run-clause-read c) is)
+
+pub returns-in-Ok-other_form-clause-whole : goal.returns-in-Ok-other_form-clause-whole
+returns-in-Ok-other_form-clause-whole c = λ f is. absurd (whole_none c.args.line.now f c.of.result (returns-in-Ok-other_form-clause-read c) is)
