@@ -10,7 +10,7 @@ ghost use Rattle.grants_base.specs.Sides.{to_side};
 
 use crate::force::{NextInForce, Privilege};
 use crate::index::{Side, to_side};
-use model_base::{Grant, Place, Record};
+use model_base::{Grant, HashSeed, Place, Record};
 use std::alloc::{AllocError, Global};
 use std::collections::HashMap;
 
@@ -19,30 +19,30 @@ use std::collections::HashMap;
 #[derive(Drop)]
 pub(crate) struct InForceIndex {
     alloc: Global,
-    sides: HashMap<Side, Privilege>,
+    sides: HashMap<Side, Privilege, HashSeed>,
     is_whole: bool,
 }
 
 impl InForceIndex {
-    /// No grants. It takes no memory.
-    pub fn new(alloc: Global) -> Self
+    /// No grants, and sides are found under this seed. It takes no memory.
+    pub fn seeded(alloc: Global, seed: HashSeed) -> Self
         ensures { KeepsInForce result [] }
     {
         InForceIndex {
             alloc,
-            sides: HashMap::new(alloc),
+            sides: HashMap::with_hasher(alloc, seed),
             is_whole: true,
         }
     }
 
-    /// An index that tells nothing.
+    /// An index that tells nothing. It stays empty, so its seed doesn't matter.
     pub fn silent(alloc: Global) -> Self
         ensures none { KeepsInForce result [] }
         ensures all { (entries : List Record) → KeepsInForce result entries }
     {
         InForceIndex {
             alloc,
-            sides: HashMap::new(alloc),
+            sides: HashMap::with_hasher(alloc, HashSeed::fixed()),
             is_whole: false,
         }
     }
