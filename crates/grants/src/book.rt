@@ -18,7 +18,9 @@ use grants_base::{
     Creation, End, IndexedRecords, NextBy, NextInForce, Records, append_tables, lies_below,
     records_below, tables_below,
 };
-use model_base::{Grant, Grantee, Kind, MOST_NAMES, Place, Record, Revocation, Table, User};
+use model_base::{
+    Grant, Grantee, HashSeed, Kind, MOST_NAMES, Place, Record, Revocation, Table, User,
+};
 use std::alloc::{AllocError, Global};
 use std::marker::Model;
 
@@ -47,14 +49,22 @@ impl Book {
     ghost use Rattle.grants_base.specs.View.{ShowsDeeds, holds_in};
 
     /// A book without tables and grants. It takes no memory.
-    #[tactic(auto, using(crate::proofs::BookLaws::sound_empty))]
     pub fn new(alloc: Global) -> Self
+        ensures tables { result.tables ≡ [] }
+        ensures records { result.records ≡ [] }
+    {
+        Book::seeded(alloc, HashSeed::fixed())
+    }
+
+    /// A book without tables and grants, whose grants are found under this seed. It takes no memory.
+    #[tactic(auto, using(crate::proofs::BookLaws::sound_empty))]
+    pub fn seeded(alloc: Global, seed: HashSeed) -> Self
         ensures tables { result.tables ≡ [] }
         ensures records { result.records ≡ [] }
     {
         Book {
             tables: Vec::new(alloc),
-            records: IndexedRecords::new(alloc),
+            records: IndexedRecords::seeded(alloc, seed),
         }
     }
 

@@ -12,7 +12,7 @@ ghost use Rattle.grants_base.specs.Sides.{to_side};
 use crate::force::{NextBy, NextInForce, Privilege};
 use crate::grantor_set::Granted;
 use crate::index::{Side, to_side};
-use model_base::{Grant, Place, Record, User};
+use model_base::{Grant, HashSeed, Place, Record, User};
 use std::alloc::{AllocError, Global};
 use std::collections::HashMap;
 
@@ -21,7 +21,7 @@ use std::collections::HashMap;
 #[derive(Drop)]
 pub(crate) struct InForceIndex {
     alloc: Global,
-    sides: HashMap<Side, Privilege>,
+    sides: HashMap<Side, Privilege, HashSeed>,
     is_whole: bool,
 }
 
@@ -36,25 +36,25 @@ fn granted_at(grant: &Grant, slot: usize) -> Granted
 }
 
 impl InForceIndex {
-    /// No grants. It takes no memory.
-    pub fn new(alloc: Global) -> Self
+    /// No grants, and sides are found under this seed. It takes no memory.
+    pub fn seeded(alloc: Global, seed: HashSeed) -> Self
         ensures { KeepsInForce result [] }
     {
         InForceIndex {
             alloc,
-            sides: HashMap::new(alloc),
+            sides: HashMap::with_hasher(alloc, seed),
             is_whole: true,
         }
     }
 
-    /// An index that tells nothing.
+    /// An index that tells nothing. It stays empty, so its seed doesn't matter.
     pub fn silent(alloc: Global) -> Self
         ensures none { KeepsInForce result [] }
         ensures all { (entries : List Record) → KeepsInForce result entries }
     {
         InForceIndex {
             alloc,
-            sides: HashMap::new(alloc),
+            sides: HashMap::with_hasher(alloc, HashSeed::fixed()),
             is_whole: false,
         }
     }

@@ -4,7 +4,7 @@ ghost use Rattle.std.specs.Prelude.{◌≡◌, ◌-◌, ◌++◌, ◌∷◌, [],
 ghost use Rattle.grants_base.specs.Index.{is_one_of, IsFirst};
 ghost use Rattle.grants_base.specs.Sides.{AreAscending, IsEmpty, IsPopped, IsPushed, IsSame, holder_code, kind_code, side_of, slots_under, to_side};
 
-use model_base::{Grant, Grantee, Kind, Table};
+use model_base::{Grant, Grantee, HashSeed, Kind, Table};
 use std::alloc::{AllocError, Global};
 use std::collections::HashMap;
 use std::marker::Model;
@@ -133,17 +133,17 @@ impl Slots {
 #[derive(Drop)]
 pub(crate) struct Index {
     alloc: Global,
-    sides: HashMap<Side, Slots>,
+    sides: HashMap<Side, Slots, HashSeed>,
 }
 
 impl Index {
-    /// No slots. It takes no memory.
-    pub fn new(alloc: Global) -> Self
+    /// No slots, and sides are found under this seed. It takes no memory.
+    pub fn seeded(alloc: Global, seed: HashSeed) -> Self
         ensures { IsEmpty result }
     {
         Index {
             alloc,
-            sides: HashMap::new(alloc),
+            sides: HashMap::with_hasher(alloc, seed),
         }
     }
 

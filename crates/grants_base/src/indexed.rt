@@ -17,7 +17,7 @@ use crate::entries::{End, reopen_slot, set_end};
 use crate::force::{NextBy, NextInForce};
 use crate::in_force::InForceIndex;
 use crate::index::{Index, Side, side_of, to_side};
-use model_base::{Grant, Grantee, Kind, Place, Record, Table, User};
+use model_base::{Grant, Grantee, HashSeed, Kind, Place, Record, Table, User};
 use std::alloc::{AllocError, Global};
 use std::marker::Model;
 
@@ -119,23 +119,30 @@ impl IndexedRecords {
     pub fn new(alloc: Global) -> Self
         ensures { result ≡ [] }
     {
-        IndexedRecords {
-            records: Vec::new(alloc),
-            to: Index::new(alloc),
-            by: Index::new(alloc),
-            endings: Vec::new(alloc),
-            in_force: InForceIndex::new(alloc),
-        }
+        IndexedRecords::seeded(alloc, HashSeed::fixed())
     }
 
-    /// No records, of which those in force are not kept by themselves. It takes no memory.
-    pub(crate) fn plain(alloc: Global) -> Self
+    /// No records, which are found under this seed. It takes no memory.
+    pub fn seeded(alloc: Global, seed: HashSeed) -> Self
         ensures { result ≡ [] }
     {
         IndexedRecords {
             records: Vec::new(alloc),
-            to: Index::new(alloc),
-            by: Index::new(alloc),
+            to: Index::seeded(alloc, seed),
+            by: Index::seeded(alloc, seed),
+            endings: Vec::new(alloc),
+            in_force: InForceIndex::seeded(alloc, seed),
+        }
+    }
+
+    /// No records, which are found under this seed. Those in force are not kept by themselves. It takes no memory.
+    pub(crate) fn plain(alloc: Global, seed: HashSeed) -> Self
+        ensures { result ≡ [] }
+    {
+        IndexedRecords {
+            records: Vec::new(alloc),
+            to: Index::seeded(alloc, seed),
+            by: Index::seeded(alloc, seed),
             endings: Vec::new(alloc),
             in_force: InForceIndex::silent(alloc),
         }

@@ -4,7 +4,7 @@ ghost use Rattle.std.specs.Prelude.{◌≡◌, ◌<◌, ◌^◌, ◌++◌, ◌�
 ghost use Rattle.grants_base.specs.Index.{IsNext, is_by, is_to};
 
 use crate::indexed::IndexedRecords;
-use model_base::{Grant, Grantee, Kind, Table, User};
+use model_base::{Grant, Grantee, HashSeed, Kind, Table, User};
 use std::alloc::{AllocError, Global};
 use std::marker::Model;
 
@@ -30,8 +30,15 @@ impl IndexedGrants {
     pub fn new(alloc: Global) -> Self
         ensures { result ≡ [] }
     {
+        IndexedGrants::seeded(alloc, HashSeed::fixed())
+    }
+
+    /// No grants, which are found under this seed. It takes no memory.
+    pub fn seeded(alloc: Global, seed: HashSeed) -> Self
+        ensures { result ≡ [] }
+    {
         IndexedGrants {
-            records: IndexedRecords::plain(alloc),
+            records: IndexedRecords::plain(alloc, seed),
         }
     }
 
