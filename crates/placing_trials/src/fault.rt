@@ -21,6 +21,9 @@ pub enum TrialFault {
     /// A growth was refused.
     #[error("out of memory")]
     NoMemory,
+    /// A thread couldn't be started.
+    #[error("a thread could not be started")]
+    NotStarted,
     /// Standard output can't be written.
     #[error("cannot write")]
     Write,
