@@ -1,4 +1,4 @@
-use Rattle.std.proofs.Common.{arith, add-one, refl}
+use Rattle.std.proofs.Common.{arith, add-one}
 use Rattle.range_trials.proofs.Knowing.{known_end, known_step, named_end, named_step}
 use Rattle.range_trials.proofs.known.are_known.Goals as goal
 
