@@ -94,7 +94,11 @@ fn place_each(batch: &Batch<RangeKey<'_>>, mut placers: Vec<Placer>) -> Result<(
 }
 
 /// Places all of a batch; the pass knows it then.
-fn placed(batch: &Batch<RangeKey<'_>>, pass: Pass, placers: Vec<Placer>) -> Result<Pass, TrialFault>
+pub fn placed(
+    batch: &Batch<RangeKey<'_>>,
+    pass: Pass,
+    placers: Vec<Placer>,
+) -> Result<Pass, TrialFault>
     requires pass { IsPassOf batch.now pass }
     requires placers { All (IsPlacerIn batch.now) placers.items }
     ensures { IfOk result (λ pass. IsPassOf batch.now pass) }

@@ -5,7 +5,7 @@ ghost use Rattle.std.specs.Prelude.{◌≡◌, ◌≤◌, length};
 use crate::fault::TrialFault;
 use log_text::parse_line;
 use model::serial;
-use model_base::{Outcome, Place};
+use model_base::{Outcome, Place, Statement};
 use sequencer::LogTail;
 use std::alloc::{AllocError, Global};
 use std::marker::Model;
@@ -56,6 +56,14 @@ impl WholeLog {
         ensures most { length self.now.statements ≤ 4294967295 }
     {
         self.tail.len()
+    }
+
+    /// Its statements, in order.
+    pub fn statements(&self) -> &[Statement]
+        ensures { result.now ≡ self.now.statements }
+    {
+        let _dropped = self.tail.dropped();
+        self.tail.kept_statements()
     }
 
     /// The outcomes of its places by the serial run.

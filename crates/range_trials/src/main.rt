@@ -1,7 +1,7 @@
 //! Places of a parsed log run on shared words: a place that another pass holds, one that is given back, a revocation that is run
-//! before an earlier reader, a long chain asked for from its end, drawn logs run by eight threads and after passes that were dropped,
-//! and a log whose growths may be refused. The word `refused` makes the last trial alone, so that a tool can refuse each growth. What
-//! is printed without it is compared with `stdout`.
+//! before an earlier reader, a long chain asked for from its end, places after finished ones, drawn logs run by eight threads and
+//! after passes that were dropped, and a log whose growths may be refused. The word `refused` makes the last trial alone, so that a
+//! tool can refuse each growth. What is printed without it is compared with `stdout`.
 #![tactic(auto)]
 
 mod asking;
@@ -9,12 +9,16 @@ mod batches;
 mod chain;
 mod drawn_logs;
 mod dropped_pass;
+mod earlier;
 mod early;
 mod eight_threads;
 mod fault;
 mod given_back;
 mod held;
+mod known;
+mod later;
 mod logs;
+mod places;
 mod refused;
 mod telling;
 mod trial;
@@ -26,6 +30,7 @@ use eight_threads::tell_drawn;
 use fault::TrialFault;
 use given_back::tell_given_back;
 use held::tell_held;
+use places::tell_places;
 use refused::tell_refused;
 use std::alloc::Global;
 use std::env;
@@ -39,6 +44,7 @@ fn tell_all<R: Threads + Print + Eprint + Sync>(rt: &R, alloc: Global) -> Result
     tell_given_back(rt, alloc)?;
     tell_early(rt, alloc)?;
     tell_chain(rt, alloc)?;
+    tell_places(rt, alloc)?;
     tell_drawn(rt, alloc)?;
     tell_dropped(rt, alloc)?;
     tell_refused(rt, alloc)

@@ -1,0 +1,70 @@
+//! What stands before a place of a log once the places before it are finished.
+
+ghost use Rattle.std.specs.Prelude.{◌≡◌, ◌≤◌, IfOk, OnOk, length};
+ghost use Rattle.standing.specs.Stands.{Stands};
+
+use crate::fault::TrialFault;
+use crate::known::are_known;
+use crate::logs::WholeLog;
+use chains::Chains;
+use model_base::Place;
+use standing::{RememberingBook, run_in_order};
+use std::alloc::Global;
+use workers::NoGate;
+
+/// The versions of rows and the book of grants before a place of a log.
+#[derive(Drop)]
+pub struct Earlier {
+    pub chains: Chains,
+    pub book: RememberingBook,
+}
+
+/// Nothing is before a log.
+fn none_earlier(alloc: Global, log: &WholeLog) -> Earlier
+    ensures { Stands log.now.statements 0 result.chains result.book }
+{
+    let _log = log;
+    Earlier {
+        chains: Chains::new(alloc),
+        book: RememberingBook::new(alloc),
+    }
+}
+
+/// Runs the first places of a log in order.
+fn run_first(
+    alloc: Global,
+    log: &WholeLog,
+    earlier: &mut Earlier,
+    place: Place,
+) -> Result<(), TrialFault>
+    requires before { Stands log.now.statements 0 earlier.old.chains earlier.old.book }
+    requires within { place ≤ length log.now.statements }
+    ensures { OnOk result (Stands log.now.statements place earlier.new.chains earlier.new.book) }
+{
+    if !are_known(log.statements()) {
+        return Err(TrialFault::Line);
+    }
+    let mut outcomes = Vec::new(alloc);
+    run_in_order(
+        alloc,
+        &mut earlier.chains,
+        &mut earlier.book,
+        log.tail(),
+        0..place,
+        &NoGate,
+        &mut outcomes,
+    )?;
+    Ok(())
+}
+
+/// What stands before a place of a log: the places before it are run in order.
+pub fn earlier_than(alloc: Global, log: &WholeLog, place: Place) -> Result<Earlier, TrialFault>
+    requires within { place ≤ length log.now.statements }
+    ensures { IfOk result (λ earlier. Stands log.now.statements place earlier.chains earlier.book) }
+{
+    let mut earlier = none_earlier(alloc, log);
+    match run_first(alloc, log, &mut earlier, place) {
+        Ok(()) => Ok(earlier),
+        Err(fault) => Err(fault),
+    }
+}
