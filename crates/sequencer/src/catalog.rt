@@ -2,7 +2,7 @@
 
 use crate::names::NameTable;
 use crate::room::Room;
-use model_base::{MOST_COLUMNS, MOST_PLACES, Table, User};
+use model_base::{HashSeed, MOST_COLUMNS, MOST_PLACES, Table, User};
 use std::alloc::Global;
 use std::marker::Model;
 
@@ -42,15 +42,27 @@ impl Catalog {
     pub fn new(alloc: Global) -> Self
         ensures { result ≡ no_names }
     {
+        Catalog::seeded(alloc, HashSeed::fixed())
+    }
+
+    /// The catalog without names and places, whose names are found under this seed. It takes no memory.
+    pub fn seeded(alloc: Global, seed: HashSeed) -> Self
+        ensures { result ≡ no_names }
+    {
         Catalog {
-            users: NameTable::new(alloc),
-            tables: NameTable::new(alloc),
+            users: NameTable::seeded(alloc, seed),
+            tables: NameTable::seeded(alloc, seed),
             owners: Vec::new(alloc),
             columns: Vec::new(alloc),
             places: 0,
             recent: Table(0),
             alloc,
         }
+    }
+
+    /// The seed under which names are found.
+    pub fn seed(&self) -> HashSeed {
+        self.users.seed()
     }
 
     /// Room for nothing yet, of the catalog's own memory.

@@ -3,7 +3,7 @@
 use crate::catalog::Catalog;
 use crate::refused::Refused;
 use log_text::RawStatement;
-use model_base::{MOST_COLUMNS, MOST_PLACES, Place, Statement, Table, User};
+use model_base::{HashSeed, MOST_COLUMNS, MOST_PLACES, Place, Statement, Table, User};
 use std::alloc::Global;
 use std::marker::Model;
 
@@ -33,12 +33,19 @@ impl Log {
     ghost use Rattle.sequencer.specs.Taken.{IsWhole};
 
     /// The log without statements. It takes no memory.
-    #[tactic(auto, using(crate::proofs::WholeLogs::kept_empty))]
     pub fn new(alloc: Global) -> Self
         ensures { result ≡ empty_log }
     {
+        Log::seeded(alloc, HashSeed::fixed())
+    }
+
+    /// The log without statements, whose names are found under this seed. It takes no memory.
+    #[tactic(auto, using(crate::proofs::WholeLogs::kept_empty))]
+    pub fn seeded(alloc: Global, seed: HashSeed) -> Self
+        ensures { result ≡ empty_log }
+    {
         Log {
-            catalog: Catalog::new(alloc),
+            catalog: Catalog::seeded(alloc, seed),
             statements: Vec::new(alloc),
         }
     }

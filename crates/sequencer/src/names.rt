@@ -6,7 +6,7 @@ use crate::refused::Refused;
 use crate::testing::test_two;
 use indexmap::IndexSet;
 use log_text::RawGrantee;
-use model_base::{Grantee, MOST_NAMES, User};
+use model_base::{Grantee, HashSeed, MOST_NAMES, User};
 use std::alloc::{AllocError, Global};
 use std::marker::Model;
 
@@ -29,7 +29,7 @@ fn recent_place(name: &[u8]) -> usize
 /// The names of the users or of the tables of a log. A name's number is its index, from 0.
 #[derive(Drop)]
 pub struct NameTable {
-    names: IndexSet<String>,
+    names: IndexSet<String, HashSeed>,
     /// Numbers that were answered before, by the last bytes of their names. They say nothing of the names: one of them is only tried first.
     recent: [u32; RECENT_NUMBERS],
     alloc: Global,
@@ -56,11 +56,23 @@ impl NameTable {
     pub fn new(alloc: Global) -> Self
         ensures { result ≡ [] }
     {
+        NameTable::seeded(alloc, HashSeed::fixed())
+    }
+
+    /// The table without names, which are found under this seed. It takes no memory.
+    pub fn seeded(alloc: Global, seed: HashSeed) -> Self
+        ensures { result ≡ [] }
+    {
         NameTable {
-            names: IndexSet::new(alloc),
+            names: IndexSet::with_hasher(alloc, seed),
             recent: [0; RECENT_NUMBERS],
             alloc,
         }
+    }
+
+    /// The seed under which names are found.
+    pub(crate) fn seed(&self) -> HashSeed {
+        *self.names.hasher()
     }
 
     /// How many names there are.

@@ -12,7 +12,7 @@ use crate::catalog::Catalog;
 use crate::refused::Refused;
 use crate::room::Room;
 use log_text::{RawForm, RawStatement};
-use model_base::{Form, MOST_COLUMNS, MOST_PLACES, Place, Statement, Table, User};
+use model_base::{Form, HashSeed, MOST_COLUMNS, MOST_PLACES, Place, Statement, Table, User};
 use past::{Past, forget_first};
 use std::alloc::{AllocError, Global};
 use std::marker::Model;
@@ -83,12 +83,19 @@ fn no_statement() -> Statement {
 
 impl LogTail {
     /// The log without statements. It takes no memory.
-    #[tactic(auto, using(crate::proofs::WholeLogs::kept_empty))]
     pub fn new(alloc: Global) -> Self
         ensures { result ≡ record { log = empty_log; dropped = 0 } }
     {
+        LogTail::seeded(alloc, HashSeed::fixed())
+    }
+
+    /// The log without statements, whose names are found under this seed. It takes no memory.
+    #[tactic(auto, using(crate::proofs::WholeLogs::kept_empty))]
+    pub fn seeded(alloc: Global, seed: HashSeed) -> Self
+        ensures { result ≡ record { log = empty_log; dropped = 0 } }
+    {
         LogTail {
-            catalog: Catalog::new(alloc),
+            catalog: Catalog::seeded(alloc, seed),
             past: Past::new(),
             kept: Vec::new(alloc),
             spare: Vec::new(alloc),
