@@ -4,21 +4,26 @@ use Rattle.std.specs.Prelude.{All, slice_get}
 use Rattle.std.specs.Option.{option_map}
 use Rattle.std.proofs.Math.ListN.{drop_of_length-le}
 use Rattle.std.proofs.lemmas.List.{append-nil, length-append}
-use Rattle.std.proofs.lemmas.List.Elements.{All-cons, All-head, All-map, All-nil, All-tail}
+use Rattle.std.proofs.lemmas.List.Elements.{All-cons, All-head, All-map, All-nil, All-tail, All-weaker}
 use Rattle.std.proofs.lemmas.Option.{get_or_from_slice_get, slice_get_within}
 use Rattle.model_base.specs.declared.deed.Deed.{Deed}
 use Rattle.model_base.specs.declared.deed.Need.{Need}
 use Rattle.model_base.specs.declared.statement.Statement.{Statement}
+use Rattle.model_base.specs.Admitted.{IsPrivileged}
 use Rattle.model_base.specs.Outcomes.{deeds_before, needs, owners}
+use Rattle.model_base.specs.Privileges.{holds}
+use Rattle.model_base.proofs.Admitted.{held-holds, holds-held}
+use Rattle.model_base.proofs.Cuts.{deeds_below-whole}
 use Rattle.model_base.proofs.Growth.{deeds_before-stands}
 use Rattle.model_base.proofs.Logs.{deeds_before-below}
 use Rattle.model_base.proofs.Replay.{by_cases}
 use Rattle.grant_paths.specs.declared.line.Line.{Line}
-use Rattle.grant_paths.specs.Lines.{holds_before}
+use Rattle.grant_paths.specs.Lines.{IsSound, holds_before}
 use Rattle.sequencer.specs.Log.{Accepted}
 use Rattle.sequencer.specs.Taken.{IsTaken, IsWhole}
-use Rattle.explain_base.specs.Explained.{AreSound, needs_asked, line_of, explaining_lines}
+use Rattle.explain_base.specs.Explained.{AreSound, needs_asked, line_of, explaining_lines, tells_held}
 use Rattle.explain_base.proofs.Asked.{lines-sound}
+use Rattle.explain_base.proofs.Passing.{held_sound}
 use Rattle.explain_base.proofs.Below.{are_sound-below, lines-below}
 use Rattle.explain.specs.Explained.{LinesAreNamed, IsExplainedBy, explained, lines_for}
 use Rattle.explain.proofs.Indexing.{from_item}
@@ -104,6 +109,33 @@ explained-sound log place lines is = by_statement (slice_get log place) refl is
               subst (AreSound (owners log) (deeds_before log place) place statement.user (needs statement.form)) same
               (lines-sound (owners log) (deeds_before log place) place statement.user (deeds_before-stands log place).proper (needs statement.form));
         }
+
+-- what is accepted tells who holds what
+module _ (log : List Statement) (place : ℕ) (statement : Statement) (lines : List Line) (there : slice_get log place ≡ Some statement)
+    (accepted : IsExplainedBy log place lines) where
+  pub accepted-held : All (λ (line : Line). tells_held line.shown ≡ holds (owners log) (deeds_before log place) statement.user line.need) lines
+  accepted-held =
+      All-weaker (λ (line : Line). IsSound (owners log) (deeds_before log place) place accepted.statement.user line.need line.shown)
+      (λ (line : Line). tells_held line.shown ≡ holds (owners log) (deeds_before log place) statement.user line.need)
+      (λ line sound.
+      held_sound (owners log) (deeds_before log place) place accepted.statement.user line.need line.shown sound
+      ∙ ap (λ (deeds : List Deed). holds (owners log) deeds accepted.statement.user line.need)
+      (deeds_below-whole place (deeds_before log place) (deeds_before-stands log place).below)
+      ∙ ap (λ (s : Statement). holds (owners log) (deeds_before log place) s.user line.need) same)
+      lines accepted.sound.so
+    where
+      same : accepted.statement ≡ statement
+      same = let both : Some accepted.statement ≡ Some statement = sym accepted.there ∙ there in cc
+
+  pub accepted-privileged : All (λ (line : Line). (tells_held line.shown ≡ true) ↔ IsPrivileged (owners log) (deeds_before log place) statement.user line.need) lines
+  accepted-privileged =
+      All-weaker (λ (line : Line). tells_held line.shown ≡ holds (owners log) (deeds_before log place) statement.user line.need)
+      (λ (line : Line). (tells_held line.shown ≡ true) ↔ IsPrivileged (owners log) (deeds_before log place) statement.user line.need)
+      (λ line same. (
+        λ tells. holds-held (owners log) (deeds_before log place) statement.user line.need (sym same ∙ tells),
+        λ held. same ∙ held-holds (owners log) (deeds_before log place) statement.user line.need held,
+      ))
+      lines accepted-held
 
 -- what the lines by a later book are
 module _ (place user : ℕ) (all : List Need) (lines : List Line) where

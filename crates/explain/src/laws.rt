@@ -1,12 +1,29 @@
 //! What holds of all explanations.
 
-ghost use Rattle.std.specs.Prelude.{◌≡◌, ℕ, List, Some};
+ghost use Rattle.std.specs.Prelude.{◌≡◌, ◌↔◌, ℕ, All, List, Some, slice_get, true};
+ghost use Rattle.model_base.specs.Admitted.{IsPrivileged};
+ghost use Rattle.model_base.specs.Outcomes.{deeds_before, owners};
+ghost use Rattle.model_base.specs.Privileges.{holds};
 ghost use Rattle.model_base.specs.declared.statement.Statement.{Statement};
 ghost use Rattle.grant_paths.specs.declared.line.Line.{Line};
+ghost use Rattle.explain_base.specs.Explained.{tells_held};
 ghost use Rattle.explain.specs.Explained.{IsExplainedBy, explained};
 
 /// The lines that explain a place are sound, so the check accepts them.
 pub fn explanations_are_sound()
     ensures { (log : List Statement) (place : ℕ) (lines : List Line)
         → explained log place ≡ Some lines → IsExplainedBy log place lines }
+{}
+
+/// Of the lines that the check accepts, each that shows its need as held is of a need that the statement's user holds by the
+/// deeds before the place, and each other line is of one that the user doesn't hold.
+pub fn accepted_needs_are_held()
+    ensures held { (log : List Statement) (place : ℕ) (statement : Statement) (lines : List Line)
+        → slice_get log place ≡ Some statement → IsExplainedBy log place lines
+        → All (λ (line : Line). tells_held line.shown
+        ≡ holds (owners log) (deeds_before log place) statement.user line.need) lines }
+    ensures privileged { (log : List Statement) (place : ℕ) (statement : Statement) (lines : List Line)
+        → slice_get log place ≡ Some statement → IsExplainedBy log place lines
+        → All (λ (line : Line). (tells_held line.shown ≡ true)
+        ↔ IsPrivileged (owners log) (deeds_before log place) statement.user line.need) lines }
 {}

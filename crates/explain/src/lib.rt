@@ -15,4 +15,4 @@ pub use checking::check;
 pub use explaining::explain;
 pub use explanation::Explanation;
 pub use fault::ExplainFault;
-pub use laws::explanations_are_sound;
+pub use laws::{accepted_needs_are_held, explanations_are_sound};

@@ -59,7 +59,7 @@ module _ (owners : List ℕ) (deeds : List Deed) (place user : ℕ) where
   needs_of lines = map (λ (line : Line). line.need) lines
 
   -- what is shown, and is so, tells whether the need is held
-  held_sound : (need : Need) (shown : Shown) → IsSound owners deeds place user need shown → tells_held shown ≡ holds_before owners deeds place user need
+  pub held_sound : (need : Need) (shown : Shown) → IsSound owners deeds place user need shown → tells_held shown ≡ holds_before owners deeds place user need
   held_sound need Shown.Owner is = sym (owner-holds owners deeds place user need is)
   held_sound need (Shown.Grants places) is = sym (chain_has owners (kept_before owners deeds place) user need places is)
   held_sound need Shown.Never is = sym is.0
