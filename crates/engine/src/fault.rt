@@ -2,9 +2,10 @@
 
 ghost use Rattle.std.specs.Prelude.{◌≡◌};
 ghost use Rattle.engine.specs.declared.fault.EngineFault.TheVariants.{NoMemory};
-ghost use Rattle.engine.specs.Faults.{batch_fault};
+ghost use Rattle.engine.specs.Faults.{batch_fault, engine_fault_text};
 
 use std::alloc::{AllocError, AllocFailed};
+use std::fmt;
 use thiserror::Error;
 use workers::RunFault;
 
@@ -12,20 +13,40 @@ use workers::RunFault;
 #[derive(Clone, Copy, Debug, PartialEq, Eq, Error)]
 pub enum EngineFault {
     /// A growth was refused.
-    #[error("out of memory")]
     NoMemory = 1,
     /// The reader failed.
-    #[error("cannot read")]
     Read = 2,
     /// The writer failed, or took no byte of a piece that wasn't empty.
-    #[error("cannot write")]
     Write = 3,
     /// A setting is outside its limits, or the range isn't one that can be run next.
-    #[error("bad settings")]
     BadSettings = 4,
     /// A worker's thread could not be started.
-    #[error("cannot start a worker")]
     Spawn = 5,
+}
+
+impl EngineFault {
+    /// What it says to a reader.
+    fn text(self) -> &'static str
+        ensures { result.now ≡ engine_fault_text self }
+    {
+        match self {
+            EngineFault::NoMemory => "out of memory",
+            EngineFault::Read => "cannot read",
+            EngineFault::Write => "cannot write",
+            EngineFault::BadSettings => "bad settings",
+            EngineFault::Spawn => "cannot start a worker",
+        }
+    }
+}
+
+impl fmt::Display for EngineFault {
+    ghost use Rattle.std.specs.Prelude.{Some};
+
+    ghost output = { λ fault. Some (engine_fault_text fault) };
+
+    fn fmt<W: fmt::Write>(&self, f: &mut fmt::Formatter<W>) -> fmt::Result {
+        f.write_str(self.text())
+    }
 }
 
 impl From<AllocError> for EngineFault {

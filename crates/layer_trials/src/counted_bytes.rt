@@ -24,7 +24,7 @@ fn tell_writes(rt: &impl Print, alloc: Global) {
     tell(
         rt,
         "bytes written",
-        &((four, none, flushed), writer.errors, came),
+        &((four, none, flushed), (writer.errors, writer.flushes), came),
     );
 }
 
@@ -35,6 +35,8 @@ pub fn tell_counted_bytes(rt: &impl Print, alloc: Global) {
         inner: b"more".as_slice(),
         errors: 0,
         given: 1 << 62,
+        flushes: 0,
+        is_flushed: false,
     };
     tell_reads(rt, "bytes read at the limit", full);
     tell_writes(rt, alloc);

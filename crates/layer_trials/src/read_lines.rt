@@ -1,37 +1,13 @@
 //! Lines that cross the buffer's end, and readers that give few bytes at a time or fail.
 
-ghost use Rattle.std.specs.Prelude.{None, ◌<◌, ◌≤◌, ◌+◌, ◌^◌, length};
+ghost use Rattle.std.specs.Prelude.{◌<◌, ◌≤◌, ◌+◌, ◌^◌, length};
 ghost use Rattle.log_text_base.specs.declared.limits.TheConstants.{BUFFER_BYTES, MOST_GIVEN_BYTES};
 ghost use Rattle.log_text_base.specs.Ahead.{ahead};
 
 use crate::fault::TrialFault;
 use crate::telling::text_of;
-use log_text_base::{Counted, LineReader};
+use log_text_base::{Counted, LineReader, MemoryReader};
 use std::alloc::{AllocError, Global};
-use std::io;
-use std::io::{ErrorKind, Read};
-
-/// Gives so many bytes of a text at a time, and at its end perhaps an error.
-#[derive(Drop)]
-struct Pieces<'a> {
-    text: &'a [u8],
-    most: usize,
-    fails: bool,
-}
-
-impl Read for Pieces<'_> {
-    ghost remaining = { λ _. None };
-
-    fn read(&mut self, buf: &mut [u8]) -> io::Result<usize> {
-        let n = self.text.len().min(self.most).min(buf.len());
-        if n == 0 && self.fails {
-            return Err(io::Error::from(ErrorKind::Other));
-        }
-        buf[..n].copy_from_slice(&self.text[..n]);
-        self.text = &self.text[n..];
-        Ok(n)
-    }
-}
 
 /// Puts a piece so many times behind a text.
 fn put_piece(text: &mut Vec<u8>, piece: &str, times: usize) -> Result<(), AllocError> {
@@ -69,7 +45,7 @@ fn tell_calls(
     rt: &impl Print,
     name: &str,
     lines: &mut LineReader,
-    reader: &mut Counted<Pieces<'_>>,
+    reader: &mut Counted<MemoryReader<'_>>,
     calls: usize,
 )
     requires { 0 < length (ahead lines.old) → reader.old.given ≤ MOST_GIVEN_BYTES + BUFFER_BYTES }
@@ -90,7 +66,7 @@ fn tell_lines(
     rt: &impl Print,
     alloc: Global,
     name: &str,
-    pieces: Pieces<'_>,
+    pieces: MemoryReader<'_>,
     calls: usize,
 ) -> Result<(), TrialFault> {
     let mut lines = LineReader::new(alloc)?;
@@ -125,11 +101,7 @@ fn tell_pieces(
     pieces: &[(&str, usize)],
 ) -> Result<(), TrialFault> {
     let text = text_of_pieces(alloc, pieces)?;
-    let reader = Pieces {
-        text: text.as_slice(),
-        most: 1 << 20,
-        fails: false,
-    };
+    let reader = MemoryReader::new(text.as_slice());
     tell_lines(rt, alloc, name, reader, 6)
 }
 
@@ -138,16 +110,16 @@ pub fn tell_read_lines(rt: &impl Print, alloc: Global) -> Result<(), TrialFault>
     tell_pieces(rt, alloc, "long lines", &LONG)?;
     tell_pieces(rt, alloc, "lines over the buffer's end", &CROSSING)?;
     tell_pieces(rt, alloc, "lines of an empty text", &[])?;
-    let slow = Pieces {
-        text: b"one\n\ntwo",
+    let slow = MemoryReader {
+        left: b"one\n\ntwo",
         most: 1,
-        fails: false,
+        reads: None,
     };
     tell_lines(rt, alloc, "lines byte by byte", slow, 4)?;
-    let failing = Pieces {
-        text: b"one\ntwo",
+    let failing = MemoryReader {
+        left: b"one\ntwo",
         most: 5,
-        fails: true,
+        reads: Some(2),
     };
     tell_lines(rt, alloc, "lines of a reader that fails", failing, 3)
 }

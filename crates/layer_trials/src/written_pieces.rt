@@ -1,53 +1,21 @@
 //! Writers that take few bytes at a time or fail, and what is written once much is pending.
 
-ghost use Rattle.std.specs.Prelude.{None};
-
 use crate::fault::TrialFault;
 use crate::telling::{tell, text_of};
-use log_text_base::{Counted, PIECE_LEN, flush, write_much, write_out, write_pending};
+use log_text_base::{
+    Counted, MemoryWriter, PIECE_LEN, flush, write_much, write_out, write_pending,
+};
 use std::alloc::{AllocError, Global};
-use std::io;
-use std::io::{ErrorKind, Write};
-
-/// Takes so many bytes a write, for so many writes, and may fail to flush.
-#[derive(Drop)]
-struct Taking {
-    taken: Vec<u8>,
-    most: usize,
-    writes: u64,
-    flushes: bool,
-}
-
-impl Write for Taking {
-    ghost contents = { λ _. None };
-
-    fn write(&mut self, buf: &[u8]) -> io::Result<usize> {
-        if self.writes == 0 {
-            return Err(io::Error::from(ErrorKind::Other));
-        }
-        self.writes -= 1;
-        let n = buf.len().min(self.most);
-        self.taken.extend_from_slice(&buf[..n])?;
-        Ok(n)
-    }
-
-    fn flush(&mut self) -> io::Result<()> {
-        if self.flushes {
-            return Ok(());
-        }
-        Err(io::Error::from(ErrorKind::Other))
-    }
-}
 
 /// Tells what a writer took, how many writes it has left, and how many failures were counted.
-fn tell_taken(rt: &impl Print, writer: &Counted<Taking>) {
-    let (writes, errors) = (writer.inner.writes, writer.errors);
+fn tell_taken(rt: &impl Print, writer: &Counted<MemoryWriter>) {
+    let (writes, errors) = (writer.inner.writes.unwrap_or(0), writer.errors);
     let taken = text_of(writer.inner.taken.as_slice());
     let _ = println!(rt; "  taken: '{taken}', writes left: {writes}, failures: {errors}");
 }
 
 /// Writes a piece and flushes. Tells each answer, and what was taken.
-fn tell_piece(rt: &impl Print, name: &str, writer: &mut Counted<Taking>) {
+fn tell_piece(rt: &impl Print, name: &str, writer: &mut Counted<MemoryWriter>) {
     let written = write_out(writer, b"four");
     tell(rt, name, &written);
     tell_taken(rt, writer);
@@ -57,12 +25,12 @@ fn tell_piece(rt: &impl Print, name: &str, writer: &mut Counted<Taking>) {
 }
 
 /// Tells what a writer takes of a piece.
-fn tell_writer(rt: &impl Print, name: &str, taking: Taking) {
-    tell_piece(rt, name, &mut Counted::new(taking));
+fn tell_writer(rt: &impl Print, name: &str, writer: MemoryWriter) {
+    tell_piece(rt, name, &mut Counted::new(writer));
 }
 
 /// Writes what is pending, and flushes. Tells each answer, and what was taken.
-fn tell_pending(rt: &impl Print, writer: &mut Counted<Taking>, pending: &mut Vec<u8>) {
+fn tell_pending(rt: &impl Print, writer: &mut Counted<MemoryWriter>, pending: &mut Vec<u8>) {
     let written = write_pending(writer, pending);
     tell(rt, "what is pending", &(written, pending.len()));
     tell_taken(rt, writer);
@@ -74,17 +42,17 @@ fn tell_pending(rt: &impl Print, writer: &mut Counted<Taking>, pending: &mut Vec
 /// Writes what is pending into a writer that takes three bytes once, and can't flush.
 fn tell_failing(rt: &impl Print, alloc: Global) -> Result<(), TrialFault> {
     let mut pending = Vec::from_slice(alloc, b"four")?;
-    let mut writer = Counted::new(writer_of(alloc, 3, 1, false));
+    let mut writer = Counted::new(writer_of(alloc, 3, 1, Some(0)));
     tell_pending(rt, &mut writer, &mut pending);
     Ok(())
 }
 
 /// A writer that has taken nothing.
-fn writer_of(alloc: Global, most: usize, writes: u64, flushes: bool) -> Taking {
-    Taking {
+fn writer_of(alloc: Global, most: usize, writes: u64, flushes: Option<u64>) -> MemoryWriter {
+    MemoryWriter {
         taken: Vec::new(alloc),
         most,
-        writes,
+        writes: Some(writes),
         flushes,
     }
 }
@@ -123,11 +91,11 @@ fn tell_growing(rt: &impl Print, alloc: Global) -> Result<(), TrialFault> {
 
 /// Tells what several writers take.
 pub fn tell_written_pieces(rt: &impl Print, alloc: Global) -> Result<(), TrialFault> {
-    tell_writer(rt, "a piece byte by byte", writer_of(alloc, 1, 100, true));
+    tell_writer(rt, "a piece byte by byte", writer_of(alloc, 1, 100, None));
     tell_writer(
         rt,
         "a piece of which nothing is taken",
-        writer_of(alloc, 0, 100, true),
+        writer_of(alloc, 0, 100, None),
     );
     tell_failing(rt, alloc)?;
     tell_growing(rt, alloc)
