@@ -4,7 +4,7 @@ use crate::case::{Case, Change, Changed, Drawn, Runs};
 use crate::failing::Failing;
 use crate::fault::TrialFault;
 use crate::logs::Log;
-use crate::run::Run;
+use crate::run::{Run, Seeded};
 use crate::tail::Bits;
 use audit_text::Question;
 use batched_text::{ReadingAhead, Settings};
@@ -43,6 +43,9 @@ const AHEADS: [(usize, usize); 7] = [
     (3, 4096),
     (63, 4096),
 ];
+
+/// What the sources of the seeds of `seeds` repeat.
+const SEEDS: [u8; 3] = [0, 1, 197];
 
 /// A number.
 fn parse_number(word: &str) -> Result<u64, TrialFault> {
@@ -163,6 +166,22 @@ fn push_chosen(runs: &mut Vec<Run>, choices: &Choices, keep: u64) -> Result<(), 
     Ok(())
 }
 
+/// Appends, under each of three seeds, the run in order, a run by two workers, and the slow run.
+fn push_seeds(runs: &mut Vec<Run>) -> Result<(), TrialFault> {
+    let two = Settings {
+        workers: 2,
+        partitions: 2,
+        batch: 6,
+        keep: 0,
+    };
+    for byte in SEEDS {
+        runs.push(Run::Seeded(byte, Seeded::InOrder))?;
+        runs.push(Run::Seeded(byte, Seeded::Batches(two)))?;
+        runs.push(Run::Seeded(byte, Seeded::Slow))?;
+    }
+    Ok(())
+}
+
 /// Appends the runs that a word names.
 fn push_runs(alloc: Global, runs: &mut Vec<Run>, word: &str) -> Result<(), TrialFault> {
     let (name, keep) = word.split_once(':').unwrap_or((word, ""));
@@ -170,6 +189,7 @@ fn push_runs(alloc: Global, runs: &mut Vec<Run>, word: &str) -> Result<(), Trial
         "cuts" => push_chosen(runs, &CUTS, parse_number(keep)?),
         "wide" => push_chosen(runs, &WIDE, parse_number(keep)?),
         "aheads" => push_aheads(runs),
+        "seeds" => push_seeds(runs),
         _ => {
             runs.push(parse_run(alloc, word)?)?;
             Ok(())
@@ -177,8 +197,8 @@ fn push_runs(alloc: Global, runs: &mut Vec<Run>, word: &str) -> Result<(), Trial
     }
 }
 
-/// The runs that words name, one at least, each a run, `cuts:KEEP` or `wide:KEEP`, which are 27 settings each, or `aheads`, which is all
-/// ways of `aheads`.
+/// The runs that words name, one at least, each a run, `cuts:KEEP` or `wide:KEEP`, which are 27 settings each, `aheads`, which is all
+/// ways of `aheads`, or `seeds`, which is three runs under each of three seeds.
 fn parse_run_list(alloc: Global, words: &[&str]) -> Result<Vec<Run>, TrialFault> {
     if words.is_empty() {
         return Err(TrialFault::Words);
