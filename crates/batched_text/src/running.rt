@@ -1,7 +1,7 @@
 //! A log, read, run in batches, and reported as batches finish.
 
-ghost use Rattle.std.specs.Prelude.{◌≡◌, ◌≢◌, ◌<◌, ◌≤◌, ◌+◌, ◌-◌, ◌^◌, ◌↔◌, ℕ, [], false, true, List, Option, IfErr, IfOk, IfSome, MatchBool, OnOk, Err, Ok, length};
-ghost use Rattle.std.specs.Io.KnownBytes.{Appends, IsAtEnd, prepend_known};
+ghost use Rattle.std.specs.Prelude.{◌≡◌, ◌≢◌, ◌<◌, ◌≤◌, ◌+◌, ◌-◌, ◌^◌, ◌↔◌, ℕ, [], false, true, List, Option, IfErr, IfOk, IfSome, MatchBool, OnErr, OnOk, Err, Ok, length};
+ghost use Rattle.std.specs.Io.KnownBytes.{Appends, IsAtEnd, Keeps, prepend_known};
 ghost use Rattle.log_text_base.specs.Ahead.{ahead, found_line};
 ghost use Rattle.log_text_base.specs.Known.{AppendsFront, HadSome, TookLine, raised};
 ghost use Rattle.report.specs.Report.{IsReport};
@@ -41,15 +41,12 @@ const NONE_AHEAD: ReadingAhead = ReadingAhead {
     piece: 0,
 };
 
-/// Batches that are run in order, of which nothing is kept.
-const IN_ORDER: Plan = Plan {
-    settings: Settings {
-        workers: 1,
-        partitions: 1,
-        batch: 64,
-        keep: 0,
-    },
-    history: History::Dropped,
+/// Batches that are run in order.
+const IN_ORDER: Settings = Settings {
+    workers: 1,
+    partitions: 1,
+    batch: 64,
+    keep: 0,
 };
 
 /// Finds the next line, as `LineReader::next_line`. It is called only while nothing of the report is pending and, where nothing is
@@ -181,6 +178,7 @@ fn report_turn<T: Threads + Wait + Sync, R: Read, W: Write>(
         (standing_at (ahead lines.new) (R.remaining reader.new.inner) reader.new.given (W.contents writer.new.inner) batching.new) }
     ensures reads { reader.new.errors ≡ read_errors result reader.old.errors }
     ensures writes { writer.new.errors ≡ write_errors result writer.old.errors }
+    ensures flushes { writer.new.flushes ≡ writer.old.flushes }
 {
     if !report_line(rt, alloc, reader, lines, batching, plan)? {
         return Ok(false);
@@ -212,6 +210,7 @@ fn report_rest<T: Threads + Wait + Sync, R: Read, W: Write>(
         (W.contents writer.new.inner) batching.new }
     ensures reads { reader.new.errors ≡ read_errors result reader.old.errors }
     ensures writes { writer.new.errors ≡ write_errors result writer.old.errors }
+    ensures flushes { writer.new.flushes ≡ writer.old.flushes }
 {
     'lines: while report_turn(rt, alloc, reader, writer, lines, lookahead, batching, plan)? {}
     Ok(())
@@ -246,6 +245,7 @@ fn report_lines<T: Threads + Wait + Sync, R: Read, W: Write>(
         batching.new.pending.items }
     ensures reads { reader.new.errors ≡ read_errors result reader.old.errors }
     ensures writes { writer.new.errors ≡ write_errors result writer.old.errors }
+    ensures flushes { writer.new.flushes ≡ writer.old.flushes }
 {
     let mut lines = lines_for(alloc, reading)?;
     let seed = batching.engine.log().catalog().seed();
@@ -284,9 +284,22 @@ fn report_all<T: Threads + Wait + Sync, R: Read, W: Write>(
         batching.new.pending.items }
     ensures reads { reader.new.errors ≡ read_errors result reader.old.errors }
     ensures writes { writer.new.errors ≡ write_errors result writer.old.errors }
+    ensures flushes { writer.new.flushes ≡ writer.old.flushes }
 {
     report_lines(rt, alloc, reader, writer, batching, plan, reading)?;
     report_batch(rt, alloc, batching, plan)?;
+    Ok(())
+}
+
+/// Flushes the writer at the end of a report.
+fn end_report<W: Write>(writer: &mut Counted<W>) -> Result<(), TextFault>
+    ensures bytes { Keeps (W.contents writer.old.inner) (W.contents writer.new.inner) }
+    ensures same { OnOk result (writer.new.errors ≡ writer.old.errors) }
+    ensures err { OnErr result (writer.new.errors ≡ raised writer.old.errors) }
+    ensures fault { IfErr result (λ f. f ≡ TextFault.Write) }
+    ensures flushed { OnOk result ((writer.new.flushes ≡ raised writer.old.flushes) × (writer.new.is_flushed ≡ true)) }
+{
+    flush(writer)?;
     Ok(())
 }
 
@@ -314,13 +327,43 @@ fn run_batches<T: Threads + Wait + Sync, R: Read, W: Write>(
     ensures read { result ≡ Err TextFault.Read → reader.old.errors < 2 ^ 64 - 1 → reader.old.errors < reader.new.errors }
     ensures write { result ≡ Err TextFault.Write → writer.old.errors < 2 ^ 64 - 1 → writer.old.errors < writer.new.errors }
     ensures whole { OnOk result ((reader.new.errors ≡ reader.old.errors) × (writer.new.errors ≡ writer.old.errors)) }
+    ensures flushed { OnOk result ((writer.new.flushes ≡ raised writer.old.flushes) × (writer.new.is_flushed ≡ true)) }
 {
     let ended = report_all(rt, alloc, reader, writer, batching, plan, reading);
     let written = write_out(writer, &batching.pending);
     ended?;
     written?;
-    flush(writer)?;
+    end_report(writer)?;
     Ok(())
+}
+
+/// Reads, runs and reports a log as `run_batches`, but keeps nothing that is finished.
+fn report_batches<T: Threads + Wait + Sync, R: Read, W: Write>(
+    rt: &T,
+    alloc: Global,
+    reader: &mut Counted<R>,
+    writer: &mut Counted<W>,
+    batching: &mut Batching,
+    settings: &Settings,
+    reading: ReadingAhead,
+) -> Result<(), TextFault>
+    requires within { are_within_limits settings.now ≡ true }
+    requires first { IsFresh batching.old }
+    ensures dropped { OnOk result (batching.new.engine.dropped ≡ finished batching.new.engine) }
+    ensures done { OnOk result (IfSome (R.remaining reader.old.inner) (λ input. (text : List ℕ)
+        × (IsReport input text × Appends (W.contents writer.old.inner) (W.contents writer.new.inner) text))) }
+    ensures begun { IfSome (R.remaining reader.old.inner) (λ input. (text : List ℕ)
+        × (IsReport input text × AppendsFront (W.contents writer.old.inner) (W.contents writer.new.inner) text)) }
+    ensures read { result ≡ Err TextFault.Read → reader.old.errors < 2 ^ 64 - 1 → reader.old.errors < reader.new.errors }
+    ensures write { result ≡ Err TextFault.Write → writer.old.errors < 2 ^ 64 - 1 → writer.old.errors < writer.new.errors }
+    ensures whole { OnOk result ((reader.new.errors ≡ reader.old.errors) × (writer.new.errors ≡ writer.old.errors)) }
+    ensures flushed { OnOk result ((writer.new.flushes ≡ raised writer.old.flushes) × (writer.new.is_flushed ≡ true)) }
+{
+    let plan = Plan {
+        settings: *settings,
+        history: History::Dropped,
+    };
+    run_batches(rt, alloc, reader, writer, batching, &plan, reading)
 }
 
 /// The fault of a run, as one of an engine.
@@ -365,6 +408,8 @@ pub fn run_text<T: Threads + Wait + Sync, R: Read, W: Write>(
     ensures write { result ≡ Err EngineFault.Write → writer.old.errors < 2 ^ 64 - 1 → writer.old.errors < writer.new.errors }
     // Ok says that neither of them failed, in the flush at the end neither.
     ensures whole { OnOk result ((reader.new.errors ≡ reader.old.errors) × (writer.new.errors ≡ writer.old.errors)) }
+    // Ok says that the writer was flushed once, and not written to since.
+    ensures flushed { OnOk result ((writer.new.flushes ≡ raised writer.old.flushes) × (writer.new.is_flushed ≡ true)) }
 
     // BadSettings comes exactly where a setting is outside its limits, and then nothing is done.
     ensures bad { (result ≡ Err EngineFault.BadSettings) ↔ (are_within_limits settings.now ≡ false) }
@@ -395,6 +440,7 @@ pub fn run_text_seeded<T: Threads + Wait + Sync, R: Read, W: Write>(
     ensures read { result ≡ Err EngineFault.Read → reader.old.errors < 2 ^ 64 - 1 → reader.old.errors < reader.new.errors }
     ensures write { result ≡ Err EngineFault.Write → writer.old.errors < 2 ^ 64 - 1 → writer.old.errors < writer.new.errors }
     ensures whole { OnOk result ((reader.new.errors ≡ reader.old.errors) × (writer.new.errors ≡ writer.old.errors)) }
+    ensures flushed { OnOk result ((writer.new.flushes ≡ raised writer.old.flushes) × (writer.new.is_flushed ≡ true)) }
     ensures bad { (result ≡ Err EngineFault.BadSettings) ↔ (are_within_limits settings.now ≡ false) }
     ensures nothing { result ≡ Err EngineFault.BadSettings → (reader.new ≡ reader.old) × (writer.new ≡ writer.old) }
     ensures log { IfOk result (λ engine. IsLogOfText (R.remaining reader.old.inner) engine.log) }
@@ -441,6 +487,8 @@ pub fn report_text<T: Threads + Wait + Sync, R: Read, W: Write>(
     ensures write { result ≡ Err EngineFault.Write → writer.old.errors < 2 ^ 64 - 1 → writer.old.errors < writer.new.errors }
     // Ok says that neither of them failed, in the flush at the end neither.
     ensures whole { OnOk result ((reader.new.errors ≡ reader.old.errors) × (writer.new.errors ≡ writer.old.errors)) }
+    // Ok says that the writer was flushed once, and not written to since.
+    ensures flushed { OnOk result ((writer.new.flushes ≡ raised writer.old.flushes) × (writer.new.is_flushed ≡ true)) }
 
     // BadSettings comes exactly where a setting is outside its limits, and then nothing is done.
     ensures bad { (result ≡ Err EngineFault.BadSettings) ↔ (are_within_limits settings.now ≡ false) }
@@ -465,18 +513,23 @@ pub fn report_text_seeded<T: Threads + Wait + Sync, R: Read, W: Write>(
     ensures read { result ≡ Err EngineFault.Read → reader.old.errors < 2 ^ 64 - 1 → reader.old.errors < reader.new.errors }
     ensures write { result ≡ Err EngineFault.Write → writer.old.errors < 2 ^ 64 - 1 → writer.old.errors < writer.new.errors }
     ensures whole { OnOk result ((reader.new.errors ≡ reader.old.errors) × (writer.new.errors ≡ writer.old.errors)) }
+    ensures flushed { OnOk result ((writer.new.flushes ≡ raised writer.old.flushes) × (writer.new.is_flushed ≡ true)) }
     ensures bad { (result ≡ Err EngineFault.BadSettings) ↔ (are_within_limits settings.now ≡ false) }
     ensures nothing { result ≡ Err EngineFault.BadSettings → (reader.new ≡ reader.old) × (writer.new ≡ writer.old) }
 {
     if !are_within_limits(settings) {
         return Err(EngineFault::BadSettings);
     }
-    let plan = Plan {
-        settings: *settings,
-        history: History::Dropped,
-    };
     let mut batching = Batching::seeded(alloc, seed);
-    match run_batches(rt, alloc, reader, writer, &mut batching, &plan, NONE_AHEAD) {
+    match report_batches(
+        rt,
+        alloc,
+        reader,
+        writer,
+        &mut batching,
+        settings,
+        NONE_AHEAD,
+    ) {
         Ok(()) => Ok(()),
         Err(fault) => Err(engine_fault(fault)),
     }
@@ -510,6 +563,8 @@ pub fn report_in_order<T: Threads + Wait + Sync, R: Read, W: Write>(
     ensures write { result ≡ Err TextFault.Write → writer.old.errors < 2 ^ 64 - 1 → writer.old.errors < writer.new.errors }
     // Ok says that neither of them failed, in the flush at the end neither.
     ensures whole { OnOk result ((reader.new.errors ≡ reader.old.errors) × (writer.new.errors ≡ writer.old.errors)) }
+    // Ok says that the writer was flushed once, and not written to since.
+    ensures flushed { OnOk result ((writer.new.flushes ≡ raised writer.old.flushes) × (writer.new.is_flushed ≡ true)) }
 {
     report_in_order_seeded(rt, alloc, reader, writer, reading, HashSeed::fixed())
 }
@@ -530,7 +585,8 @@ pub fn report_in_order_seeded<T: Threads + Wait + Sync, R: Read, W: Write>(
     ensures read { result ≡ Err TextFault.Read → reader.old.errors < 2 ^ 64 - 1 → reader.old.errors < reader.new.errors }
     ensures write { result ≡ Err TextFault.Write → writer.old.errors < 2 ^ 64 - 1 → writer.old.errors < writer.new.errors }
     ensures whole { OnOk result ((reader.new.errors ≡ reader.old.errors) × (writer.new.errors ≡ writer.old.errors)) }
+    ensures flushed { OnOk result ((writer.new.flushes ≡ raised writer.old.flushes) × (writer.new.is_flushed ≡ true)) }
 {
     let mut batching = Batching::seeded(alloc, seed);
-    run_batches(rt, alloc, reader, writer, &mut batching, &IN_ORDER, reading)
+    report_batches(rt, alloc, reader, writer, &mut batching, &IN_ORDER, reading)
 }

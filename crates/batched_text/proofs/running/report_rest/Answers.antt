@@ -2,7 +2,7 @@ use Rattle.std.proofs.Common.{◌≡◌, refl, ◌∙◌, arith, rules}
 use Rattle.batched_text.proofs.running.report_rest.Goals as goal
 
 pub lines-init : goal.lines-init
-lines-init g c = record { names = c.requires.begins; nothing = c.requires.nothing; none = c.requires.none; ready = c.requires.ready; batched = λ input out so. so; read_errors = refl; write_errors = refl }
+lines-init g c = record { names = c.requires.begins; nothing = c.requires.nothing; none = c.requires.none; ready = c.requires.ready; batched = λ input out so. so; read_errors = refl; write_errors = refl; flushes = refl }
 
 pub returns-in_err-report_turn-clause-ends : goal.returns-in_err-report_turn-clause-ends
 returns-in_err-report_turn-clause-ends g c = record {
@@ -24,6 +24,7 @@ lines-preserved g c =
       batched = λ input out so. took.batched input out (c.lines.invariant.batched input out so);
       read_errors = reads ∙ c.lines.invariant.read_errors;
       write_errors = writes ∙ c.lines.invariant.write_errors;
+      flushes = c.report_turn.ensures.flushes ∙ c.lines.invariant.flushes;
     }
 
 pub lines-smaller : goal.lines-smaller

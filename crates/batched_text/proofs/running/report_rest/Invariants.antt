@@ -19,6 +19,7 @@ invariant-lines g l = record {
       → BatchedUpTo input (prepend_known (ahead l.lines) (g.R.Read.remaining l.reader.inner)) out (g.W.Write.contents l.writer.inner) l.batching;
   read_errors : l.reader.errors ≡ l.initial.reader.errors;
   write_errors : l.writer.errors ≡ l.initial.writer.errors;
+  flushes : l.writer.flushes ≡ l.initial.writer.flushes;
 }
 
 abbrev pub decreases-lines : goal.decreases-lines

@@ -10,17 +10,17 @@ pub returns-in_err-written-clause-begun : goal.returns-in_err-written-clause-beg
 returns-in_err-written-clause-begun g c =
     front_written _ _ _ _ c.report_all-ended.new.batching.pending.items c.report_all-ended.ensures.begun (rw c.deref.ensures.value at c.write_out-written.ensures.front)
 
-pub returns-in_err-flush-clause-begun : goal.returns-in_err-flush-clause-begun
-returns-in_err-flush-clause-begun g c =
-    front_kept_written _ _ _ _ _ c.report_all-ended.new.batching.pending.items c.report_all-ended.ensures.begun (rw c.deref.ensures.value at c.write_out-written.ensures.front) c.flush.ensures.bytes
+pub returns-in_err-end_report-clause-begun : goal.returns-in_err-end_report-clause-begun
+returns-in_err-end_report-clause-begun g c =
+    front_kept_written _ _ _ _ _ c.report_all-ended.new.batching.pending.items c.report_all-ended.ensures.begun (rw c.deref.ensures.value at c.write_out-written.ensures.front) c.end_report.ensures.bytes
 
 pub returns-clause-done : goal.returns-clause-done
 returns-clause-done g c =
-    all_written _ _ _ _ _ c.report_all-ended.new.batching.pending.items c.in_ok-ended.ensures.done (rw c.deref.ensures.value at c.in_ok-written.ensures.ok) c.flush.ensures.bytes
+    all_written _ _ _ _ _ c.report_all-ended.new.batching.pending.items c.in_ok-ended.ensures.done (rw c.deref.ensures.value at c.in_ok-written.ensures.ok) c.end_report.ensures.bytes
 
 pub returns-clause-begun : goal.returns-clause-begun
 returns-clause-begun g c =
-    front_kept_written _ _ _ _ _ c.report_all-ended.new.batching.pending.items c.report_all-ended.ensures.begun (rw c.deref.ensures.value at c.write_out-written.ensures.front) c.flush.ensures.bytes
+    front_kept_written _ _ _ _ _ c.report_all-ended.new.batching.pending.items c.report_all-ended.ensures.begun (rw c.deref.ensures.value at c.write_out-written.ensures.front) c.end_report.ensures.bytes
 
 pub returns-in_err-ended-clause-write : goal.returns-in_err-ended-clause-write
 returns-in_err-ended-clause-write g c = λ is small.
