@@ -12,6 +12,7 @@ ghost use Rattle.bohm_base.specs.Collecting.{Collects, LineMayLackMemory, ReadsA
 use crate::fault::EngineFault;
 use log_text::{LineFault, RawStatement, parse_line};
 use log_text_base::{Counted, LineReader};
+use model_base::HashSeed;
 use sequencer::{Log, Refused};
 use std::alloc::Global;
 use std::io::Read;
@@ -50,12 +51,12 @@ pub struct Collected {
 }
 
 impl Collected {
-    /// The log before its first line. It takes no memory.
-    fn new(alloc: Global) -> Self
+    /// The log before its first line, whose names are found under this seed. It takes no memory.
+    fn seeded(alloc: Global, seed: HashSeed) -> Self
         ensures log { result.log ≡ empty_log }
         ensures lines { result.lines.items ≡ [] }
     {
-        let log = Log::new(alloc);
+        let log = Log::seeded(alloc, seed);
         let lines = Vec::new(alloc);
         Collected { log, lines }
     }
@@ -160,11 +161,12 @@ fn collect_all<R: Read>(
     Ok(())
 }
 
-/// Reads lines to the end of what the reader gives. `NoMemory` comes where a growth was refused, `Read` where the reader
-/// failed; after either what was collected is gone.
+/// Reads lines to the end of what the reader gives. Names are found under this seed. `NoMemory` comes where a growth was refused,
+/// `Read` where the reader failed; after either what was collected is gone.
 pub fn collect_lines<R: Read>(
     alloc: Global,
     reader: &mut Counted<R>,
+    seed: HashSeed,
 ) -> Result<Collected, EngineFault>
     ensures whole { IfOk result (λ collected. IfSome (R.remaining reader.old.inner)
         (λ input. Collects input collected.log collected.lines.items)) }
@@ -172,7 +174,7 @@ pub fn collect_lines<R: Read>(
     ensures err { IfErr result (λ f. f ≢ EngineFault.Write) }
 {
     let mut reading = LineReader::new(alloc)?;
-    let mut collected = Collected::new(alloc);
+    let mut collected = Collected::seeded(alloc, seed);
     collect_all(alloc, reader, &mut reading, &mut collected)?;
     Ok(collected)
 }

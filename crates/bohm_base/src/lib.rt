@@ -10,4 +10,4 @@ mod serial_run;
 pub use collecting::{Became, faulty_line, refused_line};
 pub use command_line::{ArgumentFault, argument_fault, arguments};
 pub use fault::EngineFault;
-pub use serial_run::serial_text;
+pub use serial_run::{serial_text, serial_text_seeded};

@@ -12,8 +12,8 @@ use crate::collecting::{Became, Collected, collect_lines};
 use crate::fault::EngineFault;
 use crate::pending::put_out;
 use log_text_base::{Counted, PENDING_BYTES, flush, write_out};
-use model::serial;
-use model_base::{Outcome, Place};
+use model::serial_seeded;
+use model_base::{HashSeed, Outcome, Place};
 use report::{put_fault, put_outcome, put_refused};
 use sequencer::Log;
 use std::alloc::{AllocError, Global};
@@ -171,7 +171,8 @@ fn run_log<W: Write>(
     ensures write { result ≡ Err EngineFault.Write → writer.old.errors < 2 ^ 64 - 1 → writer.old.errors < writer.new.errors }
     ensures whole { OnOk result (writer.new.errors ≡ writer.old.errors) }
 {
-    let outcomes = serial(alloc, collected.log.statements())?;
+    let seed = collected.log.catalog().seed();
+    let outcomes = serial_seeded(alloc, collected.log.statements(), seed)?;
     write_report(alloc, writer, collected, &outcomes, pending)
 }
 
@@ -199,7 +200,25 @@ pub fn serial_text<R: Read, W: Write>(
     // Ok says that neither of them failed, in the flush at the end neither.
     ensures whole { OnOk result ((reader.new.errors ≡ reader.old.errors) × (writer.new.errors ≡ writer.old.errors)) }
 {
+    serial_text_seeded(alloc, reader, writer, HashSeed::fixed())
+}
+
+/// The same, by maps that find their keys under this seed.
+pub fn serial_text_seeded<R: Read, W: Write>(
+    alloc: Global,
+    reader: &mut Counted<R>,
+    writer: &mut Counted<W>,
+    seed: HashSeed,
+) -> Result<(), EngineFault>
+    ensures done { OnOk result (IfSome (R.remaining reader.old.inner) (λ input. (text : List ℕ)
+        × (IsReport input text × Appends (W.contents writer.old.inner) (W.contents writer.new.inner) text))) }
+    ensures begun { IfSome (R.remaining reader.old.inner) (λ input. (text : List ℕ)
+        × (IsReport input text × AppendsFront (W.contents writer.old.inner) (W.contents writer.new.inner) text)) }
+    ensures read { result ≡ Err EngineFault.Read → reader.old.errors < 2 ^ 64 - 1 → reader.old.errors < reader.new.errors }
+    ensures write { result ≡ Err EngineFault.Write → writer.old.errors < 2 ^ 64 - 1 → writer.old.errors < writer.new.errors }
+    ensures whole { OnOk result ((reader.new.errors ≡ reader.old.errors) × (writer.new.errors ≡ writer.old.errors)) }
+{
     let mut pending = Vec::with_capacity(alloc, PENDING_BYTES)?;
-    let collected = collect_lines(alloc, reader)?;
+    let collected = collect_lines(alloc, reader, seed)?;
     run_log(alloc, writer, &collected, &mut pending)
 }
