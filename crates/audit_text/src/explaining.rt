@@ -9,9 +9,10 @@ ghost use Rattle.audit_text.specs.Answer.{HasNoPlace, AnswersAccepted, IsExplana
 use crate::fault::AuditFault;
 use crate::putting::put_answer;
 use crate::question::Question;
-use batched_text::run_quietly_to;
+use batched_text::run_quietly_to_seeded;
 use engine::Engine;
 use log_text_base::{Counted, flush, write_out, writing_laws};
+use model_base::HashSeed;
 use std::alloc::Global;
 use std::io::{Read, Write};
 use std::sync::Wait;
@@ -78,6 +79,29 @@ pub fn explain_text<T: Threads + Wait + Sync, R: Read, W: Write>(
     // Ok says that neither of them failed, in the flush at the end neither.
     ensures whole { OnOk result ((reader.new.errors ≡ reader.old.errors) × (writer.new.errors ≡ writer.old.errors)) }
 {
-    let engine = run_quietly_to(rt, alloc, reader, Some(question.place))?;
+    explain_text_seeded(rt, alloc, reader, writer, question, HashSeed::fixed())
+}
+
+/// The same, by maps that find their keys under this seed.
+pub fn explain_text_seeded<T: Threads + Wait + Sync, R: Read, W: Write>(
+    rt: &T,
+    alloc: Global,
+    reader: &mut Counted<R>,
+    writer: &mut Counted<W>,
+    question: Question,
+    seed: HashSeed,
+) -> Result<(), AuditFault>
+    ensures done { OnOk result (IfSome (R.remaining reader.old.inner) (λ input. (text : List ℕ)
+        × (IsExplanation input question text × Appends (W.contents writer.old.inner) (W.contents writer.new.inner) text))) }
+    ensures begun { IfSome (R.remaining reader.old.inner) (λ input. (W.contents writer.new.inner ≡ W.contents writer.old.inner)
+        ⊎ ((text : List ℕ) × (IsExplanation input question text
+        × AppendsFront (W.contents writer.old.inner) (W.contents writer.new.inner) text))) }
+    ensures none { result ≡ Err AuditFault.NoSuchPlace
+        → (writer.new ≡ writer.old) × IfSome (R.remaining reader.old.inner) (λ input. HasNoPlace input question.place) }
+    ensures read { result ≡ Err AuditFault.Read → reader.old.errors < 2 ^ 64 - 1 → reader.old.errors < reader.new.errors }
+    ensures write { result ≡ Err AuditFault.Write → writer.old.errors < 2 ^ 64 - 1 → writer.old.errors < writer.new.errors }
+    ensures whole { OnOk result ((reader.new.errors ≡ reader.old.errors) × (writer.new.errors ≡ writer.old.errors)) }
+{
+    let engine = run_quietly_to_seeded(rt, alloc, reader, Some(question.place), seed)?;
     write_answer(alloc, writer, &engine, question)
 }

@@ -9,7 +9,7 @@ mod picturing;
 mod putting;
 mod question;
 
-pub use explaining::explain_text;
+pub use explaining::{explain_text, explain_text_seeded};
 pub use fault::AuditFault;
-pub use picturing::grants_text;
+pub use picturing::{grants_text, grants_text_seeded};
 pub use question::Question;

@@ -7,11 +7,11 @@ ghost use Rattle.engine.specs.Engine.{finished};
 ghost use Rattle.audit_text.specs.Picture.{EndsBefore, IsPicture, IsPictureOf, place_before};
 
 use crate::fault::AuditFault;
-use batched_text::run_quietly_to;
+use batched_text::run_quietly_to_seeded;
 use engine::Engine;
 use grants_graph::put_graph;
 use log_text_base::{Counted, flush, write_out, writing_laws};
-use model_base::Place;
+use model_base::{HashSeed, Place};
 use std::alloc::Global;
 use std::io::{Read, Write};
 use std::sync::Wait;
@@ -90,6 +90,29 @@ pub fn grants_text<T: Threads + Wait + Sync, R: Read, W: Write>(
     // Ok says that neither of them failed, in the flush at the end neither.
     ensures whole { OnOk result ((reader.new.errors ≡ reader.old.errors) × (writer.new.errors ≡ writer.old.errors)) }
 {
-    let engine = run_quietly_to(rt, alloc, reader, limit)?;
+    grants_text_seeded(rt, alloc, reader, writer, limit, HashSeed::fixed())
+}
+
+/// The same, by maps that find their keys under this seed.
+pub fn grants_text_seeded<T: Threads + Wait + Sync, R: Read, W: Write>(
+    rt: &T,
+    alloc: Global,
+    reader: &mut Counted<R>,
+    writer: &mut Counted<W>,
+    limit: Option<Place>,
+    seed: HashSeed,
+) -> Result<(), AuditFault>
+    ensures done { OnOk result (IfSome (R.remaining reader.old.inner) (λ input. (text : List ℕ)
+        × (IsPicture input limit text × Appends (W.contents writer.old.inner) (W.contents writer.new.inner) text))) }
+    ensures begun { IfSome (R.remaining reader.old.inner) (λ input. (W.contents writer.new.inner ≡ W.contents writer.old.inner)
+        ⊎ ((text : List ℕ) × (IsPicture input limit text
+        × AppendsFront (W.contents writer.old.inner) (W.contents writer.new.inner) text))) }
+    ensures none { result ≡ Err AuditFault.NoSuchPlace
+        → (writer.new ≡ writer.old) × IfSome (R.remaining reader.old.inner) (λ input. EndsBefore input limit) }
+    ensures read { result ≡ Err AuditFault.Read → reader.old.errors < 2 ^ 64 - 1 → reader.old.errors < reader.new.errors }
+    ensures write { result ≡ Err AuditFault.Write → writer.old.errors < 2 ^ 64 - 1 → writer.old.errors < writer.new.errors }
+    ensures whole { OnOk result ((reader.new.errors ≡ reader.old.errors) × (writer.new.errors ≡ writer.old.errors)) }
+{
+    let engine = run_quietly_to_seeded(rt, alloc, reader, limit, seed)?;
     write_picture(alloc, writer, &engine, limit)
 }

@@ -12,7 +12,7 @@ use crate::reporting::put_lines;
 use crate::settings::{Settings, mark_behind};
 use bohm_base::{Became, EngineFault};
 use engine::{Crew, Engine, RunFault};
-use model_base::Place;
+use model_base::{HashSeed, Place};
 use std::alloc::Global;
 use std::sync::Wait;
 use std::thread::Threads;
@@ -39,7 +39,14 @@ impl Batching {
     pub(crate) fn new(alloc: Global) -> Self
         ensures { IsFresh result }
     {
-        let engine = Engine::new(alloc);
+        Batching::seeded(alloc, HashSeed::fixed())
+    }
+
+    /// The same, whose engine finds its keys under this seed.
+    pub(crate) fn seeded(alloc: Global, seed: HashSeed) -> Self
+        ensures { IsFresh result }
+    {
+        let engine = Engine::seeded(alloc, seed);
         let _dropped = engine.log().dropped();
         Batching {
             engine,

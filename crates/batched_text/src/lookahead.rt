@@ -10,6 +10,7 @@ use crate::batching::Batching;
 use crate::history::Plan;
 use crate::stretches::{Ran, run_ahead};
 use bohm_base::EngineFault;
+use model_base::HashSeed;
 use read_ahead::Piece;
 use sequencer::Catalog;
 use std::alloc::Global;
@@ -58,12 +59,12 @@ pub(crate) struct Lookahead {
 }
 
 impl Lookahead {
-    /// No names yet. It takes no memory.
-    pub(crate) fn new(alloc: Global, ahead: ReadingAhead) -> Self
+    /// No names yet. They are found under this seed. It takes no memory.
+    pub(crate) fn seeded(alloc: Global, ahead: ReadingAhead, seed: HashSeed) -> Self
         ensures { result.names ≡ no_names }
     {
         Lookahead {
-            names: Catalog::new(alloc),
+            names: Catalog::seeded(alloc, seed),
             ahead,
             stretch: FIRST_STRETCH_BYTES.min(ahead.stretch),
             spare: Vec::new(alloc),

@@ -13,6 +13,7 @@ use crate::lines::take_read;
 use engine::{Crew, Engine, RunFault};
 use log_text::{RawRoom, read_line};
 use log_text_base::{Counted, LineReader, ReadFault};
+use model_base::HashSeed;
 use std::alloc::{AllocError, Global};
 use std::io::Read;
 use std::sync::Wait;
@@ -138,7 +139,23 @@ pub fn run_quietly<T: Threads + Wait + Sync, R: Read>(
     ensures read { result ≡ Err ReadFault.Read → reader.new.errors ≡ raised reader.old.errors }
     ensures other { (result ≡ Err ReadFault.Read → ⊥) → reader.new.errors ≡ reader.old.errors }
 {
-    let mut engine = Engine::new(alloc);
+    run_quietly_seeded(rt, alloc, reader, HashSeed::fixed())
+}
+
+/// The same, by maps that find their keys under this seed.
+pub fn run_quietly_seeded<T: Threads + Wait + Sync, R: Read>(
+    rt: &T,
+    alloc: Global,
+    reader: &mut Counted<R>,
+    seed: HashSeed,
+) -> Result<Engine, ReadFault>
+    ensures log { IfOk result (λ engine. IsLogOfText (R.remaining reader.old.inner) engine.log) }
+    ensures all { IfOk result (λ engine. finished engine ≡ length engine.log.statements) }
+    ensures kept { IfOk result (λ engine. engine.dropped ≡ 0) }
+    ensures read { result ≡ Err ReadFault.Read → reader.new.errors ≡ raised reader.old.errors }
+    ensures other { (result ≡ Err ReadFault.Read → ⊥) → reader.new.errors ≡ reader.old.errors }
+{
+    let mut engine = Engine::seeded(alloc, seed);
     run_lines(rt, alloc, reader, &mut engine)?;
     Ok(engine)
 }

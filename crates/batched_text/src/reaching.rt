@@ -12,7 +12,7 @@ ghost use Rattle.batched_text.specs.Reaching.{EndsTaking, HasTaken, IsLogUpTo};
 use crate::quiet::{BATCH, run_rest, take_quietly};
 use engine::Engine;
 use log_text_base::{BUFFER_BYTES, Counted, LineReader, MOST_GIVEN_BYTES, ReadFault};
-use model_base::{MOST_PLACES, Place};
+use model_base::{HashSeed, MOST_PLACES, Place};
 use std::alloc::Global;
 use std::io::Read;
 use std::sync::Wait;
@@ -126,7 +126,25 @@ pub fn run_quietly_to<T: Threads + Wait + Sync, R: Read>(
     ensures read { result ≡ Err ReadFault.Read → reader.new.errors ≡ raised reader.old.errors }
     ensures other { (result ≡ Err ReadFault.Read → ⊥) → reader.new.errors ≡ reader.old.errors }
 {
-    let mut engine = Engine::new(alloc);
+    run_quietly_to_seeded(rt, alloc, reader, limit, HashSeed::fixed())
+}
+
+/// The same, by maps that find their keys under this seed.
+pub fn run_quietly_to_seeded<T: Threads + Wait + Sync, R: Read>(
+    rt: &T,
+    alloc: Global,
+    reader: &mut Counted<R>,
+    limit: Option<Place>,
+    seed: HashSeed,
+) -> Result<Engine, ReadFault>
+    ensures log { IfOk result (λ engine. IsLogUpTo (R.remaining reader.old.inner) limit engine.log) }
+    ensures all { IfOk result (λ engine. finished engine ≡ length engine.log.statements) }
+    ensures whole { IfOk result (λ engine. IsWhole engine.log) }
+    ensures kept { IfOk result (λ engine. IfSome limit (λ place. engine.dropped ≤ place)) }
+    ensures read { result ≡ Err ReadFault.Read → reader.new.errors ≡ raised reader.old.errors }
+    ensures other { (result ≡ Err ReadFault.Read → ⊥) → reader.new.errors ≡ reader.old.errors }
+{
+    let mut engine = Engine::seeded(alloc, seed);
     let place = limit.unwrap_or(MOST_PLACES);
     run_until(rt, alloc, reader, &mut engine, place)?;
     let _len = engine.log().len();

@@ -27,6 +27,7 @@ use log_text::RawRoom;
 use log_text_base::{
     BUFFER_BYTES, Counted, LineReader, MOST_GIVEN_BYTES, ReadFault, flush, write_out, write_pending,
 };
+use model_base::HashSeed;
 use std::alloc::{AllocError, Global};
 use std::io::{Read, Write};
 use std::sync::Wait;
@@ -247,7 +248,8 @@ fn report_lines<T: Threads + Wait + Sync, R: Read, W: Write>(
     ensures writes { writer.new.errors ≡ write_errors result writer.old.errors }
 {
     let mut lines = lines_for(alloc, reading)?;
-    let mut lookahead = Lookahead::new(alloc, reading);
+    let seed = batching.engine.log().catalog().seed();
+    let mut lookahead = Lookahead::seeded(alloc, reading, seed);
     report_rest(
         rt,
         alloc,
@@ -374,6 +376,32 @@ pub fn run_text<T: Threads + Wait + Sync, R: Read, W: Write>(
     ensures trimmed { IfOk result (λ engine. IsTrimmed settings.now engine) }
     ensures kept { IfOk result (λ engine. engine.dropped ≡ 0) }
 {
+    run_text_seeded(rt, alloc, reader, writer, settings, HashSeed::fixed())
+}
+
+/// The same, by maps that find their keys under this seed.
+pub fn run_text_seeded<T: Threads + Wait + Sync, R: Read, W: Write>(
+    rt: &T,
+    alloc: Global,
+    reader: &mut Counted<R>,
+    writer: &mut Counted<W>,
+    settings: &Settings,
+    seed: HashSeed,
+) -> Result<Engine, EngineFault>
+    ensures done { OnOk result (IfSome (R.remaining reader.old.inner) (λ input. (text : List ℕ)
+        × (IsReport input text × Appends (W.contents writer.old.inner) (W.contents writer.new.inner) text))) }
+    ensures begun { IfSome (R.remaining reader.old.inner) (λ input. (text : List ℕ)
+        × (IsReport input text × AppendsFront (W.contents writer.old.inner) (W.contents writer.new.inner) text)) }
+    ensures read { result ≡ Err EngineFault.Read → reader.old.errors < 2 ^ 64 - 1 → reader.old.errors < reader.new.errors }
+    ensures write { result ≡ Err EngineFault.Write → writer.old.errors < 2 ^ 64 - 1 → writer.old.errors < writer.new.errors }
+    ensures whole { OnOk result ((reader.new.errors ≡ reader.old.errors) × (writer.new.errors ≡ writer.old.errors)) }
+    ensures bad { (result ≡ Err EngineFault.BadSettings) ↔ (are_within_limits settings.now ≡ false) }
+    ensures nothing { result ≡ Err EngineFault.BadSettings → (reader.new ≡ reader.old) × (writer.new ≡ writer.old) }
+    ensures log { IfOk result (λ engine. IsLogOfText (R.remaining reader.old.inner) engine.log) }
+    ensures all { IfOk result (λ engine. finished engine ≡ length engine.log.statements) }
+    ensures trimmed { IfOk result (λ engine. IsTrimmed settings.now engine) }
+    ensures kept { IfOk result (λ engine. engine.dropped ≡ 0) }
+{
     if !are_within_limits(settings) {
         return Err(EngineFault::BadSettings);
     }
@@ -381,7 +409,7 @@ pub fn run_text<T: Threads + Wait + Sync, R: Read, W: Write>(
         settings: *settings,
         history: History::Kept,
     };
-    let mut batching = Batching::new(alloc);
+    let mut batching = Batching::seeded(alloc, seed);
     match run_batches(rt, alloc, reader, writer, &mut batching, &plan, NONE_AHEAD) {
         Ok(()) => Ok(batching.engine),
         Err(fault) => Err(engine_fault(fault)),
@@ -418,6 +446,28 @@ pub fn report_text<T: Threads + Wait + Sync, R: Read, W: Write>(
     ensures bad { (result ≡ Err EngineFault.BadSettings) ↔ (are_within_limits settings.now ≡ false) }
     ensures nothing { result ≡ Err EngineFault.BadSettings → (reader.new ≡ reader.old) × (writer.new ≡ writer.old) }
 {
+    report_text_seeded(rt, alloc, reader, writer, settings, HashSeed::fixed())
+}
+
+/// The same, by maps that find their keys under this seed.
+pub fn report_text_seeded<T: Threads + Wait + Sync, R: Read, W: Write>(
+    rt: &T,
+    alloc: Global,
+    reader: &mut Counted<R>,
+    writer: &mut Counted<W>,
+    settings: &Settings,
+    seed: HashSeed,
+) -> Result<(), EngineFault>
+    ensures done { OnOk result (IfSome (R.remaining reader.old.inner) (λ input. (text : List ℕ)
+        × (IsReport input text × Appends (W.contents writer.old.inner) (W.contents writer.new.inner) text))) }
+    ensures begun { IfSome (R.remaining reader.old.inner) (λ input. (text : List ℕ)
+        × (IsReport input text × AppendsFront (W.contents writer.old.inner) (W.contents writer.new.inner) text)) }
+    ensures read { result ≡ Err EngineFault.Read → reader.old.errors < 2 ^ 64 - 1 → reader.old.errors < reader.new.errors }
+    ensures write { result ≡ Err EngineFault.Write → writer.old.errors < 2 ^ 64 - 1 → writer.old.errors < writer.new.errors }
+    ensures whole { OnOk result ((reader.new.errors ≡ reader.old.errors) × (writer.new.errors ≡ writer.old.errors)) }
+    ensures bad { (result ≡ Err EngineFault.BadSettings) ↔ (are_within_limits settings.now ≡ false) }
+    ensures nothing { result ≡ Err EngineFault.BadSettings → (reader.new ≡ reader.old) × (writer.new ≡ writer.old) }
+{
     if !are_within_limits(settings) {
         return Err(EngineFault::BadSettings);
     }
@@ -425,7 +475,7 @@ pub fn report_text<T: Threads + Wait + Sync, R: Read, W: Write>(
         settings: *settings,
         history: History::Dropped,
     };
-    let mut batching = Batching::new(alloc);
+    let mut batching = Batching::seeded(alloc, seed);
     match run_batches(rt, alloc, reader, writer, &mut batching, &plan, NONE_AHEAD) {
         Ok(()) => Ok(()),
         Err(fault) => Err(engine_fault(fault)),
@@ -461,6 +511,26 @@ pub fn report_in_order<T: Threads + Wait + Sync, R: Read, W: Write>(
     // Ok says that neither of them failed, in the flush at the end neither.
     ensures whole { OnOk result ((reader.new.errors ≡ reader.old.errors) × (writer.new.errors ≡ writer.old.errors)) }
 {
-    let mut batching = Batching::new(alloc);
+    report_in_order_seeded(rt, alloc, reader, writer, reading, HashSeed::fixed())
+}
+
+/// The same, by maps that find their keys under this seed.
+pub fn report_in_order_seeded<T: Threads + Wait + Sync, R: Read, W: Write>(
+    rt: &T,
+    alloc: Global,
+    reader: &mut Counted<R>,
+    writer: &mut Counted<W>,
+    reading: ReadingAhead,
+    seed: HashSeed,
+) -> Result<(), TextFault>
+    ensures done { OnOk result (IfSome (R.remaining reader.old.inner) (λ input. (text : List ℕ)
+        × (IsReport input text × Appends (W.contents writer.old.inner) (W.contents writer.new.inner) text))) }
+    ensures begun { IfSome (R.remaining reader.old.inner) (λ input. (text : List ℕ)
+        × (IsReport input text × AppendsFront (W.contents writer.old.inner) (W.contents writer.new.inner) text)) }
+    ensures read { result ≡ Err TextFault.Read → reader.old.errors < 2 ^ 64 - 1 → reader.old.errors < reader.new.errors }
+    ensures write { result ≡ Err TextFault.Write → writer.old.errors < 2 ^ 64 - 1 → writer.old.errors < writer.new.errors }
+    ensures whole { OnOk result ((reader.new.errors ≡ reader.old.errors) × (writer.new.errors ≡ writer.old.errors)) }
+{
+    let mut batching = Batching::seeded(alloc, seed);
     run_batches(rt, alloc, reader, writer, &mut batching, &IN_ORDER, reading)
 }

@@ -4,7 +4,7 @@ use crate::case::{Case, Drawn, Runs};
 use crate::failing::Failing;
 use crate::fault::TrialFault;
 use crate::logs::Log;
-use crate::run::Run;
+use crate::run::{Run, Seeded};
 use crate::tail::Bits;
 use audit_text::Question;
 use batched_text::{ReadingAhead, Settings};
@@ -25,6 +25,9 @@ const AHEADS: [(usize, usize); 7] = [
     (3, 4096),
     (63, 4096),
 ];
+
+/// What the sources of the seeds of `seeds` repeat.
+const SEEDS: [u8; 3] = [0, 1, 197];
 
 /// A number.
 fn parse_number(word: &str) -> Result<u64, TrialFault> {
@@ -149,8 +152,24 @@ fn push_cuts(runs: &mut Vec<Run>, keep: u64) -> Result<(), TrialFault> {
     Ok(())
 }
 
-/// The runs that words name, one at least, each a run, `cuts:KEEP`, which is all settings of `cuts`, or `aheads`, which is all ways of
-/// `aheads`.
+/// Appends, under each of three seeds, the run in order, a run by two workers, and the slow run.
+fn push_seeds(runs: &mut Vec<Run>) -> Result<(), TrialFault> {
+    let two = Settings {
+        workers: 2,
+        partitions: 2,
+        batch: 6,
+        keep: 0,
+    };
+    for byte in SEEDS {
+        runs.push(Run::Seeded(byte, Seeded::InOrder))?;
+        runs.push(Run::Seeded(byte, Seeded::Batches(two)))?;
+        runs.push(Run::Seeded(byte, Seeded::Slow))?;
+    }
+    Ok(())
+}
+
+/// The runs that words name, one at least, each a run, `cuts:KEEP`, which is all settings of `cuts`, `aheads`, which is all ways of
+/// `aheads`, or `seeds`, which is three runs under each of three seeds.
 fn parse_run_list(alloc: Global, words: &[&str]) -> Result<Vec<Run>, TrialFault> {
     if words.is_empty() {
         return Err(TrialFault::Words);
@@ -160,6 +179,7 @@ fn parse_run_list(alloc: Global, words: &[&str]) -> Result<Vec<Run>, TrialFault>
         match word.strip_prefix("cuts:") {
             Some(keep) => push_cuts(&mut runs, parse_number(keep)?)?,
             None if *word == "aheads" => push_aheads(&mut runs)?,
+            None if *word == "seeds" => push_seeds(&mut runs)?,
             None => runs.push(parse_run(alloc, word)?)?,
         }
     }

@@ -2,14 +2,64 @@
 
 use crate::fault::TrialFault;
 use audit_text::{Question, explain_text, grants_text};
-use batched_text::{ReadingAhead, Settings, report_in_order, report_text, run_text};
-use bohm_base::serial_text;
+use batched_text::{
+    ReadingAhead, Settings, report_in_order, report_in_order_seeded, report_text,
+    report_text_seeded, run_text,
+};
+use bohm_base::{serial_text, serial_text_seeded};
 use log_text_base::Counted;
-use model_base::Place;
+use model_base::{HashSeed, Place};
 use std::alloc::Global;
+use std::io;
 use std::io::{Read, Write};
+use std::random::RandomSource;
 use std::sync::Wait;
 use std::thread::Threads;
+
+/// A source of which each byte is the same, so that the seed that is drawn from it is the same at each run.
+#[derive(Clone, Copy)]
+struct Repeating(u8);
+
+impl RandomSource for Repeating {
+    fn fill_bytes(&self, buf: &mut [u8]) -> io::Result<()> {
+        buf.fill(self.0);
+        Ok(())
+    }
+}
+
+/// A run whose maps find their keys under a seed that is given.
+#[derive(Clone, Copy)]
+pub enum Seeded {
+    /// In order, with each line read in its turn.
+    InOrder,
+    /// In batches, of which nothing is kept.
+    Batches(Settings),
+    /// By the definitions.
+    Slow,
+}
+
+impl Seeded {
+    /// Runs a log from its reader to its writer.
+    fn execute<T: Threads + Wait + Sync, R: Read, W: Write>(
+        self,
+        rt: &T,
+        alloc: Global,
+        seed: HashSeed,
+        log: &mut Counted<R>,
+        text: &mut Counted<W>,
+    ) -> Result<(), TrialFault> {
+        match self {
+            Seeded::InOrder => {
+                report_in_order_seeded(rt, alloc, log, text, ReadingAhead::by(0), seed)?
+            }
+            Seeded::Batches(settings) => {
+                report_text_seeded(rt, alloc, log, text, &settings, seed)?
+            }
+            Seeded::Slow => serial_text_seeded(alloc, log, text, seed)?,
+        }
+        Ok(())
+    }
+}
 
 /// What makes a text of a log: its report by one of the runs, or the answer to a question about it.
 #[derive(Clone, Copy)]
@@ -22,6 +72,8 @@ pub enum Run {
     Batches(Settings),
     /// The report in batches, all of which are kept.
     Kept(Settings),
+    /// The report by a run under the seed that is drawn from a source which repeats this byte.
+    Seeded(u8, Seeded),
     /// Why a place was admitted or denied.
     Explain(Question),
     /// The picture of the grants before a place, or at the end.
@@ -47,6 +99,10 @@ impl Run {
             Run::Slow => serial_text(alloc, log, text)?,
             Run::Batches(settings) => report_text(rt, alloc, log, text, &settings)?,
             Run::Kept(settings) => run_kept(rt, alloc, log, text, &settings)?,
+            Run::Seeded(byte, seeded) => {
+                let seed = HashSeed::drawn(&Repeating(byte))?;
+                seeded.execute(rt, alloc, seed, log, text)?
+            }
             Run::Explain(question) => explain_text(rt, alloc, log, text, question)?,
             Run::Picture(limit) => grants_text(rt, alloc, log, text, limit)?,
         }

@@ -80,6 +80,7 @@ fn run<O: Copy, K: Work<O>, R: Files + Input + Print + Threads + Wait + Sync>(
 }
 
 /// The works by which commands are done.
+#[derive(Drop)]
 pub struct Works<P, B, S, E, G> {
     /// The run in order, one statement after another, while so many threads read lines ahead.
     pub in_order: P,

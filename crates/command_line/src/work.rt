@@ -12,11 +12,11 @@ ghost use Rattle.batched_text.specs.Faults.{of_text};
 ghost use Rattle.command_line.specs.Works.{of_audit, of_run};
 ghost use Rattle.command_line.specs.declared.work.WorkFault.{WorkFault};
 
-use audit_text::{AuditFault, Question, explain_text, grants_text};
-use batched_text::{ReadingAhead, Settings, report_in_order, report_text};
-use bohm_base::{EngineFault, serial_text};
+use audit_text::{AuditFault, Question, explain_text_seeded, grants_text_seeded};
+use batched_text::{ReadingAhead, Settings, report_in_order_seeded, report_text_seeded};
+use bohm_base::{EngineFault, serial_text_seeded};
 use log_text_base::Counted;
-use model_base::Place;
+use model_base::{HashSeed, Place};
 use std::alloc::Global;
 use std::io::{Read, Write};
 use std::sync::Wait;
@@ -108,7 +108,10 @@ fn audit_fault(fault: AuditFault) -> WorkFault
 
 /// The run in order on one thread, while so many further threads read lines before their turn.
 #[derive(Clone, Copy)]
-pub struct InOrder;
+pub struct InOrder {
+    /// The seed under which its maps find their keys.
+    pub seed: HashSeed,
+}
 
 impl Work<u64> for InOrder {
     ghost takes = { λ _ _. Unit {0} };
@@ -126,7 +129,7 @@ impl Work<u64> for InOrder {
         told: &mut Counted<W>,
     ) -> Result<(), WorkFault> {
         let ahead = ReadingAhead::by(order as usize);
-        match report_in_order(rt, alloc, log, told, ahead) {
+        match report_in_order_seeded(rt, alloc, log, told, ahead, self.seed) {
             Ok(()) => Ok(()),
             Err(fault) => Err(run_fault(fault)),
         }
@@ -135,7 +138,10 @@ impl Work<u64> for InOrder {
 
 /// The slow run, which follows the definitions one by one.
 #[derive(Clone, Copy)]
-pub struct Slow;
+pub struct Slow {
+    /// The seed under which its maps find their keys.
+    pub seed: HashSeed,
+}
 
 impl Work<()> for Slow {
     ghost takes = { λ _ _. Unit {0} };
@@ -152,7 +158,7 @@ impl Work<()> for Slow {
         log: &mut Counted<R>,
         told: &mut Counted<W>,
     ) -> Result<(), WorkFault> {
-        match serial_text(alloc, log, told) {
+        match serial_text_seeded(alloc, log, told, self.seed) {
             Ok(()) => Ok(()),
             Err(fault) => Err(run_fault(fault)),
         }
@@ -161,7 +167,10 @@ impl Work<()> for Slow {
 
 /// The run in batches, by placers and workers on threads. It keeps nothing that is finished but rows and grants.
 #[derive(Clone, Copy)]
-pub struct Batched;
+pub struct Batched {
+    /// The seed under which its maps find their keys.
+    pub seed: HashSeed,
+}
 
 impl Work<Settings> for Batched {
     ghost takes = { λ _ settings. are_within_limits settings ≡ true };
@@ -178,7 +187,7 @@ impl Work<Settings> for Batched {
         log: &mut Counted<R>,
         told: &mut Counted<W>,
     ) -> Result<(), WorkFault> {
-        match report_text(rt, alloc, log, told, &order) {
+        match report_text_seeded(rt, alloc, log, told, &order, self.seed) {
             Ok(()) => Ok(()),
             Err(fault) => Err(run_fault(batched_fault(fault))),
         }
@@ -187,7 +196,10 @@ impl Work<Settings> for Batched {
 
 /// The answer to a question about a place.
 #[derive(Clone, Copy)]
-pub struct Explained;
+pub struct Explained {
+    /// The seed under which its maps find their keys.
+    pub seed: HashSeed,
+}
 
 impl Work<Question> for Explained {
     ghost takes = { λ _ _. Unit {0} };
@@ -204,7 +216,7 @@ impl Work<Question> for Explained {
         log: &mut Counted<R>,
         told: &mut Counted<W>,
     ) -> Result<(), WorkFault> {
-        match explain_text(rt, alloc, log, told, order) {
+        match explain_text_seeded(rt, alloc, log, told, order, self.seed) {
             Ok(()) => Ok(()),
             Err(fault) => Err(audit_fault(fault)),
         }
@@ -213,7 +225,10 @@ impl Work<Question> for Explained {
 
 /// The picture of the grants in force before a place, or at the end.
 #[derive(Clone, Copy)]
-pub struct Pictured;
+pub struct Pictured {
+    /// The seed under which its maps find their keys.
+    pub seed: HashSeed,
+}
 
 impl Work<Option<Place>> for Pictured {
     ghost takes = { λ _ _. Unit {0} };
@@ -230,7 +245,7 @@ impl Work<Option<Place>> for Pictured {
         log: &mut Counted<R>,
         told: &mut Counted<W>,
     ) -> Result<(), WorkFault> {
-        match grants_text(rt, alloc, log, told, order) {
+        match grants_text_seeded(rt, alloc, log, told, order, self.seed) {
             Ok(()) => Ok(()),
             Err(fault) => Err(audit_fault(fault)),
         }

@@ -15,8 +15,8 @@ use grants::Book;
 use log_batch::LogBatch;
 use log_text::RawStatement;
 use model_base::{
-    Key, MOST_BATCH_STATEMENTS, MOST_PARTITIONS, MOST_PLACES, MOST_WORKERS, Outcome, Place, Row,
-    Statement,
+    HashSeed, Key, MOST_BATCH_STATEMENTS, MOST_PARTITIONS, MOST_PLACES, MOST_WORKERS, Outcome,
+    Place, Row, Statement,
 };
 use past::{Past, forget_first};
 use sequencer::{LogTail, Refused};
@@ -200,10 +200,20 @@ impl Engine {
         ensures mark { result.store.mark ≡ 0 }
         ensures kept { result.dropped ≡ 0 }
     {
+        Engine::seeded(alloc, HashSeed::fixed())
+    }
+
+    /// An engine without places, which finds names, rows and grants under this seed. It takes no memory.
+    pub fn seeded(alloc: Global, seed: HashSeed) -> Self
+        ensures log { result.log ≡ empty_log }
+        ensures none { finished result ≡ 0 }
+        ensures mark { result.store.mark ≡ 0 }
+        ensures kept { result.dropped ≡ 0 }
+    {
         Engine {
-            log: LogTail::new(alloc),
-            chains: Chains::new(alloc),
-            book: RememberingBook::new(alloc),
+            log: LogTail::seeded(alloc, seed),
+            chains: Chains::seeded(alloc, seed),
+            book: RememberingBook::seeded(alloc, seed),
             past: Past::new(),
             outcomes: Vec::new(alloc),
         }

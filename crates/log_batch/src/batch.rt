@@ -88,7 +88,7 @@ fn named_grants(
     requires within { range.end ≤ length log.now.log.statements }
     ensures { IfOk result (λ grants. grants ≡ grants_named log.now.log.statements range.start (range.end - range.start)) }
 {
-    let mut grants = IndexedGrants::new(alloc);
+    let mut grants = IndexedGrants::seeded(alloc, log.catalog().seed());
     for place in range.start..range.end {
         push_grant(&mut grants, log.statement(place).deed_at(place))?;
     }

@@ -11,7 +11,7 @@ ghost use Rattle.checker.specs.Missing.{Covers};
 use crate::held::HeldNeeds;
 use checker::{Admission, admit};
 use grants::Book;
-use model_base::{Grant, MOST_NAMES, Place, Revocation, Statement, Table, User};
+use model_base::{Grant, HashSeed, MOST_NAMES, Place, Revocation, Statement, Table, User};
 use std::alloc::{AllocError, Global};
 use std::marker::Model;
 
@@ -42,8 +42,16 @@ impl RememberingBook {
         ensures tables { result.tables ≡ [] }
         ensures records { result.records ≡ [] }
     {
+        RememberingBook::seeded(alloc, HashSeed::fixed())
+    }
+
+    /// The same book, whose grants are found under this seed.
+    pub fn seeded(alloc: Global, seed: HashSeed) -> Self
+        ensures tables { result.tables ≡ [] }
+        ensures records { result.records ≡ [] }
+    {
         RememberingBook {
-            book: Book::new(alloc),
+            book: Book::seeded(alloc, seed),
             held: HeldNeeds::new(alloc),
         }
     }

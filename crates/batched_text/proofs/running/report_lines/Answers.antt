@@ -34,4 +34,4 @@ report_rest-requires-clause-none g c κs within = none_wait c.args.plan.now.hist
 
 pub report_rest-requires-clause-begins : goal.report_rest-requires-clause-begins
 report_rest-requires-clause-begins g c κs within =
-    rw (c.new-lookahead.ensures, ap (λ (log : Accepted). log.names) c.requires.first.log) (begins_same no_names)
+    rw (c.seeded-lookahead.ensures, ap (λ (log : Accepted). log.names) c.requires.first.log) (begins_same no_names)
