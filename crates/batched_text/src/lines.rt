@@ -68,6 +68,7 @@ pub(crate) fn take_read(
 
 /// Reads a line, and takes its statement into the log if it is one that is not refused. Then the line waits. What the line reads as
 /// stays in the room that is lent.
+#[tactic(auto, using(crate::proofs::LineReadings::in_grammar))]
 pub(crate) fn take_line<'a>(
     batching: &mut Batching,
     line: &'a [u8],

@@ -23,6 +23,7 @@ use workers::NoGate;
 pub(crate) const BATCH: u64 = 1024;
 
 /// Reads a line, and takes its statement into the log if it is one that is not refused.
+#[tactic(auto, using(crate::proofs::LineReadings::in_grammar))]
 pub(crate) fn take_quietly(
     alloc: Global,
     engine: &mut Engine,

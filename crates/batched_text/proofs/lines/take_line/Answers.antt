@@ -9,7 +9,7 @@ use Rattle.batched_text.proofs.lines.take_line.Goals as goal
 pub returns-clause-ok : goal.returns-clause-ok
 returns-clause-ok c =
     let parsed = c.read_into-found.ensures in
-    let sentence = sentence_of c.read_into-found.new.raw in
+    let sentence = sentence_of c.read_into-found.new.room in
     let took = c.in_ok-line.ensures in (
       reading_by c.read_into-found.result sentence,
       (
