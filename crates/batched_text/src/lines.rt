@@ -22,14 +22,14 @@ use std::thread::Threads;
 /// Takes the statement that a line was read as into the log if it is not refused, and says what the line became. After an error the
 /// statement is not refused.
 #[inline(always)]
-fn take_statement(engine: &mut Engine, read: &RawRoom<'_>) -> Result<Became, EngineFault>
-    requires { IsInGrammar (sentence_of read.now) }
-    ensures line { IfOk result (λ line. line ≡ became engine.old.log.names (read (sentence_of read.now))) }
-    ensures engine { OnOk result (engine.new ≡ record engine.old { log = with_reading engine.old.log (read (sentence_of read.now)) }) }
+fn take_statement(engine: &mut Engine, raw: &RawRoom<'_>) -> Result<Became, EngineFault>
+    requires { IsInGrammar (sentence_of raw.now) }
+    ensures line { IfOk result (λ line. line ≡ became engine.old.log.names (read (sentence_of raw.now))) }
+    ensures engine { OnOk result (engine.new ≡ record engine.old { log = with_reading engine.old.log (read (sentence_of raw.now)) }) }
     ensures err { IfErr result (λ f. f ≡ EngineFault.NoMemory) }
-    ensures want { OnErr result (LineMayLackMemory (became engine.old.log.names (read (sentence_of read.now)))) }
+    ensures want { OnErr result (LineMayLackMemory (became engine.old.log.names (read (sentence_of raw.now)))) }
 {
-    match engine.push_read(read) {
+    match engine.push_read(raw) {
         Ok(_) => Ok(Became::Accepted),
         Err(refused) => {
             let line = refused_line(refused)?;
@@ -44,19 +44,19 @@ fn take_statement(engine: &mut Engine, read: &RawRoom<'_>) -> Result<Became, Eng
 pub(crate) fn take_read(
     engine: &mut Engine,
     found: Result<(), LineFault>,
-    read: &RawRoom<'_>,
+    raw: &RawRoom<'_>,
 ) -> Result<Became, EngineFault>
-    requires { OnOk found (IsInGrammar (sentence_of read.now)) }
-    ensures line { IfOk result (λ line. line ≡ became engine.old.log.names (reading_by found (sentence_of read.now))) }
+    requires { OnOk found (IsInGrammar (sentence_of raw.now)) }
+    ensures line { IfOk result (λ line. line ≡ became engine.old.log.names (reading_by found (sentence_of raw.now))) }
     ensures engine { OnOk result (engine.new
-        ≡ record engine.old { log = with_reading engine.old.log (reading_by found (sentence_of read.now)) }) }
+        ≡ record engine.old { log = with_reading engine.old.log (reading_by found (sentence_of raw.now)) }) }
     ensures told { OnOk result (found ≢ Err LineFault.NoMemory) }
     ensures err { IfErr result (λ f. f ≡ EngineFault.NoMemory) }
-    ensures want { OnErr result (LineMayLackMemory (became engine.old.log.names (reading_by found (sentence_of read.now)))) }
+    ensures want { OnErr result (LineMayLackMemory (became engine.old.log.names (reading_by found (sentence_of raw.now)))) }
 {
     match found {
         Ok(()) => {
-            let line = take_statement(engine, read)?;
+            let line = take_statement(engine, raw)?;
             Ok(line)
         }
         Err(fault) => {
