@@ -8,3 +8,4 @@ pub mod TakenLines
 pub mod Fronts
 pub mod ForetoldLines
 pub mod RunLines
+pub mod LineReadings

@@ -5,3 +5,4 @@ pub mod Batching
 pub mod Reaching
 pub mod Faults
 pub mod Foretold
+pub mod LineRead

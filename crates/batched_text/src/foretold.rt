@@ -51,7 +51,6 @@ fn take_faulty(batching: &mut Batching, fault: LineFault) -> Result<(), EngineFa
 /// Takes the line that begins at an index of the bytes, and returns how many of them it takes. None where no line is whole there, and
 /// then nothing has changed.
 fn take_next<'a>(
-    alloc: Global,
     batching: &mut Batching,
     bytes: &'a [u8],
     from: usize,
@@ -67,14 +66,13 @@ fn take_next<'a>(
     let Some((line, count)) = cut_line(&bytes[from..]) else {
         return Ok(None);
     };
-    take_line(alloc, batching, line, raw)?;
+    take_line(batching, line, raw)?;
     Ok(Some(count))
 }
 
 /// Takes a line by what was found of it before its turn, as `take_next`; a statement that was found is moved out. The line is read now
 /// where that told nothing, or where no place is left for its statement.
 fn take_ahead<'a>(
-    alloc: Global,
     batching: &mut Batching,
     bytes: &'a [u8],
     ahead: &mut Ahead,
@@ -91,7 +89,7 @@ fn take_ahead<'a>(
         Found::Known(statement) => {
             let _dropped = batching.engine.log().dropped();
             if batching.engine.log().len() >= MOST_PLACES {
-                return take_next(alloc, batching, bytes, ahead.from, raw);
+                return take_next(batching, bytes, ahead.from, raw);
             }
             take_known(batching, statement)?;
             Ok(Some(ahead.count))
@@ -100,7 +98,7 @@ fn take_ahead<'a>(
             take_faulty(batching, *fault)?;
             Ok(Some(ahead.count))
         }
-        Found::Unread => take_next(alloc, batching, bytes, ahead.from, raw),
+        Found::Unread => take_next(batching, bytes, ahead.from, raw),
     }
 }
 
@@ -121,7 +119,7 @@ fn report_next<'a, T: Threads + Wait + Sync>(
     ensures order { IfOk result (λ to. from ≤ to) }
     ensures runs { Runs plan.now bytes.now given from batching.old batching.new result }
 {
-    let Some(count) = take_next(alloc, batching, bytes, from, raw)? else {
+    let Some(count) = take_next(batching, bytes, from, raw)? else {
         return Ok(from);
     };
     let _dropped = batching.engine.log().dropped();
@@ -149,7 +147,7 @@ fn report_one<'a, T: Threads + Wait + Sync>(
     if ahead.from != from {
         return Ok(from);
     }
-    let Some(count) = take_ahead(alloc, batching, bytes, ahead, raw)? else {
+    let Some(count) = take_ahead(batching, bytes, ahead, raw)? else {
         return Ok(from);
     };
     let _dropped = batching.engine.log().dropped();

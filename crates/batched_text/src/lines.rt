@@ -1,39 +1,35 @@
 //! A line, taken into the log of an engine.
 
 ghost use Rattle.std.specs.Prelude.{◌≡◌, ◌≢◌, ◌<◌, ◌-◌, ◌^◌, Err, IfOk, IfErr, OnErr, OnOk, true};
-ghost use Rattle.std.specs.Result.{ForOk};
+ghost use Rattle.log_text.specs.Room.{sentence_of};
 ghost use Rattle.log_text.specs.Statement.{IsInGrammar};
 ghost use Rattle.report.specs.Report.{Reading, read};
-ghost use Rattle.bohm_base.specs.Collecting.{LineMayLackMemory, ReadsAs, became, reading_of, with_reading};
+ghost use Rattle.bohm_base.specs.Collecting.{LineMayLackMemory, ReadsAs, became, with_reading};
 ghost use Rattle.engine.specs.Engine.{finished};
 ghost use Rattle.batched_text.specs.Batching.{Deals, IsOpen, Takes};
 ghost use Rattle.batched_text.specs.Faults.{IsOfBatch};
+ghost use Rattle.batched_text.specs.LineRead.{reading_by};
 
 use crate::batching::{Batching, report_full};
 use crate::history::Plan;
 use bohm_base::{Became, EngineFault, faulty_line, refused_line};
 use engine::Engine;
-use log_text::{LineFault, RawRoom, RawStatement, read_line};
+use log_text::{LineFault, RawRoom, read_into};
 use std::alloc::Global;
 use std::sync::Wait;
 use std::thread::Threads;
 
-/// Takes a statement into the log if it is not refused, and says what its line became. After an error the statement is not refused.
+/// Takes the statement that a line was read as into the log if it is not refused, and says what the line became. After an error the
+/// statement is not refused.
 #[inline(always)]
-fn take_statement<'a>(
-    engine: &mut Engine,
-    statement: RawStatement<'a>,
-    raw: &mut RawRoom<'a>,
-) -> Result<Became, EngineFault>
-    requires { IsInGrammar statement }
-    ensures line { IfOk result (λ line. line ≡ became engine.old.log.names (read statement.entry)) }
-    ensures engine { OnOk result (engine.new ≡ record engine.old { log = with_reading engine.old.log (read statement.entry) }) }
+fn take_statement(engine: &mut Engine, raw: &RawRoom<'_>) -> Result<Became, EngineFault>
+    requires { IsInGrammar (sentence_of raw.now) }
+    ensures line { IfOk result (λ line. line ≡ became engine.old.log.names (read (sentence_of raw.now))) }
+    ensures engine { OnOk result (engine.new ≡ record engine.old { log = with_reading engine.old.log (read (sentence_of raw.now)) }) }
     ensures err { IfErr result (λ f. f ≡ EngineFault.NoMemory) }
-    ensures want { OnErr result (LineMayLackMemory (became engine.old.log.names (read statement.entry))) }
+    ensures want { OnErr result (LineMayLackMemory (became engine.old.log.names (read (sentence_of raw.now)))) }
 {
-    let pushed = engine.push(&statement);
-    raw.take_back(statement);
-    match pushed {
+    match engine.push_read(raw) {
         Ok(_) => Ok(Became::Accepted),
         Err(refused) => {
             let line = refused_line(refused)?;
@@ -45,21 +41,22 @@ fn take_statement<'a>(
 /// Takes the statement that a line was read as into the log if it is one that is not refused, and says what the line became. After an
 /// error the line is neither a faulty nor a refused one.
 #[inline(always)]
-pub(crate) fn take_read<'a>(
+pub(crate) fn take_read(
     engine: &mut Engine,
-    found: Result<RawStatement<'a>, LineFault>,
-    raw: &mut RawRoom<'a>,
+    found: Result<(), LineFault>,
+    raw: &RawRoom<'_>,
 ) -> Result<Became, EngineFault>
-    requires { ForOk found IsInGrammar }
-    ensures line { IfOk result (λ line. line ≡ became engine.old.log.names (reading_of found.entry)) }
-    ensures engine { OnOk result (engine.new ≡ record engine.old { log = with_reading engine.old.log (reading_of found.entry) }) }
-    ensures told { OnOk result (found.entry ≢ Err LineFault.NoMemory) }
+    requires { OnOk found (IsInGrammar (sentence_of raw.now)) }
+    ensures line { IfOk result (λ line. line ≡ became engine.old.log.names (reading_by found (sentence_of raw.now))) }
+    ensures engine { OnOk result (engine.new
+        ≡ record engine.old { log = with_reading engine.old.log (reading_by found (sentence_of raw.now)) }) }
+    ensures told { OnOk result (found ≢ Err LineFault.NoMemory) }
     ensures err { IfErr result (λ f. f ≡ EngineFault.NoMemory) }
-    ensures want { OnErr result (LineMayLackMemory (became engine.old.log.names (reading_of found.entry))) }
+    ensures want { OnErr result (LineMayLackMemory (became engine.old.log.names (reading_by found (sentence_of raw.now)))) }
 {
     match found {
-        Ok(statement) => {
-            let line = take_statement(engine, statement, raw)?;
+        Ok(()) => {
+            let line = take_statement(engine, raw)?;
             Ok(line)
         }
         Err(fault) => {
@@ -70,9 +67,9 @@ pub(crate) fn take_read<'a>(
 }
 
 /// Reads a line, and takes its statement into the log if it is one that is not refused. Then the line waits. What the line reads as
-/// takes the room that is lent.
+/// stays in the room that is lent.
+#[tactic(auto, using(crate::proofs::LineReadings::in_grammar))]
 pub(crate) fn take_line<'a>(
-    alloc: Global,
     batching: &mut Batching,
     line: &'a [u8],
     raw: &mut RawRoom<'a>,
@@ -84,7 +81,7 @@ pub(crate) fn take_line<'a>(
     ensures pending { batching.new.pending.items ≡ batching.old.pending.items }
     ensures err { IfErr result (λ f. f ≡ EngineFault.NoMemory) }
 {
-    let found = read_line(alloc, line, raw);
+    let found = read_into(line, raw);
     let line = take_read(&mut batching.engine, found, raw)?;
     batching.waiting.push(line)?;
     batching.number += 1;
@@ -108,7 +105,7 @@ pub(crate) fn deal<'a, T: Threads + Wait + Sync>(
     ensures pending { OnErr result (batching.new.pending.items ≡ batching.old.pending.items) }
     ensures err { IfErr result IsOfBatch }
 {
-    take_line(alloc, batching, line, raw)?;
+    take_line(batching, line, raw)?;
     let _dropped = batching.engine.log().dropped();
     report_full(rt, alloc, batching, plan)?;
     Ok(())

@@ -11,7 +11,7 @@ ghost use Rattle.batched_text.specs.Batching.{IsLogOfText};
 use crate::batching::trim_to;
 use crate::lines::take_read;
 use engine::{Crew, Engine, RunFault};
-use log_text::{RawRoom, read_line};
+use log_text::{RawRoom, read_into};
 use log_text_base::{Counted, LineReader, ReadFault};
 use model_base::HashSeed;
 use std::alloc::{AllocError, Global};
@@ -24,6 +24,7 @@ use workers::NoGate;
 pub(crate) const BATCH: u64 = 1024;
 
 /// Reads a line, and takes its statement into the log if it is one that is not refused.
+#[tactic(auto, using(crate::proofs::LineReadings::in_grammar))]
 pub(crate) fn take_quietly(
     alloc: Global,
     engine: &mut Engine,
@@ -33,8 +34,8 @@ pub(crate) fn take_quietly(
         × (engine.new ≡ record engine.old { log = with_reading engine.old.log reading }))) }
 {
     let mut raw = RawRoom::new(alloc);
-    let found = read_line(alloc, line, &mut raw);
-    match take_read(engine, found, &mut raw) {
+    let found = read_into(line, &mut raw);
+    match take_read(engine, found, &raw) {
         Ok(_line) => Ok(()),
         Err(_fault) => Err(AllocError),
     }

@@ -13,7 +13,7 @@ use chains::{BadMark, Chains, Trimmed};
 use executing::execute;
 use grants::Book;
 use log_batch::LogBatch;
-use log_text::RawStatement;
+use log_text::{RawRoom, RawStatement};
 use model_base::{
     HashSeed, Key, MOST_BATCH_STATEMENTS, MOST_PARTITIONS, MOST_PLACES, MOST_WORKERS, Outcome,
     Place, Row, Statement,
@@ -187,6 +187,7 @@ impl Engine {
     ghost use Rattle.model_base.specs.Outcomes.{deeds_before, outcome, owners, rows_before};
     ghost use Rattle.chains.specs.Store.{Sweeps, Trims};
     ghost use Rattle.grants_base.specs.Book.{ShowsBook};
+    ghost use Rattle.log_text.specs.Room.{sentence_of};
     ghost use Rattle.log_text.specs.Statement.{IsInGrammar, Sentence};
     ghost use Rattle.sequencer.specs.Foretelling.{IsForetold};
     ghost use Rattle.sequencer.specs.Log.{empty_log, with_accepted};
@@ -267,6 +268,20 @@ impl Engine {
     {
         let _dropped = self.log.dropped();
         self.log.push(statement)
+    }
+
+    /// Takes the statement that a line was read as, as `push`, from where it stays.
+    #[inline(always)]
+    pub fn push_read(&mut self, read: &RawRoom<'_>) -> Result<Place, Refused>
+        requires { IsInGrammar (sentence_of read.now) }
+        ensures place { IfOk result (λ place. place ≡ length self.old.log.statements) }
+        ensures accepted { OnOk result (self.new ≡ record self.old { log = with_accepted self.old.log (sentence_of read.now) }) }
+        ensures passes { OnOk result (refusal self.old.log.names (sentence_of read.now) ≡ None) }
+        ensures refused { IfErr result (λ r. IsRefusal r (refusal self.old.log.names (sentence_of read.now))) }
+        ensures err { OnErr result (self.new ≡ self.old) }
+    {
+        let _dropped = self.log.dropped();
+        self.log.push_read(read)
     }
 
     /// Takes a statement that was foretold as the next place, and leaves another one, of which nothing is told. On `Err` memory was

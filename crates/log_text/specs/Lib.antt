@@ -1,3 +1,4 @@
 pub mod Statement
 pub mod Fault
 pub mod Parsing
+pub mod Room

@@ -11,7 +11,7 @@ mod statement;
 pub use kind::kind_word;
 pub use laws::every_line_reads;
 pub use line_words::{LineFault, Name, RawAccess};
-pub use parsing::{one_spelling, parse_line, read_line};
+pub use parsing::{one_spelling, parse_line, read_into, read_line};
 pub use printing::print_statement;
 pub use raw_room::RawRoom;
 pub use statement::{RawDeed, RawForm, RawGrantee, RawStatement, RawStep};

@@ -9,4 +9,4 @@ mod places;
 mod steps;
 mod touching;
 
-pub use line::{one_spelling, parse_line, read_line};
+pub use line::{one_spelling, parse_line, read_into, read_line};

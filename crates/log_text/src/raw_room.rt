@@ -1,33 +1,67 @@
-//! Room for what a line reads as.
+//! What a line reads as, and room for it.
 
-ghost use Rattle.std.specs.Prelude.{◌≡◌, [], List, Option};
+ghost use Rattle.std.specs.Prelude.{◌≡◌, [], List, None, Option};
 ghost use Rattle.line_words.specs.declared.access.RawAccess.{RawAccess};
 ghost use Rattle.log_text.specs.declared.statement.RawDeed.{RawDeed};
 ghost use Rattle.log_text.specs.declared.statement.RawForm.{RawForm};
 ghost use Rattle.log_text.specs.declared.statement.RawStep.{RawStep};
 
-use crate::statement::{RawForm, RawStatement, RawStep};
-use line_words::RawAccess;
+use crate::statement::{RawDeed, RawForm, RawStatement, RawStep};
+use line_words::{Name, RawAccess};
+use model_base::Items;
 use std::alloc::Global;
+use std::mem;
 
-/// Where the accesses and the steps of a line go when it is read. `read_line` takes them out of it, and whoever is done with
-/// the statement gives it back: so one line after another needs no memory for them. What stands in it says nothing.
+/// What a line reads as, where `read_into` leaves it: one line after another, so that none of it is moved, and memory is taken only
+/// where the room isn't enough. Before the first line, and after a line with a fault, nothing is told of it.
 #[derive(Drop)]
 pub struct RawRoom<'a> {
+    /// The name of the user who makes it.
+    pub user: Name<'a>,
+    /// The accesses of a RUN.
     pub accesses: Vec<RawAccess<'a>>,
+    /// The steps of a RUN.
     pub steps: Vec<RawStep<'a>>,
+    /// The deed of a RUN.
+    pub deed: Option<RawDeed<'a>>,
+    /// The statement, where it is no RUN. Else there is none.
+    pub other: Option<RawStatement<'a>>,
 }
 
 impl<'a> RawRoom<'a> {
+    ghost use Rattle.log_text.specs.Room.{sentence_of};
+    ghost use Rattle.log_text.specs.Statement.{IsInGrammar};
+
     /// Room for nothing yet. It takes no memory.
     pub fn new(alloc: Global) -> RawRoom<'a>
         ensures accesses { result.accesses.items ≡ [] }
         ensures steps { result.steps.items ≡ [] }
     {
         RawRoom {
+            user: Name::of(b"a"),
             accesses: Vec::new(alloc),
             steps: Vec::new(alloc),
+            deed: None,
+            other: None,
         }
+    }
+
+    /// Takes the statement out of the room, with the memory of its accesses and steps.
+    pub(crate) fn take(&mut self, alloc: Global) -> RawStatement<'a>
+        requires { IsInGrammar (sentence_of self.old) }
+        ensures { result ≡ sentence_of self.old }
+    {
+        if let Some(statement) = mem::replace(&mut self.other, None) {
+            return statement;
+        }
+        let accesses = mem::replace(&mut self.accesses, Vec::new(alloc));
+        let steps = mem::replace(&mut self.steps, Vec::new(alloc));
+        let form = RawForm::Run {
+            accesses: Items::new(accesses),
+            steps: Items::new(steps),
+            deed: mem::replace(&mut self.deed, None),
+        };
+        RawStatement::of(same_name(&self.user), form)
     }
 
     /// Takes back what a statement was read into, with what stands in it.
@@ -47,5 +81,22 @@ impl<'a> RawRoom<'a> {
             self.accesses = accesses.into_vec();
             self.steps = steps.into_vec();
         }
+    }
+}
+
+/// The name once more.
+pub(crate) fn same_name<'a>(name: &Name<'a>) -> Name<'a>
+    ensures { result ≡ name.now }
+{
+    Name::of(name.as_str().as_bytes())
+}
+
+/// Leaves nothing there. Mostly nothing is there before.
+#[inline(always)]
+pub(crate) fn leave_none<T: Drop>(place: &mut Option<T>)
+    ensures { place.new ≡ None }
+{
+    if place.is_some() {
+        *place = None;
     }
 }

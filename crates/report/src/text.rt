@@ -99,6 +99,7 @@ pub fn put_places(text: &mut Vec<u8>, places: &[Place]) -> Result<(), AllocError
 }
 
 /// Puts what the deed of a transaction came to.
+#[inline(always)]
 fn put_deed(text: &mut Vec<u8>, deed: &DeedDone) -> Result<(), AllocError>
     ensures { OnOk result (text.new.items ≡ text.old.items ++ deed_text deed.now) }
 {

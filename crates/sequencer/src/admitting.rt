@@ -1,6 +1,8 @@
 //! How a statement is taken.
 
 ghost use Rattle.std.specs.Prelude.{◌≡◌, ◌<◌, ◌++◌, ◌∷◌, [], None, Some, option_map, IfOk, IfErr, OnOk, OnErr, vec_capacity, vec_len};
+ghost use Rattle.log_text.specs.Room.{sentence_of};
+ghost use Rattle.log_text.specs.Statement.{IsInGrammar};
 ghost use Rattle.sequencer.specs.Names.{number_of};
 ghost use Rattle.sequencer.specs.Catalog.{numbered, numbered_deed, with_statement, with_user};
 ghost use Rattle.sequencer.specs.Admitting.{create_by, deed_by, entry_refusal, run_by, with_users};
@@ -13,7 +15,7 @@ use crate::numbering::deed_form;
 use crate::refused::Refused;
 use crate::room::Room;
 use crate::testing::{names_in, test_name};
-use log_text::{Name, RawAccess, RawDeed, RawForm, RawStatement, RawStep};
+use log_text::{Name, RawAccess, RawDeed, RawForm, RawRoom, RawStatement, RawStep};
 use model_base::{DeedForm, Form, MOST_PLACES, Statement, Table, User};
 use std::mem;
 
@@ -67,6 +69,7 @@ impl Catalog {
 
     /// Takes a RUN, as `admit`, where a place is left. Its accesses and steps go where room was made, and take it, and the statement goes
     /// where there is room for it.
+    #[inline(always)]
     #[tactic(auto, using(crate::proofs::RefusalLemmas::refusal_of_test))]
     fn admit_run(
         &mut self,
@@ -239,5 +242,44 @@ impl Catalog {
             ),
             RawForm::Deed(deed) => self.admit_deed(user, deed, kept),
         }
+    }
+
+    /// Takes a RUN that was read as the next place of the log, as `admit`, from where it stays.
+    #[inline(always)]
+    pub(crate) fn admit_read(
+        &mut self,
+        read: &RawRoom<'_>,
+        room: &mut Room,
+        kept: &mut Vec<Statement>,
+    ) -> Result<(), Refused>
+        requires run { read.now.other ≡ None }
+        requires grammar { IsInGrammar (sentence_of read.now) }
+        requires kept { vec_len kept.old < vec_capacity kept.old }
+        ensures ok { OnOk result (kept.new.items ≡ kept.old.items ++ numbered self.old (sentence_of read.now) ∷ []) }
+        ensures taken { OnOk result (IsTaken self.new (numbered self.old (sentence_of read.now))) }
+        ensures filled { OnOk result (HasFilledRows (numbered self.old (sentence_of read.now)).form) }
+        ensures passes { OnOk result (refusal self.old (sentence_of read.now) ≡ None) }
+        ensures names { OnOk result (self.new ≡ with_statement self.old (sentence_of read.now)) }
+        ensures refused { IfErr result (λ r. IsRefusal r (refusal self.old (sentence_of read.now))) }
+        ensures err { OnErr result (self.new ≡ self.old) }
+        ensures none { OnErr result (kept.new.items ≡ kept.old.items) }
+    {
+        if self.places() >= MOST_PLACES {
+            return Err(Refused::LogFull);
+        }
+        if room
+            .reserve_for(read.accesses.len(), read.steps.len())
+            .is_err()
+        {
+            return Err(self.refused_run(read));
+        }
+        self.admit_run(
+            &read.user,
+            &read.accesses,
+            &read.steps,
+            &read.deed,
+            room,
+            kept,
+        )
     }
 }

@@ -1,6 +1,6 @@
 //! Room for what a statement needs.
 
-ghost use Rattle.std.specs.Prelude.{◌≡◌, [], List, Option, IfOk, OnOk};
+ghost use Rattle.std.specs.Prelude.{◌≡◌, ◌≤◌, [], List, Option, IfOk, OnOk, vec_capacity};
 ghost use Rattle.model_base.specs.declared.statement.DeedForm.{DeedForm};
 ghost use Rattle.model_base.specs.declared.statement.Access.{Access};
 ghost use Rattle.model_base.specs.declared.statement.Form.{Form};
@@ -31,6 +31,23 @@ impl Room {
         }
     }
 
+    /// Makes room for so many accesses and steps. On `Err` memory was refused.
+    #[inline(always)]
+    pub(crate) fn reserve_for(&mut self, accesses: usize, steps: usize) -> Result<(), AllocError>
+        ensures { OnOk result ((self.new.accesses.items ≡ []) × (self.new.steps.items ≡ [])
+            × (accesses ≤ vec_capacity self.new.accesses) × (steps ≤ vec_capacity self.new.steps)) }
+    {
+        self.accesses.clear();
+        self.steps.clear();
+        if self.accesses.capacity() < accesses {
+            self.accesses.reserve_exact(accesses)?;
+        }
+        if self.steps.capacity() < steps {
+            self.steps.reserve_exact(steps)?;
+        }
+        Ok(())
+    }
+
     /// Makes room for each access and each step of a statement. On `Err` memory was refused.
     pub(crate) fn reserve(&mut self, form: &RawForm<'_>) -> Result<(), AllocError>
         ensures { OnOk result (HasRoom self.new form.now) }
@@ -43,10 +60,7 @@ impl Room {
             } => (accesses.as_slice().len(), steps.as_slice().len()),
             RawForm::Create { .. } | RawForm::Deed(_) => (0, 0),
         };
-        self.accesses.clear();
-        self.steps.clear();
-        self.accesses.reserve_exact(accesses)?;
-        self.steps.reserve_exact(steps)
+        self.reserve_for(accesses, steps)
     }
 
     /// Takes back what the statement held, with what stands in it.

@@ -1,6 +1,7 @@
 //! The end of a log, of which the first statements aren't kept.
 
 ghost use Rattle.std.specs.Prelude.{◌≡◌, ◌<◌, ◌≤◌, None, Some, drop, length, slice_get, All, IfOk, IfErr, OnOk, OnErr};
+ghost use Rattle.log_text.specs.Room.{sentence_of};
 ghost use Rattle.log_text.specs.Statement.{IsInGrammar, Sentence};
 ghost use Rattle.model_base.specs.Growing.{NeedsOwnTables};
 ghost use Rattle.sequencer.specs.Foretelling.{IsForetold};
@@ -11,7 +12,7 @@ ghost use Rattle.sequencer.specs.Taken.{IsWhole};
 use crate::catalog::Catalog;
 use crate::refused::Refused;
 use crate::room::Room;
-use log_text::{RawForm, RawStatement};
+use log_text::{RawForm, RawRoom, RawStatement};
 use model_base::{Form, HashSeed, MOST_COLUMNS, MOST_PLACES, Place, Statement, Table, User};
 use past::{Past, forget_first};
 use std::alloc::{AllocError, Global};
@@ -121,6 +122,43 @@ impl LogTail {
         let mut room = room_for(&mut self.spare, none, statement.form());
         self.catalog.admit(statement, &mut room, &mut self.kept)?;
         Ok(place)
+    }
+
+    /// Takes a RUN that was read, as `push`, from where it stays.
+    #[inline(always)]
+    fn push_run(&mut self, read: &RawRoom<'_>) -> Result<Place, Refused>
+        requires run { read.now.other ≡ None }
+        requires grammar { IsInGrammar (sentence_of read.now) }
+        ensures place { IfOk result (λ place. place ≡ length self.old.log.statements) }
+        ensures accepted { OnOk result (self.new ≡ record self.old { log = with_accepted self.old.log (sentence_of read.now) }) }
+        ensures passes { OnOk result (refusal self.old.log.names (sentence_of read.now) ≡ None) }
+        ensures refused { IfErr result (λ r. IsRefusal r (refusal self.old.log.names (sentence_of read.now))) }
+        ensures err { OnErr result (self.new ≡ self.old) }
+    {
+        if self.kept.reserve(1).is_err() {
+            return Err(self.catalog.refused_run(read));
+        }
+        let place = self.catalog.places();
+        let none = self.catalog.no_room();
+        let mut room = lend(&mut self.spare, none);
+        self.catalog.admit_read(read, &mut room, &mut self.kept)?;
+        Ok(place)
+    }
+
+    /// Takes the statement that a line was read as, as `push`, from where it stays.
+    #[inline(always)]
+    pub fn push_read(&mut self, read: &RawRoom<'_>) -> Result<Place, Refused>
+        requires { IsInGrammar (sentence_of read.now) }
+        ensures place { IfOk result (λ place. place ≡ length self.old.log.statements) }
+        ensures accepted { OnOk result (self.new ≡ record self.old { log = with_accepted self.old.log (sentence_of read.now) }) }
+        ensures passes { OnOk result (refusal self.old.log.names (sentence_of read.now) ≡ None) }
+        ensures refused { IfErr result (λ r. IsRefusal r (refusal self.old.log.names (sentence_of read.now))) }
+        ensures err { OnErr result (self.new ≡ self.old) }
+    {
+        match &read.other {
+            Some(statement) => self.push(statement),
+            None => self.push_run(read),
+        }
     }
 
     /// Takes a statement that was foretold as the next place, which is the length until then, and leaves another one, of which nothing is

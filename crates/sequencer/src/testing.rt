@@ -1,7 +1,8 @@
 //! The tests that a statement has to pass, in their order.
 
-ghost use Rattle.std.specs.Prelude.{◌≡◌, ◌<◌, [], length, nat_le, Some, IfOk};
+ghost use Rattle.std.specs.Prelude.{◌≡◌, ◌<◌, [], length, nat_le, None, Some, IfOk};
 ghost use Rattle.std.specs.List.{list_any};
+ghost use Rattle.log_text.specs.Room.{sentence_of};
 ghost use Rattle.sequencer.specs.Names.{is_known, number_of};
 ghost use Rattle.sequencer.specs.Catalog.{deed_in, grantee_of, named_table_of};
 ghost use Rattle.sequencer.specs.Refusal.{IsAnswer, IsAnswerOf, IsRefusal, accesses_refusal, column_refusal, create_refusal, deed_refusal, form_refusal, name_refusal, or_refused, parties_refusal, refusal, same_row, step_refusal, steps_refusal, table_refusal, two_refusal, refuse_unless, users_refusal, width_refusal};
@@ -9,7 +10,7 @@ ghost use Rattle.sequencer.specs.Refusal.{IsAnswer, IsAnswerOf, IsRefusal, acces
 use crate::catalog::Catalog;
 use crate::names::NameTable;
 use crate::refused::Refused;
-use log_text::{Name, RawAccess, RawDeed, RawForm, RawGrantee, RawStatement, RawStep};
+use log_text::{Name, RawAccess, RawDeed, RawForm, RawGrantee, RawRoom, RawStatement, RawStep};
 use model_base::{MOST_COLUMNS, MOST_NAMES, MOST_PLACES, Table};
 
 /// Whether the two accesses are to one row.
@@ -20,10 +21,11 @@ fn is_same_row(access: &RawAccess<'_>, other: &RawAccess<'_>) -> bool
 }
 
 /// Whether the access is to the row of an earlier one.
+#[inline(always)]
 pub(crate) fn is_repeated(access: &RawAccess<'_>, earlier: &[RawAccess<'_>]) -> bool
     ensures { result ≡ list_any (same_row access.now) earlier.now }
 {
-    earlier.iter().any(|other| is_same_row(access, other))
+    !earlier.is_empty() && earlier.iter().any(|other| is_same_row(access, other))
 }
 
 /// A new name has to find room.
@@ -209,6 +211,23 @@ impl Catalog {
         Ok(())
     }
 
+    /// What a RUN asks for.
+    fn test_run(
+        &self,
+        accesses: &[RawAccess<'_>],
+        steps: &[RawStep<'_>],
+        deed: &Option<RawDeed<'_>>,
+    ) -> Result<(), Refused>
+        ensures { IsAnswer result (form_refusal self.now (RawForm.Run accesses.now steps.now deed.now)) }
+    {
+        self.test_accesses(accesses)?;
+        self.test_steps(steps)?;
+        match deed {
+            Some(deed) => self.test_deed(deed),
+            None => Ok(()),
+        }
+    }
+
     /// What a statement asks for.
     fn test_form(&self, form: &RawForm<'_>) -> Result<(), Refused>
         ensures { IsAnswer result (form_refusal self.now form.now) }
@@ -219,15 +238,18 @@ impl Catalog {
                 accesses,
                 steps,
                 deed,
-            } => {
-                self.test_accesses(accesses.as_slice())?;
-                self.test_steps(steps.as_slice())?;
-                match deed {
-                    Some(deed) => self.test_deed(deed),
-                    None => Ok(()),
-                }
-            }
+            } => self.test_run(accesses.as_slice(), steps.as_slice(), deed),
             RawForm::Deed(deed) => self.test_deed(deed),
+        }
+    }
+
+    /// The names of a new user, and of a new grantee where there is a deed, have to find room.
+    fn test_users(&self, user: &str, deed: &Option<RawDeed<'_>>) -> Result<(), Refused>
+        ensures { IsAnswer result (users_refusal self.now.users user.now deed.now) }
+    {
+        match deed {
+            Some(deed) => test_parties(self.users(), user, names_in(deed).1),
+            None => test_name(self.users(), user),
         }
     }
 
@@ -241,11 +263,7 @@ impl Catalog {
                 test_name(self.users(), user)?;
                 test_name(self.tables(), table.as_str())
             }
-            RawForm::Run { deed: None, .. } => test_name(self.users(), user),
-            RawForm::Run {
-                deed: Some(deed),
-                ..
-            } => test_parties(self.users(), user, names_in(deed).1),
+            RawForm::Run { deed, .. } => self.test_users(user, deed),
             RawForm::Deed(deed) => test_parties(self.users(), user, names_in(deed).1),
         }
     }
@@ -259,6 +277,31 @@ impl Catalog {
         }
         self.test_form(statement.form())?;
         self.test_names(statement.user(), statement.form())
+    }
+
+    /// The first test that a RUN which was read doesn't pass refuses it, as in `test`.
+    fn test_read(&self, read: &RawRoom<'_>) -> Result<(), Refused>
+        requires { read.now.other ≡ None }
+        ensures { IsAnswer result (refusal self.now (sentence_of read.now)) }
+    {
+        if self.places() >= MOST_PLACES {
+            return Err(Refused::LogFull);
+        }
+        self.test_run(&read.accesses, &read.steps, &read.deed)?;
+        self.test_users(read.user.as_str(), &read.deed)
+    }
+
+    /// The refusal of a RUN that was read, and for which there is no memory.
+    #[cold]
+    #[tactic(auto, using(crate::proofs::RefusalLemmas::refusal_of_test))]
+    pub(crate) fn refused_run(&self, read: &RawRoom<'_>) -> Refused
+        requires { read.now.other ≡ None }
+        ensures { IsRefusal result (refusal self.now (sentence_of read.now)) }
+    {
+        match self.test_read(read) {
+            Ok(()) => Refused::NoMemory,
+            Err(refused) => refused,
+        }
     }
 
     /// The refusal of a statement for which there is no memory.

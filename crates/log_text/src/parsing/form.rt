@@ -1,5 +1,5 @@
 //! What a statement asks for.
-ghost use Rattle.std.specs.Prelude.{◌≡◌, ◌≢◌, ◌∷◌, [], Some, IfOk, IfErr, MatchBool, codes};
+ghost use Rattle.std.specs.Prelude.{◌≡◌, ◌≢◌, ◌∷◌, [], Some, IfOk, IfErr, MatchBool, OnOk, codes};
 ghost use Rattle.log_text.specs.Statement.{form_words, IsFormInGrammar};
 ghost use Rattle.line_words.specs.Faults.{IsFault};
 ghost use Rattle.line_words.specs.Words.{first_word};
@@ -10,8 +10,8 @@ use super::accesses::accesses;
 use super::deeds::{begins_deed, deed};
 use super::places::{end, name, number};
 use super::steps::steps;
-use crate::raw_room::RawRoom;
-use crate::statement::{RawDeed, RawForm};
+use crate::raw_room::{RawRoom, leave_none};
+use crate::statement::RawForm;
 use line_words::{LineFault, Words};
 
 /// What stands behind CREATE.
@@ -25,23 +25,23 @@ fn create<'a>(words: &mut Words<'a>) -> Result<RawForm<'a>, LineFault>
     Ok(RawForm::Create { table, columns })
 }
 
-/// What stands behind RUN: its deed. Its accesses and steps go into the room.
+/// What stands behind RUN. It goes into the room.
 #[inline(always)]
-pub(crate) fn run<'a>(
-    words: &mut Words<'a>,
-    room: &mut RawRoom<'a>,
-) -> Result<Option<RawDeed<'a>>, LineFault>
-    ensures ok { IfOk result (λ deed. (codes "RUN" ∷ words.old ≡ form_words (Run room.new.accesses.items room.new.steps.items deed))
-        × IsFormInGrammar (Run room.new.accesses.items room.new.steps.items deed)) }
+pub(crate) fn run<'a>(words: &mut Words<'a>, room: &mut RawRoom<'a>) -> Result<(), LineFault>
+    ensures ok { OnOk result ((codes "RUN" ∷ words.old ≡ form_words (Run room.new.accesses.items room.new.steps.items room.new.deed))
+        × IsFormInGrammar (Run room.new.accesses.items room.new.steps.items room.new.deed)) }
     ensures fault { IfErr result (λ f. IsFault f (fault_from (OfForm ∷ []) (codes "RUN" ∷ words.old))) }
+    ensures user { room.new.user ≡ room.old.user }
+    ensures other { room.new.other ≡ room.old.other }
 {
+    leave_none(&mut room.deed);
     let more = accesses(words, &mut room.accesses)?;
     if !more {
         room.steps.clear();
-        return Ok(None);
+        return Ok(());
     }
     let near = &room.accesses[room.accesses.len() - 1].table;
-    steps(words, near, &mut room.steps)
+    steps(words, near, &mut room.steps, &mut room.deed)
 }
 
 /// Takes the word RUN, if it is the next word, in whatever form it stands; otherwise the words stay as they are.

@@ -1,21 +1,19 @@
 //! A line, and the statement that it reads as.
-ghost use Rattle.std.specs.Prelude.{◌≡◌, ◌≢◌, ◌<◌, ◌≤◌, List, ℕ, None, Some, MatchResult, IfOk, IfErr, OnOk, length};
+ghost use Rattle.std.specs.Prelude.{◌≡◌, ◌≢◌, ◌<◌, ◌≤◌, ◌∷◌, List, ℕ, None, Some, MatchResult, IfOk, IfErr, IsTrue, OnOk, length};
 ghost use Rattle.std.specs.List.{list_all};
-ghost use Rattle.log_text.specs.Statement.{Sentence, IsInGrammar, Reads};
-ghost use Rattle.log_text.specs.declared.statement.RawForm.TheVariants.{Run};
+ghost use Rattle.log_text.specs.Room.{sentence_of};
+ghost use Rattle.log_text.specs.Statement.{Sentence, Reads};
 ghost use Rattle.line_words.specs.Faults.{IsFault};
-ghost use Rattle.log_text.specs.Fault.{line_fault, whole_fault, words_fault};
-ghost use Rattle.line_words.specs.Words.{is_printable};
+ghost use Rattle.log_text.specs.Fault.{OfName, line_fault, misfit, whole_fault, words_fault};
+ghost use Rattle.line_words.specs.Words.{first_word, is_name, is_printable};
 
 use super::form::{other_form, run, takes_run};
 use super::places::name;
-use crate::raw_room::RawRoom;
-use crate::statement::{RawDeed, RawForm, RawStatement};
+use crate::raw_room::{RawRoom, leave_none, same_name};
+use crate::statement::RawStatement;
 use line_words::{LineFault, Name, Words};
 use log_text_base::MOST_LINE_BYTES;
-use model_base::Items;
 use std::alloc::Global;
-use std::mem;
 
 /// Whether each byte is a printable one of ASCII. It looks at all of them, so that many are tested at once.
 fn is_printable_text(line: &[u8]) -> bool
@@ -44,30 +42,65 @@ fn first_fault(line: &[u8], fault: LineFault) -> LineFault
     }
 }
 
-/// The RUN of a user with this deed, whose accesses and steps are taken out of the room.
+/// Takes the name of a user. That of the line before is compared first: mostly one user makes several lines.
 #[inline(always)]
-fn run_by<'a>(
-    alloc: Global,
-    user: Name<'a>,
-    room: &mut RawRoom<'a>,
-    deed: Option<RawDeed<'a>>,
-) -> RawStatement<'a>
-    requires { IsInGrammar record { user = user; form = Run room.old.accesses.items room.old.steps.items deed } }
-    ensures { result ≡ record { user = user.entry; form = Run room.old.accesses.items room.old.steps.items deed.entry } }
+fn take_user<'a>(words: &mut Words<'a>, user: &mut Name<'a>) -> Result<(), LineFault>
+    ensures ok { OnOk result ((words.old ≡ user.new ∷ words.new) × IsTrue (is_name user.new)) }
+    ensures fault { IfErr result (λ f. misfit OfName (first_word words.old) ≡ Some f) }
 {
-    let accesses = mem::replace(&mut room.accesses, Vec::new(alloc));
-    let steps = mem::replace(&mut room.steps, Vec::new(alloc));
-    let form = RawForm::Run {
-        accesses: Items::new(accesses),
-        steps: Items::new(steps),
-        deed,
-    };
-    RawStatement::of(user, form)
+    if words.next_same(user) {
+        let _name = user.as_str();
+        return Ok(());
+    }
+    *user = name(words)?;
+    Ok(())
+}
+
+/// Reads a line, without its end of line, into the room: what stands there then is the statement that the line reads as. Accesses and
+/// steps take memory only where there isn't room enough. `NoMemory` comes only where the allocator refused. After an error nothing is
+/// told of what stands in the room.
+#[tactic(auto, using(crate::proofs::Grammar::only_memory, crate::proofs::Grammar::found_fault))]
+pub fn read_into<'a>(line: &'a [u8], room: &mut RawRoom<'a>) -> Result<(), LineFault>
+    // What stands in the room is what the line reads as.
+    ensures read { OnOk result (Reads line.now (sentence_of room.new)) }
+    // A line that reads as a statement is read, unless memory runs out.
+    ensures only { (s : Sentence) → Reads line.now s → MatchResult result (λ _. sentence_of room.new ≡ s) (λ f. f ≡ LineFault.NoMemory) }
+    // Only a line with no fault is read.
+    ensures sound { OnOk result (line_fault line.now ≡ None) }
+    // Any other fault is the first of the line's.
+    ensures fault { IfErr result (λ f. f ≢ LineFault.NoMemory → line_fault line.now ≡ Some f) }
+    // A line that is too long or empty, or has a byte that isn't printable, is returned as such, and never as out of memory.
+    ensures whole { (f : LineFault) → whole_fault line.now ≡ Some f → result ≡ Err f }
+{
+    // Whether each byte is printable is asked only where the words have a fault: a line that reads as a statement has printable bytes alone.
+    if line.len() > MOST_LINE_BYTES {
+        return Err(LineFault::TooLong);
+    }
+    if line.is_empty() {
+        return Err(LineFault::Empty);
+    }
+    let mut words = Words::of(line);
+    if let Err(fault) = take_user(&mut words, &mut room.user) {
+        return Err(first_fault(line, fault));
+    }
+    if takes_run(&mut words) {
+        leave_none(&mut room.other);
+        return match run(&mut words, room) {
+            Ok(()) => Ok(()),
+            Err(fault) => Err(first_fault(line, fault)),
+        };
+    }
+    match other_form(&mut words) {
+        Ok(form) => {
+            room.other = Some(RawStatement::of(same_name(&room.user), form));
+            Ok(())
+        }
+        Err(fault) => Err(first_fault(line, fault)),
+    }
 }
 
 /// The statement that a line, without its end of line, reads as, or the line's fault. Its accesses and steps take the room
 /// that is lent, and memory only where it isn't enough. `NoMemory` comes only where the allocator refused.
-#[tactic(auto, using(crate::proofs::Grammar::only_memory, crate::proofs::Grammar::found_fault))]
 pub fn read_line<'a>(
     alloc: Global,
     line: &'a [u8],
@@ -84,28 +117,8 @@ pub fn read_line<'a>(
     // A line that is too long or empty, or has a byte that isn't printable, is returned as such, and never as out of memory.
     ensures whole { (f : LineFault) → whole_fault line.now ≡ Some f → result ≡ Err f }
 {
-    // Whether each byte is printable is asked only where the words have a fault: a line that reads as a statement has printable bytes alone.
-    if line.len() > MOST_LINE_BYTES {
-        return Err(LineFault::TooLong);
-    }
-    if line.is_empty() {
-        return Err(LineFault::Empty);
-    }
-    let mut words = Words::of(line);
-    let user = match name(&mut words) {
-        Ok(user) => user,
-        Err(fault) => return Err(first_fault(line, fault)),
-    };
-    if takes_run(&mut words) {
-        return match run(&mut words, room) {
-            Ok(deed) => Ok(run_by(alloc, user, room, deed)),
-            Err(fault) => Err(first_fault(line, fault)),
-        };
-    }
-    match other_form(&mut words) {
-        Ok(form) => Ok(RawStatement::of(user, form)),
-        Err(fault) => Err(first_fault(line, fault)),
-    }
+    read_into(line, room)?;
+    Ok(room.take(alloc))
 }
 
 /// The statement that a line reads as, or the line's fault, as `read_line` with room for nothing yet.

@@ -112,9 +112,9 @@ fn step<'a>(
 
 /// Takes the deed with which a line ends, where no step begins.
 #[inline(never)]
-fn ending<'a>(words: &mut Words<'a>) -> Result<Option<RawDeed<'a>>, LineFault>
+fn ending<'a>(words: &mut Words<'a>) -> Result<RawDeed<'a>, LineFault>
     requires { step_name (first_word words.old) ≡ None }
-    ensures ok { IfOk result (λ deed. (codes "|" ∷ words.old ≡ last_deed deed) × IsLastDeed deed) }
+    ensures ok { IfOk result (λ deed. (codes "|" ∷ words.old ≡ last_deed (Some deed)) × IsLastDeed (Some deed)) }
     ensures fault { IfErr result (λ f. (steps outs : ℕ) → fault_from (OfStep steps outs ∷ []) words.old ≡ Some f) }
 {
     let Some(word) = words.next() else {
@@ -124,7 +124,7 @@ fn ending<'a>(words: &mut Words<'a>) -> Result<Option<RawDeed<'a>>, LineFault>
         return Err(LineFault::UnknownWord);
     }
     let deed = deed(word, words)?;
-    Ok(Some(deed))
+    Ok(deed)
 }
 
 /// How many outputs a step makes.
@@ -143,10 +143,12 @@ pub(crate) fn steps<'a>(
     words: &mut Words<'a>,
     near: &Name<'a>,
     found: &mut Vec<RawStep<'a>>,
-) -> Result<Option<RawDeed<'a>>, LineFault>
-    ensures ok { IfOk result (λ deed. (codes "|" ∷ words.old ≡ body_words found.new.items deed)
+    deed: &mut Option<RawDeed<'a>>,
+) -> Result<(), LineFault>
+    requires { deed.old ≡ None }
+    ensures ok { OnOk result ((codes "|" ∷ words.old ≡ body_words found.new.items deed.new)
         × (vec_len found.new ≤ MOST_STEPS) × (sum_by outs_of found.new.items ≤ MOST_OUTPUTS)
-        × AllByRecursion IsStep found.new.items × IsLastDeed deed) }
+        × AllByRecursion IsStep found.new.items × IsLastDeed deed.new) }
     ensures fault { IfErr result (λ f. IsFault f (fault_from (OfStep 0 0 ∷ []) words.old)) }
 {
     // The steps are taken from a copy of the words, so that the place in the line is kept in a register.
@@ -157,7 +159,8 @@ pub(crate) fn steps<'a>(
     'steps: loop {
         let Some(name) = next_name(&mut left) else {
             *words = left;
-            return ending(words);
+            *deed = Some(ending(words)?);
+            return Ok(());
         };
         let place = found.len();
         one_more(name, place, outs)?;
@@ -171,7 +174,7 @@ pub(crate) fn steps<'a>(
         let more = step(name, &mut left, near, &mut found[place], place, outs)?;
         outs += out_count(&found[place]);
         if !more {
-            return Ok(None);
+            return Ok(());
         }
     }
 }

@@ -1,17 +1,19 @@
 use Rattle.std.proofs.Common.{◌++◌, ◌∷◌, [], ap, refl, ◌∙◌}
-use Rattle.bohm_base.specs.Collecting.{reading_of}
+use Rattle.log_text.specs.Room.{sentence_of}
 use Rattle.bohm_base.specs.declared.collecting.Became.{Became}
-use Rattle.bohm_base.proofs.LinesRead.{reads_as}
 use Rattle.engine.specs.Engine.{Run, finished}
+use Rattle.batched_text.specs.LineRead.{reading_by}
+use Rattle.batched_text.proofs.LineReadings.{reads_by}
 use Rattle.batched_text.proofs.lines.take_line.Goals as goal
 
 pub returns-clause-ok : goal.returns-clause-ok
 returns-clause-ok c =
-    let parsed = c.read_line-found.ensures in
+    let parsed = c.read_into-found.ensures in
+    let sentence = sentence_of c.read_into-found.new.room in
     let took = c.in_ok-line.ensures in (
-      reading_of c.read_line-found.result,
+      reading_by c.read_into-found.result sentence,
       (
-        reads_as c.args.line.now c.read_line-found.result parsed.read parsed.sound parsed.fault took.told,
+        reads_by c.args.line.now c.read_into-found.result sentence parsed.read parsed.sound parsed.fault took.told,
         record {
           engine = took.engine;
           waiting = c.in_ok-push.ensures.items ∙ ap (λ (line : Became). c.args.batching.now.waiting.items ++ line ∷ []) took.line;

@@ -9,6 +9,7 @@ use Rattle.log_text.proofs.parsing.steps.steps.Goals as goal
 
 pub steps-init : goal.steps-init
 steps-init c = rw (c.reserve.ensures.items, c.reserve.ensures.len, c.clear.ensures.items, c.clear.ensures.len) (record {
+  none = c.requires;
   same = ap (λ (ws : List (List ℕ)). codes "|" ∷ ws) (sym c.same-left.ensures);
   room = omega arith;
   reserved = omega (arith, c.in_ok-reserve.ensures.ok);
@@ -46,6 +47,7 @@ steps-preserved-in-Some-computing c =
     let left = c.computing.new.words in
     let fit = goes_on (step_word name ∷ after) after left name n outs 0 true refl (named_step name) free refl (c.in-Some-computing.ensures.fits n outs) in
     record {
+      none = i.none;
       same = one_more c.args.words.now before left found more s i.same (c.in-Some.ensures ∙ taken.0) c.push_reserved.ensures.items;
       room = omega (arith, low, c.len-place.ensures, c.push_reserved.ensures.len);
       reserved = omega (arith, i.reserved, c.push_reserved.ensures.capacity);

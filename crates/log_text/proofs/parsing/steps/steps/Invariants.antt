@@ -1,5 +1,5 @@
 use Rattle.std.proofs.Common.{◌≡◌, ◌≤◌, ◌-◌, vec_len, [], ◌∷◌, ◌++◌}
-use Rattle.std.specs.Prelude.{codes}
+use Rattle.std.specs.Prelude.{None, codes}
 use Rattle.std.specs.Vec.{vec_capacity}
 use Rattle.std.specs.List.{AllByRecursion, flat_map, sum_by}
 use Rattle.log_text.specs.Statement.{further_step, outs_of, IsStep}
@@ -8,6 +8,7 @@ use Rattle.log_text.proofs.parsing.steps.steps.Given as goal
 
 abbrev pub invariant-steps : goal.invariant-steps
 invariant-steps l = record {
+  none : l.deed ≡ None;
   same : codes "|" ∷ l.fn.words ≡ flat_map further_step l.found.items ++ codes "|" ∷ l.left;
   room : vec_len l.found ≤ 64;
   reserved : 64 ≤ vec_capacity l.found;

@@ -1,0 +1,17 @@
+use Rattle.std.proofs.Common.{◌++◌, ◌∷◌, [], List, ap, refl, sym, ◌∙◌, append_assoc}
+use Rattle.log_text.specs.Room.{sentence_of}
+use Rattle.model_base.specs.declared.statement.Statement.{Statement}
+use Rattle.sequencer.specs.Catalog.{numbered}
+use Rattle.sequencer.proofs.WholeLogs.{kept_after}
+use Rattle.sequencer.proofs.tail.LogTail.push_run.Goals as goal
+
+pub invariant_of-self-2 : goal.invariant_of-self-2
+invariant_of-self-2 c =
+    let past : List Statement = c.self.inside.past.items in
+    let taken = c.in_ok-admit_read.ensures in
+    let one : Statement = numbered c.self.inside.catalog (sentence_of c.args.read.now) in
+    kept_after (record { names = c.self.inside.catalog; statements = past ++ c.self.inside.kept.items }) _ (sentence_of c.args.read.now) one c.self.invariant
+    taken.passes taken.names refl
+    (ap (λ (ss : List Statement). past ++ ss) (taken.ok ∙ ap (λ (ss : List Statement). ss ++ one ∷ []) c.reserve.ensures.items)
+    ∙ sym (append_assoc past c.self.inside.kept.items (one ∷ [])))
+    taken.taken taken.filled
