@@ -1,6 +1,6 @@
 //! Why a place of the text of a log was admitted or denied.
 
-ghost use Rattle.std.specs.Prelude.{◌≡◌, ◌<◌, ◌≤◌, ◌-◌, ◌^◌, ◌⊎◌, ℕ, List, Err, IfSome, OnOk, length};
+ghost use Rattle.std.specs.Prelude.{◌≡◌, ◌<◌, ◌≤◌, ◌-◌, ◌^◌, ◌⊎◌, ℕ, List, Err, IfSome, OnOk, length, true};
 ghost use Rattle.std.specs.Io.KnownBytes.{Appends};
 ghost use Rattle.log_text_base.specs.Known.{AppendsFront, raised};
 ghost use Rattle.engine.specs.Engine.{finished};
@@ -9,9 +9,10 @@ ghost use Rattle.audit_text.specs.Answer.{HasNoPlace, AnswersAccepted, IsExplana
 use crate::fault::AuditFault;
 use crate::putting::put_answer;
 use crate::question::Question;
+use crate::writing::write_text;
 use batched_text::run_quietly_to_seeded;
 use engine::Engine;
-use log_text_base::{Counted, flush, write_out, writing_laws};
+use log_text_base::Counted;
 use model_base::HashSeed;
 use std::alloc::Global;
 use std::io::{Read, Write};
@@ -36,12 +37,11 @@ fn write_answer<W: Write>(
     ensures read { result ≡ Err AuditFault.Read → ⊥ }
     ensures write { result ≡ Err AuditFault.Write → writer.new.errors ≡ raised writer.old.errors }
     ensures whole { OnOk result (writer.new.errors ≡ writer.old.errors) }
+    ensures flushed { OnOk result ((writer.new.flushes ≡ raised writer.old.flushes) × (writer.new.is_flushed ≡ true)) }
 {
-    writing_laws();
     let mut text = Vec::new(alloc);
     put_answer(alloc, &mut text, engine, question)?;
-    write_out(writer, &text)?;
-    flush(writer)?;
+    write_text(writer, &text)?;
     Ok(())
 }
 
@@ -78,6 +78,8 @@ pub fn explain_text<T: Threads + Wait + Sync, R: Read, W: Write>(
     ensures write { result ≡ Err AuditFault.Write → writer.old.errors < 2 ^ 64 - 1 → writer.old.errors < writer.new.errors }
     // Ok says that neither of them failed, in the flush at the end neither.
     ensures whole { OnOk result ((reader.new.errors ≡ reader.old.errors) × (writer.new.errors ≡ writer.old.errors)) }
+    // Ok says that the writer was flushed once, and not written to since.
+    ensures flushed { OnOk result ((writer.new.flushes ≡ raised writer.old.flushes) × (writer.new.is_flushed ≡ true)) }
 {
     explain_text_seeded(rt, alloc, reader, writer, question, HashSeed::fixed())
 }
@@ -101,6 +103,7 @@ pub fn explain_text_seeded<T: Threads + Wait + Sync, R: Read, W: Write>(
     ensures read { result ≡ Err AuditFault.Read → reader.old.errors < 2 ^ 64 - 1 → reader.old.errors < reader.new.errors }
     ensures write { result ≡ Err AuditFault.Write → writer.old.errors < 2 ^ 64 - 1 → writer.old.errors < writer.new.errors }
     ensures whole { OnOk result ((reader.new.errors ≡ reader.old.errors) × (writer.new.errors ≡ writer.old.errors)) }
+    ensures flushed { OnOk result ((writer.new.flushes ≡ raised writer.old.flushes) × (writer.new.is_flushed ≡ true)) }
 {
     let engine = run_quietly_to_seeded(rt, alloc, reader, Some(question.place), seed)?;
     write_answer(alloc, writer, &engine, question)

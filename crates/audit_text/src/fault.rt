@@ -1,28 +1,49 @@
 //! Why a question has no answer.
 
 ghost use Rattle.std.specs.Prelude.{◌≡◌};
-ghost use Rattle.audit_text.specs.Faults.{audit_fault_of};
+ghost use Rattle.audit_text.specs.Faults.{audit_fault_of, audit_fault_text};
 ghost use Rattle.audit_text.specs.declared.fault.AuditFault.TheVariants.{NoMemory, Write};
 
 use log_text_base::{ReadFault, WriteFault};
 use std::alloc::{AllocError, AllocFailed};
+use std::fmt;
 use thiserror::Error;
 
 /// Why a question has no answer.
 #[derive(Clone, Copy, Debug, PartialEq, Eq, Error)]
 pub enum AuditFault {
     /// A growth was refused.
-    #[error("out of memory")]
     NoMemory,
     /// The reader failed.
-    #[error("cannot read")]
     Read,
     /// The writer failed, or took no byte of a piece that wasn't empty.
-    #[error("cannot write")]
     Write,
     /// The log has no such place.
-    #[error("no such place")]
     NoSuchPlace,
+}
+
+impl AuditFault {
+    /// What it says to a reader.
+    fn text(self) -> &'static str
+        ensures { result.now ≡ audit_fault_text self }
+    {
+        match self {
+            AuditFault::NoMemory => "out of memory",
+            AuditFault::Read => "cannot read",
+            AuditFault::Write => "cannot write",
+            AuditFault::NoSuchPlace => "no such place",
+        }
+    }
+}
+
+impl fmt::Display for AuditFault {
+    ghost use Rattle.std.specs.Prelude.{Some};
+
+    ghost output = { λ fault. Some (audit_fault_text fault) };
+
+    fn fmt<W: fmt::Write>(&self, f: &mut fmt::Formatter<W>) -> fmt::Result {
+        f.write_str(self.text())
+    }
 }
 
 impl From<AllocError> for AuditFault {

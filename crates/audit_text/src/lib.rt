@@ -8,6 +8,7 @@ mod fault;
 mod picturing;
 mod putting;
 mod question;
+mod writing;
 
 pub use explaining::{explain_text, explain_text_seeded};
 pub use fault::AuditFault;

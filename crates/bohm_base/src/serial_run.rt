@@ -225,25 +225,6 @@ pub fn serial_text_seeded<R: Read, W: Write>(
     ensures whole { OnOk result ((reader.new.errors ≡ reader.old.errors) × (writer.new.errors ≡ writer.old.errors)) }
     ensures flushed { OnOk result ((writer.new.flushes ≡ raised writer.old.flushes) × (writer.new.is_flushed ≡ true)) }
 {
-    serial_text_seeded(alloc, reader, writer, HashSeed::fixed())
-}
-
-/// The same, by maps that find their keys under this seed.
-pub fn serial_text_seeded<R: Read, W: Write>(
-    alloc: Global,
-    reader: &mut Counted<R>,
-    writer: &mut Counted<W>,
-    seed: HashSeed,
-) -> Result<(), EngineFault>
-    ensures done { OnOk result (IfSome (R.remaining reader.old.inner) (λ input. (text : List ℕ)
-        × (IsReport input text × Appends (W.contents writer.old.inner) (W.contents writer.new.inner) text))) }
-    ensures begun { IfSome (R.remaining reader.old.inner) (λ input. (text : List ℕ)
-        × (IsReport input text × AppendsFront (W.contents writer.old.inner) (W.contents writer.new.inner) text)) }
-    ensures read { result ≡ Err EngineFault.Read → reader.old.errors < 2 ^ 64 - 1 → reader.old.errors < reader.new.errors }
-    ensures write { result ≡ Err EngineFault.Write → writer.old.errors < 2 ^ 64 - 1 → writer.old.errors < writer.new.errors }
-    ensures whole { OnOk result ((reader.new.errors ≡ reader.old.errors) × (writer.new.errors ≡ writer.old.errors)) }
-    ensures flushed { OnOk result ((writer.new.flushes ≡ raised writer.old.flushes) × (writer.new.is_flushed ≡ true)) }
-{
     let mut pending = Vec::with_capacity(alloc, PENDING_BYTES)?;
     let collected = collect_lines(alloc, reader, seed)?;
     run_log(alloc, writer, &collected, &mut pending)

@@ -2,25 +2,47 @@
 
 ghost use Rattle.std.specs.Prelude.{◌≡◌};
 ghost use Rattle.explain.specs.declared.fault.ExplainFault.TheVariants.{NoMemory};
+ghost use Rattle.explain.specs.Faults.{explain_fault_text};
 
 use std::alloc::{AllocError, AllocFailed};
+use std::fmt;
 use thiserror::Error;
 
 /// Why a place isn't explained.
 #[derive(Clone, Copy, Debug, PartialEq, Eq, Error)]
 pub enum ExplainFault {
     /// The log has no such place.
-    #[error("no such place")]
     NoSuchPlace,
     /// The place isn't finished yet.
-    #[error("not finished")]
     NotFinished,
     /// A growth was refused.
-    #[error("out of memory")]
     NoMemory,
     /// The statement of the place was dropped.
-    #[error("forgotten")]
     Forgotten,
+}
+
+impl ExplainFault {
+    /// What it says to a reader.
+    fn text(self) -> &'static str
+        ensures { result.now ≡ explain_fault_text self }
+    {
+        match self {
+            ExplainFault::NoSuchPlace => "no such place",
+            ExplainFault::NotFinished => "not finished",
+            ExplainFault::NoMemory => "out of memory",
+            ExplainFault::Forgotten => "forgotten",
+        }
+    }
+}
+
+impl fmt::Display for ExplainFault {
+    ghost use Rattle.std.specs.Prelude.{Some};
+
+    ghost output = { λ fault. Some (explain_fault_text fault) };
+
+    fn fmt<W: fmt::Write>(&self, f: &mut fmt::Formatter<W>) -> fmt::Result {
+        f.write_str(self.text())
+    }
 }
 
 impl From<AllocError> for ExplainFault {
