@@ -1,7 +1,6 @@
--- What a place answers, by the rows and the records of grants that it is shown. BOHM executes a transaction once the versions
--- that it reads are there, and it fills the versions that were placed for it (J. M. Faleiro and D. J. Abadi, "Rethinking
--- Serializable Multiversion Concurrency Control", PVLDB 8, 2015, section 3). That a place tells its outcome in the same way is
--- this project's own.
+-- What a place answers, by the rows and the records of grants that it is shown. BOHM executes a transaction once the versions that it reads
+-- are there, and it fills the versions that were placed for it (J. M. Faleiro and D. J. Abadi, "Rethinking Serializable Multiversion
+-- Concurrency Control", PVLDB 8, 2015, section 3). That a place gives its outcome in the same way is this project's own.
 use Rattle.std.specs.Prelude.{ℕ, Option, Some, None, List, [], slice_index_or}
 use Rattle.model_base.specs.declared.deed.Deed.{Deed}
 use Rattle.model_base.specs.declared.deed.Deed.TheVariants.{Granting, Revoking}

@@ -1,4 +1,4 @@
--- What a statement comes to, as far as a place's own words tell it.
+-- What a statement results in, as far as a place's own words give it.
 use Rattle.std.specs.Prelude.{◌≡◌, ℕ, List, filter}
 use Rattle.std.specs.List.{flat_map}
 use Rattle.model_base.specs.declared.outcome.Outcome.{Outcome}
@@ -13,13 +13,13 @@ use Rattle.body.specs.Shown.{WindowShows}
 use Rattle.own_words.specs.Words.{header, row_words}
 use Rattle.answering.specs.Answering.{IsShaped}
 
--- the version cells of the accesses that may change their row, in order, by the rows behind the place
+-- the version cells of the accesses that may change their row, in order, by the rows after the place
 abbrev pub cells_at : (ℕ → ℕ) → List Access → Rows → List ℕ
 cells_at columns accesses rows =
     flat_map (λ (access : Access). row_words (columns access.key.table) (rows access.key.table access.key.row)) (filter is_writing accesses)
 
--- the header of this outcome is that of the statement's, and the window afterwards shows the rows behind the place. What the
--- statement's deed came to isn't in the header
+-- the header of this outcome is that of the statement's, and the window afterwards shows the rows after the place. What the statement's
+-- deed resulted in isn't in the header
 pub record Tells (statement : Statement) (window : Window) (result : Outcome × World) (outcome : Outcome) (after : Window) : Type 0 where
   pub told : header statement.form outcome ≡ header statement.form result.0
   pub rows : WindowShows (accesses_of statement.form) after result.1.rows

@@ -1,4 +1,4 @@
-//! What a statement comes to, by what it is shown.
+//! What a statement results in, by what it is shown.
 
 ghost use Rattle.std.specs.Prelude.{◌≡◌, ◌<◌, ◌≤◌, ◌^◌, ℕ, List, [], None, length};
 ghost use Rattle.model_base.specs.declared.deed.Deed.{Deed};
@@ -19,15 +19,15 @@ use checker::{Admission, admit};
 use grants::Records;
 use model_base::{DeedDone, Form, MOST_ACCESSES, MOST_OUTPUTS, Outcome, Statement};
 
-/// A window has a row for each access that a statement may have, which the contract of reading one tells.
+/// A window has a row for each access that a statement may have, which the contract of reading one gives.
 fn has_all_rows(window: &Window)
     ensures { length window.now.rows ≡ MOST_ACCESSES }
 {
     let _ = window.row(0);
 }
 
-/// What the body of an admitted statement comes to. Only a completed body changes the rows of the window: behind any other it has
-/// those that it had. What the deed comes to isn't told, since no header depends on it.
+/// What the body of an admitted statement results in. Only a completed body changes the rows of the window: after any other it has those
+/// that it had. What the deed results in isn't known, since no header depends on it.
 fn executed(statement: &Statement, window: &mut Window) -> Outcome
     requires runnable { IsRunnable statement.now }
     requires apart { AreApart (accesses_of statement.now.form) }
@@ -57,8 +57,8 @@ fn executed(statement: &Statement, window: &mut Window) -> Outcome
     }
 }
 
-/// What a statement comes to at the view's place; the window is left with the rows behind it. A table is created; any other
-/// statement is denied by its first need that isn't held, and leaves the rows that were found, or its body runs.
+/// What a statement results in at the view's place; the window is left with the rows after it. A table is created; any other statement is
+/// denied by its first need that isn't held, and leaves the rows that were found, or its body runs.
 pub(crate) fn judged<V: Records>(
     statement: &Statement,
     window: &mut Window,
@@ -80,7 +80,7 @@ pub(crate) fn judged<V: Records>(
     if let Form::Create { .. } = &statement.form {
         return Outcome::Created;
     }
-    // The cause of a denial lies below this place, so it is told by a word.
+    // The cause of a denial lies below this place, so it is stored in a word.
     let _ = view.at();
     match admit(statement, view) {
         Admission::Denied { need, cause } => Outcome::Denied { need, cause },

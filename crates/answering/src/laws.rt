@@ -1,4 +1,4 @@
-//! What the own words of every log's places tell.
+//! What the own words of every log's places give.
 
 ghost use Rattle.std.specs.Prelude.{◌≡◌, ◌<◌, ◌^◌, ℕ, All, List, Some, length, slice_get};
 ghost use Rattle.model_base.specs.declared.outcome.Outcome.{Outcome};
@@ -11,9 +11,9 @@ ghost use Rattle.own_words.specs.Places.{words_at};
 ghost use Rattle.own_words.specs.Words.{FitsForm, ended_in, outcome_from};
 ghost use Rattle.answering.specs.Keeping.{KeepsToSteps};
 
-/// Each outcome of a log fits the form of its statement. It has no more outputs than there are OUT steps, and a step at which
-/// it ended is one of the statement's. And it is such that words tell it, if the statements of the log fit the columns of their
-/// tables, the body of this one fits a window, and the numbers of its steps and its place have 64 bits, as in every log.
+/// Each outcome of a log fits the form of its statement. It has no more outputs than there are OUT steps, and a step at which it ended is
+/// one of the statement's. And it is such that words give it, if the statements of the log fit the columns of their tables, the body of
+/// this one fits a window, and the numbers of its steps and its place have 64 bits, as in every log.
 pub fn outcomes_fit_their_forms()
     ensures steps { (log : List Statement) (place : ℕ) (statement : Statement) (found : Outcome)
         → slice_get log place ≡ Some statement → outcome log place ≡ Some found

@@ -1,9 +1,12 @@
-//! All own words of a place of a log, by the rows and the records of grants that it is shown.
+//! All own words of a place, by the rows and grants that it is shown.
 //!
-//! A transaction is executed once the versions that it reads are there, and fills the placeholders of the versions that it
-//! writes: J. M. Faleiro and D. J. Abadi, "Rethinking Serializable Multiversion Concurrency Control", PVLDB 8 (2015),
-//! section 3. That it is judged by grants shown in the same way, and that a transaction which isn't done fills its
-//! placeholders with the rows that it found, is this project's own.
+//! `own_words` judges a statement by a view of records, runs its body over a window, and writes its outcome and version
+//! cells into an `OwnWords`: the new rows if the body completed, else the rows that were found. It doesn't allocate.
+//! `ended` returns the grants that the deed's revocation ends. Window and view have to be of the place.
+//!
+//! After J. M. Faleiro and D. J. Abadi, "Rethinking Serializable Multiversion Concurrency Control", PVLDB 8 (2015),
+//! section 3: a transaction whose versions are there fills the placeholders of those that it writes. That grants are
+//! shown likewise is this project's own.
 #![tactic(auto)]
 
 mod judging;

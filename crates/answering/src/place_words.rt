@@ -30,7 +30,7 @@ fn columns_of(columns: &[u8], table: Table) -> u8
     columns[table.0 as usize]
 }
 
-/// Puts the version cells behind the other words: the window's row of each access that may change its row, in order.
+/// Appends the version cells to the other words: the window's row of each access that may change its row, in order.
 fn push_cells(words: &mut OwnWords, columns: &[u8], accesses: &[Access], window: &Window)
     requires places { length accesses.now ≤ MOST_ACCESSES }
     requires room { length words.old ≤ 12 }
@@ -48,12 +48,11 @@ fn push_cells(words: &mut OwnWords, columns: &[u8], accesses: &[Access], window:
     }
 }
 
-/// Puts all own words of the statement of the view's place in the place of those that were there: those of its outcome, and
-/// behind them its version cells. The window shows the rows that the place finds, and the view the grants by which it is judged,
-/// for whatever log shows these: its words are those that the serial run gives the place. The statement is judged by its user's
-/// privileges; if each is held its body runs over the window, and the cells have the rows behind a completed body. A place that
-/// isn't done leaves the rows that it found, so its cells have these. Afterwards the window is of no further use. It takes no
-/// memory. No two accesses may name one key.
+/// Appends all own words of the statement of the view's place in the place of those that were there: those of its outcome, and after them
+/// its version cells. The window shows the rows that the place finds, and the view the grants by which it is judged, for whatever log shows
+/// these: its words are those that the serial run gives the place. The statement is judged by its user's privileges; if each is held its
+/// body runs over the window, and the cells have the rows after a completed body. A place that isn't done leaves the rows that it found, so
+/// its cells have these. Afterwards the window is of no further use. It doesn't allocate. No two accesses may name one key.
 pub fn own_words<V: Records>(
     statement: &Statement,
     columns: &[u8],

@@ -14,7 +14,7 @@ use Rattle.batched_text.specs.Reaching.{IsLogOfFront}
 abbrev pub place_before : List Statement → Option ℕ → ℕ
 place_before log limit = unwrap_or limit (length log)
 
--- the text pictures the grants of a log before a place: they stand in a book of all that the log's deeds made and ended
+-- the text pictures the grants of a log before a place: they are in a book of all that the log's deeds made and ended
 abbrev pub Pictures : List Statement → Names → Option ℕ → List ℕ → Type 0
 Pictures log names limit text =
     (book : Entries)

@@ -49,13 +49,13 @@ fn write_answer<W: Write>(
 /// was admitted or denied: the report's line for the place, then a line for each need of its statement up to the first that isn't held,
 /// as `explained_text` spells it, and `checked` where that is asked. Then the writer is flushed. The log's report isn't made.
 ///
-/// What comes after the place's line changes nothing of its explanation. It isn't taken, and the reader isn't asked for more once that
-/// line is at hand: a reader that fails later is never met. Names, rows and grants are kept, and of statements and outcomes those of one
+/// What comes after the place's line changes nothing of its explanation. It isn't taken, and the reader isn't asked for more once that line
+/// is available: a reader that fails later is never met. Names, rows and grants are kept, and of statements and outcomes those of one
 /// batch.
 ///
-/// `NoSuchPlace` comes only where the log has no such place, `NoMemory` where a growth was refused, `Read` where the reader failed,
-/// `Write` where the writer failed, or took no byte of a piece that wasn't empty. After `Write` a beginning of the answer stands, and
-/// after any other fault nothing was written.
+/// `NoSuchPlace` comes only where the log has no such place, `NoMemory` where a growth was refused, `Read` where the reader failed, `Write`
+/// where the writer failed, or took no byte of a piece that wasn't empty. After `Write` a beginning of the answer is written, and after any
+/// other fault nothing was written.
 pub fn explain_text<T: Threads + Wait + Sync, R: Read, W: Write>(
     rt: &T,
     alloc: Global,

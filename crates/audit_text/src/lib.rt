@@ -1,6 +1,12 @@
 //! Answers to an auditor's questions about the text of a log.
 //!
-//! After P. P. Griffiths and B. W. Wade, "An Authorization Mechanism for a Relational Database System", ACM TODS 1 (1976).
+//! `explain_text` reads a log up to a place and writes why that was admitted or denied, with `checked` if the
+//! `Question` asks for the check; `grants_text` writes the picture of the grants in force before it. Both cost the run
+//! of the log up to the place. The answer is made before any of it is written, so only a failing writer leaves a part.
+//! After the place's line nothing more is read.
+//!
+//! After P. P. Griffiths and B. W. Wade, "An Authorization Mechanism for a Relational Database System", ACM TODS 1
+//! (1976).
 #![tactic(auto)]
 
 mod explaining;

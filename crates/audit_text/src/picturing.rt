@@ -18,7 +18,7 @@ use std::io::{Read, Write};
 use std::sync::Wait;
 use std::thread::Threads;
 
-/// Puts the picture of the grants before a place of a log that is run, or at its end, into an empty text.
+/// Writes the picture of the grants before a place of a log that is run, or at its end, into an empty text.
 fn put_picture(text: &mut Vec<u8>, engine: &Engine, limit: Option<Place>) -> Result<(), AuditFault>
     requires all { finished engine.now ≡ length engine.now.log.statements }
     requires empty { text.old.items ≡ [] }
@@ -64,9 +64,9 @@ fn write_picture<W: Write>(
 /// writes the grants in force before the place, or at the end where none is named, as a digraph of Graphviz, as `grants_graph` spells
 /// it. Then the writer is flushed. The log's report isn't made. What comes after the place's line isn't taken, as in `explain_text`.
 ///
-/// `NoSuchPlace` comes only where the log ends before the place, `NoMemory` where a growth was refused, `Read` where the reader
-/// failed, `Write` where the writer failed, or took no byte of a piece that wasn't empty. After `Write` a beginning of the picture
-/// stands, and after any other fault nothing was written.
+/// `NoSuchPlace` comes only where the log ends before the place, `NoMemory` where a growth was refused, `Read` where the reader failed,
+/// `Write` where the writer failed, or took no byte of a piece that wasn't empty. After `Write` a beginning of the picture is written, and
+/// after any other fault nothing was written.
 pub fn grants_text<T: Threads + Wait + Sync, R: Read, W: Write>(
     rt: &T,
     alloc: Global,

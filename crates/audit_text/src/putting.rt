@@ -16,7 +16,7 @@ use explained_text::put_explanation;
 use model_base::Place;
 use std::alloc::{AllocError, Global};
 
-/// Why the statement of a place that is finished and kept was admitted or denied. An error is want of memory.
+/// Why the statement of a place that is finished and kept was admitted or denied. An error means out of memory.
 fn explain_place(alloc: Global, engine: &Engine, place: Place) -> Result<Explanation, AllocError>
     requires kept { engine.now.dropped ≤ place }
     requires within { place < finished engine.now }
@@ -34,7 +34,7 @@ fn explain_place(alloc: Global, engine: &Engine, place: Place) -> Result<Explana
     }
 }
 
-/// Puts `checked` behind the text where the check accepts the explanation, as it does if that is sound.
+/// Appends `checked` to the text where the check accepts the explanation, as it does if that is sound.
 fn put_checked(
     text: &mut Vec<u8>,
     engine: &Engine,
@@ -52,7 +52,7 @@ fn put_checked(
     text.extend_from_slice(b"checked\n")
 }
 
-/// Puts the report's line for a place, and then a line for each need that explains it.
+/// Writes the report's line for a place, and then a line for each need that explains it.
 fn put_explained(
     text: &mut Vec<u8>,
     engine: &Engine,
@@ -69,7 +69,7 @@ fn put_explained(
     put_explanation(text, engine.log().catalog().tables(), explanation)
 }
 
-/// Puts the answer to a question about a place of the log behind the text. An error is want of memory.
+/// Appends the answer to a question about a place of the log to the text. An error means out of memory.
 fn put_found(
     alloc: Global,
     text: &mut Vec<u8>,
@@ -90,7 +90,7 @@ fn put_found(
     Ok(())
 }
 
-/// Puts the answer to a question about a log that is run into an empty text.
+/// Writes the answer to a question about a log that is run into an empty text.
 pub(crate) fn put_answer(
     alloc: Global,
     text: &mut Vec<u8>,

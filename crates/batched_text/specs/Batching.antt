@@ -31,8 +31,7 @@ pub record Takes (reading : Reading) (old new : Batching) : Type 0 where
   pub number : new.number ≡ old.number + 1
   pub pending : new.pending.items ≡ old.pending.items
 
--- of some lines, of which the last has the number before this one, the first were reported behind what was pending, and the others
--- wait
+-- of some lines, of which the last has the number before this one, the first were reported after what was pending, and the others wait
 pub record ReportsLines (log : Accepted) (done_old done_new : ℕ) (lines waiting : List Became) (next : ℕ)
     (pending_old pending_new : List ℕ) : Type 0 where
   pub out : List Became
@@ -145,8 +144,8 @@ abbrev pub Gathers : Option (List ℕ) → Option (List ℕ) → Option (List �
 Gathers input out_old out_now batching =
     (rest : Option (List ℕ)) × (IsAtEnd rest × BatchedUpTo input rest out_old out_now batching)
 
--- what a turn came to by its answer, whatever input is batched: one more line was taken, or there was none; and in any case a
--- beginning of the report stands
+-- what a turn resulted in by its answer, whatever input is batched: one more line was taken, or there was none; and in any case a beginning
+-- of the report is written
 pub record BatchedTurn (plan : Plan) (result : Result Bool EngineFault)
     (old new : BatchedStanding) : Type 0 where
   pub taken : result ≡ Ok true → TakesBatchedLine plan old new
@@ -154,7 +153,7 @@ pub record BatchedTurn (plan : Plan) (result : Result Bool EngineFault)
   pub ended : result ≡ Ok false → (input out : Option (List ℕ)) → BatchedTo input out old → Gathers input out new.out new.batching
   pub begun : (input out : Option (List ℕ)) → BatchedTo input out old → HasBegunReport input out new.out new.batching.pending.items
 
--- what the turns to the end of the input came to, whatever input is batched
+-- what the turns to the end of the input resulted in, whatever input is batched
 pub record EndsBatching (plan : Plan) (result : Result (Unit {0}) EngineFault)
     (old : BatchedStanding) (out_now : Option (List ℕ)) (batching : Batching) : Type 0 where
   pub room : result ≡ Ok tt → IsOpen plan batching

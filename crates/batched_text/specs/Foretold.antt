@@ -1,4 +1,4 @@
--- Lines of the bytes at hand that were read before their turn, and what dealing with them leads to.
+-- Lines of the buffered bytes that were read before their turn, and what dealing with them leads to.
 use Rattle.std.specs.Prelude.{◌≡◌, ◌-◌, ◌≤◌, All, IfErr, IfOk, List, OnOk, Option, Result, drop, length, ℕ}
 use Rattle.std.specs.Io.KnownBytes.{prepend_known}
 use Rattle.sequencer.specs.Catalog.{Names}
@@ -30,7 +30,7 @@ pub record WereReadAhead (now : Names) (bytes : List ℕ) (lines : List Ahead) :
   pub begins : Begins names now
   pub ahead : All (IsAhead names bytes) lines
 
--- the line that begins at an index of the bytes was taken, and takes so many of them
+-- the line that begins at an index of the bytes was taken, and takes this many of them
 pub record TakesAt (bytes : List ℕ) (from count : ℕ) (old new : Batching) : Type 0 where
   pub line : List ℕ
   pub at : IsLineAt bytes from count line
@@ -38,22 +38,22 @@ pub record TakesAt (bytes : List ℕ) (from count : ℕ) (old new : Batching) : 
   pub reads : ReadsAs line reading
   pub takes : Takes reading old new
 
--- with what was reported or waits up to one index of the bytes at hand, the lines up to another are reported or wait
+-- with what was reported or waits up to one index of the buffered bytes, the lines up to another are reported or wait
 abbrev pub TakesFrom : List ℕ → ℕ → ℕ → Batching → Batching → Type 0
 TakesFrom bytes from to old new =
     (behind input out held : Option (List ℕ))
     → BatchedUpTo input (prepend_known (drop from bytes) behind) out held old
     → BatchedUpTo input (prepend_known (drop to bytes) behind) out held new
 
--- a beginning of the report stands, where what is before an index of the bytes at hand was reported or waits
+-- a beginning of the report is written, where what is before an index of the buffered bytes was reported or waits
 abbrev pub BeginsFrom : List ℕ → ℕ → Batching → Batching → Type 0
 BeginsFrom bytes from old new =
     (behind input out held : Option (List ℕ))
     → BatchedUpTo input (prepend_known (drop from bytes) behind) out held old
     → HasBegunReport input out held new.pending.items
 
--- what a run of lines from an index of the bytes on came to, whose answer is the index before which all is dealt with: further
--- lines can be dealt with, and the names begin as they did; and in any case a beginning of the report stands
+-- what a run of lines from an index of the bytes on resulted in, whose answer is the index before which all is dealt with: further lines
+-- can be dealt with, and the names begin as they did; and in any case a beginning of the report is written
 pub record Runs (plan : Plan) (bytes : List ℕ) (given from : ℕ) (old new : Batching)
     (result : Result ℕ EngineFault) : Type 0 where
   pub within : IfOk result (λ to. to ≤ length bytes)

@@ -16,8 +16,8 @@ abbrev pub KeepsAll : History → Run → Type 0
 KeepsAll History.Kept run = run.dropped ≡ 0
 KeepsAll History.Dropped run = ⊤
 
--- where all is kept, each batch is as large as it may be; else some may have ended early, and of the rows at least those are
--- kept that stood before the last places of so many batches
+-- where all is kept, each batch is as large as it may be; else some may have ended early, and of the rows at least those are kept that was
+-- before the last places of this many batches
 abbrev pub IsCutBy : History → Settings → Run → Type 0
 IsCutBy History.Kept settings run = IsCut settings run
 IsCutBy History.Dropped settings run = run.store.mark ≤ mark_behind settings (finished run) (finished run)

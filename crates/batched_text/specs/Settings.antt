@@ -15,8 +15,8 @@ are_within_limits settings =
     && (nat_le 1 settings.batch && nat_le settings.batch MOST_BATCH_STATEMENTS)
     && nat_le settings.keep MOST_KEPT_BATCHES
 
--- the mark once a batch is finished that has these places: the start of the batch so many from the last one, or its end where
--- none is kept
+-- the mark once a batch is finished that has these places: the start of the batch this many from the last one, or its end where none is
+-- kept
 abbrev pub mark_behind : Settings → ℕ → ℕ → ℕ
 mark_behind settings start end = if settings.keep == 0 then end else start - settings.batch * (settings.keep - 1)
 

@@ -35,7 +35,7 @@ pub(crate) struct Batching {
 impl Batching {
     ghost use Rattle.batched_text.specs.Batching.{IsFresh};
 
-    /// Before the first line. It takes no memory.
+    /// Before the first line. It doesn't allocate.
     pub(crate) fn new(alloc: Global) -> Self
         ensures { IsFresh result }
     {
@@ -90,8 +90,8 @@ fn text_fault(fault: RunFault) -> EngineFault
     }
 }
 
-/// Runs the places that wait as a batch, and trims the rows behind it. Where none wait nothing is done. After an error the engine
-/// is as it was.
+/// Runs the places that wait as a batch, and trims the rows after it. Where none wait nothing is done. After an error the engine is as it
+/// was.
 fn run_waiting<T: Threads + Wait + Sync>(
     rt: &T,
     alloc: Global,
@@ -130,8 +130,8 @@ fn forget_finished(engine: &mut Engine, history: History)
     }
 }
 
-/// Runs the places that wait as a batch, trims the rows behind it, and appends the report's lines for the waiting lines to what is
-/// pending. Then what is finished is forgotten, unless all of it is kept. After an error what was pending is.
+/// Runs the places that wait as a batch, trims the rows after it, and appends the report's lines for the waiting lines to what is pending.
+/// Then what is finished is forgotten, unless all of it is kept. After an error what was pending is.
 #[tactic(auto, using(crate::proofs::Faults::stops_memory, crate::proofs::Faults::stops_told))]
 pub(crate) fn report_batch<T: Threads + Wait + Sync>(
     rt: &T,

@@ -247,8 +247,8 @@ fn report_group<'a, T: Threads + Wait + Sync>(
     Ok(at)
 }
 
-/// Deals with lines that were read ahead, as `report_group`, so many at a time as a batch has places: a statement stays with its line
-/// but for that time. So what a piece's statements hold lies in memory in the order in which it is read and filled again.
+/// Deals with lines that were read ahead, as `report_group`, as many at a time as a batch has places: a statement stays with its line but
+/// for that time. So what a piece's statements hold lies in memory in the order in which it is read and filled again.
 pub(crate) fn report_foretold<'a, T: Threads + Wait + Sync>(
     rt: &T,
     alloc: Global,

@@ -9,8 +9,8 @@ ghost use Rattle.bohm_base.specs.Collecting.{report_text};
 ghost use Rattle.bohm_base.specs.declared.collecting.Became.{Became};
 ghost use Rattle.batched_text.specs.Places.{places_in};
 
-/// The report's lines for lines whose places a log has are the same when more statements, and more tables, come behind it; and
-/// the lines of a report in two parts are those of the one and then those of the other.
+/// The report's lines for lines whose places a log has are the same when more statements, and more tables, come after it; and the lines of
+/// a report in two parts are those of the one and then those of the other.
 pub fn reports_stand()
     ensures longer { (log : Accepted) (more : List Statement) (extra : List (List ℕ)) (number place : ℕ) (lines : List Became)
         → IsWhole log → place + places_in lines ≤ length log.statements

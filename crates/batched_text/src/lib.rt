@@ -1,7 +1,12 @@
-//! A log that is read, run in batches, and reported as batches finish.
+//! A text read, run in batches, and reported as batches finish.
 //!
-//! After J. M. Faleiro and D. J. Abadi, "Rethinking Serializable Multiversion Concurrency Control", PVLDB 8 (2015), section 3: the
-//! input is cut into batches, each of which is placed as a whole before any of it is run.
+//! `report_in_order` runs on the calling thread while others read lines ahead (`ReadingAhead`); `report_text` runs by
+//! any `Settings`; `run_text` keeps log and outcomes, and returns the engine; `run_quietly_to` runs up to a place
+//! without a report. What is written is the report of what was read, and after a fault a beginning of it. Where nothing
+//! is kept, each whole line is reported before the next read, and memory grows with rows, names and grants alone.
+//!
+//! After J. M. Faleiro and D. J. Abadi, "Rethinking Serializable Multiversion Concurrency Control", PVLDB 8 (2015),
+//! section 3: the input is cut into batches.
 #![tactic(auto)]
 
 mod batching;

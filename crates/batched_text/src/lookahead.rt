@@ -27,16 +27,16 @@ const FIRST_STRETCH_BYTES: usize = 65_536;
 pub struct ReadingAhead {
     /// How many threads read, beside the one that runs. With 0 each line is read in its turn.
     pub threads: usize,
-    /// Bytes of whole lines at hand below which each is read in its turn.
+    /// Bytes of whole buffered lines below which each is read in its turn.
     pub least: usize,
-    /// Bytes of a stretch at most: its lines are read by the names that stood when it began.
+    /// Bytes of a stretch at most: its lines are read by the names known when it began.
     pub stretch: usize,
     /// Bytes of a piece of a stretch, about, which one thread reads.
     pub piece: usize,
 }
 
 impl ReadingAhead {
-    /// By so many threads, as it was measured to pay.
+    /// By this many threads, as it was measured to pay.
     pub fn by(threads: usize) -> Self {
         ReadingAhead {
             threads,
@@ -59,7 +59,7 @@ pub(crate) struct Lookahead {
 }
 
 impl Lookahead {
-    /// No names yet. They are found under this seed. It takes no memory.
+    /// No names yet. They are found under this seed. It doesn't allocate.
     pub(crate) fn seeded(alloc: Global, ahead: ReadingAhead, seed: HashSeed) -> Self
         ensures { result.names ≡ no_names }
     {
@@ -71,12 +71,12 @@ impl Lookahead {
         }
     }
 
-    /// Whether some of so many bytes of whole lines are read before their turn.
+    /// Whether some of this many bytes of whole lines are read before their turn.
     pub(crate) fn is_for(&self, bytes: usize) -> bool {
         self.ahead.threads > 0 && bytes >= self.ahead.least
     }
 
-    /// How many of so many bytes the next stretch has. The one after it may have twice as many.
+    /// How many of this many bytes the next stretch has. The one after it may have twice as many.
     fn next_stretch(&mut self, bytes: usize) -> usize
         ensures within { result ≤ bytes }
         ensures names { self.new.names ≡ self.old.names }
@@ -86,7 +86,7 @@ impl Lookahead {
         stretch
     }
 
-    /// How many pieces a stretch of so many bytes has: some for each thread.
+    /// How many pieces a stretch of this many bytes has: some for each thread.
     fn pieces_of(&self, bytes: usize) -> usize {
         let least = self.ahead.threads.saturating_mul(2);
         (bytes / self.ahead.piece.max(1)).max(least)

@@ -61,7 +61,7 @@ fn take_lines<R: Read>(
     Ok(())
 }
 
-/// Runs the next places that wait as a batch, by one worker, and keeps no rows before those behind it.
+/// Runs the next places that wait as a batch, by one worker, and keeps no rows before those after it.
 fn run_next<T: Threads + Wait + Sync>(
     rt: &T,
     alloc: Global,
@@ -123,8 +123,8 @@ fn run_lines<T: Threads + Wait + Sync, R: Read>(
     Ok(())
 }
 
-/// Reads a log to its end, runs it by one worker in batches of 1,024 places, and makes no report. The answer is the engine with the
-/// log, all of it finished; before the last place of the log no rows are kept.
+/// Reads a log to its end, runs it by one worker in batches of 1,024 places, and makes no report. It returns the engine with the log, all
+/// of it finished; before the last place of the log no rows are kept.
 ///
 /// `Read` comes exactly where the reader failed, `NoMemory` where a growth was refused.
 pub fn run_quietly<T: Threads + Wait + Sync, R: Read>(

@@ -106,8 +106,8 @@ fn run_until<T: Threads + Wait + Sync, R: Read>(
 /// batches of 1,024 places; and makes no report. It returns the engine with the log up to there, all of it finished. Of its
 /// statements and outcomes those of the last batch are kept, the named place's among them, and no rows before its end.
 ///
-/// No line after that of the place is taken, and the reader isn't asked for more once that line is at hand: a line after it that can't
-/// be read, and a reader that fails later, are never met.
+/// No line after that of the place is taken, and the reader isn't asked for more once that line is available: a line after it that can't be
+/// read, and a reader that fails later, are never met.
 ///
 /// `Read` comes exactly where the reader failed, `NoMemory` where a growth was refused.
 pub fn run_quietly_to<T: Threads + Wait + Sync, R: Read>(

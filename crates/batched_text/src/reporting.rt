@@ -14,8 +14,8 @@ use model_base::{Outcome, Place, Statement};
 use report::{put_fault, put_outcome, put_refused};
 use std::alloc::AllocError;
 
-/// Puts the report's line behind the text for a place that is finished, and whose statement and outcome are kept. An error is want
-/// of memory: some of the line may stand behind the text then.
+/// Appends the report's line to the text for a place that is finished, and whose statement and outcome are kept. An error means out of
+/// memory: some of the line may be after the text then.
 pub fn put_place(text: &mut Vec<u8>, engine: &Engine, place: Place) -> Result<(), AllocError>
     requires kept { engine.now.dropped ≤ place }
     requires within { place < finished engine.now }
@@ -35,8 +35,8 @@ pub fn put_place(text: &mut Vec<u8>, engine: &Engine, place: Place) -> Result<()
     )
 }
 
-/// Puts the report's line for a place behind the text, as `put_place`, by the statements and outcomes that are kept, the first of which
-/// are those of the place before which they were dropped.
+/// Appends the report's line for a place to the text, as `put_place`, by the statements and outcomes that are kept, the first of which are
+/// those of the place before which they were dropped.
 #[inline(always)]
 fn put_kept(
     text: &mut Vec<u8>,
@@ -67,7 +67,7 @@ fn put_kept(
     )
 }
 
-/// Puts the report's line for a line of this number behind the text. An accepted line has this place, as in `put_kept`.
+/// Appends the report's line for a line of this number to the text. An accepted line has this place, as in `put_kept`.
 #[inline(always)]
 fn put_line(
     text: &mut Vec<u8>,
@@ -96,7 +96,7 @@ fn put_line(
     }
 }
 
-/// Puts the report's lines for some lines behind the text, from a line of this number and this place on.
+/// Appends the report's lines for some lines to the text, from a line of this number and this place on.
 pub(crate) fn put_lines(
     text: &mut Vec<u8>,
     engine: &Engine,

@@ -154,7 +154,7 @@ fn report_at_hand<T: Threads + Wait + Sync>(
     Ok(taken)
 }
 
-/// Takes the next line, as `report_line`, and then the whole lines at hand, as `report_at_hand`. Then it writes what is pending of the
+/// Takes the next line, as `report_line`, and then the whole buffered lines, as `report_at_hand`. Then it writes what is pending of the
 /// report.
 fn report_turn<T: Threads + Wait + Sync, R: Read, W: Write>(
     rt: &T,
@@ -378,17 +378,17 @@ fn engine_fault(fault: TextFault) -> EngineFault
     }
 }
 
-/// Reads a log to its end, runs it in batches, and writes its report: one line for each line. The report of the batches that are done
-/// is written each time that the whole lines at hand are taken, which are those of one read at most; the writer is flushed once, at the
-/// end. It returns the engine with the log, all of it finished.
+/// Reads a log to its end, runs it in batches, and writes its report: one line for each line. The report of the batches that are done is
+/// written each time that the whole buffered lines are taken, which are those of one read at most; the writer is flushed once, at the end.
+/// It returns the engine with the log, all of it finished.
 ///
 /// A batch is the next `batch` accepted statements, or what is left at the end of the input. After each batch the rows before the
 /// last `keep` batches aren't kept: the store's mark is the start of the `keep`-th batch from the last one, or the end if `keep`
 /// is 0. Refused lines wait for the end of their batch, so that the report's lines keep their order: two bytes or so for each.
 ///
 /// `BadSettings` comes exactly where a setting is outside its limits, and nothing is done then. `NoMemory` comes where a growth was
-/// refused, `Spawn` where a worker's thread could not be started, `Read` where the reader failed, `Write` where the writer failed, or
-/// took no byte of a piece that wasn't empty. After a fault a beginning of the report stands: after `NoMemory`, `Spawn` and `Read` the
+/// refused, `Spawn` where a worker's thread could not be started, `Read` where the reader failed, `Write` where the writer failed, or took
+/// no byte of a piece that wasn't empty. After a fault a beginning of the report is written: after `NoMemory`, `Spawn` and `Read` the
 /// batches that were finished, after `Write` what the writer took.
 pub fn run_text<T: Threads + Wait + Sync, R: Read, W: Write>(
     rt: &T,
@@ -466,9 +466,9 @@ pub fn run_text_seeded<T: Threads + Wait + Sync, R: Read, W: Write>(
 /// batch its statements and outcomes are dropped once they are reported. So what it keeps beside rows, names and the records of
 /// grants doesn't grow with the accepted lines.
 ///
-/// A batch ends also where no whole line is at hand, so that the reader is asked only when all lines before are reported: a line
-/// that comes alone is answered at once. It has at most the whole lines of one read of `BUFFER_BYTES` then, and the one that was begun
-/// before. After each batch the store's mark is `batch * (keep - 1)` places before the start of the batch, or its end if `keep` is 0.
+/// A batch ends also where no whole line is available, so that the reader is asked only when all lines before are reported: a line that
+/// comes alone is answered at once. It has at most the whole lines of one read of `BUFFER_BYTES` then, and the one that was begun before.
+/// After each batch the store's mark is `batch * (keep - 1)` places before the start of the batch, or its end if `keep` is 0.
 pub fn report_text<T: Threads + Wait + Sync, R: Read, W: Write>(
     rt: &T,
     alloc: Global,
@@ -538,13 +538,13 @@ pub fn report_text_seeded<T: Threads + Wait + Sync, R: Read, W: Write>(
 /// Reads a log to its end, runs it in order on this thread, and writes its report: one line for each line. Nothing that is finished is
 /// kept. Meanwhile as many further threads as `reading` says read lines before their turn.
 ///
-/// Where no whole line is at hand, what waits of the report is written before more is read: a line that comes alone is
-/// answered at once. While whole lines are at hand the report is gathered.
+/// Where no whole line is available, what waits of the report is written before more is read: a line that comes alone is answered at once.
+/// While whole lines are buffered the report is gathered.
 ///
-/// The rows and the grants are kept in memory, and of a line nothing but the names that it is the first to name. `NoMemory` comes where
-/// a growth was refused, `Read` where the reader failed, `Write` where the writer failed, or took no byte of a piece that
-/// wasn't empty. After a fault a beginning of the report stands: after `NoMemory` and `Read` the batches that were finished, after
-/// `Write` what the writer took.
+/// The rows and the grants are kept in memory, and of a line nothing but the names that it is the first to name. `NoMemory` comes where a
+/// growth was refused, `Read` where the reader failed, `Write` where the writer failed, or took no byte of a piece that wasn't empty. After
+/// a fault a beginning of the report is written: after `NoMemory` and `Read` the batches that were finished, after `Write` what the writer
+/// took.
 pub fn report_in_order<T: Threads + Wait + Sync, R: Read, W: Write>(
     rt: &T,
     alloc: Global,

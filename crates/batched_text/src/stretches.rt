@@ -1,4 +1,4 @@
-//! A stretch of the bytes at hand: its lines are dealt with in order, while further threads read those of its later pieces.
+//! A stretch of the buffered bytes: its lines are dealt with in order, while further threads read those of its later pieces.
 
 ghost use Rattle.std.specs.Prelude.{◌≡◌, ◌≤◌, ◌-◌, length};
 ghost use Rattle.std.specs.Thread.{IsSync};
@@ -86,7 +86,7 @@ fn report_pieces<'a, B: Basis, T: Threads + Wait + Sync>(
     Ok(at)
 }
 
-/// What a run of lines came to: what was dealt with, and the index before which all is dealt with.
+/// What a run of lines resulted in: what was dealt with, and the index before which all is dealt with.
 #[derive(Drop)]
 pub(crate) struct Ran {
     pub(crate) batching: Batching,
@@ -125,7 +125,7 @@ fn run_stretch<B: Basis, T: Threads + Wait + Sync>(
     Ran { batching, result }
 }
 
-/// Deals with the lines of a stretch, as `run_stretch`, while so many further threads read its pieces by these names, as
+/// Deals with the lines of a stretch, as `run_stretch`, while this many further threads read its pieces by these names, as
 /// `Stretch::read_all`. Where no thread can be started the caller reads them first.
 fn run_beside<B: Basis + Send + Sync, T: Threads + Wait + Sync>(
     rt: &T,
@@ -166,7 +166,7 @@ fn run_beside<B: Basis + Send + Sync, T: Threads + Wait + Sync>(
     ran
 }
 
-/// Deals with the lines of the bytes before an index, in so many pieces, as `run_beside`. It fills the spare pieces, and gives back those
+/// Deals with the lines of the bytes before an index, in this many pieces, as `run_beside`. It fills the spare pieces, and gives back those
 /// that may be filled again. Where memory for the pieces is refused nothing is dealt with.
 pub(crate) fn run_ahead<B: Basis + Send + Sync, T: Threads + Wait + Sync>(
     rt: &T,

@@ -45,7 +45,7 @@ SameEnding accesses (aborted step reason) (aborted other why) = (step ≡ other)
 SameEnding accesses (undeclared step) (undeclared other) = step ≡ other
 SameEnding accesses _ _ = ⊥
 
--- what a body comes to depends on no row but those that its statement declares
+-- what a body results in depends on no row but those that its statement declares
 abbrev pub DependsOnDeclared : Type 0
 DependsOnDeclared =
     (form : Form) (rows others : Rows)

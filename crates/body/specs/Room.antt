@@ -1,4 +1,4 @@
--- Where a store of rows has room: at a key that has room, a row can be put without taking memory.
+-- Where a store of rows has room: at a key that has room, a row can be written without allocating.
 use Rattle.std.specs.Prelude.{◌≡◌, ◌==◌, ◌&&◌, ◌<◌, ℕ, ℤ, Bool, false, Option, None, List, length, slice_index_or, IsSome}
 use Rattle.model_base.specs.Rows.{Rows}
 use Rattle.model_base.specs.declared.statement.Access.{Access}

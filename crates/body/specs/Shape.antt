@@ -11,12 +11,12 @@ use Rattle.model_base.specs.Rows.{Rows}
 abbrev pub IsNumber : ℤ → Type 0
 IsNumber value = fits_64_bits value ≡ true
 
--- a row that is there has so many columns, and each of its numbers is such
+-- a row that is there has this many columns, and each of its numbers is such
 abbrev pub IsRowOf : (ℤ → Type 0) → ℕ → Option (List ℤ) → Type 0
 IsRowOf IsSuch columns None = Unit {0}
 IsRowOf IsSuch columns (Some row) = (length row ≡ columns) × All IsSuch row
 
--- a row that is there has so many columns, whatever its numbers
+-- a row that is there has this many columns, whatever its numbers
 abbrev pub HasColumns : ℕ → Option (List ℤ) → Type 0
 HasColumns columns None = Unit {0}
 HasColumns columns (Some row) = length row ≡ columns

@@ -30,7 +30,7 @@ Performs accesses step window registers end window' registers' =
 abbrev pub if_fits : ℤ → Option ℤ
 if_fits value = if fits_64_bits value then Some value else None
 
--- the access is the first that passes the test, and stands at this place
+-- the access is the first that passes the test, and is at this place
 abbrev pub IsFirstAccess : (Access → Bool) → List Access → ℕ → Access → Type 0
 IsFirstAccess test [] place found = ⊥
 IsFirstAccess test (access ∷ accesses) zero found = (access ≡ found) × (test access ≡ true)

@@ -17,14 +17,14 @@ pub fn leaves_unwritten()
     ensures { LeavesUnwritten }
 {}
 
-/// What a body comes to depends on no row but those that its statement declares: over two maps that agree on these, it ends
-/// in the same way, with the same outputs, and with maps that agree on these again.
+/// What a body results in depends on no row but those that its statement declares: over two maps that agree on these, it ends in the same
+/// way, with the same outputs, and with maps that agree on these again.
 pub fn depends_on_declared()
     ensures { DependsOnDeclared }
 {}
 
-/// A completed body whose constants have 64 bits, and whose inserted rows have the columns of their tables, leaves rows of
-/// that shape behind if it finds such, and its outputs have 64 bits.
+/// A completed body whose constants have 64 bits, and whose inserted rows have the columns of their tables, leaves rows of that shape after
+/// if it finds such, and its outputs have 64 bits.
 pub fn keeps_shape()
     ensures { KeepsShape }
 {}

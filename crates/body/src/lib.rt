@@ -1,4 +1,12 @@
-//! The body of a statement, run over a window of the rows that the statement declares.
+//! The body of a statement, run over the rows that it declares.
+//!
+//! `run` runs the steps over a `Window`, which has the rows of up to sixteen accesses and up to eight outputs. Its
+//! answer, outputs and rows are the body's meaning over every map of all rows that has the window's rows at the
+//! declared keys. It doesn't allocate, and costs its steps.
+//!
+//! `fill` fills a window from a `RowSource`. `run_on` also writes the rows back into a `RowStore`, if the body
+//! completes; on `Err`, out of memory, all rows are unchanged. `RowMap` is such a store, a map by hash. The laws say
+//! that a body depends on declared rows alone and keeps the shape of rows.
 #![tactic(auto)]
 
 ghost use Rattle.std.specs.Prelude.{◌≡◌, []};
@@ -33,10 +41,10 @@ pub use window::Window;
 
 /// Runs the body of a statement over the rows of its accesses, which the window holds by the accesses' places.
 ///
-/// Registers begin at 0. The steps go in order until the last is done, or one aborts the body or touches a row or a kind
-/// that isn't declared; the answer says which, with the step's index from 0. A step is judged by what is declared before
-/// it is judged by what the row holds. After `Completed` the window has the new rows, and the outputs in order; after the
-/// other two it holds what the steps before the last came to, and is of no further use.
+/// Registers begin at 0. The steps go in order until the last is done, or one aborts the body or touches a row or a kind that isn't
+/// declared; the answer says which, with the step's index from 0. A step is judged by what is declared before it is judged by what the row
+/// holds. After `Completed` the window has the new rows, and the outputs in order; after the other two it holds what the steps before the
+/// last resulted in, and is of no further use.
 ///
 /// The creation of a table, and a deed by itself, have no step: they complete, and the window stays as it was.
 #[inline(always)]

@@ -14,7 +14,7 @@ pub(crate) fn read(registers: &[i64; MOST_REGISTERS], register: Register) -> i64
     registers[register.index()]
 }
 
-/// Puts a number into a register.
+/// Writes a number into a register.
 pub(crate) fn write(
     registers: &mut [i64; MOST_REGISTERS],
     register: Register,
@@ -47,7 +47,7 @@ fn computed(operation: Operation, left: i64, right: i64) -> Option<i64>
     }
 }
 
-/// Puts what an operation makes of two registers into a third, if it fits.
+/// Writes what an operation makes of two registers into a third, if it fits.
 pub(crate) fn compute(
     registers: &mut [i64; MOST_REGISTERS],
     operation: Operation,

@@ -10,16 +10,15 @@ use model_base::{HashSeed, Key, Row};
 use std::alloc::{AllocError, Global};
 use std::collections::HashMap;
 
-/// The rows of all tables. A row is found in a time that doesn't grow with their number, on average. A key with no entry has
-/// no row; nor has a key whose entry is `None`, which stands while rows are written. The map keeps the memory of the most
-/// entries that it had at once.
+/// The rows of all tables. A row is found in a time that doesn't grow with their number, on average. A key with no entry has no row; nor
+/// has a key whose entry is `None`, which is so while rows are written. The map keeps the memory of the most entries that it had at once.
 #[derive(Drop)]
 pub struct RowMap {
     entries: HashMap<Key, Option<Row>, HashSeed>,
 }
 
 impl RowMap {
-    /// The map in which all rows are absent. It takes no memory.
+    /// The map in which all rows are absent. It doesn't allocate.
     pub fn new(alloc: Global) -> Self
         ensures rows { rows_of result ≡ no_rows }
         ensures lean { IsLean (HasEntry result) (rows_of result) }

@@ -1,9 +1,8 @@
 //! What holds the rows of all tables: a window is filled from it, and a completed body's rows go back into it.
 //!
-//! To write a row may take memory, which may be refused when some rows are written and some aren't. So a store has two
-//! steps: room is made for each row first, which changes no row, and then the rows are put, which can't fail. Nothing has
-//! to be undone. In the end each entry whose row is absent is given up again, so a store keeps no entry for rows that
-//! were only looked for, or that were deleted.
+//! To write a row may take memory, which may be refused when some rows are written and some aren't. So a store has two steps: room is made
+//! for each row first, which changes no row, and then the rows are written, which can't fail. Nothing has to be undone. In the end each
+//! entry whose row is absent is given up again, so a store keeps no entry for rows that were only looked for, or that were deleted.
 
 ghost use Rattle.std.specs.Prelude.{◌≡◌, ◌≢◌, ◌≤◌, ℕ, [], length, OnErr, OnOk, IfOk};
 ghost use Rattle.model_base.specs.Outcomes.{body};
@@ -47,7 +46,7 @@ pub trait RowStore: RowSource {
         ensures elsewhere { (table row : ℕ) → same_key key.table key.row table row ≡ false
             → has_room self.new table row → has_room self.old table row };
 
-    /// Puts a row, or its absence, at a key. It takes no memory, since a row goes where room was made.
+    /// Writes a row, or its absence, at a key. It doesn't allocate, since a row goes where room was made.
     fn put_row(&mut self, key: Key, row: &Option<Row>)
         requires { IsSome row.now → has_room self.old key.table key.row }
         ensures rows { Self.rows self.new ≡ with_row (Self.rows self.old) key.table key.row row.now }
@@ -94,8 +93,8 @@ pub fn reserve_rows<S: RowStore>(
     Ok(())
 }
 
-/// Puts the rows of the window at the keys of the accesses, where `reserve_rows` made room for them. It takes no memory. If
-/// two accesses name one key, the row of the first counts.
+/// Writes the rows of the window at the keys of the accesses, where `reserve_rows` made room for them. It doesn't allocate. If two accesses
+/// name one key, the row of the first counts.
 pub fn put_rows<S: RowStore>(accesses: &[Access], window: &Window, store: &mut S)
     requires places { length accesses.now ≤ MOST_ACCESSES }
     requires room { HasRoomFrom (S.has_room store.old) accesses.now window.now.rows }
@@ -120,8 +119,8 @@ pub fn release_rows<S: RowStore>(accesses: &[Access], store: &mut S)
     }
 }
 
-/// Gives up the room at the key of each access whose row the window doesn't have. Once the rows of the window are put, no
-/// room is left that no row needs.
+/// Gives up the room at the key of each access whose row the window doesn't have. Once the rows of the window are written, no room is left
+/// that no row needs.
 pub fn release_absent<S: RowStore>(accesses: &[Access], window: &Window, store: &mut S)
     requires { length accesses.now ≤ MOST_ACCESSES }
     ensures rows { S.rows store.new ≡ S.rows store.old }
@@ -135,9 +134,9 @@ pub fn release_absent<S: RowStore>(accesses: &[Access], window: &Window, store: 
     }
 }
 
-/// Puts the rows of the window at the keys of the statement's accesses. Where memory is refused, all rows of the store
-/// are as they were. If two accesses name one key, the row of the first counts. A store that had room only for rows that
-/// are there has so afterwards, whatever happened.
+/// Writes the rows of the window at the keys of the statement's accesses. Where memory is refused, all rows of the store are as they were.
+/// If two accesses name one key, the row of the first counts. A store that had room only for rows that are there has so afterwards,
+/// whatever happened.
 pub fn write_back<S: RowStore>(
     statement: &Statement,
     window: &Window,

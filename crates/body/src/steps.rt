@@ -17,7 +17,7 @@ use model_base::{
     Registers, Row, RowName, Step, Table,
 };
 
-/// What one step comes to.
+/// What one step results in.
 #[derive(Drop)]
 pub(crate) enum StepEnd {
     GoesOn(u32),
@@ -117,7 +117,7 @@ fn load(
     }
 }
 
-/// Puts a number into a column of the row.
+/// Writes a number into a column of the row.
 fn store(
     accesses: &[Access],
     window: &mut Window,
@@ -155,7 +155,7 @@ fn gathered(registers: &[i64; MOST_REGISTERS], from: &[Register]) -> Row
     row
 }
 
-/// Puts a row where there is none.
+/// Writes a row where there is none.
 fn insert(
     accesses: &[Access],
     window: &mut Window,

@@ -36,7 +36,7 @@ impl Window {
         &self.rows[access]
     }
 
-    /// Puts a row, or its absence, at this place, from 0.
+    /// Writes a row, or its absence, at this place, from 0.
     pub fn set(&mut self, access: usize, row: Option<Row>)
         requires { access < MOST_ACCESSES }
         ensures rows { self.new.rows ≡ slice_set self.old.rows access row }
@@ -100,7 +100,7 @@ impl Window {
         self.outputs = Outputs::new();
     }
 
-    /// Puts an output after the others, of which there are fewer than `MOST_OUTPUTS`.
+    /// Appends an output to the others, of which there are fewer than `MOST_OUTPUTS`.
     pub(crate) fn push_output(&mut self, value: i64)
         requires { length self.old.outputs < MOST_OUTPUTS }
         ensures outputs { self.new.outputs ≡ self.old.outputs ++ value ∷ [] }

@@ -41,7 +41,7 @@ became_text log tables number place Became.Accepted = place_text log tables plac
 became_text log tables number place (Became.Faulty fault) = refused_text number (fault_word fault)
 became_text log tables number place (Became.Refused refused) = refused_text number (refused_word refused)
 
--- the report's lines from a line of this number on, before which there are so many places
+-- the report's lines from a line of this number on, before which there are this many places
 abbrev pub report_text : List Statement → List (List ℕ) → ℕ → ℕ → List Became → List ℕ
 report_text log tables number place [] = []
 report_text log tables number place (line ∷ lines) =
@@ -73,8 +73,7 @@ LineMayLackMemory Became.Accepted = ⊤
 LineMayLackMemory (Became.Faulty fault) = fault ≡ LineFault.NoMemory
 LineMayLackMemory (Became.Refused refused) = ⊥
 
--- memory may be refused for the report's line for a line that became so: where it has no place, the line finds no room
--- behind the text
+-- memory may be refused for the report's line for a line that became so: where it has no place, the line finds no room after the text
 abbrev pub MayLackRoom : ℕ → Vec ℕ Global → Became → Type 0
 MayLackRoom number text Became.Accepted = ⊤
 MayLackRoom number text (Became.Faulty fault) = fault ≢ LineFault.NoMemory → LacksRoom text (refused_text number (fault_word fault))

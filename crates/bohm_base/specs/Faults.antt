@@ -1,4 +1,4 @@
--- A fault of reading, as a fault of the run; and what a run's answer tells of its reader and its writer.
+-- A fault of reading, as a fault of the run; and what a run's answer says of its reader and its writer.
 use Rattle.std.specs.Prelude.{ℕ, Result, Ok, Err, List, codes}
 use Rattle.log_text_base.specs.Known.{raised}
 use Rattle.log_text_base.specs.declared.fault.ReadFault.{ReadFault}

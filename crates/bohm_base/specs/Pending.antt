@@ -1,14 +1,14 @@
--- What was written behind what a writer held, and what is pending.
+-- What was written after what a writer held, and what is pending.
 use Rattle.std.specs.Prelude.{ℕ, Option, List, IfSome}
 use Rattle.log_text_base.specs.Known.{HasBegun, MovesOut}
 use Rattle.report.specs.Report.{IsReport}
 
--- behind what the writer held stands the report of the input, the end of it still pending
+-- after what the writer held comes the report of the input, the end of it still pending
 abbrev pub HasReport : Option (List ℕ) → Option (List ℕ) → Option (List ℕ) → List ℕ → Type 0
 HasReport input old now pending =
     IfSome input (λ bytes. (text : List ℕ) × (IsReport bytes text × MovesOut old now text pending))
 
--- behind what the writer held stands a beginning of the report of the input, the end of it still pending
+-- after what the writer held comes a beginning of the report of the input, the end of it still pending
 abbrev pub HasBegunReport : Option (List ℕ) → Option (List ℕ) → Option (List ℕ) → List ℕ → Type 0
 HasBegunReport input old now pending =
     IfSome input (λ bytes. (text : List ℕ) × (IsReport bytes text × HasBegun old now pending text))

@@ -51,7 +51,7 @@ pub struct Collected {
 }
 
 impl Collected {
-    /// The log before its first line, whose names are found under this seed. It takes no memory.
+    /// The log before its first line, whose names are found under this seed. It doesn't allocate.
     fn seeded(alloc: Global, seed: HashSeed) -> Self
         ensures log { result.log ≡ empty_log }
         ensures lines { result.lines.items ≡ [] }

@@ -20,8 +20,7 @@ pub enum ArgumentFault {
     NoMemory,
 }
 
-/// What an error of `std::env::args` says: want of memory only where a growth was refused, and otherwise that an argument
-/// isn't text.
+/// What an error of `std::env::args` says: out of memory only where a growth was refused, and otherwise that an argument isn't text.
 pub fn argument_fault(error: &io::Error) -> ArgumentFault
     ensures { (result ≡ ArgumentFault.NoMemory) ↔ (error_kind error.now ≡ ErrorKind.OutOfMemory) }
 {

@@ -1,4 +1,9 @@
-//! The slow run of a log, from bytes to report, and the words with which a program is started.
+//! The slow run from text to report, and what lines become.
+//!
+//! `serial_text` reads a text to its end, runs it by `model::serial` and writes its report; it keeps all statements.
+//! After a fault, which comes only if the reader or the writer failed or memory ran out, a beginning of the report was
+//! written. `Became` says what a line became, a statement, a fault or a refusal. `arguments` gives the words with which
+//! a program was started.
 #![tactic(auto)]
 
 mod collecting;

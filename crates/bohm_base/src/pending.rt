@@ -8,8 +8,8 @@ use crate::fault::EngineFault;
 use log_text_base::{Counted, write_much};
 use std::io::Write;
 
-/// Puts a line behind what is pending, and writes what is pending if that is much. Where there is no room for the line,
-/// what was pending stays so; after a fault of writing nothing is pending, and a front of it was written.
+/// Appends a line to what is pending, and writes what is pending if that is much. Where there is no room for the line, what was pending
+/// stays so; after a fault of writing nothing is pending, and a front of it was written.
 #[inline(always)]
 pub(crate) fn put_out<W: Write>(
     writer: &mut Counted<W>,

@@ -19,7 +19,7 @@ use sequencer::Log;
 use std::alloc::{AllocError, Global};
 use std::io::{Read, Write};
 
-/// Puts the report's line for a place behind the text, or nothing for a place that the log does not have.
+/// Appends the report's line for a place to the text, or nothing for a place that the log does not have.
 fn put_place(
     text: &mut Vec<u8>,
     log: &Log,
@@ -45,7 +45,7 @@ fn put_place(
     )
 }
 
-/// Puts the report's line for a line of this number behind the text. An accepted line has this place.
+/// Appends the report's line for a line of this number to the text. An accepted line has this place.
 fn put_line(
     text: &mut Vec<u8>,
     log: &Log,
@@ -65,7 +65,7 @@ fn put_line(
     }
 }
 
-/// Puts the report's line for a line of this number behind what is pending, and writes what is pending if that is much.
+/// Appends the report's line for a line of this number to what is pending, and writes what is pending if that is much.
 fn report_line<W: Write>(
     writer: &mut Counted<W>,
     pending: &mut Vec<u8>,
@@ -182,11 +182,10 @@ fn run_log<W: Write>(
 
 /// Reads a log to its end, runs it by `model::serial`, and writes its report: one line for each line.
 ///
-/// The log's statements, their outcomes and the rows are kept in memory, and two bytes or so for each line. `NoMemory`
-/// comes where a growth was refused, `Read` where the reader failed, `Write` where the writer failed, or took no byte of
-/// a piece that wasn't empty. After a fault a beginning of the report stands: nothing of it where the log was not read to
-/// its end or not run, which is so after each `Read`; the lines that were put where one found no memory; and after
-/// `Write` what the writer took.
+/// The log's statements, their outcomes and the rows are kept in memory, and two bytes or so for each line. `NoMemory` comes where a growth
+/// was refused, `Read` where the reader failed, `Write` where the writer failed, or took no byte of a piece that wasn't empty. After a
+/// fault a beginning of the report is written: nothing of it where the log was not read to its end or not run, which is so after each
+/// `Read`; the lines that were written where one found no memory; and after `Write` what the writer took.
 pub fn serial_text<R: Read, W: Write>(
     alloc: Global,
     reader: &mut Counted<R>,

@@ -30,7 +30,7 @@ with_next_place state partition references =
       references = slice_set state.references (front_of state partition) references;
     }
 
--- whether an event may be refused for want of memory; an actor takes a place and gives it back without any
+-- whether an event may be refused for lack of memory; an actor takes a place and gives it back without any
 abbrev pub takes_memory : Event → Bool
 takes_memory (Place partition) = true
 takes_memory (Claim actor index) = false

@@ -46,7 +46,7 @@ fn is_due<S: Statements>(statements: &S, state: &State, index: usize) -> bool
     state.own(index).len() < statements.words_length(index)
 }
 
-/// Whether all ends that the place must set are set; `place` is where it stands in the log.
+/// Whether all ends that the place must set are set; `place` is where it is in the log.
 fn has_ended<S: Statements>(
     statements: &S,
     state: &State,
@@ -183,8 +183,8 @@ fn give_back<S: Statements>(statements: &S, state: &mut State, actor: u64, index
     }
 }
 
-/// Makes one event; one whose guard fails changes nothing. An error is want of memory, after which the state is as it was; an
-/// actor takes a place and gives it back without any.
+/// Makes one event; one whose guard fails changes nothing. An error means out of memory, after which the state is as it was; an actor takes
+/// a place and gives it back without any.
 pub(crate) fn apply<S: Statements>(
     statements: &S,
     state: &mut State,

@@ -1,5 +1,11 @@
-//! The machine that runs a batch, as plain data: the state of a batch, and the calls that make its steps. What a place is
-//! shown, stores and ends is answered by the batch's statements.
+//! The machine of a batch as plain data, with its steps.
+//!
+//! `State` is what is stored: fronts, references, holds, own words and ends. `Machine` has it with the batch's
+//! `Statements`, which say what a place stores and ends by what the state shows it. Only `apply` and `run_events`
+//! change a state, so each is one that events reach, of which `done_places_are_serial` speaks. An event whose guard
+//! fails changes nothing; on `Err`, out of memory, that event isn't made.
+//!
+//! The program doesn't use it: tests compare with it.
 //!
 //! After J. M. Faleiro and D. J. Abadi, "Rethinking Serializable Multiversion Concurrency Control", PVLDB 8 (2015),
 //! section 3.

@@ -30,7 +30,7 @@ impl<S: Statements> Model for Machine<S> {
 }
 
 impl<S: Statements + Drop> Machine<S> {
-    /// The machine before any event. An error is want of memory.
+    /// The machine before any event. An error means out of memory.
     #[tactic(auto, using(crate::proofs::Reached::reached_start))]
     pub fn new(alloc: Global, statements: S) -> Result<Self, AllocError>
         ensures { IfOk result (λ machine. machine ≡ started S.Statements.batch statements) }
@@ -55,8 +55,8 @@ impl<S: Statements + Drop> Machine<S> {
         &self.statements
     }
 
-    /// Makes one event; one whose guard fails changes nothing. An error is want of memory, after which nothing has changed; an
-    /// actor takes a place and gives it back without any.
+    /// Makes one event; one whose guard fails changes nothing. An error means out of memory, after which nothing has changed; an actor
+    /// takes a place and gives it back without any.
     #[tactic(auto, using(crate::proofs::Reached::reached_after))]
     pub fn apply(&mut self, event: &Event) -> Result<(), AllocError>
         ensures ok { OnOk result (self.new ≡ after_event S.Statements.batch self.old event.now) }
@@ -66,7 +66,7 @@ impl<S: Statements + Drop> Machine<S> {
         apply(&self.statements, &mut self.state, event)
     }
 
-    /// Makes the events one after another. After an error, which is want of memory, those before some event are made.
+    /// Makes the events one after another. After an error, which means out of memory, those before some event are made.
     pub fn run_events(&mut self, events: &[Event]) -> Result<(), AllocError>
         ensures ok { OnOk result (self.new ≡ after_events S.Statements.batch self.old events.now) }
         ensures err { OnErr result (IsPartWay S.Statements.batch self.old self.new events.now) }

@@ -25,7 +25,7 @@ pub fn free_holds(alloc: Global, places: usize) -> Result<Vec<Hold>, AllocError>
     vec![in alloc; Hold::Free; places]
 }
 
-/// The references of so many places, before any is stored.
+/// The references of this many places, before any is stored.
 pub fn no_references<S: Statements>(
     alloc: Global,
     statements: &S,
@@ -41,7 +41,7 @@ pub fn no_references<S: Statements>(
     Ok(references)
 }
 
-/// The own words of so many places, before any is stored.
+/// The own words of this many places, before any is stored.
 pub fn no_words(alloc: Global, places: usize) -> Result<Vec<Vec<u64>>, AllocError>
     ensures { IfOk result (λ own. lists_of own.items ≡ replicate places []) }
 {

@@ -9,9 +9,9 @@ use model_base::Place;
 use std::alloc::{AllocError, Global};
 use std::marker::Model;
 
-/// What is stored of a batch: how many places each partition has placed; of each place its references, who holds it and its
-/// own words so far; and of each slot the place that ended its record, if one did. An index is that of a place in the batch,
-/// from 0; an end is a place of the log. A reference is 0 for what stood before the batch, or else one more than an index.
+/// What is stored of a batch: how many places each partition has placed; of each place its references, who holds it and its own words so
+/// far; and of each slot the place that ended its record, if one did. An index is that of a place in the batch, from 0; an end is a place
+/// of the log. A reference is 0 for what was there before the batch, or else one more than an index.
 #[derive(Drop)]
 pub struct State {
     fronts: Vec<usize>,
@@ -46,8 +46,8 @@ impl State {
     ghost use Rattle.std.specs.List.{list_all};
     ghost use Rattle.bohm_core.specs.Storage.{has_next_place, with_next_place};
 
-    /// The first state of a batch: nothing is placed, held or stored, and only records of grants before the batch have ends.
-    /// An error is want of memory.
+    /// The first state of a batch: nothing is placed, held or stored, and only records of grants before the batch have ends. An error means
+    /// out of memory.
     pub fn new<S: Statements>(alloc: Global, statements: &S) -> Result<Self, AllocError>
         ensures { IfOk result (λ state. state ≡ start (S.batch statements.now)) }
     {
@@ -149,7 +149,7 @@ impl State {
         self.fronts.iter().all(|front| index < *front)
     }
 
-    /// Whether a reference is to what stood before the batch, or to a place that is done.
+    /// Whether a reference is to what was there before the batch, or to a place that is done.
     pub fn is_ready(&self, reference: usize) -> bool
         ensures { result ≡ is_ready self.now reference }
     {

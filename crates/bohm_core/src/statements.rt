@@ -9,9 +9,9 @@ use crate::state::State;
 use model_base::Place;
 use std::alloc::AllocError;
 
-/// The statements of a batch, and what stands before it. An index is that of a place in the batch, from 0, and a slot that
-/// of a grant that was made before the batch or that the batch may make. What a place stores and ends is only asked where
-/// the state shows it what the serial run shows it.
+/// The statements of a batch, and what is before it. An index is that of a place in the batch, from 0, and a slot that of a grant that was
+/// made before the batch or that the batch may make. What a place stores and ends is only asked where the state shows it what the serial
+/// run shows it.
 pub trait Statements {
     ghost batch: { Self → Batch };
 
@@ -24,8 +24,8 @@ pub trait Statements {
     fn partitions(&self) -> usize
         ensures { result ≡ (batch self.now).partitions };
 
-    /// The place of the log of the batch's first statement. Fewer than 2^63 statements stand before a batch, so that the
-    /// place of every index fits 64 bits.
+    /// The place of the log of the batch's first statement. Fewer than 2^63 statements are before a batch, so that the place of every index
+    /// fits 64 bits.
     fn first(&self) -> Place
         ensures value { result ≡ (batch self.now).first }
         ensures small { result < 2 ^ 63 };

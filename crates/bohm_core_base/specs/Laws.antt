@@ -70,7 +70,7 @@ pub record ShowsSerial (batch : Batch) (state : State) (index : ℕ) : Type 0 wh
   pub told : (slot : ℕ) → slot < length (batch_slots batch) → is_listed (batch.tables index) (table_at batch slot) ≡ true
       → end_below (batch.first + index) (end_of state slot) ≡ end_below (batch.first + index) (whole_end batch slot)
 
--- each word and each end of the first state stands in the second, and so does what was done and placed
+-- each word and each end of the first state is in the second, and so does what was done and placed
 pub record KeepsStored (before after : State) : Type 0 where
   pub words : (index : ℕ) → (rest : List ℕ) × (own_of before index ++ rest ≡ own_of after index)
   pub ends : (slot end : ℕ) → end_of before slot ≡ Some end → end_of after slot ≡ Some end

@@ -27,7 +27,7 @@ pub fn records_end_by_done_places()
         → (index < batch.size) × (was_done (serial_words batch index) ≡ true) }
 {}
 
-/// The grants of slots stand in the order of their places.
+/// The grants of slots are in the order of their places.
 pub fn slots_stand_in_order()
     ensures { (batch : Batch) (slot other : ℕ) (grant later : Grant)
         → IsSoundBatch batch → slot < other → slice_get (batch_slots batch) slot ≡ Some grant

@@ -17,7 +17,7 @@ pub struct Runs<'a> {
 /// A log of which one byte is changed to another value, and the runs of it.
 #[derive(Drop)]
 pub struct Changed<'a> {
-    /// One of so many changes is tried.
+    /// One of this many changes is tried.
     pub every: usize,
     pub runs: Runs<'a>,
 }

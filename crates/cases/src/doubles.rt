@@ -5,7 +5,7 @@ ghost use Rattle.std.specs.Prelude.{None};
 use std::io;
 use std::io::{ErrorKind, Read, Write};
 
-/// Gives so many bytes a call, for so many calls, and then fails.
+/// Gives this many bytes a call, for this many calls, and then fails.
 #[derive(Drop)]
 pub struct Giving<'a> {
     pub bytes: &'a [u8],
@@ -29,7 +29,7 @@ impl Read for Giving<'_> {
     }
 }
 
-/// Takes so many bytes a write, for so many writes, and may fail to flush.
+/// Takes this many bytes a write, for this many writes, and may fail to flush.
 #[derive(Drop)]
 pub struct Taking {
     pub taken: Vec<u8>,

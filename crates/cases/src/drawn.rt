@@ -47,7 +47,7 @@ fn put_endings(alloc: Global, outcome: &mut String, reports: &[u8]) -> Result<()
     Ok(())
 }
 
-/// The bytes that are put in place of others where lines are spoilt.
+/// The bytes that are written in place of others where lines are spoilt.
 const OTHER_BYTES: &[u8; 20] = b" |:-_0189azrARUIDC\x7f\n";
 
 /// Changes one of the bytes from an index on.
@@ -74,7 +74,7 @@ fn spoilt_log(
     Ok(log)
 }
 
-/// The words that are put in place of others.
+/// The words that are written in place of others.
 const OTHER_WORDS: [&str; 32] = [
     "",
     "|",

@@ -74,7 +74,7 @@ impl Counts {
     }
 }
 
-/// Runs the log, a byte a read, of which the read after so many fails.
+/// Runs the log, a byte a read, of which the read after this many fails.
 fn with_reads<R: Threads + Wait + Sync>(
     rt: &R,
     alloc: Global,

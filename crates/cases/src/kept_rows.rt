@@ -1,4 +1,4 @@
-//! The rows that an engine tells once it has run a log.
+//! The rows that an engine says once it has run a log.
 
 use crate::case::Runs;
 use crate::fault::TrialFault;
@@ -13,7 +13,7 @@ use std::rt::Files;
 use std::sync::Wait;
 use std::thread::Threads;
 
-/// What the engine tells of a row of the first table before a place.
+/// What the engine says of a row of the first table before a place.
 fn told_row(
     alloc: Global,
     engine: &Engine,
@@ -31,7 +31,7 @@ fn told_row(
     }
 }
 
-/// The engine's mark, and what it tells of a row before each place.
+/// The engine's mark, and what it says of a row before each place.
 fn told_rows(
     alloc: Global,
     engine: &Engine,
@@ -47,7 +47,7 @@ fn told_rows(
     Ok(told)
 }
 
-/// Runs a log, and returns what its engine tells then.
+/// Runs a log, and returns what its engine says then.
 fn rows_by<T: Threads + Wait + Sync>(
     rt: &T,
     alloc: Global,
@@ -63,7 +63,7 @@ fn rows_by<T: Threads + Wait + Sync>(
     }
 }
 
-/// What the engine that a run returns tells of a row. Only a run in batches that are kept returns one.
+/// What the engine that a run returns says of a row. Only a run in batches that are kept returns one.
 fn rows_of<T: Threads + Wait + Sync>(
     rt: &T,
     alloc: Global,

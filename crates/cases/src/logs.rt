@@ -14,15 +14,15 @@ const MOST_FILE_BYTES: u64 = 1 << 20;
 pub enum Log<'a> {
     /// `NAME`: the file NAME.log.
     Worked(&'a str),
-    /// `letters:COUNT`: a line of so many letters, and then a good one.
+    /// `letters:COUNT`: a line of this many letters, and then a good one.
     Letters(u32),
-    /// `unended:COUNT`: the creation of a table, and then a line of so many letters without its line feed.
+    /// `unended:COUNT`: the creation of a table, and then a line of this many letters without its line feed.
     Unended(u32),
-    /// `users:COUNT`: so many lines of users who weren't named before, and then one of the user who was named first.
+    /// `users:COUNT`: this many lines of users who weren't named before, and then one of the user who was named first.
     Users(u32),
-    /// `tables:COUNT`: so many creations of tables, and then a line that reads the first.
+    /// `tables:COUNT`: this many creations of tables, and then a line that reads the first.
     Tables(u32),
-    /// `rows:LINES:ROWS`: so many lines that insert the rows first, and change them in turn then.
+    /// `rows:LINES:ROWS`: this many lines that insert the rows first, and change them in turn then.
     Rows(u32, u32),
 }
 
@@ -42,7 +42,7 @@ pub fn text_of(bytes: &[u8]) -> Result<&str, TrialFault> {
     str::from_utf8(bytes).map_err(|_| TrialFault::NotText)
 }
 
-/// Appends so many letters.
+/// Appends this many letters.
 fn put_letters(log: &mut Vec<u8>, count: u32) -> Result<(), AllocError> {
     for _ in 0..count {
         log.push(b'a')?;
@@ -50,7 +50,7 @@ fn put_letters(log: &mut Vec<u8>, count: u32) -> Result<(), AllocError> {
     Ok(())
 }
 
-/// A line of so many letters, and then a good one.
+/// A line of this many letters, and then a good one.
 fn log_of_letters(alloc: Global, count: u32) -> Result<Vec<u8>, AllocError> {
     let mut log = Vec::new(alloc);
     put_letters(&mut log, count)?;
@@ -58,14 +58,14 @@ fn log_of_letters(alloc: Global, count: u32) -> Result<Vec<u8>, AllocError> {
     Ok(log)
 }
 
-/// A good line, and then so many letters without a line feed.
+/// A good line, and then this many letters without a line feed.
 fn unended_log(alloc: Global, count: u32) -> Result<Vec<u8>, AllocError> {
     let mut log = Vec::from_slice(alloc, b"alice CREATE t 1\n")?;
     put_letters(&mut log, count)?;
     Ok(log)
 }
 
-/// Lines of so many users after the creation of a table by `owner`, and then one of the owner.
+/// Lines of this many users after the creation of a table by `owner`, and then one of the owner.
 fn log_of_users(alloc: Global, count: u32) -> Result<Vec<u8>, AllocError> {
     let mut log = Vec::from_slice(alloc, b"owner CREATE t 1\n")?;
     for number in 0..count {
@@ -87,7 +87,7 @@ fn log_of_tables(alloc: Global, count: u32) -> Result<Vec<u8>, AllocError> {
     Ok(log)
 }
 
-/// Appends the line of this number of a log over so many rows.
+/// Appends the line of this number of a log over this many rows.
 fn put_row(alloc: Global, log: &mut Vec<u8>, number: u32, rows: u32) -> Result<(), AllocError> {
     let row = number % rows.max(1);
     let line = if number < rows {

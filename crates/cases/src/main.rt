@@ -1,6 +1,8 @@
-//! Runs the cases that are written in files: `cases FILE..` reads each line of each file as a case, a verb and its words, and prints
-//! the line with what it results in. An empty line is none, and one that begins with `#` is a comment. What is printed is compared
-//! with `stdout`, so one more case is one more line in `data/` and in `stdout`.
+//! Runs cases that are written in files.
+//!
+//! `cases FILE..` reads each line of each file as a case, a verb and its words, and prints the line with what it
+//! results in. An empty line is none, and one that begins with `#` is a comment. What is printed is compared with
+//! `stdout`, so one more case is one more line in `data/` and in `stdout`. The verbs are in `case.rt`.
 #![tactic(auto)]
 
 mod case;

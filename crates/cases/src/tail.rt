@@ -111,8 +111,8 @@ impl Write for Report<'_> {
     }
 }
 
-/// Runs a log that comes so, and tells how many reads and writes that took, how many reads were late, and whether the report is the
-/// wanted one.
+/// Runs a log that comes so, and says how many reads and writes that took, how many reads were late, and whether the report is the wanted
+/// one.
 fn tailed_run<R: Threads + Wait + Sync>(
     rt: &R,
     alloc: Global,

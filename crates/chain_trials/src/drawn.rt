@@ -22,7 +22,7 @@ struct Counts {
     swept: usize,
     /// The marks that weren't taken.
     bad: u32,
-    /// The rows that were told.
+    /// The rows that were known.
     told: u32,
     /// The rows that weren't, since their place was below the mark.
     hidden: u32,
@@ -57,7 +57,7 @@ fn drawn_version(draws: &mut Generator, place: Place) -> Version
     Version { place, key, row }
 }
 
-/// The row that the versions tell before the place.
+/// The row that the versions say before the place.
 fn row_by(versions: &[Version], place: Place, key: &Key) -> Option<Row> {
     let mut found = None;
     for version in versions {
@@ -87,7 +87,7 @@ fn trimmed(alloc: Global, versions: &[Version], mark: Place) -> Result<Vec<Versi
     Ok(left)
 }
 
-/// The versions that are left when those that tell nothing are swept out.
+/// The versions that are left when those that say nothing are swept out.
 fn swept(alloc: Global, versions: &[Version], mark: Place) -> Result<Vec<Version>, AllocError> {
     let mut left = Vec::new(alloc);
     for version in versions {
@@ -213,7 +213,7 @@ fn try_list(
     Ok(())
 }
 
-/// Tries drawn lists, and tells how much was compared.
+/// Tries drawn lists, and says how much was compared.
 pub fn tell_drawn(rt: &impl Print, alloc: Global) -> Result<(), TrialFault> {
     let mut draws = Generator::new(18);
     let mut counts = Counts::default();

@@ -7,13 +7,13 @@ use thiserror::Error;
 /// Why the program ends without success.
 #[derive(Clone, Copy, Debug, PartialEq, Eq, Error)]
 pub enum TrialFault {
-    /// The words of the command line tell nothing to do.
+    /// The words of the command line say nothing to do.
     #[error("no such trial")]
     Words,
     /// The store has another end than the versions before, or takes no mark there.
     #[error("the store has another end")]
     Store,
-    /// The store and the list of its versions don't tell the same.
+    /// The store and the list of its versions don't say the same.
     #[error("the store and the list differ")]
     Different,
     /// A growth was refused.

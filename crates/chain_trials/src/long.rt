@@ -1,4 +1,4 @@
-//! Many versions, appended a thousand places at a time. Behind each thousand the store is trimmed to its end, and swept.
+//! Many versions, appended a thousand places at a time. After each thousand the store is trimmed to its end, and swept.
 
 ghost use Rattle.std.specs.Prelude.{◌≡◌, ◌≤◌, IfOk};
 ghost use Rattle.chains.specs.Store.{AreBetween};
@@ -84,7 +84,7 @@ fn append_batch(
     Ok((trimmed, chains.sweep()))
 }
 
-/// Does the work of so many places on an empty store, and tells how many versions were trimmed and swept.
+/// Does the work of this many places on an empty store, and says how many versions were trimmed and swept.
 fn tell_work(
     rt: &impl Print,
     alloc: Global,
@@ -108,7 +108,7 @@ fn tell_work(
     Ok(())
 }
 
-/// Does the work of so many places, and tells how many versions were trimmed and swept.
+/// Does the work of this many places, and says how many versions were trimmed and swept.
 pub fn tell_long(
     rt: &impl Print,
     alloc: Global,

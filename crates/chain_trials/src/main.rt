@@ -1,11 +1,10 @@
-//! Trials of the store of versions. The program appends so many versions, a thousand places at a time, and trims and sweeps
-//! behind them; then it tells what a store answers of worked versions, of marks that are set by hand, and of drawn lists, a
-//! line for each finding. What it prints is compared with `stdout`. Where a drawn list and the store don't tell the same, it
-//! ends without success.
+//! Trials of the store of versions.
 //!
-//! Its words are what it does, `turns`, `rows` or `changes`, and how many places: rows are inserted and deleted in turn, or
-//! each place inserts a row of its own, or all places change a thousand rows in turn. Behind them `trials` tells the other
-//! trials. The word `refused` alone tells those in which a growth may be refused.
+//! Its words are `turns`, `rows` or `changes` with a number of places: rows are inserted and deleted in turn, or each
+//! place inserts a row, or all change a thousand rows in turn, with a trim and a sweep after each thousand places.
+//! `trials` adds worked versions, marks set by hand and drawn lists, a line for each finding; `refused` makes those in
+//! which a growth may be refused alone. What is printed is compared with `stdout`. If a store and a drawn list
+//! disagree, the program ends without success.
 #![tactic(auto)]
 
 mod drawn;
@@ -27,7 +26,7 @@ use std::process::ExitCode;
 use std::rt::Env;
 use worked::tell_worked;
 
-/// What one word tells to do.
+/// What one word says to do.
 fn work_of(word: &str) -> Option<Work> {
     match word {
         "turns" => Some(Work::Turns),
@@ -48,7 +47,7 @@ fn tell_work(rt: &impl Print, alloc: Global, word: &str, number: &str) -> Result
     }
 }
 
-/// Tells what stores answer.
+/// Reports what stores answer.
 fn tell_trials(rt: &impl Print, alloc: Global) -> Result<(), TrialFault> {
     tell_worked(rt, alloc)?;
     tell_marks(rt, alloc)?;
@@ -56,7 +55,7 @@ fn tell_trials(rt: &impl Print, alloc: Global) -> Result<(), TrialFault> {
     tell_drawn(rt, alloc)
 }
 
-/// Does what the words tell.
+/// Does what the words ask for.
 fn tell_words(rt: &impl Print, alloc: Global, words: &[String]) -> Result<(), TrialFault> {
     let Some(word) = words.get(1) else {
         return Err(TrialFault::Words);
@@ -77,7 +76,7 @@ fn tell_words(rt: &impl Print, alloc: Global, words: &[String]) -> Result<(), Tr
     }
 }
 
-/// Does what the words of the command line tell.
+/// Does what the words of the command line ask for.
 fn run<R: Env + Print + AllocGlobal>(rt: &R) -> Result<(), TrialFault> {
     let words = env::args(rt)?.collect::<Vec<String>>(rt.alloc())?;
     tell_words(rt, rt.alloc(), words.as_slice())

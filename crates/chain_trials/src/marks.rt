@@ -19,7 +19,7 @@ fn three(alloc: Global) -> Result<Vec<Version>, AllocError>
     ]?)
 }
 
-/// Tells what each mark drops of three versions, and what is told then.
+/// Reports what each mark drops of three versions, and what is known then.
 fn tell_replaced(rt: &impl Print, chains: &mut Chains) {
     for place in 1..5 {
         tell_row(rt, chains, place, key(1));
@@ -35,7 +35,7 @@ fn tell_replaced(rt: &impl Print, chains: &mut Chains) {
     tell_bounds(rt, chains);
 }
 
-/// Appends three versions of a row to a new store, and tells what each mark drops.
+/// Appends three versions of a row to a new store, and says what each mark drops.
 fn tell_three(rt: &impl Print, alloc: Global, chains: &mut Chains) -> Result<(), TrialFault> {
     if chains.end() != 0 {
         return Err(TrialFault::Store);
@@ -53,7 +53,7 @@ fn two(alloc: Global) -> Result<Vec<Version>, AllocError>
     Ok(vec![in alloc; version(1, key(7), Some(5)), version(2, key(7), Some(7))]?)
 }
 
-/// Appends two versions of a row to a new store, and tells what each mark drops.
+/// Appends two versions of a row to a new store, and says what each mark drops.
 fn tell_two(rt: &impl Print, alloc: Global, chains: &mut Chains) -> Result<(), TrialFault> {
     if chains.end() != 0 {
         return Err(TrialFault::Store);
@@ -84,7 +84,7 @@ fn coming_and_going(alloc: Global) -> Result<Vec<Version>, AllocError>
     ]?)
 }
 
-/// Appends rows that come and go to a new store, and tells which absent ones are swept out.
+/// Appends rows that come and go to a new store, and says which absent ones are swept out.
 fn tell_absent(rt: &impl Print, alloc: Global, chains: &mut Chains) -> Result<(), TrialFault> {
     if chains.end() != 0 {
         return Err(TrialFault::Store);

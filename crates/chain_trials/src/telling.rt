@@ -1,4 +1,4 @@
-//! Versions of rows of one number, and what a store tells of such rows.
+//! Versions of rows of one number, and what a store says of such rows.
 
 ghost use Rattle.std.specs.Prelude.{◌≡◌};
 
@@ -33,7 +33,7 @@ pub fn version(place: Place, key: Key, value: Option<i64>) -> Version
     Version { place, key, row }
 }
 
-/// Appends one version, behind which the store ends here.
+/// Appends one version, after which the store ends here.
 pub fn put(
     alloc: Global,
     chains: &mut Chains,
@@ -48,12 +48,12 @@ pub fn put(
     Ok(())
 }
 
-/// Tells what was found of something. A line that can't be written is missing in what is compared, so nobody is told of it.
+/// Reports what was found of something. A line that can't be written is missing in what is compared, so it isn't noticed otherwise.
 pub fn tell(rt: &impl Print, line: &str) {
     let _ = println!(rt; "{line}");
 }
 
-/// Tells from which mark to which end a store tells rows.
+/// Reports from which mark to which end a store says rows.
 pub fn tell_bounds(rt: &impl Print, chains: &Chains) {
     let _ = println!(rt; "  mark {}, end {}", chains.mark(), chains.end());
 }
@@ -75,7 +75,7 @@ pub fn tell_row(rt: &impl Print, chains: &Chains, place: Place, key: Key) {
     };
 }
 
-/// Tells what a store answers where it is to be trimmed to the mark.
+/// Reports what a store answers where it is to be trimmed to the mark.
 pub fn tell_trim(rt: &impl Print, chains: &mut Chains, mark: Place) {
     let found = chains.trim(mark);
     let _ = println!(rt; "  trim to {mark}: {found:?}");

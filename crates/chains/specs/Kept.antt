@@ -17,12 +17,12 @@ abbrev pub written_to : Key → List Written → List Written
 written_to key writes =
     filter (λ (write : Written). same_key write.key.table write.key.row key.table key.row) writes
 
--- the writes stand in the order of their places, from the first place to below the end
+-- the writes are in the order of their places, from the first place to below the end
 abbrev pub AreWrittenInOrder : ℕ → ℕ → List Written → Type 0
 AreWrittenInOrder first end [] = first ≤ end
 AreWrittenInOrder first end (write ∷ writes) = (first ≤ write.place) × (write.place < end) × AreWrittenInOrder write.place end writes
 
--- no write stands first whose place is below the mark
+-- no write is first whose place is below the mark
 abbrev pub IsFrom : ℕ → List Written → Type 0
 IsFrom mark [] = Unit {0}
 IsFrom mark (write ∷ writes) = mark ≤ write.place
@@ -48,7 +48,7 @@ is_noted notes version = not (is_none version.row) || list_any (is_write_of vers
 abbrev pub newest_is_noted : List Written → List Version → Bool
 newest_is_noted notes versions = fold (λ before (version : Version). is_noted notes version) true versions
 
--- the writes, once a version is put behind the others of its key: one more where there are any
+-- the writes, once a version is appended to the others of its key: one more where there are any
 abbrev pub replacing_after : Held → Version → List Written
 replacing_after held version =
     if nat_lt 0 (length (of_key version.key held.versions)) then held.replacing ++ written_by version ∷ [] else held.replacing
@@ -57,8 +57,8 @@ replacing_after held version =
 abbrev pub AreWrittenBelow : ℕ → List Written → Type 0
 AreWrittenBelow first writes = AllByRecursion (λ (write : Written). write.place < first) writes
 
--- the versions of each key stand in the order of their places, below the end; and the writes of those that replaced an older one
--- stand in the order of theirs
+-- the versions of each key are in the order of their places, below the end; and the writes of those that replaced an older one are in the
+-- order of theirs
 pub record AreChained (held : Held) (end : ℕ) : Type 0 where
   pub ordered : (key : Key) → AreBetween 0 end (of_key key held.versions)
   pub replacing : (key : Key) → written_to key held.replacing ≡ replacing_of (of_key key held.versions)
@@ -76,9 +76,9 @@ AreLateNoted mark notes versions = AllByRecursion (λ (version : Version). is_la
 abbrev pub AreNoted : Held → List Written → Type 0
 AreNoted held notes = (key : Key) → newest_is_noted notes (of_key key held.versions) ≡ true
 
--- the mark isn't past the end; the versions of each key stand in the order of their places, below the end; the writes of
--- those that replaced an older one stand in the order of their places, none of them below the mark; and the notes of versions in
--- which a row is absent stand so too, among them each of the mark or a later place
+-- the mark isn't past the end; the versions of each key are in the order of their places, below the end; the writes of those that replaced
+-- an older one are in the order of their places, none of them below the mark; and the notes of versions in which a row is absent stand so
+-- too, among them each of the mark or a later place
 pub record IsStoreKept (held : Held) (absent : List Written) (mark end : ℕ) : Type 0 where
   pub within : mark ≤ end
   pub ordered : (key : Key) → AreBetween 0 end (of_key key held.versions)

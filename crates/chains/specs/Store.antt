@@ -30,11 +30,11 @@ abbrev pub newest_or : Option (List ℤ) → List Version → ℕ → Key → Op
 newest_or before versions place key =
     fold (λ row (version : Version). if is_older place key version then version.row else row) before versions
 
--- what the store tells of a key before a place: the row of the newest version that is older, or absent
+-- what the store says of a key before a place: the row of the newest version that is older, or absent
 abbrev pub row_in : Store → ℕ → Key → Option (List ℤ)
 row_in store place key = newest_or None store.versions place key
 
--- the rows that the store tells at its end
+-- the rows that the store gives at its end
 abbrev pub rows_at_end : Store → Rows
 rows_at_end store table row = row_in store store.end (record { table = table; row = row })
 
@@ -74,8 +74,8 @@ trimmed mark versions =
     newest_alone (filter (λ (version : Version). nat_lt version.place mark) versions)
     ++ filter (λ (version : Version). not (nat_lt version.place mark)) versions
 
--- whether the versions of one key tell nothing but that the row is absent, as if there were none: a single one, below the
--- mark, without a row
+-- whether the versions of one key say nothing but that the row is absent, as if there were none: a single one, below the mark, without a
+-- row
 abbrev pub is_spent : ℕ → List Version → Bool
 is_spent mark versions =
     (length versions == 1) && list_all (λ (version : Version). nat_lt version.place mark && is_none version.row) versions
@@ -84,14 +84,14 @@ is_spent mark versions =
 abbrev pub swept : ℕ → List Version → List Version
 swept mark versions = if is_spent mark versions then [] else versions
 
--- the versions stand in the order of their places, from the first place to below the end
+-- the versions are in the order of their places, from the first place to below the end
 abbrev pub AreBetween : ℕ → ℕ → List Version → Type 0
 AreBetween first end [] = first ≤ end
 AreBetween first end (version ∷ versions) =
     (first ≤ version.place) × (version.place < end) × AreBetween version.place end versions
 
--- the store has gained these versions, up to a new end: before the places from its mark to its old end it tells what it told,
--- and before those from there to the new end the newest of these versions, or where none is older what it told at its old end
+-- the store has gained these versions, up to a new end: before the places from its mark to its old end it says what it told, and before
+-- those from there to the new end the newest of these versions, or where none is older what it told at its old end
 pub record Gains (old new : Store) (cells : List Version) (new_end : ℕ) : Type 0 where
   pub mark : new.mark ≡ old.mark
   pub end : new.end ≡ new_end
@@ -100,14 +100,14 @@ pub record Gains (old new : Store) (cells : List Version) (new_end : ℕ) : Type
       (place : ℕ) (key : Key) → old.end ≤ place → place ≤ new_end
       → row_in new place key ≡ newest_or (row_in old old.end key) cells place key
 
--- the store was trimmed to the mark, and so many versions went
+-- the store was trimmed to the mark, and this many versions went
 pub record Trims (old new : Store) (mark gone : ℕ) : Type 0 where
   pub to : new.mark ≡ mark
   pub end : new.end ≡ old.end
   pub left : (key : Key) → of_key key new.versions ≡ trimmed mark (of_key key old.versions)
   pub count : gone + length new.versions ≡ length old.versions
 
--- the versions that tell nothing were swept out of the store, and so many they were
+-- the versions that say nothing were swept out of the store, and this many they were
 pub record Sweeps (old new : Store) (gone : ℕ) : Type 0 where
   pub mark : new.mark ≡ old.mark
   pub end : new.end ≡ old.end

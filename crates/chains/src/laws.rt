@@ -7,7 +7,7 @@ ghost use Rattle.model_base.specs.Versions.{version_cells};
 ghost use Rattle.chains.specs.declared.version.Version.{Version};
 ghost use Rattle.chains.specs.Store.{AreBetween, IsRight, Store, versions_at, versions_between};
 
-/// The versions of the places of a log stand in the order of these places, so they may be appended.
+/// The versions of the places of a log are in the order of these places, so they may be appended.
 pub fn versions_of_logs_are_in_order()
     ensures { (log : List Statement) (first end : ℕ) → first ≤ end → AreBetween first end (versions_between log first end) }
 {}

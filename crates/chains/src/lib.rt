@@ -1,8 +1,14 @@
-//! The versions of rows, over all batches of a log.
+//! The versions of rows over all batches of a log.
+//!
+//! `append` adds the versions of the next places, `row_before` returns a row before a place from the mark to the end.
+//! In order, `fill_window` and `put_place` go by place. `trim` moves the mark and drops what newer versions replaced
+//! below it, `sweep` takes out rows that are absent, `cut` takes places back. A store that is right for a log stays so.
+//! On `Err`, out of memory, it is unchanged.
+//!
+//! A newest version is found by hash; trimming costs what was written since.
 //!
 //! After J. M. Faleiro and D. J. Abadi, "Rethinking Serializable Multiversion Concurrency Control", PVLDB 8 (2015),
-//! section 3: a transaction makes a version of each row that it declares to write, and a reader takes the newest version
-//! that is older than itself.
+//! section 3: a reader takes the newest version older than itself.
 #![tactic(auto)]
 
 mod finding;

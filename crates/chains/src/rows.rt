@@ -38,7 +38,7 @@ impl Rows {
     ghost use Rattle.chains.specs.Store.{AreBetween, is_spent, newest_or, of_key, swept, trimmed};
     ghost use Rattle.chains.specs.declared.writes.Written.{Written as Noted};
 
-    /// No version, and keys are found under this seed. It takes no memory.
+    /// No version, and keys are found under this seed. It doesn't allocate.
     pub(crate) fn seeded(alloc: Global, seed: HashSeed) -> Self
         ensures { result ≡ record { versions = []; replacing = [] } }
     {
@@ -126,7 +126,7 @@ impl Rows {
         );
     }
 
-    /// Takes out the versions of this place and of later ones. It takes no memory, and costs what the rows hold.
+    /// Takes out the versions of this place and of later ones. It doesn't allocate, and costs what the rows hold.
     pub(crate) fn cut(&mut self, first: Place)
         requires { (end : ℕ) × AreChained self.old end }
         ensures { self.new ≡ held_below first self.old }
@@ -212,7 +212,7 @@ impl Rows {
         }
     }
 
-    /// Takes out the version of the key, if it is a single one that tells nothing, and returns how many it took.
+    /// Takes out the version of the key, if it is a single one that says nothing, and returns how many it took.
     fn take_spent(&mut self, mark: Place, key: Key) -> usize
         requires { (absent : List Noted) × (end : ℕ) × IsStoreKept self.old absent mark end }
         ensures left { (other : RowKey) → of_key other self.new.versions ≡ of_key other (next_swept mark self.old.versions key) }
@@ -227,8 +227,8 @@ impl Rows {
         1
     }
 
-    /// Takes out the single versions that lie below the mark and tell nothing but that the row is absent, and returns how
-    /// many there were. The notes that it goes by are those of versions in which a row is absent.
+    /// Takes out the single versions that lie below the mark and say nothing but that the row is absent, and returns how many there were.
+    /// The notes that it goes by are those of versions in which a row is absent.
     pub(crate) fn sweep(&mut self, absent: &mut VecDeque<Written>, mark: Place) -> usize
         requires kept { (end : ℕ) × IsStoreKept self.old absent.old.items mark end }
         requires noted { AreNoted self.old absent.old.items }
@@ -247,8 +247,8 @@ impl Rows {
         gone
     }
 
-    /// Takes out the single versions that lie below the mark and tell nothing but that the row is absent, whether they are
-    /// noted or not, and returns how many there were. It costs what the rows hold.
+    /// Takes out the single versions that lie below the mark and say nothing but that the row is absent, whether they are noted or not, and
+    /// returns how many there were. It costs what the rows hold.
     pub(crate) fn sweep_all(&mut self, mark: Place) -> usize
         requires { (absent : List Noted) × (end : ℕ) × IsStoreKept self.old absent mark end }
         ensures left { (key : RowKey) → of_key key self.new.versions ≡ swept mark (of_key key self.old.versions) }

@@ -9,7 +9,7 @@ use std::alloc::{AllocError, Global};
 use std::collections::VecDeque;
 use std::marker::Model;
 
-/// The row before a place was asked for that lies below the mark, where the versions that would tell it may be gone.
+/// The row before a place was asked for that lies below the mark, where the versions that would give it may be gone.
 #[derive(Clone, Copy, PartialEq, Eq, Debug)]
 pub struct Trimmed;
 
@@ -17,13 +17,12 @@ pub struct Trimmed;
 #[derive(Clone, Copy, PartialEq, Eq, Debug)]
 pub struct BadMark;
 
-/// The versions of rows that the places of a log made, found by their keys. It tells the row before each place from its
-/// mark to its end.
+/// The versions of rows that the places of a log made, found by their keys. It says the row before each place from its mark to its end.
 #[derive(Drop)]
 pub struct Chains {
     rows: Rows,
     absent: VecDeque<Written>,
-    /// Whether each version that tells nothing is in `absent`: until places are cut off.
+    /// Whether each version that says nothing is in `absent`: until places are cut off.
     is_noted: bool,
     mark: Place,
     end: Place,
@@ -51,7 +50,7 @@ impl Chains {
     ghost use Rattle.body.specs.Shown.{WindowShows};
     ghost use Rattle.chains.specs.Store.{AreBetween, Gains, IsRight, Sweeps, Trims, cut_store, of_key, row_in, rows_at_end, versions_at, versions_between, versions_by};
 
-    /// The store before the first place. It takes no memory.
+    /// The store before the first place. It doesn't allocate.
     pub fn new(alloc: Global) -> Self
         ensures mark { result.mark ≡ 0 }
         ensures end { result.end ≡ 0 }
@@ -62,7 +61,7 @@ impl Chains {
         Chains::seeded(alloc, HashSeed::fixed())
     }
 
-    /// The store before the first place, whose rows are found under this seed. It takes no memory.
+    /// The store before the first place, whose rows are found under this seed. It doesn't allocate.
     pub fn seeded(alloc: Global, seed: HashSeed) -> Self
         ensures mark { result.mark ≡ 0 }
         ensures end { result.end ≡ 0 }
@@ -88,7 +87,7 @@ impl Chains {
         self.mark
     }
 
-    /// The place up to which the versions go: the last before which the rows are told.
+    /// The place up to which the versions go: the last before which the rows are known.
     pub fn end(&self) -> Place
         ensures { result ≡ self.now.end }
     {
@@ -113,10 +112,9 @@ impl Chains {
         Ok(())
     }
 
-    /// The row of the key before the place, which is at most the end: that of the newest version older than the place, or
-    /// `None` where the row is absent. `Trimmed` is returned exactly where the place lies below the mark. It takes no
-    /// memory. Where no version of the key is of the place or later, it costs one look in the map; else it costs at most the
-    /// versions that were replaced since the mark.
+    /// The row of the key before the place, which is at most the end: that of the newest version older than the place, or `None` where the
+    /// row is absent. `Trimmed` is returned exactly where the place lies below the mark. It doesn't allocate. Where no version of the key
+    /// is of the place or later, it costs one look in the map; else it costs at most the versions that were replaced since the mark.
     pub fn row_before(&self, place: Place, key: Key) -> Result<Option<Row>, Trimmed>
         requires { place ≤ self.now.end }
         ensures trimmed { is_err result ≡ nat_lt place self.now.mark }
@@ -130,9 +128,9 @@ impl Chains {
         Ok(self.rows.newest_before(place, key))
     }
 
-    /// Drops for each key all versions of places below the mark but the newest of them, and returns how many they were.
-    /// From then on the rows before the places below the mark aren't told. `BadMark` is returned exactly where the mark
-    /// lies above the end or below the store's mark, and nothing changes then. It takes no memory, and costs what it drops.
+    /// Drops for each key all versions of places below the mark but the newest of them, and returns how many they were. From then on the
+    /// rows before the places below the mark aren't known. `BadMark` is returned exactly where the mark lies above the end or below the
+    /// store's mark, and nothing changes then. It doesn't allocate, and costs what it drops.
     ///
     /// After Faleiro and Abadi, section 3.3: a version that is replaced is needed no more once no reader is left below
     /// the place that replaced it.
@@ -150,10 +148,9 @@ impl Chains {
         Ok(gone)
     }
 
-    /// Takes out the versions that tell nothing: those below the mark that are the only ones of their keys, and in which
-    /// the row is absent. It returns how many they were. What the store tells stays the same. It takes no memory, and costs
-    /// what was appended without a row and has fallen below the mark since the last call; after a `cut` it costs, once, what
-    /// the store holds.
+    /// Takes out the versions that say nothing: those below the mark that are the only ones of their keys, and in which the row is absent.
+    /// It returns how many they were. What the store gives stays the same. It doesn't allocate, and costs what was appended without a row
+    /// and has fallen below the mark since the last call; after a `cut` it costs, once, what the store holds.
     pub fn sweep(&mut self) -> usize
         ensures swept { Sweeps self.old self.new result }
         ensures right { (log : List Statement) → IsRight log self.old → IsRight log self.new }
@@ -238,8 +235,8 @@ impl Chains {
         Ok(())
     }
 
-    /// Takes out the versions of this place and of later ones; the end is this place then. It takes no memory, and costs what
-    /// the store holds, as does the next sweep.
+    /// Takes out the versions of this place and of later ones; the end is this place then. It doesn't allocate, and costs what the store
+    /// holds, as does the next sweep.
     pub fn cut(&mut self, first: Place)
         requires mark { self.old.mark ≤ first }
         requires end { first ≤ self.old.end }

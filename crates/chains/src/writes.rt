@@ -68,7 +68,7 @@ fn take_write_from(writes: &mut VecDeque<Written>, first: Place) -> Option<Writt
     if from { writes.pop_back() } else { None }
 }
 
-/// Takes out the writes of this place and of later ones. It takes no memory.
+/// Takes out the writes of this place and of later ones. It doesn't allocate.
 pub(crate) fn cut_writes(writes: &mut VecDeque<Written>, first: Place)
     requires { (from : ℕ) × (end : ℕ) × AreWrittenInOrder from end writes.old.items }
     ensures { writes.new.items ≡ filter (λ (write : Noted). nat_lt write.place first) writes.old.items }

@@ -23,7 +23,7 @@ admitted_if owners deeds user (Some need) = Admission.Denied need (cause owners 
 abbrev pub admission : List ℕ → List Deed → ℕ → Form → Admission
 admission owners deeds user form = admitted_if owners deeds user (find (λ need. not (holds owners deeds user need)) (needs form))
 
--- the same by what the records of a view tell: the first missing need denies, with the place at which it was lost last
+-- the same by what the records of a view say: the first missing need denies, with the place at which it was lost last
 abbrev pub told_if : View → ℕ → Option Need → Admission
 told_if view user None = Admission.Admitted
 told_if view user (Some need) = Admission.Denied need (option_map_or Taken (last_end (entries view) user need) Never)

@@ -26,10 +26,10 @@ pub enum Admission {
     },
 }
 
-/// Whether the statement's user holds each privilege that it needs, at the view's place: the kinds of each access in order,
-/// and for a grant its kind with the option. The first that isn't held denies, with its cause. A need that stands twice is
-/// looked up as it stands. It takes no memory. Where the view doesn't know what is in force, each need costs one look at each slot
-/// that asks for a grant of its kind on its table to the user, up to one in force that gives it.
+/// Whether the statement's user holds each privilege that it needs, at the view's place: the kinds of each access in order, and for a grant
+/// its kind with the option. The first that isn't held denies, with its cause. A need that is listed twice is looked up as it is. It
+/// doesn't allocate. Where the view doesn't know what is in force, each need costs one look at each slot that asks for a grant of its kind
+/// on its table to the user, up to one in force that gives it.
 pub fn admit<V: Records>(statement: &Statement, view: &mut V) -> Admission
     requires covered { Covers (V.shown view.old) (needs statement.now.form) }
     ensures value { (owners : List ℕ) (deeds : List Deed) → ShowsDeeds (V.shown view.old) owners deeds
@@ -40,7 +40,7 @@ pub fn admit<V: Records>(statement: &Statement, view: &mut V) -> Admission
         → All (λ (need : Need). holds_in (V.shown view.old) statement.now.user need ≡ true) (needs statement.now.form) }
     ensures same { V.shown view.new ≡ V.shown view.old }
 {
-    // The cause of what a view doesn't tell as held.
+    // The cause of what a view doesn't say as held.
     shown_views_tell_causes();
     match first_lack(view, statement.user, &statement.form) {
         Some(lack) => Admission::Denied {

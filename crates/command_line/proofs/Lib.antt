@@ -1,2 +1,3 @@
 pub mod Numbers
 pub mod Telling
+pub mod Told

@@ -9,6 +9,7 @@ use Rattle.clap.specs.declared.builder.value_parser.ValueParser.TheVariants as v
 use Rattle.model_base.specs.declared.limits.TheConstants.{MOST_BATCH_STATEMENTS, MOST_KEPT_BATCHES, MOST_PARTITIONS, MOST_WORKERS}
 use Rattle.audit_text.specs.declared.question.Question.{Question}
 use Rattle.command_line.specs.declared.options.TheConstants.{MOST_AHEAD, MOST_PLACE}
+use Rattle.command_line.specs.declared.options.Progress.{Progress}
 
 -- an option whose value is a number within these limits, with these defaults
 abbrev pub number_rule : Text → ℕ → ℕ → List Text → Rule
@@ -28,7 +29,7 @@ with_options run =
     let run = with_rule run (number_rule (codes "keep") 0 MOST_KEPT_BATCHES (codes "1" ∷ [])) in
     with_rule run (number_rule (codes "ahead") 0 MOST_AHEAD [])
 
--- the number that a text tells, if it is one within these limits
+-- the number that a text gives, if it is one within these limits
 abbrev pub number_within : ℕ → ℕ → Text → Option ℕ
 number_within least most text =
     if is_unsigned_in least most text then Some (digits_value 10 (without_leading_plus text)) else None
@@ -37,18 +38,24 @@ number_within least most text =
 abbrev pub number_among : Text → ℕ → ℕ → List Row → Option ℕ
 number_among name least most rows = option_and_then (number_within least most) (first_of name rows)
 
--- the number that a word tells, if there is a word, and if it is within these limits
+-- the number that a word gives, if there is a word, and if it is within these limits
 abbrev pub number_if : ℕ → ℕ → Option Text → Option (Option ℕ)
 number_if least most None = Some None
 number_if least most (Some text) = option_map (λ number. Some number) (number_within least most text)
 
--- and so the number of an option, if it is told
+-- and so the number of an option, if it is given
 abbrev pub number_told : Text → ℕ → ℕ → List Row → Option (Option ℕ)
 number_told name least most rows = number_if least most (first_of name rows)
 
 -- whether the flag of this name is among the words
 abbrev pub has_flag : Text → List Row → Bool
 has_flag name rows = option_map_or (λ text. bytes_eq text (codes "true")) (first_of name rows) false
+
+-- whether progress is shown, by the flags: where both are given it isn't
+abbrev pub progress_among : List Row → Progress
+progress_among rows =
+    if has_flag (codes "no-progress") rows then Progress.Hidden
+    else (if has_flag (codes "progress") rows then Progress.Shown else Progress.Usual)
 
 -- the question of `explain`, if its place is within the limits
 abbrev pub question_among : List Row → Option Question

@@ -22,26 +22,30 @@ flag_rule name = record (new_rule name) {
   action = Some SetTrue;
 }
 
--- `run` may have one word, FILE, and its options
+-- the command with the flags for progress
+abbrev pub with_progress : App → App
+with_progress command = with_rule (with_rule command (flag_rule (codes "progress"))) (flag_rule (codes "no-progress"))
+
+-- `run` may have one word, FILE, and its options; each subcommand may have the flags for progress
 abbrev pub run_shape : Shape
-run_shape = (with_options (with_rule (new_app (codes "run")) (new_rule (codes "FILE")))).top
+run_shape = (with_progress (with_options (with_rule (new_app (codes "run")) (new_rule (codes "FILE"))))).top
 
--- and `serial` has to have it
+-- `serial` has to have FILE
 abbrev pub serial_shape : Shape
-serial_shape = (with_rule (new_app (codes "serial")) (required_rule (codes "FILE"))).top
+serial_shape = (with_progress (with_rule (new_app (codes "serial")) (required_rule (codes "FILE")))).top
 
--- `explain` has to have FILE and PLACE, and may have a flag
+-- `explain` has to have FILE and PLACE, and may have a flag of its own
 abbrev pub explain_shape : Shape
 explain_shape =
     let explain = with_rule (new_app (codes "explain")) (required_rule (codes "FILE")) in
     let explain = with_rule explain (place_rule (required_rule (codes "PLACE"))) in
-    (with_rule explain (flag_rule (codes "check"))).top
+    (with_progress (with_rule explain (flag_rule (codes "check")))).top
 
 -- `grants` has to have FILE, and may have PLACE
 abbrev pub grants_shape : Shape
 grants_shape =
     let grants = with_rule (new_app (codes "grants")) (required_rule (codes "FILE")) in
-    (with_rule grants (place_rule (new_rule (codes "PLACE")))).top
+    (with_progress (with_rule grants (place_rule (new_rule (codes "PLACE"))))).top
 
 -- the program has a version and these four subcommands, one of which has to be there
 abbrev pub bohm_app : App

@@ -12,14 +12,14 @@ use Rattle.command_line.specs.declared.options.Way.{Way}
 abbrev pub is_alone : Settings → Bool
 is_alone settings = settings.workers == 1 && settings.partitions == 1
 
--- the way by some settings, with so many threads that read lines ahead: alone in order, and otherwise in batches, of which no lines are
+-- the way by some settings, with this many threads that read lines ahead: alone in order, and otherwise in batches, of which no lines are
 -- read ahead
 abbrev pub way_by : Settings → ℕ → Option Way
 way_by settings ahead =
     if is_alone settings then Some (Way.InOrder (Some ahead))
     else (if ahead == 0 then Some (Way.InBatches settings) else None)
 
--- the way by the numbers that are told: by settings where workers or partitions are, in which what isn't told of the two is the usual
+-- the way by the numbers that are given: by settings where workers or partitions are, in which what isn't given of the two is the usual
 -- share, and otherwise in order
 abbrev pub way_told : Option ℕ → Option ℕ → ℕ → ℕ → Option ℕ → Option Way
 way_told workers partitions batch keep ahead =
@@ -32,7 +32,7 @@ way_told workers partitions batch keep ahead =
     (unwrap_or ahead 0)
     else Some (Way.InOrder ahead)
 
--- the way that the options tell, if each is within its limits
+-- the way that the options give, if each is within its limits
 abbrev pub way_among : List Row → Option Way
 way_among rows =
     option_and_then (λ workers. option_and_then (λ partitions. option_and_then (λ batch. option_and_then (λ keep. option_and_then (λ ahead.

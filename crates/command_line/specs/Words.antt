@@ -1,27 +1,29 @@
 -- Which words of the command line are a command, and how the program ends: its exit status, and what it prints of a fault.
 use Rattle.std.specs.Prelude.{◌≡◌, ◌≢◌, ◌⊎◌, ℕ, List, Option, None, Some, bytes_eq, codes, if◌then◌else◌, option_and_then, option_map, string_bytes}
+use Rattle.std.specs.Option.{option_map_or}
 use Rattle.clap.specs.Words.{IsAmong, Kinds, Row, Text, first_of}
 use Rattle.clap.specs.declared.error.kind.ErrorKind.{ErrorKind}
 use Rattle.audit_text.specs.declared.question.Question.{Question}
 use Rattle.bohm_base.specs.declared.command_line.ArgumentFault.{ArgumentFault}
-use Rattle.command_line.specs.Options.{limit_among, question_among}
+use Rattle.command_line.specs.Options.{limit_among, progress_among, question_among}
 use Rattle.command_line.specs.Ways.{IsWithin, way_among}
 use Rattle.command_line.specs.declared.command_words.Command.{Command}
 use Rattle.command_line.specs.declared.command_words.ProgramFault.{ProgramFault}
 use Rattle.command_line.specs.declared.command_words.Source.{Source}
 use Rattle.command_line.specs.declared.command_words.Usage.{Usage}
 use Rattle.command_line.specs.declared.command_words.Verb.{Verb}
+use Rattle.command_line.specs.declared.options.Progress.{Progress}
 use Rattle.command_line.specs.declared.options.Way.{Way}
 use Rattle.command_line.specs.declared.work.WorkFault.{WorkFault}
 
--- whether an error of this kind is told so: help and the version as help, any other as a fault of the words
+-- whether an error of this kind is given so: help and the version as help, any other as a fault of the words
 abbrev pub TellsError : Usage → ErrorKind → Type 0
 TellsError (Usage.Help text) kind = (kind ≡ ErrorKind.DisplayHelp) ⊎ (kind ≡ ErrorKind.DisplayVersion)
 TellsError (Usage.Fault text) kind = (kind ≢ ErrorKind.DisplayHelp) × (kind ≢ ErrorKind.DisplayVersion)
 TellsError Usage.OutsideLimits kind = ⊥
 TellsError Usage.NoMemory kind = Unit {0}
 
--- want of memory, or one of these kinds of error, told so
+-- out of memory, or one of these kinds of error, given so
 abbrev pub TellsOneOf : Kinds → Usage → Type 0
 TellsOneOf kinds usage = (usage ≡ Usage.NoMemory) ⊎ ((kind : ErrorKind) × (IsAmong kind kinds × TellsError usage kind))
 
@@ -90,6 +92,10 @@ asked_by Verb.Grants path rows = option_map (grants path) (limit_among rows)
 abbrev pub asked_in : Option (Text × List Row) → Option Asked
 asked_in entered =
     option_and_then (λ found. asked_by (verb_named found.0) (path_named (first_of (codes "FILE") found.1)) found.1) entered
+
+-- whether progress is shown, by the words of a subcommand that was entered
+abbrev pub progress_in : Option (Text × List Row) → Progress
+progress_in entered = option_map_or (λ found. progress_among found.1) entered Progress.Usual
 
 -- what a command asks for
 abbrev pub asked : Command → Asked

@@ -4,9 +4,9 @@ ghost use Rattle.std.specs.Prelude.{◌≡◌, ◌⊎◌, [], Err, IfOk, IfErr, 
 ghost use Rattle.std.specs.Option.{option_map};
 ghost use Rattle.clap.specs.Words.{fault_of, found_of, kind_of, rows_of, subcommand_of, subcommand_rows_of};
 ghost use Rattle.command_line.specs.Shapes.{bohm_app, texts_of};
-ghost use Rattle.command_line.specs.Words.{Asks, AsksOutsideLimits, IsWithinLimits, TellsError, TellsOneOf, asked, asked_by, asked_in, message_of, path_named, path_of, status_of, verb_named};
+ghost use Rattle.command_line.specs.Words.{Asks, AsksOutsideLimits, IsWithinLimits, TellsError, TellsOneOf, asked, asked_by, asked_in, message_of, path_named, path_of, progress_in, status_of, verb_named};
 
-use crate::options::{Way, limit_of, question_of, way_of};
+use crate::options::{Progress, Way, limit_of, progress_of, question_of, way_of};
 use crate::subcommands::program;
 use crate::work::WorkFault;
 use audit_text::Question;
@@ -35,6 +35,31 @@ pub enum Command<'a> {
     Explain(Source<'a>, Question),
     /// Write the grants in force before a place of a log, or at its end.
     Grants(Source<'a>, Option<Place>),
+}
+
+impl<'a> Command<'a> {
+    ghost use Rattle.command_line.specs.Running.{path_in};
+
+    /// The source of the log.
+    pub fn source(&self) -> Source<'a>
+        ensures { path_of result ≡ path_in self.now }
+    {
+        match *self {
+            Command::Run(source, _)
+            | Command::Serial(source)
+            | Command::Explain(source, _)
+            | Command::Grants(source, _) => source,
+        }
+    }
+}
+
+/// What the words of the command line ask for.
+#[derive(Clone, Copy, Debug, PartialEq, Eq)]
+pub struct Request<'a> {
+    /// What is done.
+    pub command: Command<'a>,
+    /// Whether progress is shown meanwhile.
+    pub progress: Progress,
 }
 
 /// The subcommands.
@@ -71,7 +96,7 @@ pub enum ProgramFault {
     Work(WorkFault),
 }
 
-/// The usage fault, or the help, that the words came to.
+/// The usage fault, or the help, that the words result in.
 fn usage_of(alloc: Global, error: &Error) -> Usage
     ensures memory { kind_of error.now ≡ ErrorKind.OutOfMemory → result ≡ Usage.NoMemory }
     ensures told { TellsError result (kind_of error.now) }
@@ -144,15 +169,26 @@ fn command_in<'a>(matches: &ArgMatches<'a>) -> Option<Command<'a>>
     command_of(verb, source, found)
 }
 
+/// Whether progress is shown, by the flags of the subcommand that was entered.
+fn progress_in(matches: &ArgMatches<'_>) -> Progress
+    ensures { result ≡ progress_in (subcommand_rows_of matches.now) }
+{
+    let Some((_name, found)) = matches.subcommand() else {
+        return Progress::Usual;
+    };
+    progress_of(found)
+}
+
 /// Reads the words of the command line, the program's name first. The words are judged by `clap`: an answered command
 /// is the one of the subcommand that it finds, with the file and the settings that it finds, and these are within their
 /// limits. Words that it takes fail only where a growth was refused, or where a number isn't within its limits or lines would be read
 /// ahead of batches. Help is
 /// answered only where the words ask for it, and a fault only where they are wrong.
-pub fn read_words<'a>(alloc: Global, words: &'a [&'a str]) -> Result<Command<'a>, Usage>
+pub fn read_words<'a>(alloc: Global, words: &'a [&'a str]) -> Result<Request<'a>, Usage>
     ensures taken { OnOk result (fault_of bohm_app (texts_of words.entry.now) ≡ []) }
-    ensures asked { IfOk result (λ command. Asks command (subcommand_of bohm_app (texts_of words.entry.now))) }
-    ensures within { IfOk result IsWithinLimits }
+    ensures asked { IfOk result (λ request. Asks request.command (subcommand_of bohm_app (texts_of words.entry.now))) }
+    ensures progress { IfOk result (λ request. request.progress ≡ progress_in (subcommand_of bohm_app (texts_of words.entry.now))) }
+    ensures within { IfOk result (λ request. IsWithinLimits request.command) }
     ensures fault { IfErr result (λ usage. fault_of bohm_app (texts_of words.entry.now) ≡ []
         → (usage ≡ Usage.NoMemory) ⊎ (usage ≡ Usage.OutsideLimits)) }
     ensures told { IfErr result (λ usage. (usage ≡ Usage.OutsideLimits)
@@ -168,7 +204,10 @@ pub fn read_words<'a>(alloc: Global, words: &'a [&'a str]) -> Result<Command<'a>
         Err(error) => return Err(usage_of(alloc, &error)),
     };
     match command_in(&matches) {
-        Some(command) => Ok(command),
+        Some(command) => Ok(Request {
+            command,
+            progress: progress_in(&matches),
+        }),
         None => Err(Usage::OutsideLimits),
     }
 }

@@ -6,7 +6,7 @@ ghost use Rattle.command_line.specs.Ways.{IsWithin, is_alone, way_among, way_by,
 ghost use Rattle.clap.specs.Words.{app_of, found_of, rows_of, with_rule};
 ghost use Rattle.clap.specs.Walk.{first_of};
 ghost use Rattle.batched_text.specs.Settings.{are_within_limits};
-ghost use Rattle.command_line.specs.Options.{has_flag, limit_among, number_among, number_if, number_rule, number_within, question_among, with_options};
+ghost use Rattle.command_line.specs.Options.{has_flag, limit_among, number_among, number_if, number_rule, number_within, progress_among, question_among, with_options};
 
 use audit_text::Question;
 use batched_text::Settings;
@@ -63,13 +63,13 @@ const AHEAD: NumberOption = NumberOption {
     help: "How many threads read lines ahead of a run in order, 0 to 63",
 };
 
-/// How many workers run a batch, or by how many partitions it is placed, where only the other is told.
+/// How many workers run a batch, or by how many partitions it is placed, where only the other is given.
 const USUAL_SHARE: u64 = 4;
 
 /// The greatest place of a log.
 pub(crate) const MOST_PLACE: u64 = MOST_PLACES - 1;
 
-/// Adds an option to a command's description. Where it isn't told it has no number.
+/// Adds an option to a command's description. Where it isn't given it has no number.
 fn with_number<'a>(
     alloc: Global,
     command: Command<'a>,
@@ -86,7 +86,7 @@ fn with_number<'a>(
     command.arg(number)
 }
 
-/// Adds an option to a command's description that has this number where it isn't told.
+/// Adds an option to a command's description that has this number where it isn't given.
 fn with_usual_number<'a>(
     alloc: Global,
     command: Command<'a>,
@@ -116,7 +116,7 @@ pub(crate) fn with_options<'a>(alloc: Global, run: Command<'a>) -> Result<Comman
     with_number(alloc, run, &AHEAD)
 }
 
-/// The number that a text tells, if it is one within these limits.
+/// The number that a text gives, if it is one within these limits.
 fn number_within(text: &str, least: u64, most: u64) -> Option<u64>
     ensures told { result ≡ number_within least most text.now }
     ensures within { IfSome result (λ n. (least ≤ n) × (n ≤ most)) }
@@ -138,7 +138,7 @@ fn number_of(found: &ArgMatches<'_>, option: &NumberOption) -> Option<u64>
     }
 }
 
-/// The number that a word tells, if there is a word, and if the number is within these limits.
+/// The number that a word gives, if there is a word, and if the number is within these limits.
 fn number_if(word: Option<&str>, least: u64, most: u64) -> Option<Option<u64>>
     ensures told { result ≡ number_if least most (option_map (λ text. text.now) word.entry) }
     ensures within { IfSome result (λ told. IfSome told (λ n. (least ≤ n) × (n ≤ most))) }
@@ -152,7 +152,7 @@ fn number_if(word: Option<&str>, least: u64, most: u64) -> Option<Option<u64>>
     }
 }
 
-/// The number that an option has, if it is told, and if it is within its limits.
+/// The number that an option has, if it is given, and if it is within its limits.
 fn number_told(found: &ArgMatches<'_>, option: &NumberOption) -> Option<Option<u64>>
     ensures told { result ≡ number_if option.now.least option.now.most (first_of option.now.name.now (rows_of (found_of found.now))) }
     ensures within { IfSome result (λ told. IfSome told (λ n. (option.now.least ≤ n) × (n ≤ option.now.most))) }
@@ -164,7 +164,7 @@ fn number_told(found: &ArgMatches<'_>, option: &NumberOption) -> Option<Option<u
 /// How a log is run.
 #[derive(Clone, Copy, Debug, PartialEq, Eq)]
 pub enum Way {
-    /// Place after place, while so many threads read lines ahead, or as many as pay where no number is told.
+    /// Place after place, while this many threads read lines ahead, or as many as pay where no number is given.
     InOrder(Option<u64>),
     /// In batches, by these settings.
     InBatches(Settings),
@@ -177,8 +177,19 @@ fn is_alone(settings: &Settings) -> bool
     settings.workers == 1 && settings.partitions == 1
 }
 
-/// The way that goes by some settings, with so many threads that read lines ahead: one worker and one partition run the log in order. None
-/// where lines would be read ahead of batches.
+/// Whether progress is shown on standard error.
+#[derive(Clone, Copy, Debug, PartialEq, Eq)]
+pub enum Progress {
+    /// It is.
+    Shown,
+    /// It isn't.
+    Hidden,
+    /// It is where standard error is a terminal and standard output isn't, from one second on.
+    Usual,
+}
+
+/// The way that goes by some settings, with this many threads that read lines ahead: one worker and one partition run the log in order.
+/// None where lines would be read ahead of batches.
 fn way_by(settings: Settings, ahead: u64) -> Option<Way>
     requires settings { are_within_limits settings ≡ true }
     requires ahead { ahead ≤ MOST_AHEAD }
@@ -194,7 +205,7 @@ fn way_by(settings: Settings, ahead: u64) -> Option<Way>
     None
 }
 
-/// How many workers there are, or partitions, where so many are told, or the usual share where none are.
+/// How many workers there are, or partitions, where this many are given, or the usual share where none are.
 fn share_of(told: Option<u64>, most: u64) -> u64
     requires told { IfSome told (λ n. (1 ≤ n) × (n ≤ most)) }
     requires usual { USUAL_SHARE ≤ most }
@@ -207,7 +218,7 @@ fn share_of(told: Option<u64>, most: u64) -> u64
     }
 }
 
-/// How many threads read lines ahead of settings, where so many are told, or none.
+/// How many threads read lines ahead of settings, where this many are given, or none.
 fn ahead_of(told: Option<u64>) -> u64
     requires { IfSome told (λ n. n ≤ MOST_AHEAD) }
     ensures value { result ≡ unwrap_or told 0 }
@@ -219,14 +230,14 @@ fn ahead_of(told: Option<u64>) -> u64
     }
 }
 
-/// Whether workers or partitions are told.
+/// Whether workers or partitions are given.
 fn is_told(workers: Option<u64>, partitions: Option<u64>) -> bool
     ensures { result ≡ (is_some workers || is_some partitions) }
 {
     workers.is_some() || partitions.is_some()
 }
 
-/// The way by the numbers that are told.
+/// The way by the numbers that are given.
 fn way_told(
     workers: Option<u64>,
     partitions: Option<u64>,
@@ -254,7 +265,7 @@ fn way_told(
     way_by(settings, ahead_of(ahead))
 }
 
-/// The way that the options of a run tell, if each is within its limits.
+/// The way that the options of a run give, if each is within its limits.
 pub(crate) fn way_of(found: &ArgMatches<'_>) -> Option<Way>
     ensures told { result ≡ way_among (rows_of (found_of found.now)) }
     ensures within { IfSome result IsWithin }
@@ -277,7 +288,20 @@ fn has_flag(found: &ArgMatches<'_>, name: &str) -> bool
     }
 }
 
-/// The place that the words tell, if they tell one and it is within the limits.
+/// Whether progress is shown, by the flags. Where both are given it isn't.
+pub(crate) fn progress_of(found: &ArgMatches<'_>) -> Progress
+    ensures { result ≡ progress_among (rows_of (found_of found.now)) }
+{
+    if has_flag(found, "no-progress") {
+        Progress::Hidden
+    } else if has_flag(found, "progress") {
+        Progress::Shown
+    } else {
+        Progress::Usual
+    }
+}
+
+/// The place that the words give, if they say one and it is within the limits.
 fn place_of(found: &ArgMatches<'_>) -> Option<Place>
     ensures { result ≡ number_among (codes "PLACE") 0 MOST_PLACE (rows_of (found_of found.now)) }
 {

@@ -1,88 +1,33 @@
-//! Does what a command asks for with its log, and tells how that ended.
+//! Does what a command asks for with its log, and says how that ended.
 
-ghost use Rattle.std.specs.Prelude.{◌≡◌, ◌≤◌, ◌↔◌, ℕ, Err, IsErr, IsOk, List, Option, true};
+ghost use Rattle.std.specs.Prelude.{◌≡◌, ◌≤◌, ◌<◌, ◌-◌, ◌^◌, ℕ, Err, IfNone, IfSome, IsSome, List, OnOk, Option, true};
+ghost use Rattle.log_text_base.specs.Known.{raised};
 ghost use Rattle.audit_text.specs.Answer.{IsExplanation};
 ghost use Rattle.audit_text.specs.Picture.{IsPicture};
 ghost use Rattle.audit_text.specs.declared.question.Question.{Question};
 ghost use Rattle.batched_text.specs.Settings.{are_within_limits};
 ghost use Rattle.batched_text.specs.declared.settings.Settings.{Settings};
-ghost use Rattle.command_line.specs.Running.{DoesCommand, EndsAt, EndsByWay, IsWorkAnswer, TellsReports};
-ghost use Rattle.command_line.specs.Ways.{IsWithin};
+ghost use Rattle.command_line.specs.Running.{AnswersCommand, DoesCommand, EndsWork, HasTold, TellsReports, TextHasBegun, path_in};
 ghost use Rattle.command_line.specs.Words.{IsWithinLimits};
 
-use crate::command_words::{Command, ProgramFault, Source};
+use crate::command_words::{Command, ProgramFault};
 use crate::options::{MOST_AHEAD, Way};
-use crate::work::Work;
+use crate::sources::Sources;
+use crate::work::{Work, WorkFault};
 use audit_text::Question;
 use batched_text::Settings;
 use log_text_base::Counted;
 use model_base::Place;
 use std::alloc::Global;
 use std::io::{Read, Write};
-use std::rt::Files;
 use std::sync::Wait;
+use std::thread;
 use std::thread::Threads;
-use std::{fs, io, thread};
-
-/// Works on the log of a reader: the answer is the work's.
-fn work_on<O: Copy, K: Work<O>, T: Threads + Wait + Sync, R: Read + Drop, W: Write + Drop>(
-    rt: &T,
-    alloc: Global,
-    work: &K,
-    order: O,
-    log: R,
-    told: W,
-) -> Result<(), ProgramFault>
-    requires { K.takes work.now order }
-    ensures { IsWorkAnswer (K.answers work.now order) result }
-{
-    let mut log = Counted::new(log);
-    let mut told = Counted::new(told);
-    let ended = work.work(rt, alloc, order, &mut log, &mut told);
-    ended.map_err(ProgramFault::Work)
-}
-
-/// Works on the log of a file: the answer is `Open` exactly where the file wasn't opened, and else the work's.
-fn work_on_file<O: Copy, K: Work<O>, T: Threads + Wait + Sync, F: Read + Drop, W: Write + Drop>(
-    rt: &T,
-    alloc: Global,
-    work: &K,
-    order: O,
-    opened: io::Result<F>,
-    told: W,
-) -> Result<(), ProgramFault>
-    requires { K.takes work.now order }
-    ensures unopened { (result ≡ Err ProgramFault.Open) ↔ IsErr opened }
-    ensures opened { IsOk opened → IsWorkAnswer (K.answers work.now order) result }
-{
-    match opened {
-        Ok(log) => work_on(rt, alloc, work, order, log, told),
-        Err(_) => Err(ProgramFault::Open),
-    }
-}
-
-/// Works on the log of a source, and tells on standard output.
-fn run<O: Copy, K: Work<O>, R: Files + Input + Print + Threads + Wait + Sync>(
-    rt: &R,
-    alloc: Global,
-    work: &K,
-    order: O,
-    source: Source<'_>,
-) -> Result<(), ProgramFault>
-    requires { K.takes work.now order }
-    ensures { EndsAt (K.answers work.now order) source.entry result }
-{
-    let told = io::writer(rt);
-    match source {
-        Source::StandardInput => work_on(rt, alloc, work, order, rt.reader(), told),
-        Source::File(path) => work_on_file(rt, alloc, work, order, fs::open(rt, path), told),
-    }
-}
 
 /// The works by which commands are done.
 #[derive(Drop)]
 pub struct Works<P, B, S, E, G> {
-    /// The run in order, one statement after another, while so many threads read lines ahead.
+    /// The run in order, one statement after another, while this many threads read lines ahead.
     pub in_order: P,
     /// The run in batches.
     pub batched: B,
@@ -94,10 +39,10 @@ pub struct Works<P, B, S, E, G> {
     pub pictured: G,
 }
 
-/// How many threads read lines ahead where no number is told, at most: no more were measured to pay.
+/// How many threads read lines ahead where no number is given, at most: no more were measured to pay.
 const USUAL_AHEAD: u64 = 3;
 
-/// How many threads read lines ahead where no number is told: one for each processor, up to `USUAL_AHEAD`, and none where there is one
+/// How many threads read lines ahead where no number is given: one for each processor, up to `USUAL_AHEAD`, and none where there is one
 /// alone.
 fn usual_ahead<R: Threads>(rt: &R) -> u64
     ensures { result ≤ MOST_AHEAD }
@@ -108,41 +53,107 @@ fn usual_ahead<R: Threads>(rt: &R) -> u64
     }
 }
 
-/// Runs the log of a source in this way: in order on one thread, or in batches by workers.
-fn run_by_way<P: Work<u64>, B: Work<Settings>, R: Files + Input + Print + Threads + Wait + Sync>(
-    rt: &R,
-    alloc: Global,
-    in_order: &P,
-    batched: &B,
-    way: Way,
-    source: Source<'_>,
-) -> Result<(), ProgramFault>
-    requires within { IsWithin way }
-    requires in_order { (threads : ℕ) → threads ≤ MOST_AHEAD → P.takes in_order.now threads }
-    requires batched { (settings : Settings) → are_within_limits settings ≡ true → B.takes batched.now settings }
-    ensures { EndsByWay (P.answers in_order.now) (B.answers batched.now) way source.entry result }
+/// How many threads read lines ahead: as many as are given, or the usual number.
+fn ahead_by<R: Threads>(rt: &R, told: Option<u64>) -> u64
+    requires { IfSome told (λ threads. threads ≤ MOST_AHEAD) }
+    ensures told { IfSome told (λ threads. result ≡ threads) }
+    ensures within { result ≤ MOST_AHEAD }
 {
-    match way {
-        Way::InOrder(Some(threads)) => run(rt, alloc, in_order, threads, source),
-        Way::InOrder(None) => run(rt, alloc, in_order, usual_ahead(rt), source),
-        Way::InBatches(settings) => run(rt, alloc, batched, settings, source),
+    match told {
+        Some(threads) => threads,
+        None => usual_ahead(rt),
     }
 }
 
-/// Does what a command asks for: `run` in order on one thread or in batches, as its way is, `serial` by the slow run, `explain` by
-/// the answer to its question, and `grants` by the picture of the grants. It is given works that tell just that.
+/// Does the work that a command asks for on a log.
+fn work_on<
+    P: Work<u64>,
+    B: Work<Settings>,
+    S: Work<()>,
+    E: Work<Question>,
+    G: Work<Option<Place>>,
+    T: Threads + Wait + Sync,
+    R: Read,
+    W: Write,
+>(
+    rt: &T,
+    alloc: Global,
+    works: &Works<P, B, S, E, G>,
+    command: Command<'_>,
+    log: &mut Counted<R>,
+    told: &mut Counted<W>,
+) -> Result<(), WorkFault>
+    requires within { IsWithinLimits command }
+    requires in_order { (threads : ℕ) → threads ≤ MOST_AHEAD → P.takes works.now.in_order threads }
+    requires batched { (settings : Settings) → are_within_limits settings ≡ true → B.takes works.now.batched settings }
+    requires slow { S.takes works.now.slow tt }
+    requires explained { (question : Question) → E.takes works.now.explained question }
+    requires pictured { (limit : Option ℕ) → G.takes works.now.pictured limit }
+    requires in_order_reports { (threads : ℕ) → TellsReports (P.tells works.now.in_order threads) }
+    requires batched_reports { (settings : Settings) → TellsReports (B.tells works.now.batched settings) }
+    requires slow_reports { TellsReports (S.tells works.now.slow tt) }
+    requires explains { (question : Question) (input text : List ℕ)
+        → E.tells works.now.explained question input text → IsExplanation input question text }
+    requires pictures { (limit : Option ℕ) (input text : List ℕ)
+        → G.tells works.now.pictured limit input text → IsPicture input limit text }
+    ensures ends { EndsWork (P.answers works.now.in_order) (B.answers works.now.batched) (S.answers works.now.slow tt)
+        (E.answers works.now.explained) (G.answers works.now.pictured) command.entry result }
+    ensures done { OnOk result (HasTold (AnswersCommand command.entry) (R.remaining log.old.inner)
+        (W.contents told.old.inner) (W.contents told.new.inner)) }
+    ensures begun { TextHasBegun (AnswersCommand command.entry) (R.remaining log.old.inner)
+        (W.contents told.old.inner) (W.contents told.new.inner) }
+    ensures read { result ≡ Err WorkFault.Read → log.old.errors < 2 ^ 64 - 1 → log.old.errors < log.new.errors }
+    ensures write { result ≡ Err WorkFault.Write → told.old.errors < 2 ^ 64 - 1 → told.old.errors < told.new.errors }
+    ensures whole { OnOk result ((log.new.errors ≡ log.old.errors) × (told.new.errors ≡ told.old.errors)) }
+    ensures flushed { OnOk result ((told.new.flushes ≡ raised told.old.flushes) × (told.new.is_flushed ≡ true)) }
+{
+    match command {
+        Command::Run(_, Way::InOrder(ahead)) => {
+            let threads = ahead_by(rt, ahead);
+            works.in_order.work(rt, alloc, threads, log, told)
+        }
+        Command::Run(_, Way::InBatches(settings)) => {
+            works.batched.work(rt, alloc, settings, log, told)
+        }
+        Command::Serial(_) => works.slow.work(rt, alloc, (), log, told),
+        Command::Explain(_, question) => works.explained.work(rt, alloc, question, log, told),
+        Command::Grants(_, limit) => works.pictured.work(rt, alloc, limit, log, told),
+    }
+}
+
+/// The log of the source that a command names, from its first byte on. None where its file can't be opened.
+fn open_log<L: Sources>(sources: L, command: &Command<'_>) -> Option<Counted<L::Log>>
+    ensures bytes { IfSome result (λ log. L.Log.remaining log.inner ≡ L.bytes sources (path_in command.now)) }
+    ensures refused { IfNone result (L.refuses sources (path_in command.now)) }
+    ensures input { IfNone result (IsSome (path_in command.now)) }
+{
+    match sources.open(command.source()) {
+        Ok(log) => Some(Counted::new(log)),
+        Err(_) => None,
+    }
+}
+
+/// Does what a command asks for: `run` in order on one thread or in batches, as its way is, `serial` by the slow run, `explain` by the
+/// answer to its question, and `grants` by the picture of the grants. It is given works that give just that.
+///
+/// The log is that of the source that the command names, which is opened, and no other: `sources` is used up by that. What is given goes to
+/// the writer, which is flushed at the end. Where the file can't be opened nothing is written.
 pub fn do_command<
     P: Work<u64>,
     B: Work<Settings>,
     S: Work<()>,
     E: Work<Question>,
     G: Work<Option<Place>>,
-    R: Files + Input + Print + Threads + Wait + Sync,
+    L: Sources,
+    T: Threads + Wait + Sync,
+    W: Write,
 >(
-    rt: &R,
+    rt: &T,
     alloc: Global,
     works: &Works<P, B, S, E, G>,
     command: Command<'_>,
+    sources: L,
+    told: &mut Counted<W>,
 ) -> Result<(), ProgramFault>
     requires within { IsWithinLimits command }
     requires in_order { (threads : ℕ) → threads ≤ MOST_AHEAD → P.takes works.now.in_order threads }
@@ -157,15 +168,27 @@ pub fn do_command<
         → E.tells works.now.explained question input text → IsExplanation input question text }
     requires pictures { (limit : Option ℕ) (input text : List ℕ)
         → G.tells works.now.pictured limit input text → IsPicture input limit text }
-    ensures { DoesCommand (P.answers works.now.in_order) (B.answers works.now.batched) (S.answers works.now.slow tt)
+    ensures does { DoesCommand (P.answers works.now.in_order) (B.answers works.now.batched) (S.answers works.now.slow tt)
         (E.answers works.now.explained) (G.answers works.now.pictured) command.entry result }
+
+    // What was written is what answers the command about the bytes of the source that it names, and after a fault a beginning of that.
+    ensures done { OnOk result (HasTold (AnswersCommand command.entry) (L.bytes sources (path_in command.entry))
+        (W.contents told.old.inner) (W.contents told.new.inner)) }
+    ensures begun { TextHasBegun (AnswersCommand command.entry) (L.bytes sources (path_in command.entry))
+        (W.contents told.old.inner) (W.contents told.new.inner) }
+    // Ok says that the writer didn't fail, and that it was flushed, once, and not written to since.
+    ensures whole { OnOk result (told.new.errors ≡ told.old.errors) }
+    ensures flushed { OnOk result ((told.new.flushes ≡ raised told.old.flushes) × (told.new.is_flushed ≡ true)) }
+    // Open comes only where the file was refused, and then the writer is as it was. Write comes only where the writer failed.
+    ensures unopened { result ≡ Err ProgramFault.Open → L.refuses sources (path_in command.entry) × (told.new ≡ told.old) }
+    ensures write { result ≡ Err (ProgramFault.Work WorkFault.Write) → told.old.errors < 2 ^ 64 - 1
+        → told.old.errors < told.new.errors }
 {
-    match command {
-        Command::Run(source, way) => {
-            run_by_way(rt, alloc, &works.in_order, &works.batched, way, source)
-        }
-        Command::Serial(source) => run(rt, alloc, &works.slow, (), source),
-        Command::Explain(source, question) => run(rt, alloc, &works.explained, question, source),
-        Command::Grants(source, limit) => run(rt, alloc, &works.pictured, limit, source),
+    let Some(mut log) = open_log(sources, &command) else {
+        return Err(ProgramFault::Open);
+    };
+    match work_on(rt, alloc, works, command, &mut log, told) {
+        Ok(()) => Ok(()),
+        Err(fault) => Err(ProgramFault::Work(fault)),
     }
 }

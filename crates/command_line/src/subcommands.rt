@@ -2,12 +2,46 @@
 
 ghost use Rattle.std.specs.Prelude.{◌≡◌, IfOk, codes};
 ghost use Rattle.clap.specs.Words.{app_of, new_rule, with_rule, with_subcommand};
-ghost use Rattle.command_line.specs.Shapes.{bohm_app, explain_shape, flag_rule, grants_shape, place_rule, required_rule, run_shape, serial_shape};
+ghost use Rattle.command_line.specs.Shapes.{bohm_app, explain_shape, flag_rule, grants_shape, place_rule, required_rule, run_shape, serial_shape, with_progress};
 
 use crate::options::{MOST_PLACE, with_options};
 use clap::builder::ValueParser;
 use clap::{Arg, ArgAction, Command};
 use std::alloc::{AllocError, Global};
+
+/// Adds a flag to a command's description.
+fn with_flag<'a>(
+    alloc: Global,
+    command: Command<'a>,
+    name: &'a str,
+    help: &'a str,
+) -> Result<Command<'a>, AllocError>
+    ensures { IfOk result (λ c. app_of c ≡ with_rule (app_of command.entry) (flag_rule name.entry.now)) }
+{
+    let flag = Arg::new(alloc, name)
+        .long(name)
+        .action(ArgAction::SetTrue)
+        .help(help);
+    command.arg(flag)
+}
+
+/// Adds the flags for progress to a command's description.
+fn with_progress<'a>(alloc: Global, command: Command<'a>) -> Result<Command<'a>, AllocError>
+    ensures { IfOk result (λ c. app_of c ≡ with_progress (app_of command.entry)) }
+{
+    let command = with_flag(
+        alloc,
+        command,
+        "progress",
+        "Shows on standard error how much of the log is read. Without it, only if that is a terminal and standard output isn't, from one second on",
+    )?;
+    with_flag(
+        alloc,
+        command,
+        "no-progress",
+        "Never shows how much of the log is read",
+    )
+}
 
 /// Adds the description of `run` to the program's.
 fn with_run<'a>(alloc: Global, program: Command<'a>) -> Result<Command<'a>, AllocError>
@@ -20,6 +54,7 @@ fn with_run<'a>(alloc: Global, program: Command<'a>) -> Result<Command<'a>, Allo
         .about("Executes a log, and writes its report to standard output")
         .arg(file)?;
     let run = with_options(alloc, run)?;
+    let run = with_progress(alloc, run)?;
     program.subcommand(run)
 }
 
@@ -58,11 +93,12 @@ fn with_limit<'a>(alloc: Global, command: Command<'a>) -> Result<Command<'a>, Al
 fn with_check<'a>(alloc: Global, command: Command<'a>) -> Result<Command<'a>, AllocError>
     ensures { IfOk result (λ c. app_of c ≡ with_rule (app_of command.entry) (flag_rule (codes "check"))) }
 {
-    let check = Arg::new(alloc, "check")
-        .long("check")
-        .action(ArgAction::SetTrue)
-        .help("Checks the explanation, and prints a line 'checked' where it is sound");
-    command.arg(check)
+    with_flag(
+        alloc,
+        command,
+        "check",
+        "Checks the explanation, and prints a line 'checked' where it is sound",
+    )
 }
 
 /// Adds the description of `serial` to the program's.
@@ -73,6 +109,7 @@ fn with_serial<'a>(alloc: Global, program: Command<'a>) -> Result<Command<'a>, A
         "Executes a log by the slow serial run, and writes its report to standard output",
     );
     let serial = with_file(alloc, serial)?;
+    let serial = with_progress(alloc, serial)?;
     program.subcommand(serial)
 }
 
@@ -86,6 +123,7 @@ fn with_explain<'a>(alloc: Global, program: Command<'a>) -> Result<Command<'a>, 
     let explain = with_file(alloc, explain)?;
     let explain = with_place(alloc, explain)?;
     let explain = with_check(alloc, explain)?;
+    let explain = with_progress(alloc, explain)?;
     program.subcommand(explain)
 }
 
@@ -98,6 +136,7 @@ fn with_grants<'a>(alloc: Global, program: Command<'a>) -> Result<Command<'a>, A
     );
     let grants = with_file(alloc, grants)?;
     let grants = with_limit(alloc, grants)?;
+    let grants = with_progress(alloc, grants)?;
     program.subcommand(grants)
 }
 

@@ -2,6 +2,7 @@
 
 ghost use Rattle.std.specs.Prelude.{◌≡◌, ◌≢◌, ◌<◌, ◌-◌, ◌^◌, ℕ, Err, List, OnOk, Result, true};
 ghost use Rattle.std.specs.Thread.{IsSync};
+ghost use Rattle.log_text_base.specs.Known.{raised};
 ghost use Rattle.report.specs.Report.{IsReport};
 ghost use Rattle.audit_text.specs.Answer.{IsExplanation};
 ghost use Rattle.audit_text.specs.Picture.{IsPicture};
@@ -37,17 +38,18 @@ pub enum WorkFault {
     Spawn,
 }
 
-/// Work on a log by an order, from the log's bytes to those that it tells.
+/// Work on a log by an order, from the log's bytes to those that it says.
 pub trait Work<O: Copy> {
     // The orders that it takes.
     ghost takes: { Self → O → Type 0 };
-    // What it may answer to an order. Only the work itself can tell.
+    // What it may answer to an order. Only the work itself can give.
     ghost answers: { Self → O → Result (Unit {0}) WorkFault → Type 0 };
-    // Which texts it tells of a log by an order.
+    // Which texts it says of a log by an order.
     ghost tells: { Self → O → List ℕ → List ℕ → Type 0 };
 
-    /// Reads the log, as far as it has to, and writes what it tells of it. After a fault a beginning of that was written, or nothing;
-    /// `Read` and `Write` come only where the log's reader or the writer failed, and Ok only where neither did.
+    /// Reads the log, as far as it has to, and writes what it says of it. After a fault a beginning of that was written, or nothing; `Read`
+    /// and `Write` come only where the log's reader or the writer failed, and Ok only where neither did and the writer was flushed, once,
+    /// and not written to since.
     fn work<T: Threads + Wait + Sync, R: Read, W: Write>(
         &self,
         rt: &T,
@@ -65,7 +67,8 @@ pub trait Work<O: Copy> {
             (W.contents told.old.inner) (W.contents told.new.inner) }
         ensures read { result ≡ Err WorkFault.Read → log.old.errors < 2 ^ 64 - 1 → log.old.errors < log.new.errors }
         ensures write { result ≡ Err WorkFault.Write → told.old.errors < 2 ^ 64 - 1 → told.old.errors < told.new.errors }
-        ensures whole { OnOk result ((log.new.errors ≡ log.old.errors) × (told.new.errors ≡ told.old.errors)) };
+        ensures whole { OnOk result ((log.new.errors ≡ log.old.errors) × (told.new.errors ≡ told.old.errors)) }
+        ensures flushed { OnOk result ((told.new.flushes ≡ raised told.old.flushes) × (told.new.is_flushed ≡ true)) };
 }
 
 /// The fault of a run in order.
@@ -106,7 +109,7 @@ fn audit_fault(fault: AuditFault) -> WorkFault
     }
 }
 
-/// The run in order on one thread, while so many further threads read lines before their turn.
+/// The run in order on one thread, while this many further threads read lines before their turn.
 #[derive(Clone, Copy)]
 pub struct InOrder {
     /// The seed under which its maps find their keys.

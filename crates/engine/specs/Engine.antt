@@ -1,7 +1,6 @@
--- A log of which a beginning is finished, batch by batch. BOHM works in batches too: a batch is placed as a whole before it is
--- run, and what stands behind it is what the next one finds (J. M. Faleiro and D. J. Abadi, "Rethinking Serializable Multiversion
--- Concurrency Control", PVLDB 8, 2015, section 3). That each place is counted as finished with its whole batch is this project's
--- own.
+-- A log of which a beginning is finished, batch by batch. BOHM works in batches too: a batch is placed as a whole before it is run, and
+-- what comes after it is what the next one finds (J. M. Faleiro and D. J. Abadi, "Rethinking Serializable Multiversion Concurrency
+-- Control", PVLDB 8, 2015, section 3). That each place is counted as finished with its whole batch is this project's own.
 use Rattle.std.specs.Prelude.{◌≡◌, ◌==◌, ◌&&◌, ◌≤◌, ◌-◌, ℕ, Bool, List, length, nat_le, nat_lt}
 use Rattle.model_base.specs.declared.limits.TheConstants.{MOST_BATCH_STATEMENTS, MOST_PARTITIONS, MOST_WORKERS}
 use Rattle.model_base.specs.declared.outcome.Outcome.{Outcome}
@@ -26,8 +25,8 @@ pub record Run : Type 0 where
 abbrev pub finished : Run → ℕ
 finished run = length run.outcomes
 
--- versions and book stand before the first place that isn't finished, the outcomes are the log's, only of finished places
--- statement and outcome were dropped, and what a statement needs is on earlier tables
+-- versions and book are before the first place that isn't finished, the outcomes are the log's, only of finished places statement and
+-- outcome were dropped, and what a statement needs is on earlier tables
 pub record IsRun (run : Run) : Type 0 where
   pub within : finished run ≤ length run.log.statements
   pub known : AreKnown run.log.statements
@@ -41,9 +40,8 @@ pub record IsRunKept (run : Run) (past : List Outcome) : Type 0 where
   pub is : IsRun run
   pub same : length past ≡ run.dropped
 
--- whether the range may be run as the next batch, by so many workers and placers: it begins where the finished places end, lies
--- in the log, and has 1 to `MOST_BATCH_STATEMENTS` places; and there are 1 to `MOST_WORKERS` workers and 1 to `MOST_PARTITIONS`
--- partitions
+-- whether the range may be run as the next batch, by this many workers and placers: it begins where the finished places end, lies in the
+-- log, and has 1 to `MOST_BATCH_STATEMENTS` places; and there are 1 to `MOST_WORKERS` workers and 1 to `MOST_PARTITIONS` partitions
 abbrev pub may_run : Run → ℕ → ℕ → Crew → Bool
 may_run run first end crew =
     (first == finished run)

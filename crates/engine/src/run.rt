@@ -29,8 +29,8 @@ use std::thread::Threads;
 use taking::{Taken, take};
 use workers::{Gate, RunFault};
 
-/// A log, the outcomes of its finished places, and what stands behind these: the versions of rows and the book of grants. What
-/// was finished may be forgotten, statements and outcomes both; rows and book stay.
+/// A log, the outcomes of its finished places, and what comes after these: the versions of rows and the book of grants. What was finished
+/// may be forgotten, statements and outcomes both; rows and book stay.
 #[derive(Drop)]
 pub struct Engine {
     log: LogTail,
@@ -91,8 +91,8 @@ fn ran<T: Threads + Wait + Sync, G: Gate + Sync>(
     Ok(taken)
 }
 
-/// Runs the places of a range as a batch on shared words, by so many workers and placers. Rows and book are those before the
-/// range's end then, and the outcomes are appended. After an error rows, book and outcomes are as they were.
+/// Runs the places of a range as a batch on shared words, by this many workers and placers. Rows and book are those before the range's end
+/// then, and the outcomes are appended. After an error rows, book and outcomes are as they were.
 fn run_by_workers<T: Threads + Wait + Sync, G: Gate + Sync>(
     rt: &T,
     alloc: Global,
@@ -194,7 +194,7 @@ impl Engine {
     ghost use Rattle.sequencer.specs.Refusal.{IsRefusal, refusal};
     ghost use Rattle.engine.specs.Engine.{IsRun, finished, may_run};
 
-    /// An engine without places. It takes no memory.
+    /// An engine without places. It doesn't allocate.
     pub fn new(alloc: Global) -> Self
         ensures log { result.log ≡ empty_log }
         ensures none { finished result ≡ 0 }
@@ -204,7 +204,7 @@ impl Engine {
         Engine::seeded(alloc, HashSeed::fixed())
     }
 
-    /// An engine without places, which finds names, rows and grants under this seed. It takes no memory.
+    /// An engine without places, which finds names, rows and grants under this seed. It doesn't allocate.
     pub fn seeded(alloc: Global, seed: HashSeed) -> Self
         ensures log { result.log ≡ empty_log }
         ensures none { finished result ≡ 0 }
@@ -284,7 +284,7 @@ impl Engine {
         self.log.push_read(read)
     }
 
-    /// Takes a statement that was foretold as the next place, and leaves another one, of which nothing is told. On `Err` memory was
+    /// Takes a statement that was foretold as the next place, and leaves another one, of which nothing is known. On `Err` memory was
     /// refused, and engine and statement are as they were.
     pub fn push_foretold(&mut self, statement: &mut Statement) -> Result<Place, AllocError>
         requires place { length self.old.log.statements < MOST_PLACES }
@@ -299,8 +299,8 @@ impl Engine {
         self.log.push_foretold(statement)
     }
 
-    /// Exchanges a statement of no more use for the last one that was dropped, if there is one, whose memory may be used again. Nothing
-    /// is told of it.
+    /// Exchanges a statement of no more use for the last one that was dropped, if there is one, whose memory may be used again. Nothing is
+    /// known of it.
     pub fn give_dropped(&mut self, statement: &mut Statement)
         ensures { self.new ≡ self.old }
     {
@@ -308,10 +308,10 @@ impl Engine {
         self.log.give_dropped(statement)
     }
 
-    /// Runs the next places of the log, up to this one, as a batch, by so many workers and placers: by one worker in order, on this
-    /// thread. The gate is told of each place before a worker asks for it, and by each worker once when it is done. Then the places
-    /// are finished: their outcomes are the log's, and rows and book are those before this place. On `Err` memory was refused or a
-    /// worker's thread could not be started; the engine is as it was, so that the batch can be run again.
+    /// Runs the next places of the log, up to this one, as a batch, by this many workers and placers: by one worker in order, on this
+    /// thread. The gate is notified of each place before a worker asks for it, and by each worker once when it is done. Then the places are
+    /// finished: their outcomes are the log's, and rows and book are those before this place. On `Err` memory was refused or a worker's
+    /// thread could not be started; the engine is as it was, so that the batch can be run again.
     pub fn run_to<T: Threads + Wait + Sync, G: Gate + Sync>(
         &mut self,
         rt: &T,
@@ -349,8 +349,8 @@ impl Engine {
         Ok(())
     }
 
-    /// Whether the range may be run as the next batch, by so many workers and placers: it begins at `finished`, lies in the log and
-    /// has 1 to `MOST_BATCH_STATEMENTS` places, and there are 1 to `MOST_WORKERS` workers and 1 to `MOST_PARTITIONS` partitions.
+    /// Whether the range may be run as the next batch, by this many workers and placers: it begins at `finished`, lies in the log and has 1
+    /// to `MOST_BATCH_STATEMENTS` places, and there are 1 to `MOST_WORKERS` workers and 1 to `MOST_PARTITIONS` partitions.
     pub fn may_run(&self, range: &Range<Place>, crew: Crew) -> bool
         ensures { result ≡ may_run self.now range.now.start range.now.end crew }
     {
@@ -362,9 +362,9 @@ impl Engine {
             && (1 <= crew.partitions && crew.partitions <= MOST_PARTITIONS)
     }
 
-    /// Runs the range as the next batch, by so many workers and placers, as `run_to`. `BadSettings` is returned exactly where
-    /// `may_run` is false; any other error is `NoMemory`, or `Spawn` where a worker's thread could not be started. After an error the
-    /// engine is as it was, so that the batch can be run again.
+    /// Runs the range as the next batch, by this many workers and placers, as `run_to`. `BadSettings` is returned exactly where `may_run`
+    /// is false; any other error is `NoMemory`, or `Spawn` where a worker's thread could not be started. After an error the engine is as it
+    /// was, so that the batch can be run again.
     pub fn run_batch<T: Threads + Wait + Sync, G: Gate + Sync>(
         &mut self,
         rt: &T,
@@ -390,8 +390,8 @@ impl Engine {
         Ok(())
     }
 
-    /// Drops the statements and the outcomes of the places that are finished. It takes no memory, and costs what there is to drop.
-    /// Where no place is left after them, later statements take the memory of the dropped ones.
+    /// Drops the statements and the outcomes of the places that are finished. It doesn't allocate, and costs what there is to drop. Where
+    /// no place is left after them, later statements take the memory of the dropped ones.
     pub fn forget(&mut self)
         ensures { self.new ≡ record self.old { dropped = finished self.old } }
     {
@@ -431,8 +431,8 @@ impl Engine {
         &self.outcomes
     }
 
-    /// The row of a key before a place that is finished, or is the next one: the log's. `Trimmed` is answered exactly where the
-    /// place lies below the mark. It takes no memory.
+    /// The row of a key before a place that is finished, or is the next one: the log's. `Trimmed` is returned exactly where the place lies
+    /// below the mark. It doesn't allocate.
     pub fn row_before(&self, place: Place, key: Key) -> Result<Option<Row>, Trimmed>
         requires { place ≤ finished self.now }
         ensures trimmed { is_err result ≡ nat_lt place self.now.store.mark }
@@ -441,9 +441,9 @@ impl Engine {
         self.chains.row_before(place, key)
     }
 
-    /// Drops the versions of rows that tell only what stood before the places below the mark, and answers how many they were. From
-    /// then on the rows before these places aren't told. `BadMark` is answered exactly where the mark lies above `finished` or
-    /// below the present mark, and nothing changes then. It takes no memory, and costs what it drops.
+    /// Drops the versions of rows that give only what was before the places below the mark, and returns how many they were. From then on
+    /// the rows before these places aren't known. `BadMark` is returned exactly where the mark lies above `finished` or below the present
+    /// mark, and nothing changes then. It doesn't allocate, and costs what it drops.
     pub fn trim(&mut self, mark: Place) -> Result<usize, BadMark>
         ensures bad { is_err result ≡ (nat_lt mark self.old.store.mark || nat_lt (finished self.old) mark) }
         ensures ok { IfOk result (λ gone. Trims self.old.store self.new.store mark gone) }
@@ -453,8 +453,8 @@ impl Engine {
         self.chains.trim(mark)
     }
 
-    /// Takes out the versions that tell nothing: those below the mark that are the only ones of their keys, and in which the row is
-    /// absent. It answers how many they were. What is told of rows stays the same. It takes no memory.
+    /// Takes out the versions that say nothing: those below the mark that are the only ones of their keys, and in which the row is absent.
+    /// It returns how many they were. What is known of rows stays the same. It doesn't allocate.
     pub fn sweep(&mut self) -> usize
         ensures swept { Sweeps self.old.store self.new.store result }
         ensures rest { self.new ≡ record self.old { store = self.new.store } }

@@ -32,9 +32,9 @@ struct Counts {
     places: u32,
     /// Of how many the explanation is accepted.
     accepted: u32,
-    /// Of how many the answer tells `checked`.
+    /// Of how many the answer says `checked`.
     checked: u32,
-    /// Of how many logs no place is told after the last.
+    /// Of how many logs no place is known after the last.
     ended: u32,
     /// What was found of explanations with one place changed.
     changes: Changes,
@@ -121,7 +121,7 @@ fn count(text: &[u8], word: &[u8]) -> u32 {
     found
 }
 
-/// Tells how often the answers say each kind of line.
+/// Reports how often the answers say each kind of line.
 fn tell_kinds<R: Print>(rt: &R, answers: &[u8]) -> Result<(), TrialFault> {
     for word in [
         "\nneed ", " owner\n", " grants ", " never\n", " taken ", " option ", " denied ",
@@ -132,7 +132,7 @@ fn tell_kinds<R: Print>(rt: &R, answers: &[u8]) -> Result<(), TrialFault> {
     Ok(())
 }
 
-/// Tells of how many places of drawn logs the explanation is accepted, and what is answered of them.
+/// Reports of how many places of drawn logs the explanation is accepted, and what is answered of them.
 pub fn tell_drawn_explained<R: Threads + Wait + Print + Sync>(
     rt: &R,
     alloc: Global,

@@ -59,7 +59,7 @@ fn tell_others(rt: &impl Print, alloc: Global, engine: &Engine) -> Result<(), Tr
     tell_lines(rt, engine, "a line twice", 5, twice)
 }
 
-/// Runs the log on, batch by batch, and tells of place 8 before it is finished and once it is.
+/// Runs the log on, batch by batch, and says of place 8 before it is finished and once it is.
 fn run<R: Threads + Wait + Print + Sync>(
     rt: &R,
     alloc: Global,

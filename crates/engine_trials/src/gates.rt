@@ -1,4 +1,4 @@
-//! Gates: who waits for whom, and what workers tell.
+//! Gates: who waits for whom, and what workers say.
 
 use crate::fault::TrialFault;
 use crate::stepping::{crew_of, push_lines, run_up_to};
@@ -104,7 +104,7 @@ impl Gate for Holding {
     }
 }
 
-/// Notes how often it is told that a place is done, and holds back nobody.
+/// Notes how often it is known that a place is done, and holds back nobody.
 #[derive(Drop)]
 struct Noting {
     second: AtomicUsize,
@@ -113,7 +113,7 @@ struct Noting {
 }
 
 impl Noting {
-    /// How often it was told of a place.
+    /// How often it was known of a place.
     fn count_of(&self, place: Place) -> &AtomicUsize {
         match place {
             2 => &self.second,
@@ -196,7 +196,7 @@ fn tell_placed<R: Threads + Wait + Print + Sync>(
     Ok(())
 }
 
-/// Tells what so many workers tell a gate.
+/// Reports what this many workers say a gate.
 fn tell_counted<R: Threads + Wait + Print + Sync>(
     rt: &R,
     alloc: Global,
@@ -241,7 +241,7 @@ fn tell_placing<R: Threads + Wait + Print + Sync>(
     tell_placed(rt, alloc, &mut engine, partition)
 }
 
-/// Tells of a batch run by so many workers.
+/// Reports of a batch run by this many workers.
 fn tell_counting<R: Threads + Wait + Print + Sync>(
     rt: &R,
     alloc: Global,

@@ -1,6 +1,9 @@
-//! Engines that are driven by hand: rows, grants and outcomes between batches, a log in parts, crews that change from batch to batch,
-//! gates, limits of ranges, a log whose growths may be refused; and places that are explained. What is printed is compared with
-//! `stdout`.
+//! Trials of engines driven by hand, and of explanations.
+//!
+//! Rows, grants and outcomes between batches, a log in parts, crews that change from batch to batch, gates, limits of
+//! ranges, a log whose growths may be refused; places of a worked log and of drawn ones explained, and explanations
+//! handed in. Its words are `refused-growths`, which makes the trial of these alone, and `others`. What is printed is
+//! compared with `stdout`.
 #![tactic(auto)]
 
 mod changed_chains;

@@ -61,7 +61,7 @@ fn run_at_once<R: Threads + Wait + Sync>(
     run_up_to(rt, alloc, engine, PLACES, crew_of(1, 1))
 }
 
-/// Puts an outcome behind a text.
+/// Appends an outcome after a text.
 fn put_outcome(alloc: Global, text: &mut Vec<u8>, outcome: &Outcome) -> Result<(), TrialFault> {
     let line = format!(in alloc; "{outcome:?}\n")?;
     text.extend_from_slice(line.as_bytes())?;
@@ -79,7 +79,7 @@ pub fn outcomes(alloc: Global, engine: &Engine) -> Result<Vec<u8>, TrialFault> {
     Ok(text)
 }
 
-/// Runs the log as one batch, tells its outcomes, and answers them.
+/// Runs the log as one batch, says its outcomes, and answers them.
 fn tell_at_once<R: Threads + Wait + Print + Sync>(
     rt: &R,
     alloc: Global,
@@ -90,7 +90,7 @@ fn tell_at_once<R: Threads + Wait + Print + Sync>(
     outcomes(alloc, engine)
 }
 
-/// The outcomes of the log run as one batch, which are told.
+/// The outcomes of the log run as one batch, which are known.
 fn told_at_once<R: Threads + Wait + Print + Sync>(
     rt: &R,
     alloc: Global,
@@ -99,7 +99,7 @@ fn told_at_once<R: Threads + Wait + Print + Sync>(
     tell_at_once(rt, alloc, &mut engine)
 }
 
-/// Runs the log in parts, and answers its outcomes.
+/// Runs the log in parts, and returns its outcomes.
 fn outcomes_in_parts<R: Threads + Wait + Sync>(
     rt: &R,
     alloc: Global,

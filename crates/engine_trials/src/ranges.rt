@@ -12,7 +12,7 @@ use workers::NoGate;
 /// The most places that a batch has.
 const MOST: Place = 65_536;
 
-/// Tells what running a range answers.
+/// Reports what running a range answers.
 fn tell_range<R: Threads + Wait + Print + Sync>(
     rt: &R,
     alloc: Global,

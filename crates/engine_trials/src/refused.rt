@@ -1,4 +1,4 @@
-//! A log run by two workers and by one where a growth may be refused: what was refused is run again, and so what is told is the same.
+//! A log run by two workers and by one where a growth may be refused: what was refused is run again, and so what is known is the same.
 
 use crate::fault::TrialFault;
 use crate::reporting::{answer, settings_of};
@@ -31,8 +31,8 @@ const LOG: &[u8] =
 const REPORT: &[u8] =
     b"0 created\n1 done\n2 granted\n3 granted\n4 done 9\n5 revoked 2 3\n6 denied READ t taken 5\n7 done\n8 done\n9 done 7\n";
 
-/// Runs the log by so many workers into a writer that has room, and returns whether it wrote the report; or, where it was refused
-/// memory, whether it wrote a beginning of it.
+/// Runs the log by this many workers into a writer that has room, and returns whether it wrote the report; or, where it was refused memory,
+/// whether it wrote a beginning of it.
 fn writes_well<R: Threads + Wait + Sync>(
     rt: &R,
     alloc: Global,
@@ -51,7 +51,7 @@ fn writes_well<R: Threads + Wait + Sync>(
     Ok((whole, begun))
 }
 
-/// Tells whether the log's report is written by so many workers, if need be by a second run.
+/// Reports whether the log's report is written by this many workers, if need be by a second run.
 fn tell_text<R: Threads + Wait + Print + Sync>(
     rt: &R,
     alloc: Global,
@@ -76,7 +76,7 @@ fn push_again(alloc: Global, engine: &mut Engine, line: &str) -> Result<(), Tria
     push_line(alloc, engine, line)
 }
 
-/// Runs the next places as a batch by so many workers, if need be a second time.
+/// Runs the next places as a batch by this many workers, if need be a second time.
 fn run_again<R: Threads + Wait + Sync>(
     rt: &R,
     alloc: Global,
@@ -98,7 +98,7 @@ fn push_all(alloc: Global, engine: &mut Engine) -> Result<(), TrialFault> {
     Ok(())
 }
 
-/// Runs the lines in batches by so many workers, and tells their outcomes, and how many versions a trim and a sweep take out.
+/// Runs the lines in batches by this many workers, and says their outcomes, and how many versions a trim and a sweep take out.
 fn tell_engine<R: Threads + Wait + Print + Sync>(
     rt: &R,
     alloc: Global,
@@ -116,7 +116,7 @@ fn tell_engine<R: Threads + Wait + Print + Sync>(
     Ok(())
 }
 
-/// Tells of the log, run by so many workers.
+/// Reports of the log, run by this many workers.
 fn tell_by<R: Threads + Wait + Print + Sync>(
     rt: &R,
     alloc: Global,

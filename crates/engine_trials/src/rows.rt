@@ -1,4 +1,4 @@
-//! What an engine tells of rows, outcomes and grants, before and after older rows are let go.
+//! What an engine says of rows, outcomes and grants, before and after older rows are let go.
 
 use crate::fault::TrialFault;
 use crate::stepping::{crew_of, push_lines, run_up_to, tell_outcomes, told_row};
@@ -29,7 +29,7 @@ fn begin<R: Threads + Wait + Sync>(
     run_up_to(rt, alloc, engine, 3, crew_of(2, 2))
 }
 
-/// Tells the two rows before each place up to one behind the last.
+/// Reports the two rows before each place up to one after the last.
 fn tell_rows<R: Print>(rt: &R, engine: &Engine) -> Result<(), TrialFault> {
     let (mark, finished) = (engine.mark(), engine.finished());
     println!(rt; "mark {mark}, {finished} finished")?;
@@ -41,7 +41,7 @@ fn tell_rows<R: Print>(rt: &R, engine: &Engine) -> Result<(), TrialFault> {
     Ok(())
 }
 
-/// Trims the engine to a mark, and tells how many versions went.
+/// Trims the engine to a mark, and says how many versions went.
 fn tell_trim<R: Print>(rt: &R, engine: &mut Engine, mark: Place) -> Result<(), TrialFault> {
     match engine.trim(mark) {
         Ok(gone) => println!(rt; "trimmed to {mark}: {gone} versions went")?,
@@ -50,7 +50,7 @@ fn tell_trim<R: Print>(rt: &R, engine: &mut Engine, mark: Place) -> Result<(), T
     Ok(())
 }
 
-/// Sweeps the engine, and tells how many versions went.
+/// Sweeps the engine, and says how many versions went.
 fn tell_sweep<R: Print>(rt: &R, engine: &mut Engine) -> Result<(), TrialFault> {
     let gone = engine.sweep();
     println!(rt; "swept: {gone} versions went")?;
@@ -72,7 +72,7 @@ fn tell_kept<R: Threads + Wait + Print + Sync>(
     tell_marks(rt, engine)
 }
 
-/// Trims the engine to marks that may be and to some that may not, and tells what is left.
+/// Trims the engine to marks that may be and to some that may not, and says what is left.
 fn tell_marks<R: Print>(rt: &R, engine: &mut Engine) -> Result<(), TrialFault> {
     for mark in [4, 3, 9, 5, 8] {
         tell_trim(rt, engine, mark)?;
@@ -121,7 +121,7 @@ fn tell_readers<R: Print>(rt: &R, engine: &Engine) -> Result<(), TrialFault> {
     Ok(())
 }
 
-/// Tells records and readers once so many places are finished.
+/// Reports records and readers once this many places are finished.
 fn tell_book<R: Threads + Wait + Print + Sync>(
     rt: &R,
     alloc: Global,

@@ -9,7 +9,7 @@ use std::sync::Wait;
 use std::thread::Threads;
 use workers::NoGate;
 
-/// What an engine tells of a row.
+/// What an engine says of a row.
 #[derive(Clone, Copy, Debug, PartialEq, Eq)]
 pub enum Told {
     /// The place isn't finished, nor the next one.
@@ -62,7 +62,7 @@ pub fn run_up_to<R: Threads + Wait + Sync>(
     Ok(())
 }
 
-/// What the engine tells of a row of the first table before a place.
+/// What the engine says of a row of the first table before a place.
 pub fn told_row(engine: &Engine, place: Place, row: RowNumber) -> Told {
     if place > engine.finished() {
         return Told::NotYet;

@@ -29,10 +29,10 @@ fn settled(batch: &Batch<RangeKey<'_>>, pass: Pass) -> Pass
     pass
 }
 
-/// Places and runs all places of a batch that isn't placed, on shared words, by so many workers, of which this thread is the
-/// first: each has then what its place in the log comes to, and what its revocation ended, whatever the workers do in which
-/// order, and also while others still place. An error is out of memory, of any of the workers or of the batch itself, or a
-/// worker's thread that could not be started. No thread runs any more afterwards.
+/// Places and runs all places of a batch that isn't placed, on shared words, by this many workers, of which this thread is the first: each
+/// has then what its place in the log results in, and what its revocation ended, whatever the workers do in which order, and also while
+/// others still place. An error is out of memory, of any of the workers or of the batch itself, or a worker's thread that could not be
+/// started. No thread runs any more afterwards.
 pub fn execute<'a, R: Threads + Wait + Sync, G: Gate + Sync>(
     rt: &R,
     alloc: Global,

@@ -22,6 +22,6 @@ pub record IsExplainedBy (log : List Statement) (place : ℕ) (lines : List Line
   pub there : slice_get log place ≡ Some statement
   pub sound : AreSound (owners log) (deeds_before log place) place statement.user (needs statement.form) lines
 
--- the lines name no table but the first so many
+-- the lines name no table but the first this many
 abbrev pub LinesAreNamed : ℕ → List Line → Type 0
 LinesAreNamed tables lines = All (λ (line : Line). line.need.table < tables) lines

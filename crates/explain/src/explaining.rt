@@ -14,7 +14,7 @@ use grant_paths::Line;
 use model_base::{Form, Need, Place};
 use std::alloc::{AllocError, Global};
 
-/// What a statement's user must hold, in order. An error is want of memory.
+/// What a statement's user must hold, in order. An error means out of memory.
 fn needs_of(alloc: Global, form: &Form) -> Result<Vec<Need>, AllocError>
     ensures { IfOk result (λ found. found.items ≡ needs form.now) }
 {
@@ -25,7 +25,7 @@ fn needs_of(alloc: Global, form: &Form) -> Result<Vec<Need>, AllocError>
     Ok(found)
 }
 
-/// The lines that explain a place which is finished, and whose statement is kept. An error is want of memory.
+/// The lines that explain a place which is finished, and whose statement is kept. An error means out of memory.
 fn lines_at(alloc: Global, engine: &Engine, place: Place) -> Result<Vec<Line>, AllocError>
     requires kept { engine.now.dropped ≤ place }
     requires finished { place < finished engine.now }
@@ -38,10 +38,10 @@ fn lines_at(alloc: Global, engine: &Engine, place: Place) -> Result<Vec<Line>, A
     explain_needs(alloc, engine.book(), place, statement.user, &needs)
 }
 
-/// Why the statement of a place was admitted or denied: for each of its needs in order, up to and with the first that isn't held,
-/// by which grants it is held or when it was lost. `NoSuchPlace` is answered exactly where the log has no such place, `NotFinished`
-/// exactly where it has, but it isn't finished, and `Forgotten` exactly where the engine dropped its statement; `NoMemory` is want of
-/// memory, and says nothing else.
+/// Why the statement of a place was admitted or denied: for each of its needs in order, up to and with the first that isn't held, by which
+/// grants it is held or when it was lost. `NoSuchPlace` is returned exactly where the log has no such place, `NotFinished` exactly where it
+/// has, but it isn't finished, and `Forgotten` exactly where the engine dropped its statement; `NoMemory` means out of memory, and says
+/// nothing else.
 pub fn explain(alloc: Global, engine: &Engine, place: Place) -> Result<Explanation, ExplainFault>
     ensures place { IfOk result (λ found. found.place ≡ place) }
     ensures lines { IfOk result (λ found. explained engine.now.log.statements place ≡ Some found.lines.items) }

@@ -7,7 +7,7 @@ ghost use Rattle.explain.specs.Indexed.{IsItemAt};
 
 use model_base::{Access, DeedForm, Form, Kind, Kinds, Need};
 
-/// An index as it counts behind an item, if that is there; `None` where it is the item's own.
+/// An index as it counts after an item, if that is there; `None` where it is the item's own.
 fn behind(there: bool, index: usize) -> Option<usize>
     ensures { MatchOption result ((there ≡ true) × (index ≡ 0)) (λ left. index ≡ (if there then left + 1 else left)) }
 {

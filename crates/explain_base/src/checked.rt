@@ -11,7 +11,7 @@ use grant_paths::{Line, is_sound};
 use grants::Book;
 use model_base::{Need, Place, User};
 
-/// Whether the line is of the need, and what it shows is so. It takes no memory.
+/// Whether the line is of the need, and what it shows is so. It doesn't allocate.
 pub fn explains(book: &Book, place: Place, user: User, need: &Need, line: &Line) -> bool
     requires covered { need.now.table < length book.now.tables }
     ensures { (owners : List ℕ) (deeds : List Deed) → ShowsBook book.now owners deeds
@@ -20,9 +20,8 @@ pub fn explains(book: &Book, place: Place, user: User, need: &Need, line: &Line)
     line.need == *need && is_sound(book, place, user, need, &line.shown)
 }
 
-/// Whether the lines explain needs of a user before a place: they are of these needs in order, all if all are held, else up to and
-/// with the first that isn't, and what each shows is so, whether or not the chains of grants that it names are the paths. It takes
-/// no memory.
+/// Whether the lines explain needs of a user before a place: they are of these needs in order, all if all are held, else up to and with the
+/// first that isn't, and what each shows is so, whether or not the chains of grants that it names are the paths. It doesn't allocate.
 pub fn are_sound(book: &Book, place: Place, user: User, needs: &[Need], lines: &[Line]) -> bool
     requires covered { All (λ (need : Need). need.table < length book.now.tables) needs.now }
     ensures { (owners : List ℕ) (deeds : List Deed) → ShowsBook book.now owners deeds

@@ -21,8 +21,8 @@ pub fn tells_held(shown: &Shown) -> bool
     }
 }
 
-/// The lines that explain needs of a user before a place, in order: one for each, up to and with the first that isn't held. Each
-/// costs what `explain_need` does. An error is want of memory.
+/// The lines that explain needs of a user before a place, in order: one for each, up to and with the first that isn't held. Each costs what
+/// `explain_need` does. An error means out of memory.
 pub fn explain_needs(
     alloc: Global,
     book: &Book,

@@ -14,8 +14,8 @@ pub fn explained_needs_are_sound()
         → AreSound owners deeds place user needs (explaining_lines owners deeds place user needs) }
 {}
 
-/// Deeds at a place, or behind it, explain nothing there: the lines that explain needs, and whether lines are sound, are the same
-/// for all deeds and for those below the place. So a book that has gone on explains an earlier place as the book that stood there.
+/// Deeds at a place, or after it, explain nothing there: the lines that explain needs, and whether lines are sound, are the same for all
+/// deeds and for those below the place. So a book that has gone on explains an earlier place as the book as it was there.
 pub fn later_deeds_explain_nothing()
     ensures lines { (owners : List ℕ) (deeds : List Deed) (place user : ℕ) (needs : List Need)
         → explaining_lines owners (deeds_below place deeds) place user needs ≡ explaining_lines owners deeds place user needs }

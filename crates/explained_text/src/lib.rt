@@ -1,4 +1,7 @@
-//! How an explanation of a place is spelled.
+//! An explanation as lines.
+//!
+//! `put_explanation` appends a line for each need of an explanation, spelled by the functions that spell needs, causes
+//! and places in the report. On `Err`, out of memory, some lines may have been appended.
 #![tactic(auto)]
 
 mod text;

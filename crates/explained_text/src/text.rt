@@ -11,7 +11,7 @@ use report::{put_cause, put_need, put_places};
 use sequencer::NameTable;
 use std::alloc::AllocError;
 
-/// Puts the places of a chain of grants.
+/// Writes the places of a chain of grants.
 fn put_grants(text: &mut Vec<u8>, places: &[Place]) -> Result<(), AllocError>
     ensures { OnOk result (text.new.items ≡ text.old.items ++ grants_text places.now) }
 {
@@ -19,7 +19,7 @@ fn put_grants(text: &mut Vec<u8>, places: &[Place]) -> Result<(), AllocError>
     put_places(text, places)
 }
 
-/// Puts how a need is held, or since when it isn't and by which grants it was held until then.
+/// Writes how a need is held, or since when it isn't and by which grants it was held until then.
 fn put_shown(text: &mut Vec<u8>, shown: &Shown) -> Result<(), AllocError>
     ensures { OnOk result (text.new.items ≡ text.old.items ++ shown_text shown.now) }
 {
@@ -34,7 +34,7 @@ fn put_shown(text: &mut Vec<u8>, shown: &Shown) -> Result<(), AllocError>
     }
 }
 
-/// Puts a need and what is shown of it.
+/// Writes a need and what is shown of it.
 fn put_line(text: &mut Vec<u8>, tables: &NameTable, line: &Line) -> Result<(), AllocError>
     requires { line.now.need.table < length tables.now }
     ensures { OnOk result (text.new.items ≡ text.old.items ++ need_line_text tables.now line.now) }
@@ -45,9 +45,9 @@ fn put_line(text: &mut Vec<u8>, tables: &NameTable, line: &Line) -> Result<(), A
     text.extend_from_slice(b"\n")
 }
 
-/// Puts an explanation behind the text, a line for each need: `need KIND table`, then `option` where that is needed, and then
-/// `owner`, `grants` with the places of the chain, `never`, or `taken` with the place of the revocation and `grants` with those of
-/// the chain until then. The tables' names are those of the log. After an error some of it may stand behind the text.
+/// Appends an explanation to the text, a line for each need: `need KIND table`, then `option` where that is needed, and then `owner`,
+/// `grants` with the places of the chain, `never`, or `taken` with the place of the revocation and `grants` with those of the chain until
+/// then. The tables' names are those of the log. After an error some of it may be after the text.
 pub fn put_explanation(
     text: &mut Vec<u8>,
     tables: &NameTable,

@@ -23,11 +23,11 @@ is_denied (Outcome.Denied need cause) = true
 is_denied (Outcome.Aborted step reason) = false
 is_denied (Outcome.Undeclared step) = false
 
--- whether own words tell a denial
+-- whether own words give a denial
 abbrev pub says_denied : List ℕ → Bool
 says_denied own = slice_index_or own 0 0 == 3
 
--- how many bodies are run for a statement that comes to this: that of a transaction which isn't denied
+-- how many bodies are run for a statement that results in this: that of a transaction which isn't denied
 abbrev pub runs_for : Form → Outcome → ℕ
 runs_for form outcome = if has_body form && not (is_denied outcome) then 1 else 0
 

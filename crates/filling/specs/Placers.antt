@@ -34,17 +34,17 @@ pub record IsPlacerIn (words : Words Key) (placer : Placer) : Type 0 where
 abbrev pub IsNewPlacer : Words Key → ℕ → Placer → Type 0
 IsNewPlacer words partition placer = IsPlacerIn words placer × (placer.token.view ≡ placer_view partition)
 
--- there is one for each of so many partitions, in order
+-- there is one for each of this many partitions, in order
 pub record AreNewPlacers (words : Words Key) (partitions : ℕ) (placers : List Placer) : Type 0 where
   pub every : length placers ≡ partitions
   pub each : (partition : ℕ) (placer : Placer) → slice_get placers partition ≡ Some placer → IsNewPlacer words partition placer
 
--- the placers of the first so many partitions were cut from the pass
+-- the placers of the first this many partitions were cut from the pass
 abbrev pub with_all_cut : View → ℕ → View
 with_all_cut view partitions = record view { cut = range_with_len 0 partitions }
 
--- what came of a step: the place at the front was placed, or there was none any more, or memory was refused, and then neither the
--- words nor the place at the front are others
+-- the outcome of a step: the place at the front was placed, or there was none any more, or memory was refused, and then neither the words
+-- nor the place at the front are others
 abbrev pub AdvancedTells : Ranged → Placer → Advanced → Placer → Type 0
 AdvancedTells ranged placer (Next place) after =
     (placer_front placer < ranged.size) × (place ≡ ranged.first + placer_front placer)

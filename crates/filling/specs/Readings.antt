@@ -34,8 +34,8 @@ pub record PlaceReading : Type 0 where
 abbrev pub reader_in : PlaceReading → Reader
 reader_in reading = record { batch = batch_in reading.ranged; index = reading.index }
 
--- for each place of which it is known that all its references are done, and on one of whose tables the slot's grant is, this end
--- tells below the place what that of the serial run does
+-- for each place of which it is known that all its references are done, and on one of whose tables the slot's grant is, this end gives
+-- below the place what that of the serial run does
 abbrev pub IsEndBelow : Batch → View → ℕ → Option ℕ → Type 0
 IsEndBelow batch view slot end =
     (index : ℕ) → index < batch.size → KnowsReferences batch view index → is_listed (batch.tables index) (table_at batch slot) ≡ true

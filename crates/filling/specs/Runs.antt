@@ -11,7 +11,7 @@ use Rattle.filling.specs.declared.running.Ran.{Ran}
 use Rattle.filling.specs.declared.running.Ran.TheVariants.{Done, Busy, NotPlaced, NoMemory}
 use Rattle.filling.specs.Outcomes.{outcome_in}
 
--- of a place that is known done, the outcome in the log; or memory was wanting, for what a revocation ended
+-- of a place that is known done, the outcome in the log; or memory ran out, for what a revocation ended
 abbrev pub DoneTells : Ranged → ℕ → View → Ran → View → Type 0
 DoneTells ranged index view (Done found) after = OnlyLearns view after × (outcome_in ranged index ≡ Some found)
 DoneTells ranged index view (Busy place) after = ⊥
@@ -22,8 +22,8 @@ DoneTells ranged index view NoMemory after = OnlyLearns view after × IsRevocati
 abbrev pub RunTells : Ranged → ℕ → View → Tried → View → Type 0
 RunTells ranged index view answer after = ¬ (IsToldDone (batch_in ranged) view index) × TriedTells (batch_in ranged) index view answer after
 
--- what came of a place, by its index. It is done, with the outcome of the log; or a place was held, or not placed, or memory was wanting, as it is
--- told of what was tried, and that it is done wasn't told before; or it is done, and memory was wanting for what it ended
+-- the outcome of a place, by its index. It is done, with the outcome of the log; or a place was held, or not placed, or memory ran out, as
+-- in what was tried, and nothing said before that it is done; or it is done, and memory ran out for what it ended
 abbrev pub RanTells : Ranged → ℕ → View → Ran → View → Type 0
 RanTells ranged index view (Done found) after = TriedTells (batch_in ranged) index view tried.Done after
     × (outcome_in ranged index ≡ Some found)

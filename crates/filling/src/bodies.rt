@@ -22,7 +22,7 @@ fn has_body(form: &Form) -> bool
     }
 }
 
-// Whether own words don't tell that their place was denied.
+// Whether own words don't say that their place was denied.
 fn says_admitted(own: &[u64]) -> bool
     ensures { result ≡ not (says_denied own.now) }
 {

@@ -136,8 +136,8 @@ fn judge_places<'b, 'a, N: Named>(
     (places, holding)
 }
 
-// The places of the grants that a done place ends, in rising order, by a pass that knows the place placed and all done that it is referred to; it
-// only learns. An error is want of memory.
+// The places of the grants that a done place ends, in rising order, by a pass that knows the place placed and all done that it is referred
+// to; it only learns. An error means out of memory.
 pub(crate) fn places_told<'b, 'a>(
     key: &'b RangeKey<'a>,
     words: &'b BatchWords<RangeKey<'a>>,
@@ -178,8 +178,8 @@ fn ends_numbered(
     numbers_of(key, places)
 }
 
-// The numbers of the ends that a place sets, which for a place that isn't done or has no revocation are none. The pass knows
-// done all that it is referred to, and only learns. An error is want of memory, which only a revocation may have.
+// The numbers of the ends that a place sets, which for a place that isn't done or has no revocation are none. The pass knows done all that
+// it is referred to, and only learns. An error means out of memory, which only a revocation may have.
 pub(crate) fn ends_of<'b, 'a>(
     key: &'b RangeKey<'a>,
     words: &'b BatchWords<RangeKey<'a>>,

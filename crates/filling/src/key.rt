@@ -34,7 +34,7 @@ impl<'a> Model for RangeKey<'a> {
 }
 
 impl<'a> RangeKey<'a> {
-    /// The key of a batch that has a place: its end words are those of the slots that it may end. An error is want of memory.
+    /// The key of a batch that has a place: its end words are those of the slots that it may end. An error means out of memory.
     pub fn of(alloc: Global, batch: LogBatch<'a>) -> Result<RangeKey<'a>, AllocError>
         requires { 0 < batch.size }
         ensures batch { IfOk result (λ key. key.batch ≡ batch.entry) }
@@ -68,8 +68,8 @@ impl<'a> RangeKey<'a> {
         key
     }
 
-    // The number of a slot in the list, if it is there. It takes no memory, and a time that grows with the logarithm of the
-    // length of the list.
+    // The number of a slot in the list, if it is there. It doesn't allocate, and takes a time that grows with the logarithm of the length
+    // of the list.
     pub(crate) fn number_of(&self, slot: usize) -> Option<usize>
         ensures { MatchOption result (¬ (In slot self.now.slots))
             (λ number. (number < length self.now.slots) × (listed_slot_at self.now.slots number ≡ slot)) }

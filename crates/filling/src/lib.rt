@@ -1,7 +1,13 @@
-//! Runs places of a batch of a log on the shared words, each after those that it is referred to, and tells their outcomes.
+//! Places of a log placed and run on shared words.
+//!
+//! `open` makes the words of a range, a first pass, and a `Placer` for each partition. `place_next` stores the
+//! references of the next place and then the front. `run_place` runs a place, after those that it refers to, and
+//! returns its outcome, which is the log's; `outcome` looks at a place once. A place costs what it stores and reads.
+//! Only `open`, placing and revocations allocate, before a first store.
 //!
 //! After J. M. Faleiro and D. J. Abadi, "Rethinking Serializable Multiversion Concurrency Control", PVLDB 8 (2015),
-//! section 3: a thread evaluates a transaction once the versions that it reads are there, and then fills its placeholders.
+//! section 3: a thread evaluates a transaction once the versions that it reads are there, and then fills its
+//! placeholders.
 #![tactic(auto)]
 
 mod bodies;

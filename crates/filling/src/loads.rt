@@ -40,7 +40,7 @@ pub(crate) fn deed_was_done<K: Placed>(
     words.own(holding, index, 0) == 1
 }
 
-// A listed end, as its word tells it.
+// A listed end, as its word gives it.
 pub(crate) fn end_loaded<K: Placed>(
     words: &BatchWords<K>,
     holding: &mut Holding,
@@ -58,9 +58,8 @@ pub(crate) fn end_loaded<K: Placed>(
     }
 }
 
-// The end of the record of a slot that has none before the batch, as its end word tells it; without such a word it has none. For
-// a place of which the pass knows all references done, and on one of whose tables the grant is, it tells below the place what
-// the serial run does.
+// The end of the record of a slot that has none before the batch, as its end word gives it; without such a word it has none. For a place of
+// which the pass knows all references done, and on one of whose tables the grant is, it says below the place what the serial run does.
 fn end_by_word<'a>(
     key: &RangeKey<'a>,
     words: &BatchWords<RangeKey<'a>>,
@@ -83,7 +82,7 @@ fn end_by_word<'a>(
     }
 }
 
-// The end of the record of a slot: that before the batch if it has one, or else as its end word tells it.
+// The end of the record of a slot: that before the batch if it has one, or else as its end word gives it.
 pub(crate) fn end_at<'a>(
     key: &RangeKey<'a>,
     words: &BatchWords<RangeKey<'a>>,

@@ -1,4 +1,4 @@
-//! What a place of a batch of a log came to.
+//! What a place of a batch of a log resulted in.
 
 ghost use Rattle.std.specs.Prelude.{◌≡◌, ◌<◌, ◌≤◌, ◌++◌, ◌∷◌, [], IfOk, OnErr, OnOk, Some, length, take};
 ghost use Rattle.bohm_core_base.specs.Batch.{words_length};
@@ -23,7 +23,7 @@ use reading::words_length;
 use std::alloc::AllocError;
 use words::{BatchWords, Holding, Pass, Placed, Seen};
 
-// The own words of a place that the pass knows done: so many, and 0 behind them.
+// The own words of a place that the pass knows done: this many, and 0 after them.
 fn load_own<K: Placed>(
     key: &K,
     words: &BatchWords<K>,
@@ -98,7 +98,7 @@ fn put_ended<'a>(
     Ok(())
 }
 
-// The places of the grants whose listed ends name the place, which the pass knows done. An error is want of memory.
+// The places of the grants whose listed ends name the place, which the pass knows done. An error means out of memory.
 fn ended_places<'a>(
     key: &RangeKey<'a>,
     words: &BatchWords<RangeKey<'a>>,
@@ -120,8 +120,8 @@ fn ended_places<'a>(
     Ok(places)
 }
 
-// The outcome that the own words of a place tell, which the pass knows done. Of a revocation the places of the grants are given
-// that it ended.
+// The outcome that the own words of a place give, which the pass knows done. Of a revocation the places of the grants are given that it
+// ended.
 fn outcome_told<'a>(
     key: &RangeKey<'a>,
     words: &BatchWords<RangeKey<'a>>,
@@ -147,8 +147,8 @@ fn outcome_told<'a>(
     decoded(&statement.form, &own[..count], ended)
 }
 
-// The places of the grants that a place ended, if it has a revocation, as far as its outcome tells them. The pass knows it done.
-// An error is want of memory, which only a revocation may have.
+// The places of the grants that a place ended, if it has a revocation, as far as its outcome gives them. The pass knows it done. An error
+// means out of memory, which only a revocation may have.
 fn ended_list<'a>(
     key: &RangeKey<'a>,
     words: &BatchWords<RangeKey<'a>>,
@@ -176,7 +176,7 @@ fn ended_list<'a>(
     Ok(Items::new(places))
 }
 
-// The outcome of a place that the pass knows done. An error is want of memory, which only a revocation may have.
+// The outcome of a place that the pass knows done. An error means out of memory, which only a revocation may have.
 fn outcome_known<'a>(
     key: &RangeKey<'a>,
     words: &BatchWords<RangeKey<'a>>,
@@ -195,10 +195,10 @@ fn outcome_known<'a>(
     Ok(outcome_told(key, words, holding, index, ended))
 }
 
-/// The outcome of a place, if it is done: one load of its claim, its own words, and for a revocation the end words of the batch.
-/// It is told of each place that the pass knows done, and of one that the load finds done, which the pass knows from then on.
-/// There is none of a place that was free or that another pass held. An error is want of memory for the list of what a
-/// revocation ended; the pass knows the place done then too.
+/// The outcome of a place, if it is done: one load of its claim, its own words, and for a revocation the end words of the batch. It is
+/// returned for each place that the pass knows done, and of one that the load finds done, which the pass knows from then on. There is none
+/// of a place that was free or that another pass held. An error means out of memory for the list of what a revocation ended; the pass knows
+/// the place done then too.
 pub fn outcome(
     batch: &Batch<RangeKey<'_>>,
     pass: Pass,

@@ -15,8 +15,7 @@ use reading::words_told;
 use std::marker::{Brand, PhantomData};
 use words::{BatchWords, Holding};
 
-// Puts all own words of a place in the place of those that were there, for the words that are named and a pass that keeps what is
-// named.
+// Writes all own words of a place in the place of those that were there, for the words that are named and a pass that keeps what is named.
 fn judge_words<'b, 'a, N: Named>(
     key: &'b RangeKey<'a>,
     words: &'b BatchWords<RangeKey<'a>>,
@@ -54,8 +53,8 @@ fn judge_words<'b, 'a, N: Named>(
     holding
 }
 
-// Puts all own words of a place in the place of those that were there, by a pass that knows the place placed and all done that it is referred to; it
-// only learns. It takes no memory.
+// Writes all own words of a place in the place of those that were there, by a pass that knows the place placed and all done that it is
+// referred to; it only learns. It doesn't allocate.
 pub(crate) fn own_told<'b, 'a>(
     key: &'b RangeKey<'a>,
     words: &'b BatchWords<RangeKey<'a>>,

@@ -1,4 +1,4 @@
-//! Runs a place, and tells what it came to.
+//! Runs a place, and says what it resulted in.
 
 ghost use Rattle.std.specs.Prelude.{◌≡◌, ◌+◌, ◌-◌, ◌<◌, ◌≤◌};
 ghost use Rattle.words.specs.Passes.{IsPassOf};
@@ -14,20 +14,20 @@ use filling_base::{Batch, Tried};
 use model_base::{Outcome, Place};
 use words::Pass;
 
-/// What came of a place that was to be run.
+/// The outcome of a place that was to be run.
 #[derive(Debug, Drop)]
 pub enum Ran {
-    /// The place is done, and came to this.
+    /// The place is done, and resulted in this.
     Done(Outcome),
     /// This place was held by another pass.
     Busy(Place),
     /// This partition hasn't placed the place.
     NotPlaced(usize),
-    /// Memory was wanting.
+    /// memory ran out.
     NoMemory,
 }
 
-// What a place came to that the pass knows done.
+// What a place resulted in that the pass knows done.
 fn tell_done(batch: &Batch<RangeKey<'_>>, pass: Pass, index: usize) -> (Pass, Ran)
     requires ours { IsPassOf batch.now pass }
     requires within { index < batch.now.key.batch.size }
@@ -44,11 +44,10 @@ fn tell_done(batch: &Batch<RangeKey<'_>>, pass: Pass, index: usize) -> (Pass, Ra
     }
 }
 
-/// Runs a place of the batch, and before it those that it is referred to and that aren't done, and tells its outcome, which is
-/// that of the log. The pass counts the bodies of the places that it finishes, whatever is answered, and holds no place
-/// afterwards. `Busy` tells a place of the log, at most the one asked for, that another pass held at a step of this call.
-/// `NoMemory` is also answered where memory was wanting for the list of what the place's own revocation ended, and then the
-/// place is done.
+/// Runs a place of the batch, and before it those that it is referred to and that aren't done, and gives its outcome, which is that of the
+/// log. The pass counts the bodies of the places that it finishes, whatever is returned, and holds no place afterwards. `Busy` gives a
+/// place of the log, at most the one asked for, that another pass held at a step of this call. `NoMemory` is also returned where memory ran
+/// out for the list of what the place's own revocation ended, and then the place is done.
 pub fn run_place(batch: &Batch<RangeKey<'_>>, pass: Pass, place: Place) -> (Pass, Ran)
     requires ours { IsPassOf batch.now pass }
     requires begins { batch.now.key.batch.first ≤ place }

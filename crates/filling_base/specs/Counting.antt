@@ -20,18 +20,18 @@ abbrev pub finished_places : List Event → List ℕ
 finished_places [] = []
 finished_places (event ∷ events) = finish_of event ++ finished_places events
 
--- the count after so many more bodies: it stops at the greatest number, as where each is counted by itself
+-- the count after this many more bodies: it stops at the greatest number, as where each is counted by itself
 abbrev pub counted_more : ℕ → ℕ → ℕ
 counted_more bodies zero = bodies
 counted_more bodies (suc more) = min (bodies + suc more) (2 ^ 64 - 1)
 
--- the pass has finished these places meanwhile, and has counted so many bodies for each of them, and none besides
+-- the pass has finished these places meanwhile, and has counted this many bodies for each of them, and none besides
 pub record CountsBodies (runs : ℕ → ℕ) (pass after : Passing) : Type 0 where
   pub places : List ℕ
   pub finishes : finished_places after.view.events ≡ finished_places pass.view.events ++ places
   pub bodies : after.bodies ≡ counted_more pass.bodies (sum_by runs places)
 
--- who filled a place that so many bodies are run for has counted them; where memory was wanting, none was counted
+-- who filled a place that this many bodies are run for has counted them; where memory ran out, none was counted
 abbrev pub FillCounts : {A E : Type 0} → ℕ → ℕ → Result A E → ℕ → Type 0
 FillCounts runs bodies (Ok _) after = after ≡ counted_more bodies runs
 FillCounts runs bodies (Err _) after = after ≡ bodies

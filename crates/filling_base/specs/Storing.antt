@@ -8,8 +8,7 @@ use Rattle.words.specs.Views.{Holds}
 use Rattle.filling_base.specs.Counting.{finished_places}
 use Rattle.filling_base.specs.Goings.{Goes, HoldsOthers, NoPlace}
 
--- the pass holds the place, with so many words stored and the ends of these slots, and finished none; of the others it holds
--- the same
+-- the pass holds the place, with this many words stored and the ends of these slots, and finished none; of the others it holds the same
 pub record Stores (index : ℕ) (view after : View) (count : ℕ) (ended : List ℕ) : Type 0 where
   pub goes : Goes NoPlace view after
   pub finishes : finished_places after.events ≡ finished_places view.events
@@ -21,7 +20,7 @@ pub record Stores (index : ℕ) (view after : View) (count : ℕ) (ended : List 
 abbrev pub slot_of : List ℕ → List ℕ → ℕ → ℕ
 slot_of listed ends number = listed_slot_at listed (slice_index_or ends number 0)
 
--- the slots of the first so many
+-- the slots of the first this many
 abbrev pub ended_below : List ℕ → List ℕ → ℕ → List ℕ
 ended_below listed ends zero = []
 ended_below listed ends (suc number) = ended_below listed ends number ++ slot_of listed ends number ∷ []

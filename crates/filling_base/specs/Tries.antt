@@ -8,7 +8,7 @@ use Rattle.filling_base.specs.declared.run.Tried.TheVariants.{Done, Busy, NotPla
 use Rattle.filling_base.specs.Goings.{Finishes, Goes, NoPlace, OnlyLearns}
 use Rattle.filling_base.specs.References.{IsRevocation}
 
--- what the pass knows tells that the place is done
+-- what the pass knows says that the place is done
 abbrev pub IsToldDone : Batch → View → ℕ → Type 0
 IsToldDone batch view index = In index view.known ⊎ IsSettled batch view index
 
@@ -16,12 +16,12 @@ IsToldDone batch view index = In index view.known ⊎ IsSettled batch view index
 abbrev pub HasToWait : Batch → View → ℕ → Type 0
 HasToWait batch view index = ¬ (KnowsReferences batch view index)
 
--- the place may be given back for want of memory
+-- the place may be given back for lack of memory
 abbrev pub MayLackMemory : Batch → View → ℕ → Type 0
 MayLackMemory batch view index = HasToWait batch view index ⊎ IsRevocation batch index
 
--- a place, at most the one asked for, was found held by another pass when this one had so many events, as many as the call
--- began with at least; the pass isn't a sole one, and couldn't tell that the place is done
+-- a place, at most the one asked for, was found held by another pass when this one had this many events, as many as the call began with at
+-- least; the pass isn't a sole one, and couldn't say that the place is done
 pub record MeetsHeld (batch : Batch) (index other : ℕ) (view after : View) : Type 0 where
   pub most : other ≤ index
   pub shared : view.sole ≡ false
@@ -39,7 +39,7 @@ pub record MeetsUnplaced (batch : Batch) (index partition : ℕ) (view after : V
   pub undone : ¬ (In index view.known)
   pub found : ℕ
   pub short : found ≤ index
-  -- the last front that it found in this call, behind such as are past the place
+  -- the last front that it found in this call, after such as are past the place
   pub past : List (ℕ × ℕ × ℕ)
   pub sighting : after.front_sightings ≡ view.front_sightings ++ (past ++ (partition, found, length view.events) ∷ [])
 
@@ -60,9 +60,9 @@ is_unplaced (Busy other) = false
 is_unplaced (NotPlaced partition) = true
 is_unplaced NoMemory = false
 
--- what came of a place that was asked for. It is known done, and none was given back; or another was held, and what was given
--- back had to wait; or a partition hasn't placed it; or memory was wanting, which it isn't where the place has no revocation and all its references were known
--- done, and what was given back had to wait or may revoke
+-- the outcome of a place that was asked for. It is known done, and none was given back; or another was held, and what was given back had to
+-- wait; or a partition hasn't placed it; or memory ran out, which it isn't where the place has no revocation and all its references were
+-- known done, and what was given back had to wait or may revoke
 abbrev pub TriedTells : Batch → ℕ → View → Tried → View → Type 0
 TriedTells batch index view (NotPlaced partition) after = MeetsUnplaced batch index partition view after
 TriedTells batch index view Done after = Goes NoPlace view after × (after.sightings ≡ view.sightings) × In index after.known
@@ -71,7 +71,7 @@ TriedTells batch index view NoMemory after =
     Goes (MayLackMemory batch view) view after × (after.sightings ≡ view.sightings)
     × (KnowsReferences batch view index → IsRevocation batch index)
 
--- what came of filling a place: it is finished; or memory was wanting, which only a revocation's may be, and nothing was stored
+-- the outcome of filling a place: it is finished; or memory ran out, which only a revocation's may be, and nothing was stored
 abbrev pub FillTells : {A E : Type 0} → Batch → ℕ → View → Result A E → View → Type 0
 FillTells batch index view (Ok _) after = Finishes index view after
 FillTells batch index view (Err _) after = OnlyLearns view after × IsRevocation batch index

@@ -16,7 +16,7 @@ abbrev pub waiting : List Frame → List ℕ
 waiting [] = []
 waiting (frame ∷ frames) = frame.index ∷ waiting frames
 
--- the places that the first so many references of a place name are among these
+-- the places that the first this many references of a place name are among these
 abbrev pub KnownTo : Batch → List ℕ → ℕ → ℕ → Type 0
 KnownTo batch known index count =
     (number other : ℕ) → number < count → reference batch index number ≡ suc other → In other known
@@ -29,17 +29,17 @@ pub record WaitsFor (batch : Batch) (known : List ℕ) (frame : Frame) (other : 
   pub ready : KnownTo batch known frame.index number
   pub names : reference batch frame.index number ≡ suc other
 
--- the place that waits at the bottom, or else the one at hand
+-- the place that waits at the bottom, or else the current one
 abbrev pub bottom : List Frame → ℕ → ℕ
 bottom [] at = at
 bottom (frame ∷ frames) at = frame.index
 
--- each place waits for the next one, the last for the one at hand
+-- each place waits for the next one, the last for the current one
 abbrev pub IsPath : Batch → List ℕ → List Frame → ℕ → Type 0
 IsPath batch known [] at = Unit {0}
 IsPath batch known (frame ∷ frames) at = WaitsFor batch known frame (bottom frames at) × IsPath batch known frames at
 
--- what a pass knows, the place at hand, how many of its references are known done, and the places that wait
+-- what a pass knows, the current place, how many of its references are known done, and the places that wait
 pub record Spot : Type 0 where
   pub view : View
   pub at : ℕ
@@ -62,7 +62,7 @@ pub record IsWalk (batch : Batch) (spot : Spot) : Type 0 where
   pub ready : KnownTo batch spot.view.known spot.at spot.next
   pub short : spot.next ≤ length (reference_words batch spot.at)
   pub holds : HoldsJust spot.view (held spot)
-  -- every partition has placed the place asked for, and so the others, which stand before it
+  -- every partition has placed the place asked for, and so the others, which are before it
   pub past : KnowsPast batch spot.view (asked_place spot)
 
 -- more than two for each place, and more than the references of each
@@ -70,7 +70,7 @@ abbrev pub widest_below : Batch → ℕ → ℕ
 widest_below batch zero = 2
 widest_below batch (suc index) = length (reference_words batch index) + widest_below batch index
 
--- no fewer than the steps for a place, with so many of its references known done
+-- no fewer than the steps for a place, with this many of its references known done
 unfoldable pub cost : Batch → ℕ → ℕ → ℕ
 cost batch index count = (suc (length (reference_words batch index)) - count) * widest_below batch batch.size ^ index
 
@@ -98,7 +98,7 @@ pub record Ended (spot next : Spot) : Type 0 where
   pub known : In (asked_place spot) next.view.known
   pub holds : HoldsJust next.view []
 
--- the place at hand and those that wait are the same, and nothing was claimed, given back or stored
+-- the current place and those that wait are the same, and nothing was claimed, given back or stored
 pub record Stays (batch : Batch) (spot next : Spot) : Type 0 where
   pub walks : IsWalk batch next
   pub goes : Goes NoPlace spot.view next.view
@@ -106,7 +106,7 @@ pub record Stays (batch : Batch) (spot next : Spot) : Type 0 where
   pub at : next.at ≡ spot.at
   pub frames : next.frames ≡ spot.frames
 
--- a place to which the one at hand is referred was found held by another pass
+-- a place to which the current one is referred was found held by another pass
 pub record Met (other : ℕ) (batch : Batch) (spot next : Spot) : Type 0 where
   pub stays : Stays batch spot next
   pub sightings : next.view.sightings ≡ spot.view.sightings ++ (other, length spot.view.events) ∷ []
@@ -115,7 +115,7 @@ pub record Met (other : ℕ) (batch : Batch) (spot next : Spot) : Type 0 where
   pub untold : ¬ (IsToldDone batch spot.view other)
   pub waits : HasToWait batch spot.view spot.at
 
--- memory was wanting, for the place at hand to wait or to revoke
+-- memory ran out, for the current place to wait or to revoke
 pub record Lacked (batch : Batch) (spot next : Spot) : Type 0 where
   pub stays : Stays batch spot next
   pub sightings : next.view.sightings ≡ spot.view.sightings

@@ -29,7 +29,7 @@ impl<K: Fills> Model for Batch<K> {
 }
 
 impl<K: Fills + Drop> Batch<K> {
-    /// The words of the batch, all of which is placed, with all places free, and its first pass. An error is want of memory.
+    /// The words of the batch, all of which is placed, with all places free, and its first pass. An error means out of memory.
     pub fn new(alloc: Global, key: K) -> Result<(Batch<K>, Pass), AllocError>
         requires { K.placed key ≡ true }
         ensures { IfOk result (λ made. (made.0.key ≡ key) × (made.1 ≡ first_pass made.0)) }
@@ -38,8 +38,8 @@ impl<K: Fills + Drop> Batch<K> {
         Ok((Batch { key, words, alloc }, pass))
     }
 
-    /// The words of the batch, of which nothing is placed yet, and its first pass, off which its placers are cut. An error is
-    /// want of memory.
+    /// The words of the batch, of which nothing is placed yet, and its first pass, off which its placers are cut. An error means out of
+    /// memory.
     pub fn open(alloc: Global, key: K) -> Result<(Batch<K>, Pass), AllocError>
         requires { K.placed key ≡ false }
         ensures { IfOk result (λ made. (made.0.key ≡ key) × (made.1 ≡ open_pass made.0)) }
@@ -83,9 +83,9 @@ impl<K: Fills> Batch<K> {
         self.words.join(pass, other)
     }
 
-    /// What the batch is of, and its words as they stand. Each place whose claim is done has the own words and the ends of the
-    /// serial run, and of any other place the words are a beginning of them, also where the pass that held it is gone. If the pass knows that
-    /// all is placed, the references are the batch's.
+    /// What the batch is of, and its words as they are. Each place whose claim is done has the own words and the ends of the serial run,
+    /// and of any other place the words are a beginning of them, also where the pass that held it is gone. If the pass knows that all is
+    /// placed, the references are the batch's.
     pub fn close(self, pass: Pass) -> (K, Closed)
         requires { IsPassOf self pass }
         ensures key { result.0 ≡ self.key }

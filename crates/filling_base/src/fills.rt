@@ -10,13 +10,13 @@ ghost use Rattle.filling_base.specs.Tries.{FillTells};
 use std::alloc::AllocError;
 use words::{BatchWords, Holding, Placed};
 
-/// A batch whose places can be filled one at a time. `runs` tells how many bodies are run to fill a place.
+/// A batch whose places can be filled one at a time. `runs` says how many bodies are run to fill a place.
 pub trait Fills: Placed {
     ghost runs: { Self → ℕ → ℕ };
 
-    /// Stores all that a place has to store, and finishes it: the pass holds it, with nothing stored, knows that every partition
-    /// has placed it, and knows done all that it is referred to. It counts the bodies that are run for the place. The pass may learn of further places that they are
-    /// done. An error is want of memory, which only a revocation may have, and then nothing was stored or counted.
+    /// Stores all that a place has to store, and finishes it: the pass holds it, with nothing stored, knows that every partition has placed
+    /// it, and knows done all that it is referred to. It counts the bodies that are run for the place. The pass may learn of further places
+    /// that they are done. An error means out of memory, which only a revocation may have, and then nothing was stored or counted.
     fn fill(
         &self,
         words: &BatchWords<Self>,

@@ -25,7 +25,7 @@ fn named(word: u64) -> Option<usize>
 }
 
 impl<K: Fills> Batch<K> {
-    // The place that a reference of a placed place names, or none for what stood before the batch: one load.
+    // The place that a reference of a placed place names, or none for what was there before the batch: one load.
     pub(crate) fn referred(
         &self,
         holding: &mut Holding,
@@ -64,8 +64,8 @@ impl<K: Fills> Batch<K> {
         None
     }
 
-    /// Whether every partition has placed every place: one load of each front until one is found that hasn't. A pass that was
-    /// told so knows it from then on, and looks at no front again. It is told so if it knows the last place done.
+    /// Whether every partition has placed every place: one load of each front until one is found that hasn't. A pass that found it so knows
+    /// it from then on, and looks at no front again. It also returns true if the pass knows the last place done.
     pub fn all_placed(&self, pass: Pass) -> (Pass, bool)
         requires ours { IsPassOf self.now pass }
         ensures same { IsSamePass pass result.0 }

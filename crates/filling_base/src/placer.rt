@@ -8,7 +8,7 @@ use crate::batch::Batch;
 use crate::fills::Fills;
 use model_base::Place;
 
-/// What came of a placer's step.
+/// The outcome of a placer's step.
 #[derive(Clone, Copy, PartialEq, Eq, Debug)]
 pub enum Advanced {
     /// It placed this place.
@@ -19,8 +19,8 @@ pub enum Advanced {
     NoMemory,
 }
 
-/// Who places a batch for one of its partitions, one place after another. `is_of` tells whether it is a placer of these words,
-/// and `front` how many places it has placed, which is the index of the one that it places next.
+/// Who places a batch for one of its partitions, one place after another. `is_of` says whether it is a placer of these words, and `front`
+/// how many places it has placed, which is the index of the one that it places next.
 pub trait BatchPlacer<K: Fills>: Drop {
     ghost is_of: { Words K → Self → Type 0 };
 

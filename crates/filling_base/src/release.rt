@@ -12,7 +12,7 @@ use crate::walk::Walk;
 use words::Pass;
 
 impl<K: Fills> Batch<K> {
-    // Gives back all that a call holds, from the place at hand to the one asked for.
+    // Gives back all that a call holds, from the current place to the one asked for.
     pub(crate) fn release(&self, walk: Walk) -> Pass
         requires ours { IsPassOf self.now walk.holding }
         requires within { asked_place (spot walk) < (K.batch self.now.key).size }

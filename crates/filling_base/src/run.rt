@@ -12,7 +12,7 @@ use crate::fills::Fills;
 use crate::walk::{Step, Walk};
 use words::{Claimed, Holding, Pass, Seen};
 
-/// What came of a place that was asked for.
+/// The outcome of a place that was asked for.
 #[derive(Clone, Copy, PartialEq, Eq, Debug)]
 pub enum Tried {
     /// The place is done.
@@ -21,7 +21,7 @@ pub enum Tried {
     Busy(usize),
     /// The partition hasn't placed the place.
     NotPlaced(usize),
-    /// Memory was wanting.
+    /// memory ran out.
     NoMemory,
 }
 
@@ -88,19 +88,19 @@ impl<K: Fills> Batch<K> {
         }
     }
 
-    /// Runs a place, and before it those that it is referred to and that aren't done. The pass holds none afterwards, and what
-    /// was finished on the way stays finished. `Busy` tells a place, at most the one asked for, that another pass held at a step
-    /// of this call; all claims of the call were given back. `NotPlaced` tells a partition that was found in this call not to have
-    /// placed the place, and that the pass didn't know to have. `NoMemory` is not answered for a place without a revocation whose
-    /// references the pass knew done. A place is given back only if one of its references wasn't known done as the call began,
-    /// or for want of memory for a revocation. The pass counts the bodies of the places that it finishes, whatever is answered.
+    /// Runs a place, and before it those that it is referred to and that aren't done. The pass holds none afterwards, and what was finished
+    /// on the way stays finished. `Busy` gives a place, at most the one asked for, that another pass held at a step of this call; all
+    /// claims of the call were given back. `NotPlaced` gives a partition that was found in this call not to have placed the place, and that
+    /// the pass didn't know to have. `NoMemory` is not answered for a place without a revocation whose references the pass knew done. A
+    /// place is given back only if one of its references wasn't known done as the call began, or for lack of memory for a revocation. The
+    /// pass counts the bodies of the places that it finishes, whatever is returned.
     pub fn try_run(&self, pass: Pass, index: usize) -> (Pass, Tried)
         requires ours { IsPassOf self.now pass }
         requires within { index < (K.batch self.now.key).size }
         ensures same { IsSamePass pass result.0 }
         ensures tells { TriedTells (K.batch self.now.key) index pass.view result.1 result.0.view }
         ensures bodies { CountsBodies (K.runs self.now.key) pass result.0 }
-        // What the pass knows done is answered so, and what is settled by that.
+        // What the pass knows done is returned so, and what is settled by that.
         ensures told { IsToldDone (K.batch self.now.key) pass.view index → result.1 ≡ Tried.Done }
     {
         let mut holding = Holding::begin(pass);

@@ -15,7 +15,7 @@ use crate::walk::{Frame, Step, Walk};
 use words::{Claimed, Seen};
 
 impl<K: Fills> Batch<K> {
-    // Goes on with a place that the one at hand is referred to, if it can be claimed. Room to wait for it is made first.
+    // Goes on with a place that the current one is referred to, if it can be claimed. Room to wait for it is made first.
     fn enter(&self, walk: &mut Walk, index: usize, next: usize) -> Step
         requires ours { IsPassOf self.now walk.old.holding }
         requires within { asked_place (spot walk.old) < (K.batch self.now.key).size }
@@ -53,7 +53,7 @@ impl<K: Fills> Batch<K> {
         }
     }
 
-    // Fills the place at hand, and goes back to the one that waits for it.
+    // Fills the current place, and goes back to the one that waits for it.
     pub(crate) fn leave(&self, mut walk: Walk) -> (Walk, Step)
         requires ours { IsPassOf self.now walk.holding }
         requires within { asked_place (spot walk) < (K.batch self.now.key).size }
@@ -78,7 +78,7 @@ impl<K: Fills> Batch<K> {
         }
     }
 
-    // Looks at the next reference of the place at hand, after which this one is the next.
+    // Looks at the next reference of the current place, after which this one is the next.
     pub(crate) fn step(&self, walk: &mut Walk, next: usize) -> Step
         requires ours { IsPassOf self.now walk.old.holding }
         requires within { asked_place (spot walk.old) < (K.batch self.now.key).size }

@@ -53,8 +53,8 @@ fn store_ends<K: Placed>(
     }
 }
 
-/// Stores the own words of a place that is held with nothing stored, sets the ends of the records that it ends, each by its
-/// number in the list, and finishes the place. It counts no body. `place` is where it stands in the log.
+/// Stores the own words of a place that is held with nothing stored, sets the ends of the records that it ends, each by its number in the
+/// list, and finishes the place. It counts no body. `place` is where it is in the log.
 pub fn store<K: Placed>(
     words: &BatchWords<K>,
     holding: &mut Holding,

@@ -9,7 +9,7 @@ pub(crate) struct Frame {
     pub(crate) next: usize,
 }
 
-/// The place at hand, how many of its references are known done, and the places that wait, the one asked for at the bottom.
+/// The current place, how many of its references are known done, and the places that wait, the one asked for at the bottom.
 pub(crate) struct Walk {
     pub(crate) holding: Holding,
     pub(crate) at: usize,
@@ -26,6 +26,6 @@ pub(crate) enum Step {
     Over,
     /// The place of this index was held by another pass.
     Busy(usize),
-    /// Memory was wanting.
+    /// memory ran out.
     NoMemory,
 }

@@ -1,6 +1,6 @@
--- How far a batch is completed: of its first places all that they store stands, as the serial run gives it. The order of the
--- log is that of the transactions: J. M. Faleiro and D. J. Abadi, "Rethinking Serializable Multiversion Concurrency Control",
--- PVLDB 8 (2015), section 3.
+-- How far a batch is completed: of its first places all that they store is stored, as the serial run gives it. The order of the log is that
+-- of the transactions: J. M. Faleiro and D. J. Abadi, "Rethinking Serializable Multiversion Concurrency Control", PVLDB 8 (2015), section
+-- 3.
 use Rattle.std.specs.Prelude.{◌≡◌, ◌<◌, ◌+◌, ℕ, suc, [], length, slice_index, slice_index_or}
 use Rattle.bohm_core_base.specs.Batch.{Batch, words_length}
 use Rattle.bohm_core_base.specs.Serial.{serial_words}
@@ -9,7 +9,7 @@ use Rattle.finishing.specs.declared.ends.Ends.{Ends}
 use Rattle.finishing.specs.declared.standing.Standing.{Standing}
 use Rattle.finishing.specs.Ends.{AreTold, TellsOf}
 
--- the own words of so many places stand, and the ends of all records that they end are told
+-- the own words of this many places are stored, and the ends of all records that they end are known
 pub record StandTo (batch : Batch) (count : ℕ) (standing : Standing) : Type 0 where
   pub many : length standing.words ≡ count
   pub own : (index : ℕ) → index < count → slice_index_or standing.words index [] ≡ serial_words batch index
@@ -25,6 +25,6 @@ pub record HasDone (batch : Batch) (closed : ClosedLayout) : Type 0 where
   pub own : (index number : ℕ) → index < batch.size → number < words_length batch index → claim_in closed index ≡ 2
       → own_in closed index number ≡ slice_index_or (serial_words batch index) number 0
 
--- the ends that these places set are told
+-- the ends that these places set are known
 abbrev pub TellsDone : Batch → ClosedLayout → Ends → Type 0
 TellsDone batch closed ends = (index : ℕ) → index < batch.size → claim_in closed index ≡ 2 → TellsOf batch index ends

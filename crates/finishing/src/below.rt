@@ -1,4 +1,4 @@
-//! What a place of a batch is told by the places below it.
+//! What a place of a batch is shown by the places below it.
 
 ghost use Rattle.std.specs.Prelude.{◌≡◌, ◌<◌, slice_index_or};
 ghost use Rattle.log_batch.specs.Supplied.{batch_in};
@@ -12,7 +12,7 @@ use reading::Told;
 use std::marker::Model;
 use words::Closed;
 
-/// A place of a closed batch of which all places below it stand.
+/// A place of a closed batch of which all places below it are completed.
 #[derive(Drop)]
 pub(crate) struct Below<'a> {
     batch: &'a LogBatch<'a>,
@@ -59,7 +59,7 @@ fn index_of(word: u64) -> Option<usize>
 impl<'a> Below<'a> {
     ghost use Rattle.finishing.specs.Standing.{StandTo};
 
-    /// The place of an index, as a reader of what stands below it.
+    /// The place of an index, as a reader of what is below it.
     pub(crate) fn new(
         batch: &'a LogBatch<'a>,
         closed: &'a Closed,

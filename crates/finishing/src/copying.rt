@@ -49,7 +49,7 @@ pub(crate) fn take_ends(
     Ok(())
 }
 
-/// Puts the own words of a place that is done in a closed batch in the place of those that were there. It takes no memory.
+/// Writes the own words of a place that is done in a closed batch in the place of those that were there. It doesn't allocate.
 fn copy_words(batch: &LogBatch<'_>, closed: &Closed, index: usize, words: &mut OwnWords)
     requires within { index < batch.now.size }
     requires closed { HasDone (batch_in batch.now) closed.now }
@@ -64,8 +64,8 @@ fn copy_words(batch: &LogBatch<'_>, closed: &Closed, index: usize, words: &mut O
     }
 }
 
-/// Completes a place behind those below it: what a closed batch has of it if it is done there, or else it is run. Its own words
-/// are put together in the room that is lent. An error is want of memory.
+/// Completes a place after those below it: what a closed batch has of it if it is done there, or else it is run. Its own words are put
+/// together in the room that is lent. An error means out of memory.
 pub(crate) fn complete(
     alloc: Global,
     batch: &LogBatch<'_>,

@@ -52,7 +52,7 @@ impl Groups {
         }
     }
 
-    /// Puts the place behind the others of an index, if there is a list for it. On `Err` memory was refused.
+    /// Appends the place to the others of an index, if there is a list for it. On `Err` memory was refused.
     fn push(&mut self, index: usize, place: Place) -> Result<(), AllocError>
         ensures { OnOk result (self.new ≡ slice_set self.old index (slice_index_or self.old index [] ++ place ∷ [])) }
     {
@@ -64,13 +64,13 @@ impl Groups {
     }
 }
 
-/// The ends that are told of the records of slots.
+/// The ends that are known of the records of slots.
 #[derive(Drop)]
 pub(crate) struct Ends {
     places: BTreeMap<usize, Place>,
 }
 
-/// Puts the place of a slot's grant behind the others that ended at the same place, if that is one of the batch.
+/// Appends the place of a slot's grant to the others that ended at the same place, if that is one of the batch.
 fn put_ended(
     batch: &LogBatch<'_>,
     slot: usize,
@@ -93,7 +93,7 @@ fn put_ended(
 impl Ends {
     ghost use Rattle.finishing.specs.Ends.{AreTold, TellsOneMore, TellsOf, told_end};
 
-    /// None. It takes no memory.
+    /// None. It doesn't allocate.
     pub(crate) fn new(alloc: Global) -> Self
         ensures { (slot : ℕ) → told_end result slot ≡ None }
     {
@@ -102,7 +102,7 @@ impl Ends {
         }
     }
 
-    /// The end that is told of a slot's record.
+    /// The end that is known of a slot's record.
     pub(crate) fn of(&self, slot: usize) -> Option<Place>
         ensures { result ≡ told_end self.now slot }
     {
@@ -117,8 +117,8 @@ impl Ends {
         Ok(())
     }
 
-    /// For each place of the batch the places of the grants whose records ended there, in the order of their slots. An error is
-    /// want of memory.
+    /// For each place of the batch the places of the grants whose records ended there, in the order of their slots. An error means out of
+    /// memory.
     pub(crate) fn by_place(&self, alloc: Global, batch: &LogBatch<'_>) -> Result<Groups, AllocError>
         requires told { AreTold (batch_in batch.now) self.now }
         requires all { (index : ℕ) → index < batch.now.size → TellsOf (batch_in batch.now) index self.now }

@@ -35,7 +35,7 @@ impl<'a> Model for Finished<'a> {
 }
 
 impl<'a> Finished<'a> {
-    /// The batch of which all places stand. An error is want of memory.
+    /// The batch of which all places are completed. An error means out of memory.
     pub(crate) fn of(
         alloc: Global,
         batch: LogBatch<'a>,
@@ -64,7 +64,7 @@ impl Closed for Finished<'_> {
         self.words.at(index)
     }
 
-    fn ended(&self, alloc: Global, index: usize) -> Result<Vec<Place>, AllocError> {
-        Vec::from_slice(alloc, self.ended.at(index))
+    fn ended(&self, index: usize) -> &[Place] {
+        self.ended.at(index)
     }
 }

@@ -1,8 +1,12 @@
-//! A batch of a log completed on one thread: the places that workers over shared words left are run, behind what these finished.
+//! A batch completed on one thread.
+//!
+//! `finish` keeps what the closed words have of each place that is done, and runs the others in order over what those
+//! below them left, also places that a dropped pass held. The batch has to be placed. `Finished` has all own words in
+//! one list, and for each place the grants that it ended. It costs the words and the places that were left; on `Err`,
+//! out of memory.
 //!
 //! After J. M. Faleiro and D. J. Abadi, "Rethinking Serializable Multiversion Concurrency Control", PVLDB 8 (2015),
-//! section 3: the order of the log is that of the transactions, and a transaction is executed once the versions that it reads
-//! are there.
+//! section 3: the order of the log is that of the transactions.
 #![tactic(auto)]
 
 mod below;

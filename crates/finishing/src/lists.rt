@@ -12,7 +12,7 @@ pub(crate) struct Part {
     count: usize,
 }
 
-/// Lists of numbers, which lie one behind another in one vector.
+/// Lists of numbers, which lie one after another in one vector.
 #[derive(Drop)]
 pub(crate) struct Lists {
     numbers: Vec<u64>,
@@ -31,7 +31,7 @@ impl Model for Lists {
 }
 
 impl Lists {
-    /// No list. It takes no memory.
+    /// No list. It doesn't allocate.
     pub(crate) fn new(alloc: Global) -> Self
         ensures { result ≡ [] }
     {
@@ -53,7 +53,7 @@ impl Lists {
         }
     }
 
-    /// Puts a list behind the others. On `Err` memory was refused.
+    /// Appends a list to the others. On `Err` memory was refused.
     pub(crate) fn push(&mut self, list: &[u64]) -> Result<(), AllocError>
         ensures { OnOk result (self.new ≡ self.old ++ list.now ∷ []) }
     {

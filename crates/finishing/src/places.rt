@@ -1,4 +1,4 @@
-//! A place of a batch run behind those below it.
+//! A place of a batch run after those below it.
 
 ghost use Rattle.std.specs.Prelude.{◌≡◌, ◌==◌, ◌<◌, ◌+◌, ℕ, suc, true, IfOk, OnOk, Some, length, slice_get};
 ghost use Rattle.std.specs.List.{list_any};
@@ -32,7 +32,7 @@ fn was_done(own: &[u64]) -> bool
     }
 }
 
-/// Puts the own words of a place in the place of those that were there.
+/// Writes the own words of a place in the place of those that were there.
 fn judge_words(
     batch: &LogBatch<'_>,
     closed: &Closed,
@@ -140,7 +140,7 @@ fn judge_ends(
     Ok(())
 }
 
-/// Runs a place behind those below it. Its own words are put together in the room that is lent. An error is want of memory.
+/// Runs a place after those below it. Its own words are put together in the room that is lent. An error means out of memory.
 pub(crate) fn judge(
     alloc: Global,
     batch: &LogBatch<'_>,

@@ -14,7 +14,7 @@ use own_words::OwnWords;
 use std::alloc::{AllocError, Global};
 use words::Closed;
 
-/// Completes all places, behind what a closed batch has of those that are done.
+/// Completes all places, after what a closed batch has of those that are done.
 fn complete_all(
     alloc: Global,
     batch: &LogBatch<'_>,
@@ -45,8 +45,8 @@ fn taken(alloc: Global, key: &LogKey<'_>, closed: &Closed) -> Result<Standing, A
     Ok(standing)
 }
 
-/// Completes a batch that no worker can reach any more, on this thread: what its words have of each place that is done is kept,
-/// and the others are run, those among them that a worker held when it was dropped. All of it is placed. An error is want of memory.
+/// Completes a batch that no worker can reach any more, on this thread: what its words have of each place that is done is kept, and the
+/// others are run, those among them that a worker held when it was dropped. All of it is placed. An error means out of memory.
 pub fn finish<'a>(
     alloc: Global,
     key: LogKey<'a>,

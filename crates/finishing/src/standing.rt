@@ -4,7 +4,7 @@ use crate::ends::Ends;
 use crate::lists::Lists;
 use std::alloc::Global;
 
-/// The own words of the first places of a batch, and the ends of records that are told.
+/// The own words of the first places of a batch, and the ends of records that are known.
 #[derive(Drop)]
 pub(crate) struct Standing {
     pub(crate) words: Lists,
@@ -17,7 +17,7 @@ impl Standing {
     ghost use Rattle.finishing.specs.Ends.{told_end};
     ghost use Rattle.finishing.specs.Standing.{StandTo};
 
-    /// Nothing of any batch. It takes no memory.
+    /// Nothing of any batch. It doesn't allocate.
     pub(crate) fn new(alloc: Global) -> Self
         ensures stands { (batch : Batch) → StandTo batch 0 result }
         ensures none { (slot : ℕ) → told_end result.ends slot ≡ None }

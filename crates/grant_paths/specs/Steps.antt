@@ -11,7 +11,7 @@ use Rattle.model_base.specs.Records.{cut, in_force}
 use Rattle.grants_base.specs.View.{View, slot_at, slot_gives}
 use Rattle.grant_paths.specs.declared.paths.Giving.{Giving}
 
--- the grants in force of the first so many slots of a view
+-- the grants in force of the first this many slots of a view
 abbrev pub stood : View → ℕ → List Grant
 stood view n = in_force (flat_map option_to_list (take n view.slots))
 
@@ -20,7 +20,7 @@ abbrev pub giving_in : Option Record → ℕ → Need → Option Grant
 giving_in None user need = None
 giving_in (Some entry) user need = if is_none entry.end && gives entry.grant user need then Some entry.grant else None
 
--- the first slot, of so many, that gives the user what is needed, with its grant, or none
+-- the first slot, of this many, that gives the user what is needed, with its grant, or none
 abbrev pub IsFirstGiving : View → ℕ → Need → ℕ → Option Giving → Type 0
 IsFirstGiving view user need end None = (k : ℕ) → k < end → slot_gives (slot_at view k) user need ≡ false
 IsFirstGiving view user need end (Some found) =
@@ -32,7 +32,7 @@ abbrev pub slot_or : ℕ → Option Giving → ℕ
 slot_or other None = other
 slot_or other (Some found) = found.slot
 
--- the last grant of the path by so many slots, with its slot, or that the path is empty
+-- the last grant of the path by this many slots, with its slot, or that the path is empty
 abbrev pub IsLastOfPath : View → List ℕ → ℕ → Need → ℕ → Option Giving → Type 0
 IsLastOfPath view owners user need end None = path owners (stood view end) user need ≡ []
 IsLastOfPath view owners user need end (Some found) =

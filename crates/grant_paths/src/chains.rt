@@ -65,7 +65,7 @@ fn leads_on(
     grant.gives(user, need)
 }
 
-/// Whether the grant that was made at one place is one by the owner from which those behind it lead on to the need.
+/// Whether the grant that was made at one place is one by the owner from which those after it lead on to the need.
 fn bears(
     records: &[Record],
     place: Place,
@@ -97,10 +97,10 @@ pub(crate) fn owner_of(book: &Book, table: Table) -> User
     book.tables()[table.0 as usize].owner
 }
 
-/// Whether the places are those of a chain of grants, in force before a place, that bears what the user needs: there is at least
-/// one, they rise, the table's owner made the first, each gives the grantor of the next the option, and the last gives the user
-/// what is needed. It may be another chain than the path. It takes no memory, and for each place a time that grows with the
-/// logarithm of the number of grants.
+/// Whether the places are those of a chain of grants, in force before a place, that bears what the user needs: there is at least one, they
+/// rise, the table's owner made the first, each gives the grantor of the next the option, and the last gives the user what is needed. It
+/// may be another chain than the path. It doesn't allocate, and takes for each place a time that grows with the logarithm of the number of
+/// grants.
 pub fn is_chain(book: &Book, place: Place, user: User, need: &Need, places: &[Place]) -> bool
     requires covered { need.now.table < length book.now.tables }
     ensures { (owners : List ℕ) (deeds : List Deed) → ShowsBook book.now owners deeds

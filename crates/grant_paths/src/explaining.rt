@@ -31,9 +31,9 @@ fn denial_at(book: &Book, place: Place, user: User, need: &Need) -> Option<Cause
     denial(&mut view, user, need)
 }
 
-/// What there is to show of a need before a place: that its user owns the table; else the path by which the need is held; else
-/// when it was lost last, and the path by which it was held until then, or that it never was held. It takes the time of
-/// `denial` and of `path_at`. An error is want of memory.
+/// What there is to show of a need before a place: that its user owns the table; else the path by which the need is held; else when it was
+/// lost last, and the path by which it was held until then, or that it never was held. It takes the time of `denial` and of `path_at`. An
+/// error means out of memory.
 pub fn explain_need(
     alloc: Global,
     book: &Book,
@@ -61,8 +61,7 @@ pub fn explain_need(
     }
 }
 
-/// Whether what is shown of the need before a place is so, whether or not the chains that it names are the paths. It takes no
-/// memory.
+/// Whether what is shown of the need before a place is so, whether or not the chains that it names are the paths. It doesn't allocate.
 pub fn is_sound(book: &Book, place: Place, user: User, need: &Need, shown: &Shown) -> bool
     requires covered { need.now.table < length book.now.tables }
     ensures { (owners : List ℕ) (deeds : List Deed) → ShowsBook book.now owners deeds

@@ -1,4 +1,4 @@
-//! The path of a need: by which grants its user came to it.
+//! The path of a need: by which grants its user got it.
 
 ghost use Rattle.std.specs.Prelude.{◌≡◌, ◌<◌, ◌≤◌, ℕ, List, IfOk, IfSome, IsSome, Some, length, slice_get};
 ghost use Rattle.model_base.specs.Paths.{path};
@@ -48,8 +48,8 @@ fn giving_in<V: Records>(view: &mut V, slot: usize, user: User, need: &Need) -> 
     }
 }
 
-/// The first slot, of so many, whose grant is to a grantee, is in force and gives the user what is needed. It looks once at each
-/// slot that asks for a grant of this kind on this table to the grantee, up to that.
+/// The first slot, of this many, whose grant is to a grantee, is in force and gives the user what is needed. It looks once at each slot
+/// that asks for a grant of this kind on this table to the grantee, up to that.
 fn first_giving_to<V: Records>(
     view: &mut V,
     grantee: &Grantee,
@@ -86,9 +86,9 @@ fn slot_or(found: &Option<Giving>, other: usize) -> usize
     }
 }
 
-/// The first slot, of so many, whose grant is in force and gives the user what is needed. It looks once at each slot that asks
-/// for a grant of this kind on this table to the user, up to that, and then, where no option is needed, at each below it that asks
-/// for one to PUBLIC.
+/// The first slot, of this many, whose grant is in force and gives the user what is needed. It looks once at each slot that asks for a
+/// grant of this kind on this table to the user, up to that, and then, where no option is needed, at each below it that asks for one to
+/// PUBLIC.
 fn first_giving<V: Records>(view: &mut V, user: User, need: &Need, end: usize) -> Option<Giving>
     requires within { end ≤ length (V.shown view.old).slots }
     ensures first { IsFirstGiving (V.shown view.old) user need.now end result }
@@ -105,8 +105,8 @@ fn first_giving<V: Records>(view: &mut V, user: User, need: &Need, end: usize) -
     }
 }
 
-/// The last grant of the path of what a user needs, by the grants of so many slots: the first that gives it. There is none for
-/// the table's owner, nor where it isn't given.
+/// The last grant of the path of what a user needs, by the grants of this many slots: the first that gives it. There is none for the
+/// table's owner, nor where it isn't given.
 fn last_of_path<V: Records>(
     view: &mut V,
     owner: User,
@@ -154,10 +154,10 @@ fn path_in<V: Records>(
     Ok(Items::new(places))
 }
 
-/// The places on the path by which a user holds what is needed before a place: the earliest grant in force that gives it, before
-/// that the earliest that gave its grantor the option, and so on, down to a grant by the table's owner. It is empty for the
-/// owner, and where the need isn't held. It looks once at each grant of this kind on this table to the users on the path, and at
-/// its end to PUBLIC, up to the one on the path, and at no other grant. An error is want of memory.
+/// The places on the path by which a user holds what is needed before a place: the earliest grant in force that gives it, before that the
+/// earliest that gave its grantor the option, and so on, down to a grant by the table's owner. It is empty for the owner, and where the
+/// need isn't held. It looks once at each grant of this kind on this table to the users on the path, and at its end to PUBLIC, up to the
+/// one on the path, and at no other grant. An error means out of memory.
 pub fn path_at(
     alloc: Global,
     book: &Book,

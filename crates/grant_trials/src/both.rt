@@ -14,7 +14,7 @@ pub struct Both {
     pub plain: PlainBook,
 }
 
-/// What a view tells of a user and a need: that it is held, or where it was lost last.
+/// What a view says of a user and a need: that it is held, or where it was lost last.
 #[derive(Clone, Copy, PartialEq, Eq, Debug)]
 pub enum Told {
     Held,
@@ -45,7 +45,7 @@ fn is_held<V: Records>(view: &mut V, user: User, need: &Need) -> Result<bool, Tr
     }
 }
 
-/// What a view tells of a need, by each of the calls that do.
+/// What a view says of a need, by each of the calls that do.
 fn find_out<V: Records>(view: &mut V, user: User, need: &Need) -> Result<Told, TrialFault> {
     if !view.covers(need.table) {
         return Err(TrialFault::Deed);
@@ -89,7 +89,7 @@ impl Both {
         expect(table.0 == other.0 && self.are_same())
     }
 
-    /// Makes the grant if its grantor holds the option, and answers whether it does.
+    /// Makes the grant if its grantor holds the option, and returns whether it does.
     pub fn give(&mut self, grant: &Grant) -> Result<bool, TrialFault> {
         let held = give(&mut self.book, grant)?;
         let other = give_plain(&mut self.plain, grant)?;
@@ -97,7 +97,7 @@ impl Both {
         Ok(held)
     }
 
-    /// Makes the revocation, and answers the places that end, which both views told before.
+    /// Makes the revocation, and returns the places that end, which both views told before.
     pub fn take(
         &mut self,
         alloc: Global,
@@ -109,7 +109,7 @@ impl Both {
         Ok(told)
     }
 
-    /// Makes the revocation in both. What ends is what was told.
+    /// Makes the revocation in both. What ends is what was known.
     fn compare_ended(
         &mut self,
         alloc: Global,
@@ -130,7 +130,7 @@ impl Both {
         Ok(ends)
     }
 
-    /// What the books at a place tell of a need.
+    /// What the books at a place say of a need.
     pub fn tell(&self, place: Place, user: User, need: &Need) -> Result<Told, TrialFault> {
         let found = find_out(&mut self.book.at(place), user, need)?;
         let other = find_out(&mut self.plain.at(place), user, need)?;

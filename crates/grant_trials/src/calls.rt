@@ -41,7 +41,7 @@ fn tell_lengths(rt: &impl Print, book: &Book) {
     tell(rt, "  records", &book.records().len());
 }
 
-/// Tells what a view answers of which slots it has.
+/// Reports what a view answers of which slots it has.
 fn tell_slots<V: Records>(rt: &impl Print, view: &mut V) {
     tell(rt, "  place", &view.at());
     tell(rt, "  covers table 0", &view.covers(TABLE));
@@ -49,7 +49,7 @@ fn tell_slots<V: Records>(rt: &impl Print, view: &mut V) {
     tell(rt, "  slots", &view.slots());
 }
 
-/// Tells what a view answers of its first slot.
+/// Reports what a view answers of its first slot.
 fn tell_first<V: Records>(rt: &impl Print, view: &mut V) {
     if view.covers(TABLE) {
         tell(rt, "  owner", &view.owner(TABLE));

@@ -141,7 +141,7 @@ fn tell_held(rt: &impl Print, both: &Both, user: u32, kind: Kind) {
     }
 }
 
-/// That the last of many may read is told without a look at any grant, and so is that he holds nothing else.
+/// That the last of many may read is known without a look at any grant, and so is that he holds nothing else.
 fn tell_one_of_many(rt: &impl Print, both: &mut Both) -> Result<(), TrialFault> {
     put_readers(both)?;
     let _ = println!(rt; "one of {READERS}");

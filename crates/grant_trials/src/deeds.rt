@@ -1,4 +1,4 @@
-//! Deeds that are put into a book, once each condition was tested.
+//! Deeds that are written into a book, once each condition was tested.
 
 ghost use Rattle.std.specs.Prelude.{Decides, ◌<◌, length};
 
@@ -22,7 +22,7 @@ pub fn enter(book: &mut Book, owner: User, place: Place) -> Result<Table, TrialF
     Ok(book.add_table(owner, place)?)
 }
 
-/// Makes the grant if its grantor holds the option, and answers whether it does.
+/// Makes the grant if its grantor holds the option, and returns whether it does.
 pub fn give(book: &mut Book, grant: &Grant) -> Result<bool, TrialFault> {
     let (place, table) = (grant.place, grant.table);
     if !book.is_later(place) || !has_table(book.tables(), table) {
@@ -47,7 +47,7 @@ pub fn give_held(book: &mut Book, grant: &Grant) -> Result<(), TrialFault> {
     }
 }
 
-/// The places that a revocation would end, as a view tells.
+/// The places that a revocation would end, as a view says.
 pub fn ends_in<V: Records>(
     alloc: Global,
     view: &mut V,
@@ -59,7 +59,7 @@ pub fn ends_in<V: Records>(
     Ok(to_end(alloc, view, revocation)?)
 }
 
-/// Makes the revocation, and answers the places that end.
+/// Makes the revocation, and returns the places that end.
 pub fn take(
     alloc: Global,
     book: &mut Book,

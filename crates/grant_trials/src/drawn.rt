@@ -1,8 +1,8 @@
 //! Drawn deeds in a book and in the plain one, each answer compared.
 //!
-//! User 0 creates table 0 at place 0. Then come forty deeds of five users, who grant two kinds on that table to one another and to
-//! PUBLIC, and revoke them. Then both books are asked for each need of each user at each place, and are cut at a drawn place. It
-//! is told how much was compared.
+//! User 0 creates table 0 at place 0. Then come forty deeds of five users, who grant two kinds on that table to one another and to PUBLIC,
+//! and revoke them. Then both books are asked for each need of each user at each place, and are cut at a drawn place. It is known how much
+//! was compared.
 
 use crate::both::{Both, Told};
 use crate::fault::TrialFault;
@@ -20,7 +20,7 @@ const OWNER: User = User(0);
 
 const TABLE: Table = Table(0);
 
-/// The first place behind the deeds.
+/// The first place after the deeds.
 const BEHIND: Place = DEEDS as Place + 1;
 
 /// How often each came up.
@@ -44,13 +44,13 @@ impl Counts {
         self.granted = self.granted.saturating_add(u32::from(made));
     }
 
-    /// Counts a revocation that ended so many grants.
+    /// Counts a revocation that ended this many grants.
     fn add_revocation(&mut self, ended: usize) {
         self.ended = self.ended.saturating_add((ended % 1000) as u32);
         self.cascades = self.cascades.saturating_add(u32::from(ended > 1));
     }
 
-    /// Counts what was told of a need.
+    /// Counts what was known of a need.
     fn add_need(&mut self, told: Told) {
         match told {
             Told::Held => self.held = self.held.saturating_add(1),
@@ -200,7 +200,7 @@ fn try_list(
     Ok(())
 }
 
-/// Tries drawn lists, and tells how much was compared.
+/// Tries drawn lists, and says how much was compared.
 pub fn tell_drawn(rt: &impl Print, alloc: Global) -> Result<(), TrialFault> {
     let mut generator = Generator::new(17);
     let mut counts = Counts::default();

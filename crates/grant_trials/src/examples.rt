@@ -1,4 +1,4 @@
-//! Worked examples: deeds in a book and in the plain one, and what both tell then.
+//! Worked examples: deeds in a book and in the plain one, and what both say then.
 
 use crate::both::Both;
 use crate::fault::TrialFault;
@@ -51,7 +51,7 @@ fn give(both: &mut Both, place: Place, users: (u32, u32), option: bool) -> Resul
     if held { Ok(()) } else { Err(TrialFault::Deed) }
 }
 
-/// Makes a revocation on table 0, and tells the places that end.
+/// Makes a revocation on table 0, and says the places that end.
 fn tell_taken(
     rt: &impl Print,
     alloc: Global,
@@ -94,7 +94,7 @@ fn do_act(rt: &impl Print, alloc: Global, both: &mut Both, act: Act) -> Result<(
     }
 }
 
-/// Does what an example does, and tells what ends.
+/// Does what an example does, and says what ends.
 fn tell_acts(
     rt: &impl Print,
     alloc: Global,
@@ -107,7 +107,7 @@ fn tell_acts(
     Ok(())
 }
 
-/// Tells what the books answer to the questions.
+/// Reports what the books answer to the questions.
 fn tell_answers(rt: &impl Print, both: &Both, questions: &[Question]) -> Result<(), TrialFault> {
     for question in questions {
         let (place, user, need) = *question;

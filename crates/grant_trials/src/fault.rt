@@ -7,13 +7,13 @@ use thiserror::Error;
 /// Why the program ends without success.
 #[derive(Clone, Copy, Debug, PartialEq, Eq, Error)]
 pub enum TrialFault {
-    /// The words of the command line can't be read, or tell nothing to do.
+    /// The words of the command line can't be read, or say nothing to do.
     #[error("no such trial")]
     Words,
     /// A book doesn't take a deed that it should, or doesn't cover a table.
     #[error("a deed isn't taken")]
     Deed,
-    /// The book and the plain one don't tell the same, or a book isn't as it should be.
+    /// The book and the plain one don't say the same, or a book isn't as it should be.
     #[error("the books differ")]
     Different,
     /// A growth was refused.
@@ -52,7 +52,7 @@ pub fn expect(same: bool) -> Result<(), TrialFault> {
     }
 }
 
-/// The first fault among what some trials came to, if there is one.
+/// The first fault among what some trials resulted in, if there is one.
 pub fn first_fault(trials: &[Result<(), TrialFault>]) -> Result<(), TrialFault> {
     for trial in trials {
         (*trial)?;

@@ -1,9 +1,9 @@
-//! Trials of the book of grants: worked examples and drawn deeds, by the book and beside it by the plain one, each answer
-//! compared; how many records a question and a revocation look at; by which grants needs are held, and which chains of grants
-//! are accepted for them; and calls in which a growth may be refused. What is printed, a line for each finding, is compared
-//! with `stdout`. Where the two books don't tell the same, or a book isn't as it should be, the program ends without success.
+//! Trials of the book of grants.
 //!
-//! The word `refused` tells only the calls in which a growth may be refused.
+//! Worked examples and drawn deeds, by the book and by the plain one, each answer compared; how many records a question
+//! and a revocation look at; by which grants needs are held, and which chains are accepted for them; and calls in which
+//! a growth may be refused, which the word `refused` makes alone. What is printed, a line for each finding, is compared
+//! with `stdout`. If the two books disagree, or a book isn't as it should be, the program ends without success.
 #![tactic(auto)]
 
 mod both;

@@ -21,7 +21,7 @@ fn tell_bob(rt: &impl Print, book: &Book, place: Place) {
     }
 }
 
-/// Puts a table, a grant of its owner and the grant's end into a book that is empty.
+/// Writes a table, a grant of its owner and the grant's end into a book that is empty.
 fn put(book: &mut Book, owner: u32, grant: Grant, end: Place) -> Result<(), TrialFault>
     requires tables { book.old.tables ≡ [] }
     requires records { book.old.records ≡ [] }
@@ -45,7 +45,7 @@ fn put(book: &mut Book, owner: u32, grant: Grant, end: Place) -> Result<(), Tria
     Ok(())
 }
 
-/// Tells what a book that is put together from its parts answers.
+/// Reports what a book that is put together from its parts answers.
 pub fn tell_parts(rt: &impl Print, alloc: Global) -> Result<(), TrialFault> {
     let _ = println!(rt; "a book of parts");
     let mut book = Book::new(alloc);

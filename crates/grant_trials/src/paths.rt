@@ -164,7 +164,7 @@ fn tell_needs_in_order(rt: &impl Print, alloc: Global, book: &Book) -> Result<()
     )
 }
 
-/// Tells all of the worked deeds, which are put into a new book.
+/// Reports all of the worked deeds, which are written into a new book.
 fn tell_in(rt: &impl Print, alloc: Global, book: &mut Book) -> Result<(), TrialFault> {
     put_deeds(book, alloc)?;
     tell_needs(rt, alloc, book)?;

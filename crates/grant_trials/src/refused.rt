@@ -202,7 +202,7 @@ fn is_halved(records: &[Record]) -> bool {
         == (user >= HALF as usize).then_some(REVOKED))
 }
 
-/// What the revocation ends in a book that was copied, which is what the book's view tells before.
+/// What the revocation ends in a book that was copied, which is what the book's view says before.
 fn compare_ended(alloc: Global, book: &mut Book, told: &[Place]) -> Result<(), TrialFault> {
     let before = copied_book(alloc, book)?;
     let ended = take_again(alloc, book, &unlink(), &before)?;
@@ -224,7 +224,7 @@ fn try_revocation(rt: &impl Print, alloc: Global, book: &mut Book) -> Result<(),
     expect(is_halved(book.records()))
 }
 
-/// Puts a table and a grant of its owner behind the others, and ends the grant at a place.
+/// Appends a table and a grant of its owner to the others, and ends the grant at a place.
 fn extended(
     book: &mut Book,
     creation: &Creation,
@@ -245,7 +245,7 @@ fn extended(
     book.extend(&[*creation], &[*grant], &[End { slot, place }])
 }
 
-/// Puts a table and a grant of its owner behind the others, and ends the grant at a place, if the book takes them.
+/// Appends a table and a grant of its owner to the others, and ends the grant at a place, if the book takes them.
 fn extend(
     book: &mut Book,
     creation: &Creation,
@@ -282,7 +282,7 @@ fn extend_again(
     before.expect_record(book, record)
 }
 
-/// Puts the table of this number and a grant on it behind the others, and ends the grant, all in one call.
+/// Appends the table of this number and a grant on it to the others, and ends the grant, all in one call.
 fn put_parts(alloc: Global, book: &mut Book, number: u32) -> Result<(), TrialFault> {
     let place = Place::from(number).saturating_mul(100);
     let creation = Creation {

@@ -7,8 +7,8 @@ use grants::Book;
 use model_base::{Items, Need, Place, User};
 use std::alloc::{AllocError, Global};
 
-/// Tells what is shown of a need, and whether it is accepted. A line that can't be written is missing in what is compared, so
-/// nobody is told of it.
+/// Reports what is shown of a need, and whether it is accepted. A line that can't be written is missing in what is compared, so it isn't
+/// noticed otherwise.
 fn tell_shown(rt: &impl Print, what: &str, shown: &Shown, accepted: bool) {
     let _ = match shown {
         Shown::Owner => println!(rt; "{what}: owner: {accepted}"),

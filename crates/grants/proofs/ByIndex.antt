@@ -3,7 +3,7 @@ use Rattle.std.proofs.Common.{◌≡◌, ℕ, zero, suc, ◌&&◌, ◌||◌, not
 use Rattle.std.specs.Prelude.{IfSome, if◌then◌else◌, is_some, nat_lt, slice_get}
 use Rattle.std.specs.List.{flat_map, list_any}
 use Rattle.std.specs.Option.{option_map_or, option_to_list}
-use Rattle.std.proofs.lemmas.Bool.{and_parts, true≢false}
+use Rattle.std.proofs.lemmas.Bool.{and_parts, or_right, true≢false}
 use Rattle.model_base.specs.declared.deed.Grant.{Grant}
 use Rattle.model_base.specs.declared.deed.Grantee.{Grantee}
 use Rattle.model_base.specs.declared.deed.Kind.{Kind}
@@ -86,6 +86,15 @@ module _ (grantee : Grantee) (user : ℕ) (need : Need) (reach : reaches grantee
   any_same [] = refl
   any_same (slot ∷ slots) =
       ap (λ b. b || list_any (λ s. slot_gives s user need) (map (only_to grantee) slots)) (slot_same slot) ∙ ap (λ b. is_in_force passes slot || b) (any_same slots)
+
+  any_at : (slots : List (Option Record)) (k : ℕ) → is_in_force passes (flatten (slice_get slots k)) ≡ true → list_any (is_in_force passes) slots ≡ true
+  any_at [] k is = absurd (true≢false (sym is))
+  any_at (slot ∷ slots) zero is = rw is refl
+  any_at (slot ∷ slots) (suc k) is = or_right (is_in_force passes slot) (list_any (is_in_force passes) slots) (any_at slots k is)
+
+  -- one of those in force that gives it
+  pub held_by : (view : View) (k : ℕ) → is_in_force passes (slot_at view k) ≡ true → Held ≡ standing_in_slots (narrowed grantee view) user need
+  held_by view k here = (let any = any_same view.slots ∙ any_at view.slots k here in rw any refl)
 
   last_same : (slots : List (Option Record)) → last_end (flat_map option_to_list (map (only_to grantee) slots)) user need ≡ greatest_end passes (flat_map option_to_list slots)
   last_same [] = refl
@@ -171,3 +180,8 @@ pub shows_by : (book : Entries) (place : ℕ) (below : (slot : ℕ) (entry : Rec
     → IfSome found (λ next. IsFirst (λ k. is_in_force passes (slot_at (view_of book place) k)) from next.slot)
 shows_by book place below passes from None is = tt
 shows_by book place below passes from (Some next) is = shows_slot book place below passes from next.slot is
+
+-- where one is found it passes
+pub one_found : (test : ℕ → Bool) (from : ℕ) (found : Option ℕ) → IsFirst test from found → is_some found ≡ true → (k : ℕ) × (test k ≡ true)
+one_found test from None first some = absurd (true≢false (sym some))
+one_found test from (Some i) first some = (i, first.1)

@@ -9,10 +9,8 @@ use Rattle.model_base.specs.declared.deed.Revocation.{Revocation}
 use Rattle.model_base.specs.Privileges.{concerns}
 use Rattle.model_base.proofs.Replay.{by_cases}
 use Rattle.grants_base.specs.Force.{gives_to, is_in_force}
-use Rattle.grants_base.specs.InForce.{ShowsNextInForce}
 use Rattle.grants_base.specs.Index.{AreAsked, IsFirst, IsNext, is_to}
 use Rattle.grants_base.specs.View.{View, flatten, slot_at}
-use Rattle.grants_base.specs.declared.force.NextInForce.{NextInForce}
 use Rattle.grants.specs.Work.{IsNextCandidate, has_in_force}
 use Rattle.grants.proofs.Asked.{found_within, candidate-skipped}
 
@@ -34,17 +32,13 @@ in_force-within (slot ∷ slots) passes zero is = omega arith
 in_force-within (slot ∷ slots) passes (suc i) is = let less = in_force-within slots passes i is in omega arith
 
 module _ (view : View) (revocation : Revocation) (grantee : Grantee) (option : Bool) (from : ℕ) where
-  pub candidate_by_index : (next : NextInForce) → ShowsNextInForce (gives_to grantee revocation.kind revocation.table option) view from next
-      → IsNextCandidate revocation grantee option view from next.slot
-  candidate_by_index next is = by_slot next.slot is.slot
-    where
-      by_slot : (found : Option ℕ) → IsFirst (λ k. is_in_force (gives_to grantee revocation.kind revocation.table option) (slot_at view k)) from found
-          → IsNextCandidate revocation grantee option view from found
-      by_slot None none = record { there = tt; passed = λ k low before. closed revocation grantee option (slot_at view k) (none k low) }
-      by_slot (Some i) some = record {
-        there = (some.0, in_force-within view.slots (gives_to grantee revocation.kind revocation.table option) i some.1);
-        passed = λ k low before. closed revocation grantee option (slot_at view k) (some.2 k low before);
-      }
+  pub candidate_by_index : (found : Option ℕ) → IsFirst (λ k. is_in_force (gives_to grantee revocation.kind revocation.table option) (slot_at view k)) from found
+      → IsNextCandidate revocation grantee option view from found
+  candidate_by_index None none = record { there = tt; passed = λ k low before. closed revocation grantee option (slot_at view k) (none k low) }
+  candidate_by_index (Some i) some = record {
+    there = (some.0, in_force-within view.slots (gives_to grantee revocation.kind revocation.table option) i some.1);
+    passed = λ k low before. closed revocation grantee option (slot_at view k) (some.2 k low before);
+  }
 
   pub candidate_by_slots : (asked : List Grant) → AreAsked view asked → (found : Option ℕ) → IsNext (is_to grantee revocation.kind revocation.table) asked from found
       → IsNextCandidate revocation grantee option view from found

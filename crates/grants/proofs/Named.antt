@@ -1,6 +1,6 @@
 -- The next slot that may have a grant that a revocation names.
-use Rattle.std.proofs.Common.{◌≡◌, ℕ, ◌&&◌, Bool, true, false, List, Option, Some, None, is_none, length, refl, sym, ◌∙◌, ap, eq-eqb}
-use Rattle.std.specs.Prelude.{◌==◌, IfSome, slice_get}
+use Rattle.std.proofs.Common.{◌≡◌, ℕ, ◌&&◌, true, false, List, Option, Some, None, is_none, refl, sym, ◌∙◌, ap, eq-eqb}
+use Rattle.std.specs.Prelude.{◌==◌}
 use Rattle.std.specs.Option.{option_map_or}
 use Rattle.std.proofs.lemmas.Bool.{true≢false, and_parts, eqb-true}
 use Rattle.model_base.specs.declared.deed.Grant.{Grant}
@@ -16,7 +16,6 @@ use Rattle.grants.specs.Pass.{concerned}
 use Rattle.grants.specs.Work.{IsNextNamed, is_named}
 use Rattle.grants.proofs.Asked.{candidate-skipped, found_within, named-skipped, same-grantee}
 use Rattle.grants.proofs.Candidates.{in_force-within}
-use Rattle.grants.proofs.SlotLaws.{about_concerned}
 
 -- a grant that isn't named
 pub unnamed : (revocation : Revocation) (slot : Option Record) (grant : Grant) → is_named revocation slot ≡ false → concerned slot revocation ≡ Some grant

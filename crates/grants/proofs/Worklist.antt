@@ -1,12 +1,8 @@
 -- The slots that are due are all that the recursive revocation has to judge.
-use Rattle.std.proofs.Common.{◌≡◌, ℕ, zero, suc, ◌<◌, ◌≤◌, ◌+◌, ◌||◌, true, false, List, [], ◌∷◌, ◌++◌, Option, Some, None, length, drop, add-one, refl, sym, ◌∙◌, ap, arith, inl, inr, eq-eqb, append_assoc, Less}
-use Rattle.std.specs.Prelude.{◌==◌, ◌⊎◌, All, is_some}
+use Rattle.std.proofs.Common.{◌≡◌, Bool, ℕ, zero, suc, ◌<◌, ◌≤◌, ◌+◌, ◌||◌, true, false, List, [], ◌∷◌, ◌++◌, Option, Some, None, length, drop, add-one, refl, sym, ◌∙◌, ap, arith, inl, inr, eq-eqb, append_assoc}
+use Rattle.std.specs.Prelude.{◌==◌, ◌⊎◌, All}
 use Rattle.std.specs.Option.{option_map_or}
-use Rattle.std.specs.Ordering.{nat_cmp}
-use Rattle.std.specs.BTreeSet.{BTreeSet, Updates}
 use Rattle.std.proofs.lemmas.Bool.{true≢false, or_cases, or_right, cases_lt, eqb-true, ne_eqb}
-use Rattle.std.proofs.lemmas.Bool.Decides.{nat_tests}
-use Rattle.std.proofs.lemmas.List.Elements.{All-head, All-tail}
 use Rattle.model_base.specs.declared.deed.Grant.{Grant}
 use Rattle.model_base.specs.declared.deed.Record.{Record}
 use Rattle.model_base.specs.declared.deed.Revocation.{Revocation}
@@ -16,8 +12,9 @@ use Rattle.model_base.proofs.Replay.{by_cases}
 use Rattle.grants_base.specs.View.{View, slot_at}
 use Rattle.grants.specs.Pass.{cascade, concerned, concerned_grants, holders_after, outlasts}
 use Rattle.grants_base.specs.Index.{is_one_of}
+use Rattle.grants_base.specs.SlotSet.{HasGained}
+use Rattle.grants_base.proofs.SlotSetLaws.{above_one}
 use Rattle.grants.specs.Work.{AreBorne, AreDue, IsStillBorne, bears, keepers, keepers_after}
-use Rattle.grants.proofs.Holders.{inserted}
 use Rattle.grants.proofs.Passing.{one_of-after}
 use Rattle.grants.proofs.SlotLaws.{about_concerned, step_on, step_over}
 
@@ -198,8 +195,14 @@ module _ (revocation : Revocation) (view : View) where
           ∙ over_one p from (omega arith) (free p from (omega arith))
 
 -- the slots of a set that has one more
-pub one_more : (before after : BTreeSet ℕ) (slot : ℕ) → Updates nat_cmp before after slot true → (k : ℕ) → is_one_of after.keys k ≡ ((slot == k) || is_one_of before.keys k)
-one_more before after slot updates k = (inserted before after slot updates).same k
+pub slot_more : (before after : List ℕ) (slot : ℕ) → HasGained slot before after → (k : ℕ) → is_one_of after k ≡ ((slot == k) || is_one_of before k)
+slot_more before after slot gained k = gained k ∙ swapped (is_one_of before k) (slot == k)
+  where
+    swapped : (has here : Bool) → (has || here) ≡ (here || has)
+    swapped true true = refl
+    swapped true false = refl
+    swapped false true = refl
+    swapped false false = refl
 
 module _ (revocation : Revocation) (view : View) (slot : ℕ) where
   -- a slot that ends leaves those due that it has to
@@ -249,20 +252,6 @@ pub unended_at : (ended : List ℕ) (slot : ℕ) → ((e : ℕ) → is_one_of en
 unended_at ended slot behind =
     by_cases (is_one_of ended slot) (λ gone. let less = behind slot gone in absurd (omega arith)) (λ here. here)
 
-less_is : (a b : ℕ) → nat_cmp a b ≡ Less → a < b
-less_is a b is = grind (arith, nat_tests)
-
-above_all : (slot : ℕ) (keys : List ℕ) → All (λ k. nat_cmp slot k ≡ Less) keys → (j : ℕ) → is_one_of keys j ≡ true → slot < j
-above_all slot [] above j is = absurd (true≢false (sym is))
-above_all slot (k ∷ keys) above j is =
-    elim (or_cases (k == j) (is_one_of keys j) is) [
-      | inl here ↦
-          let same : k ≡ j = eqb-true k j here in
-          let less = less_is slot k (All-head (λ q. nat_cmp slot q ≡ Less) k keys above) in
-          omega arith
-      | inr later ↦ above_all slot keys (All-tail (λ q. nat_cmp slot q ≡ Less) k keys above) j later
-    ]
-
 module _ (revocation : Revocation) (view : View) where
   -- at first those are due that are named
   pub due_first : (due ended : List ℕ) → ended ≡ []
@@ -284,7 +273,7 @@ module _ (revocation : Revocation) (view : View) where
     pub after : (later : ℕ) → later ≡ slot + 1 → AreDue revocation view rest ended later
 
   pub first_due : (due rest ended : List ℕ) (next slot : ℕ) → AreDue revocation view due ended next → due ≡ slot ∷ rest
-      → All (λ k. nat_cmp slot k ≡ Less) rest → IsFirstDue due rest ended next slot
+      → All (λ other. slot < other) rest → IsFirstDue due rest ended next slot
   first_due due rest ended next slot state parts above = record {
     from = lies.0;
     within = lies.1;
@@ -293,14 +282,14 @@ module _ (revocation : Revocation) (view : View) where
         by_cases (is_one_of due j)
         (λ is. elim (or_cases (slot == j) (is_one_of rest j) (sym (ap (λ ks. is_one_of ks j) parts) ∙ is)) [
           | inl here ↦ let same : slot ≡ j = eqb-true slot j here in absurd (omega arith)
-          | inr later ↦ let more = above_all slot rest above j later in absurd (omega arith)
+          | inr later ↦ let more = above_one slot rest j above later in absurd (omega arith)
         ])
         (λ none. none);
     after = λ later later_is. record {
       named = λ j grant from is named. left j (omega arith) (state.named j grant (omega (arith, lies.0)) is named);
       lost = λ e j gone grant ended_e of heir from is.
           elim (state.lost e j gone grant ended_e of heir (omega (arith, lies.0)) is) [ inl was ↦ inl (left j (omega arith) was) | inr by ↦ inr by ];
-      ahead = λ j is. let more = above_all slot rest above j is in (omega arith, (state.ahead j (ap (λ ks. is_one_of ks j) parts ∙ or_right (slot == j) (is_one_of rest j) is)).1);
+      ahead = λ j is. let more = above_one slot rest j above is in (omega arith, (state.ahead j (ap (λ ks. is_one_of ks j) parts ∙ or_right (slot == j) (is_one_of rest j) is)).1);
       behind = λ e is. let less = state.behind e is in omega (arith, lies.0);
     };
   }
@@ -314,7 +303,3 @@ module _ (revocation : Revocation) (view : View) where
             | inl here ↦ let same : slot ≡ j = eqb-true slot j here in absurd (omega arith)
             | inr later ↦ later
           ]
-
-pub none_due : (due : List ℕ) → (0 < length due → ⊥) → (j : ℕ) → is_one_of due j ≡ false
-none_due [] empty j = refl
-none_due (slot ∷ due) empty j = absurd (empty (omega arith))

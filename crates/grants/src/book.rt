@@ -24,10 +24,9 @@ use model_base::{
 use std::alloc::{AllocError, Global};
 use std::marker::Model;
 
-/// The tables in the order of their creation, and each grant that was made on them, with its end, in the order of their
-/// places. No grant is dropped and none is kept twice: a repeated grant stands with its own place, as R. Fagin found that
-/// it must ("On an Authorization Mechanism", ACM TODS 3, 1978). The grants of a user are found by an index, so no call goes
-/// through those of others.
+/// The tables in the order of their creation, and each grant that was made on them, with its end, in the order of their places. No grant is
+/// dropped and none is kept twice: a repeated grant is kept with its own place, as R. Fagin found that it must ("On an Authorization
+/// Mechanism", ACM TODS 3, 1978). The grants of a user are found by an index, so no call goes through those of others.
 #[derive(Drop)]
 pub struct Book {
     tables: Vec<Creation>,
@@ -48,7 +47,7 @@ impl Book {
     ghost use Rattle.grants_base.specs.Book.{Continues, IsLater, IsSoundBook, ShowsBook, cut_book, end_slots, extended, lies_below, owners_of, table_of_deed, view_of, with_ends, with_grant, with_table};
     ghost use Rattle.grants_base.specs.View.{ShowsDeeds, holds_in};
 
-    /// A book without tables and grants. It takes no memory.
+    /// A book without tables and grants. It doesn't allocate.
     pub fn new(alloc: Global) -> Self
         ensures tables { result.tables ≡ [] }
         ensures records { result.records ≡ [] }
@@ -56,7 +55,7 @@ impl Book {
         Book::seeded(alloc, HashSeed::fixed())
     }
 
-    /// A book without tables and grants, whose grants are found under this seed. It takes no memory.
+    /// A book without tables and grants, whose grants are found under this seed. It doesn't allocate.
     #[tactic(auto, using(crate::proofs::BookLaws::sound_empty))]
     pub fn seeded(alloc: Global, seed: HashSeed) -> Self
         ensures tables { result.tables ≡ [] }
@@ -84,8 +83,8 @@ impl Book {
         self.records.as_slice()
     }
 
-    /// Adds a table last, which its creator owns, and answers its number. The place has to lie above all of the book. On
-    /// `Err` memory was refused, and the book is as it was.
+    /// Adds a table last, which its creator owns, and returns its number. The place has to lie above all of the book. On `Err` memory was
+    /// refused, and the book is as it was.
     #[tactic(auto, using(crate::proofs::BookLaws::sound_table, crate::proofs::LaterLaws::later_table))]
     pub fn add_table(&mut self, owner: User, place: Place) -> Result<Table, AllocError>
         requires room { length self.old.tables < MOST_NAMES }
@@ -102,10 +101,9 @@ impl Book {
         Ok(Table(number as u32))
     }
 
-    /// Adds a grant last. The place has to lie above all of the book, the table to be one of its tables, and the grantor to
-    /// hold the kind with the option, as `holds_option` tells by the book's view. It takes a time that grows with the logarithm of the
-    /// number of grants in force of its kind on its table to its grantee, on average. On `Err` memory was refused, and the book is as
-    /// it was.
+    /// Adds a grant last. The place has to lie above all of the book, the table to be one of its tables, and the grantor to hold the kind
+    /// with the option, as `holds_option` says by the book's view. It takes a time that grows with the logarithm of the number of grants in
+    /// force of its kind on its table to its grantee, on average. On `Err` memory was refused, and the book is as it was.
     #[tactic(auto, using(crate::proofs::GrantLaws::sound_grant, crate::proofs::GrantLaws::shows_grant, crate::proofs::LaterLaws::later_grant))]
     pub fn grant(&mut self, grant: Grant) -> Result<(), AllocError>
         requires later { IsLater self.old grant.place }
@@ -121,8 +119,7 @@ impl Book {
         Ok(())
     }
 
-    /// The book at a place: the grants made below it, with the ends that lie below it, on all tables of the book. It takes
-    /// no memory.
+    /// The book at a place: the grants made below it, with the ends that lie below it, on all tables of the book. It doesn't allocate.
     #[tactic(auto, using(crate::proofs::SeenLaws::shows_view))]
     pub fn at(&self, place: Place) -> BookView<'_>
         ensures book { result.book.now ≡ self.now }
@@ -207,10 +204,10 @@ impl Book {
         Ok(ended)
     }
 
-    /// Ends the grants that the revocation takes out of force, at its place, and answers their places in rising order. The
-    /// place has to lie above all of the book, and the table to be one of its tables. It costs what `to_end` does on the
-    /// book's view, and for each grant that ends the logarithm of the number of these and of the grants in force of its kind on its
-    /// table to its grantee. On `Err` memory was refused, and the book is as it was.
+    /// Ends the grants that the revocation takes out of force, at its place, and returns their places in rising order. The place has to lie
+    /// above all of the book, and the table to be one of its tables. It costs what `to_end` does on the book's view, and for each grant
+    /// that ends the logarithm of the number of these and of the grants in force of its kind on its table to its grantee. On `Err` memory
+    /// was refused, and the book is as it was.
     pub fn revoke(
         &mut self,
         alloc: Global,
@@ -232,8 +229,8 @@ impl Book {
         Ok(ended.into_places())
     }
 
-    /// Whether the place lies above those of all tables, grants and ends of the book. It looks once at each, so it is there for
-    /// who can't know it otherwise: after `add_table`, `grant` and `revoke` their clauses `later` tell it.
+    /// Whether the place lies above those of all tables, grants and ends of the book. It looks once at each, so it is there for who can't
+    /// know it otherwise: after `add_table`, `grant` and `revoke` their clauses `later` say it.
     #[tactic(auto, using(crate::proofs::LaterLaws::decides_later))]
     pub fn is_later(&self, place: Place) -> bool
         ensures { Decides result (IsLater self.now place) }
@@ -245,12 +242,12 @@ impl Book {
                 .all(|record| lies_below(record, place))
     }
 
-    /// Adds tables and grants behind the others, the grants without an end, and then ends records by their slots. What is
-    /// so put together has to be a book. Where the book showed some deeds, and the grants and ends are what more deeds make
-    /// of their records, it then shows them all. Each table costs a time that doesn't grow with their number, on average, each grant
-    /// the logarithm of the number of grants in force of its kind on its table to its grantee, and each end that and the logarithm of
-    /// the number of these ends. Only where the book has ends at later places than a new one are they moved for it, and found in a
-    /// time that grows with the logarithm of their number. On `Err` memory was refused, and the book is as it was.
+    /// Adds tables and grants after the others, the grants without an end, and then ends records by their slots. What is so put together
+    /// has to be a book. Where the book showed some deeds, and the grants and ends are what more deeds make of their records, it then shows
+    /// them all. Each table costs a time that doesn't grow with their number, on average, each grant the logarithm of the number of grants
+    /// in force of its kind on its table to its grantee, and each end that and the logarithm of the number of these ends. Only where the
+    /// book has ends at later places than a new one are they moved for it, and found in a time that grows with the logarithm of their
+    /// number. On `Err` memory was refused, and the book is as it was.
     pub fn extend(
         &mut self,
         tables: &[Creation],
@@ -270,8 +267,8 @@ impl Book {
         Ok(())
     }
 
-    /// Forgets the tables, grants and ends of the place and of later ones. It takes no memory. Each that is forgotten costs a
-    /// time that doesn't grow with the number of grants, on average; to find the first of them costs the logarithm of it.
+    /// Forgets the tables, grants and ends of the place and of later ones. It doesn't allocate. Each that is forgotten costs a time that
+    /// doesn't grow with the number of grants, on average; to find the first of them costs the logarithm of it.
     pub fn cut(&mut self, place: Place)
         ensures cut { self.new ≡ cut_book place self.old }
         ensures after { (owners others more : List ℕ) (deeds : List Deed) → ShowsBook self.old owners deeds

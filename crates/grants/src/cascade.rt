@@ -13,10 +13,10 @@ ghost use Rattle.grants.specs.Work.{AllPassed, AreDue, AreEnds, ArePassed, IsSti
 ghost use Rattle.grants_base.specs.View.{ShowsDeeds, slot_at};
 
 use crate::ended::Ended;
-use grants_base::Records;
+use grants_base::{Records, SlotSet};
 use model_base::{Grant, Grantee, Place, Revocation, User};
 use std::alloc::{AllocError, Global};
-use std::collections::{BTreeMap, BTreeSet};
+use std::collections::BTreeMap;
 
 /// The grant of the slot, if it is in force and the revocation speaks of its kind and table.
 fn concerned<V: Records>(view: &mut V, i: usize, revocation: &Revocation) -> Option<Grant>
@@ -57,7 +57,7 @@ fn stands<V: Records>(
     ensures value { result ≡ (bears revocation.now user (slot_at (V.shown view.old) i) && not (is_one_of (slots_of ended.now.ends) i)) }
     ensures same { V.shown view.new ≡ V.shown view.old }
 {
-    bears(view, i, revocation, user) && !ended.contains(i)
+    !ended.contains(i) && bears(view, i, revocation, user)
 }
 
 /// A slot at or above another such that no slot from that one on and before it has a grant in force, of the revocation's kind and
@@ -73,7 +73,7 @@ fn next_candidate<V: Records>(
     ensures same { V.shown view.new ≡ V.shown view.old }
 {
     let (kind, table) = (revocation.kind, revocation.table);
-    match view.next_in_force(*grantee, kind, table, true, from) {
+    match view.next_slot_in_force(*grantee, kind, table, true, from) {
         Some(next) => next.slot,
         None => view.next_to(*grantee, kind, table, from),
     }
@@ -161,6 +161,9 @@ fn keeps<V: Records>(
     ensures same { V.shown view.new ≡ V.shown view.old }
 {
     let start = passed_by(asked, user);
+    if below <= start {
+        return false;
+    }
     let first = first_bearer(view, revocation, ended, user, start, below);
     pass(asked, user, first);
     first < below
@@ -207,13 +210,13 @@ fn named<V: Records>(
     alloc: Global,
     view: &mut V,
     revocation: &Revocation,
-) -> Result<BTreeSet<usize>, AllocError>
+) -> Result<SlotSet, AllocError>
     ensures found { IfOk result (λ due. (j : ℕ) (grant : Grant) → concerned (slot_at (V.shown view.old) j) revocation.now ≡ Some grant
-        → names revocation.now grant ≡ true → is_one_of due.keys j ≡ true) }
-    ensures within { IfOk result (λ due. (j : ℕ) → is_one_of due.keys j ≡ true → j < length (V.shown view.old).slots) }
+        → names revocation.now grant ≡ true → is_one_of due j ≡ true) }
+    ensures within { IfOk result (λ due. (j : ℕ) → is_one_of due j ≡ true → j < length (V.shown view.old).slots) }
     ensures same { V.shown view.new ≡ V.shown view.old }
 {
-    let mut due = BTreeSet::new(alloc);
+    let mut due = SlotSet::new(alloc);
     let end = view.slots();
     let mut from = 0;
     while from < end {
@@ -237,13 +240,13 @@ fn add_grants_by<V: Records>(
     revocation: &Revocation,
     start: usize,
     last: usize,
-    due: &mut BTreeSet<usize>,
+    due: &mut SlotSet,
 ) -> Result<(), AllocError>
     ensures found { OnOk result ((j : ℕ) (grant : Grant) → start ≤ j → j ≤ last
-        → concerned (slot_at (V.shown view.old) j) revocation.now ≡ Some grant → grant.grantor ≡ user → is_one_of due.new.keys j ≡ true) }
-    ensures kept { OnOk result ((j : ℕ) → is_one_of due.old.keys j ≡ true → is_one_of due.new.keys j ≡ true) }
-    ensures within { OnOk result ((j : ℕ) → is_one_of due.new.keys j ≡ true
-        → (is_one_of due.old.keys j ≡ true) ⊎ ((start ≤ j) × (j < length (V.shown view.old).slots))) }
+        → concerned (slot_at (V.shown view.old) j) revocation.now ≡ Some grant → grant.grantor ≡ user → is_one_of due.new j ≡ true) }
+    ensures kept { OnOk result ((j : ℕ) → is_one_of due.old j ≡ true → is_one_of due.new j ≡ true) }
+    ensures within { OnOk result ((j : ℕ) → is_one_of due.new j ≡ true
+        → (is_one_of due.old j ≡ true) ⊎ ((start ≤ j) × (j < length (V.shown view.old).slots))) }
     ensures same { V.shown view.new ≡ V.shown view.old }
 {
     let end = view.slots();
@@ -269,16 +272,16 @@ fn lose<V: Records>(
     revocation: &Revocation,
     ended: &Ended,
     start: usize,
-    due: &mut BTreeSet<usize>,
+    due: &mut SlotSet,
     asked: &mut BTreeMap<User, usize>,
 ) -> Result<(), AllocError>
     requires { AllPassed revocation.now (V.shown view.old) (slots_of ended.now.ends) asked.old }
     ensures found { OnOk result ((j : ℕ) (grant : Grant) → start ≤ j → concerned (slot_at (V.shown view.old) j) revocation.now ≡ Some grant
         → grant.grantor ≡ user
-        → (is_one_of due.new.keys j ≡ true) ⊎ IsStillBorne revocation.now (V.shown view.old) (slots_of ended.now.ends) user j) }
-    ensures kept { OnOk result ((j : ℕ) → is_one_of due.old.keys j ≡ true → is_one_of due.new.keys j ≡ true) }
-    ensures within { OnOk result ((j : ℕ) → is_one_of due.new.keys j ≡ true
-        → (is_one_of due.old.keys j ≡ true) ⊎ ((start ≤ j) × (j < length (V.shown view.old).slots))) }
+        → (is_one_of due.new j ≡ true) ⊎ IsStillBorne revocation.now (V.shown view.old) (slots_of ended.now.ends) user j) }
+    ensures kept { OnOk result ((j : ℕ) → is_one_of due.old j ≡ true → is_one_of due.new j ≡ true) }
+    ensures within { OnOk result ((j : ℕ) → is_one_of due.new j ≡ true
+        → (is_one_of due.old j ≡ true) ⊎ ((start ≤ j) × (j < length (V.shown view.old).slots))) }
     ensures passed { OnOk result (AllPassed revocation.now (V.shown view.old) (slots_of ended.now.ends) asked.new) }
     ensures same { V.shown view.new ≡ V.shown view.old }
 {
@@ -294,7 +297,7 @@ fn lose<V: Records>(
 /// far as it was looked at; and the slots that have ended.
 #[derive(Drop)]
 struct Work {
-    due: BTreeSet<usize>,
+    due: SlotSet,
     asked: BTreeMap<User, usize>,
     ended: Ended,
 }
@@ -311,11 +314,11 @@ fn judge<V: Records>(
 ) -> Result<(), AllocError>
     requires within { slot < length (V.shown view.old).slots }
     requires next { next ≡ slot + 1 }
-    requires due { AreDue revocation.now (V.shown view.old) work.old.due.keys (slots_of work.old.ended.ends) next }
+    requires due { AreDue revocation.now (V.shown view.old) work.old.due (slots_of work.old.ended.ends) next }
     requires passed { AllPassed revocation.now (V.shown view.old) (slots_of work.old.ended.ends) work.old.asked }
     requires behind { (e : ℕ) → is_one_of (slots_of work.old.ended.ends) e ≡ true → e < slot }
     requires ends { AreEnds revocation.now (V.shown view.old) work.old.ended.ends work.old.ended.places }
-    ensures due { OnOk result (AreDue revocation.now (V.shown view.old) work.new.due.keys (slots_of work.new.ended.ends) next) }
+    ensures due { OnOk result (AreDue revocation.now (V.shown view.old) work.new.due (slots_of work.new.ended.ends) next) }
     ensures passed { OnOk result (AllPassed revocation.now (V.shown view.old) (slots_of work.new.ended.ends) work.new.asked) }
     ensures whole { OnOk result (work.new.ended.places
         ++ cascade owner revocation.now
@@ -371,13 +374,13 @@ pub(crate) fn cascade<V: Records>(
     ensures same { V.shown view.new ≡ V.shown view.old }
 {
     let owner = view.owner(revocation.table);
-    // That there are so many slots bounds the next one.
+    // That there are this many slots bounds the next one.
     let _slots = view.slots();
     let due = named(alloc, view, revocation)?;
     let mut work = Work {
         due,
         asked: BTreeMap::new(alloc),
-        ended: Ended::new(alloc),
+        ended: Ended::with_room(alloc)?,
     };
     let mut next = 0;
     while let Some(slot) = work.due.pop_first() {

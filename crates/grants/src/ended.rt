@@ -1,6 +1,6 @@
 //! What a revocation has ended so far.
 
-ghost use Rattle.std.specs.Prelude.{◌==◌, ◌≡◌, ◌<◌, ◌++◌, ◌∷◌, [], ℕ, false, true, OnOk, slice_get};
+ghost use Rattle.std.specs.Prelude.{◌==◌, ◌≡◌, ◌<◌, ◌++◌, ◌∷◌, [], ℕ, false, true, IfOk, OnOk, slice_get};
 ghost use Rattle.std.specs.Option.{option_map_or};
 ghost use Rattle.grants_base.specs.Index.{is_one_of};
 ghost use Rattle.grants_base.specs.Sides.{AreAscending};
@@ -11,6 +11,9 @@ use grants_base::End;
 use model_base::Place;
 use std::alloc::{AllocError, Global};
 use std::marker::Model;
+
+/// For how many ends there is room at first: few revocations end more grants.
+const ROOM: usize = 16;
 
 /// Whether the end of an index, if there is one, is of the slot.
 fn is_of(ends: &[End], i: usize, slot: usize) -> bool
@@ -50,15 +53,15 @@ impl Model for Ended {
 }
 
 impl Ended {
-    /// No ends. It takes no memory.
-    pub fn new(alloc: Global) -> Self
-        ensures ends { result.ends ≡ [] }
-        ensures places { result.places ≡ [] }
+    /// No ends, and room for some. On `Err` memory was refused.
+    pub fn with_room(alloc: Global) -> Result<Self, AllocError>
+        ensures ends { IfOk result (λ ended. ended.ends ≡ []) }
+        ensures places { IfOk result (λ ended. ended.places ≡ []) }
     {
-        Ended {
-            ends: Vec::new(alloc),
-            places: Vec::new(alloc),
-        }
+        Ok(Ended {
+            ends: Vec::with_capacity(alloc, ROOM)?,
+            places: Vec::with_capacity(alloc, ROOM)?,
+        })
     }
 
     /// Adds the end of a slot above the others at a place, and the place where its grant was made. On `Err` memory was refused.

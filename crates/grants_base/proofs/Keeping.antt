@@ -62,12 +62,12 @@ pub next_by_told : {X : Type 0} (found : Option X) (W : Type 0) (S Q : X → Typ
 next_by_told None W S Q whole slot gives = tt
 next_by_told (Some x) W S Q whole slot gives = gives x whole slot
 
--- what is put where there was nothing
-pub put_new : {X : Type 0} (here : Bool) (none value : X) (Change : X → X → Type 0) (was now : Option X) → Change none value → (here ≡ true → was ≡ None)
+-- what is put where there may have been something
+pub put_into : {X : Type 0} (here : Bool) (none value : X) (Change : X → X → Type 0) (at was now : Option X) → Change (unwrap_or at none) value → (here ≡ true → at ≡ was)
     → now ≡ (if here then Some value else was) → OnTrue here (Change (unwrap_or was none) (unwrap_or now none)) × OnFalse here (unwrap_or now none ≡ unwrap_or was none)
-put_new {X} true none value Change was now is absent told =
-    (subst (λ (o : Option X). Change (unwrap_or o none) (unwrap_or now none)) (sym (absent refl)) (subst (λ (o : Option X). Change none (unwrap_or o none)) (sym told) is), tt)
-put_new false none value Change was now is absent told = (tt, ap (λ found. unwrap_or found none) told)
+put_into {X} true none value Change at was now is same told =
+    (subst (λ (o : Option X). Change (unwrap_or o none) (unwrap_or now none)) (same refl) (subst (λ (o : Option X). Change (unwrap_or at none) (unwrap_or o none)) (sym told) is), tt)
+put_into false none value Change at was now is same told = (tt, ap (λ found. unwrap_or found none) told)
 
 -- or where there was something
 pub put_changed : {X : Type 0} (here : Bool) (none was value : X) (Change : X → X → Type 0) (found now : Option X) → Change was value → (here ≡ true → found ≡ Some was)

@@ -1,5 +1,5 @@
 -- The slots of the grants that pass, in order.
-use Rattle.std.proofs.Common.{◌≡◌, ℕ, zero, suc, ◌<◌, ◌+◌, ◌-◌, ◌&&◌, Bool, true, false, List, [], ◌∷◌, ◌++◌, Option, Some, None, length, take, refl, sym, ◌∙◌, ap, arith, subst, length-append, eq-eqb}
+use Rattle.std.proofs.Common.{◌≡◌, ℕ, zero, suc, ◌<◌, ◌+◌, ◌-◌, ◌&&◌, Bool, true, false, List, [], ◌∷◌, ◌++◌, Option, Some, length, take, refl, sym, ◌∙◌, ap, arith, subst, length-append, eq-eqb}
 use Rattle.std.specs.Prelude.{◌==◌, All, Err, Ok, OnErr, Result, if◌then◌else◌, unwrap_or}
 use Rattle.std.proofs.lemmas.Bool.{and_parts, eqb-true, ne_eqb, true≢false}
 use Rattle.std.proofs.lemmas.List.{map-append}
@@ -174,12 +174,20 @@ side_true a b is =
     let two = and_parts (a.table == b.table) (a.kind == b.kind) one.1 in
     ap (λ u. make u a.table a.kind) (eqb-true a.holder b.holder one.0) ∙ ap (λ t. make b.holder t a.kind) (eqb-true a.table b.table two.0) ∙ ap (λ k. make b.holder b.table k) (eqb-true a.kind b.kind two.1)
 
--- the first slot under a side that had none
-pub put_first : (side other : Side) (slot : ℕ) (value : List ℕ) (was now : Option (List ℕ)) → value ≡ slot ∷ [] → (same_side side other ≡ true → was ≡ None)
-    → now ≡ (if same_side side other then Some value else was) → unwrap_or now [] ≡ (if same_side side other then unwrap_or was [] ++ slot ∷ [] else unwrap_or was [])
-put_first side other slot value was now one absent told =
+-- slots that are changed under one side
+pub put_by : (side other : Side) (change : List ℕ → List ℕ) (value : List ℕ) (at was now : Option (List ℕ)) → value ≡ change (unwrap_or at []) → (same_side side other ≡ true → at ≡ was)
+    → now ≡ (if same_side side other then Some value else was) → unwrap_or now [] ≡ (if same_side side other then change (unwrap_or was []) else unwrap_or was [])
+put_by side other change value at was now is same told =
     by_cases (same_side side other)
-    (λ here. let none : was ≡ None = absent here in rw (told, here, none, one) refl)
+    (λ here. let one : at ≡ was = same here in rw (told, here, is, one) refl)
+    (λ apart. rw (told, apart) refl)
+
+-- or aren't
+pub put_same : (side other : Side) (value : List ℕ) (at was now : Option (List ℕ)) → value ≡ unwrap_or at [] → (same_side side other ≡ true → at ≡ was)
+    → now ≡ (if same_side side other then Some value else was) → unwrap_or now [] ≡ unwrap_or was []
+put_same side other value at was now is same told =
+    by_cases (same_side side other)
+    (λ here. let one : at ≡ was = same here in rw (told, here, is, one) refl)
     (λ apart. rw (told, apart) refl)
 
 -- what holds where there is an error gives what follows from it

@@ -88,7 +88,7 @@ above_all low (n ∷ numbers) above =
     All-cons (λ other. low < other) n numbers (above n (rw (eq-eqb n n refl) refl)) (above_all low numbers (λ k is. above k (or_right (n == k) (is_one_of numbers k) is)))
 
 -- each that is in a list of which all lie above
-above_one : (low : ℕ) (numbers : List ℕ) (k : ℕ) → All (λ other. low < other) numbers → is_one_of numbers k ≡ true → low < k
+pub above_one : (low : ℕ) (numbers : List ℕ) (k : ℕ) → All (λ other. low < other) numbers → is_one_of numbers k ≡ true → low < k
 above_one low numbers k above is =
     elim (cases_lt low k) [
       | inl less ↦ less
@@ -178,20 +178,35 @@ pub item_of : (range rest : List ℕ) (item : Option (Bor ℕ)) → TakesFirst (
 item_of range rest None taken = ap (λ (slots : List ℕ). slice_get slots 0) (sym taken.0)
 item_of range rest (Some item) taken = ap (λ (slots : List ℕ). slice_get slots 0) (sym taken)
 
+-- the least of the others, and the rest, are the others
+pub popped_left : (popped : Option ℕ) (old new : List ℕ) → IfSome popped (λ k. old ≡ k ∷ new) → IfNone popped (new ≡ old) → old ≡ option_to_list popped ++ new
+popped_left None old new some none = sym none
+popped_left (Some k) old new some none = some
+
 -- the least of the others takes the place of the least
 pub popped_lost : (slot : ℕ) (least popped : Option ℕ) (old new : List ℕ) → least ≡ Some slot → AreAbove least old
     → IfSome popped (λ k. old ≡ k ∷ new) → IfNone popped (new ≡ old) → HasLost slot (option_to_list least ++ old) (option_to_list popped ++ new)
 popped_lost slot (Some low) popped old new is above some none =
-    subst (λ (rest : List ℕ). HasLost slot (low ∷ old) rest) (left popped some none)
+    subst (λ (rest : List ℕ). HasLost slot (low ∷ old) rest) (popped_left popped old new some none)
     (subst (λ (n : ℕ). HasLost slot (n ∷ old) old) (sym same) (least_lost slot old (subst (λ (n : ℕ). All (λ other. n < other) old) same above)))
   where
     same : low ≡ slot
     same = cc
-
-    left : (popped : Option ℕ) → IfSome popped (λ k. old ≡ k ∷ new) → IfNone popped (new ≡ old) → old ≡ option_to_list popped ++ new
-    left None some none = sym none
-    left (Some k) some none = some
 popped_lost slot None popped old new is above some none = absurd (cc)
+
+-- and is the next of the slots that are left, of which each lies above
+pub taken_first : (slot : ℕ) (least popped : Option ℕ) (old new : List ℕ) → least ≡ Some slot → IfSome popped (λ k. old ≡ k ∷ new) → IfNone popped (new ≡ old)
+    → (option_to_list least ++ old) ≡ slot ∷ (option_to_list popped ++ new)
+taken_first slot least popped old new is some none = rw is (ap (λ rest. slot ∷ rest) (popped_left popped old new some none))
+
+pub taken_above : (slot : ℕ) (least popped : Option ℕ) (old new : List ℕ) → least ≡ Some slot → AreAbove least old → IfSome popped (λ k. old ≡ k ∷ new) → IfNone popped (new ≡ old)
+    → All (λ other. slot < other) (option_to_list popped ++ new)
+taken_above slot least popped old new is above some none =
+    subst (λ (rest : List ℕ). All (λ other. slot < other) rest) (popped_left popped old new some none) (subst (λ (first : Option ℕ). AreAbove first old) is above)
+
+-- nothing lies above where there is no least slot
+pub none_left : (least : Option ℕ) (others : List ℕ) → least ≡ None → AreAbove least others → (option_to_list least ++ others) ≡ []
+none_left least others is above = rw is (subst (λ (first : Option ℕ). AreAbove first others) is above)
 
 -- what `==` tells of the least slot
 pub least_same : (least : Option ℕ) (slot : ℕ) → true ≡ option_eq eqb least (Some slot) → least ≡ Some slot

@@ -81,18 +81,18 @@ extended book tables grants ends = record {
   records = end_slots (book.records ++ map unended grants) ends;
 }
 
--- the book as it stood at a place: what was created, made and ended below it
+-- the book as it was at a place: what was created, made and ended below it
 abbrev pub cut_book : ℕ → Entries → Entries
 cut_book place book = record {
   tables = filter (λ (creation : Creation). nat_lt creation.place place) book.tables;
   records = cut place book.records;
 }
 
--- the record as it stood at a place above its grant's: its end counts only if it lies below
+-- the record as it was at a place above its grant's: its end counts only if it lies below
 abbrev pub reopened : ℕ → Record → Record
 reopened place entry = record { grant = entry.grant; end = end_below place entry.end }
 
--- the records, of which that of a slot is as it stood at a place
+-- the records, of which that of a slot is as it was at a place
 abbrev pub reopen_slot : ℕ → ℕ → List Record → List Record
 reopen_slot place slot [] = []
 reopen_slot place zero (entry ∷ entries) = reopened place entry ∷ entries
@@ -128,8 +128,8 @@ pub record ShowsBook (book : Entries) (owners : List ℕ) (deeds : List Deed) : 
   pub told : All (λ deed. table_of_deed deed < length book.tables) deeds
   pub same : book.records ≡ records owners deeds
 
--- more deeds continue some deeds, on these tables, whose owners come first: the records of all are those of the first deeds
--- with these grants behind them, and then with these ends
+-- more deeds continue some deeds, on these tables, whose owners come first: the records of all are those of the first deeds with these
+-- grants after them, and then with these ends
 pub record Continues (owners : List ℕ) (deeds more : List Deed) (tables : List Creation) (grants : List Grant)
     (ends : List End) : Type 0 where
   pub later : List ℕ

@@ -1,5 +1,5 @@
 -- The slots of the grants under each grantee or grantor, kind and table.
-use Rattle.std.specs.Prelude.{◌≡◌, ◌==◌, ◌<◌, ◌+◌, ◌-◌, ◌&&◌, ℕ, Bool, List, [], ◌∷◌, ◌++◌, All, if◌then◌else◌, length, take, unwrap_or}
+use Rattle.std.specs.Prelude.{◌≡◌, ◌==◌, ◌<◌, ◌+◌, ◌-◌, ◌*◌, ◌%◌, ◌^◌, ◌&&◌, ℕ, Bool, bit_xor, List, [], ◌∷◌, ◌++◌, All, if◌then◌else◌, length, take, unwrap_or}
 use Rattle.std.specs.HashMap.{get}
 use Rattle.model_base.specs.declared.deed.Grant.{Grant}
 use Rattle.model_base.specs.declared.deed.Grantee.{Grantee}
@@ -43,6 +43,10 @@ is_made_by grantor kind table grant = same_grantee (User grant.grantor) grantor 
 
 abbrev pub same_side : Side → Side → Bool
 same_side a b = (a.holder == b.holder) && ((a.table == b.table) && (a.kind == b.kind))
+
+-- the number of a side that is hashed
+abbrev pub side_word : Side → ℕ
+side_word side = bit_xor (bit_xor side.holder (side.table * 2 ^ 34 % 2 ^ 64)) (side.kind * 2 ^ 50 % 2 ^ 64)
 
 -- the slots that an index has under a side
 abbrev pub slots_under : Index → Side → List ℕ

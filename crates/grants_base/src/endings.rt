@@ -17,7 +17,7 @@ pub(crate) struct Ending {
     pub slot: usize,
 }
 
-/// How many of the endings, which are in order, are at the place or below it. Where all are, the last one tells.
+/// How many of the endings, which are in order, are at the place or below it. Where all are, the last one says.
 fn endings_to(endings: &[Ending], place: Place) -> usize
     requires { AreInOrder endings.now }
     ensures bound { result ≤ length endings.now }
@@ -67,8 +67,8 @@ fn note_one(endings: &mut Vec<Ending>, ending: Ending) -> Result<(), AllocError>
     Ok(())
 }
 
-/// Notes the ends of some slots, each behind those at its place and below; where later ones were noted before, these are
-/// moved. On `Err` memory was refused, and some of them are noted.
+/// Notes the ends of some slots, each after those at its place and below; where later ones were noted before, these are moved. On `Err`
+/// memory was refused, and some of them are noted.
 pub(crate) fn note(endings: &mut Vec<Ending>, ends: &[End]) -> Result<(), AllocError>
     requires order { AreInOrder endings.old.items }
     ensures order { AreInOrder endings.new.items }

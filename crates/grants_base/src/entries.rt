@@ -31,7 +31,7 @@ pub fn lies_below(entry: &Record, place: Place) -> bool
     entry.grant.place < place && entry.end.is_none_or(|end| end < place)
 }
 
-/// Adds the tables behind the others, for which there is room.
+/// Adds the tables after the others, for which there is room.
 pub fn append_tables(tables: &mut Vec<Creation>, more: &[Creation])
     requires { vec_len tables.old + length more.now ≤ vec_capacity tables.old }
     ensures { tables.new.items ≡ tables.old.items ++ more.now }
@@ -78,8 +78,8 @@ pub fn tables_below(tables: &[Creation], place: Place) -> usize
     tables.partition_point(|creation| creation.place < place)
 }
 
-/// How many of the records, whose places rise, are of grants that were made below the place: so many come first. It takes a
-/// time that grows with the logarithm of their number.
+/// How many of the records, whose places rise, are of grants that were made below the place: this many come first. It takes a time that
+/// grows with the logarithm of their number.
 pub fn records_below(records: &[Record], place: Place) -> usize
     requires { IsRising (recorded records.now) }
     ensures first { take result records.now ≡ filter (λ (entry : Record). nat_lt entry.grant.place place) records.now }

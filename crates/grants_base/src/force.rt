@@ -29,7 +29,7 @@ pub struct NextInForce {
     pub lost: Option<Place>,
 }
 
-/// The next slot of a grant in force by a user, if there is one.
+/// The next slot of a grant in force, if there is one.
 #[derive(Clone, Copy, PartialEq, Eq, Debug)]
 pub struct NextBy {
     pub slot: Option<usize>,
@@ -51,7 +51,7 @@ impl Model for InForce {
 }
 
 impl InForce {
-    /// No slots. It takes no memory.
+    /// No slots. It doesn't allocate.
     fn new(alloc: Global) -> Self
         ensures { result ≡ no_force }
     {
@@ -70,6 +70,7 @@ impl InForce {
     }
 
     /// Takes away a slot whose grant left force at a place.
+    #[inline(always)]
     fn end(&mut self, slot: usize, place: Place)
         ensures { IsWithoutSlot slot place self.old self.new }
     {
@@ -106,7 +107,7 @@ impl Model for Privilege {
 }
 
 impl Privilege {
-    /// No grants. It takes no memory.
+    /// No grants. It doesn't allocate.
     pub fn new(alloc: Global) -> Self
         ensures { result ≡ no_privilege }
     {
@@ -118,6 +119,7 @@ impl Privilege {
     }
 
     /// Adds the slot of a grant. On `Err` memory was refused.
+    #[inline(always)]
     pub fn push(&mut self, granted: Granted, option: bool) -> Result<(), AllocError>
         ensures { OnOk result (IsGranted granted option self.old self.new) }
     {

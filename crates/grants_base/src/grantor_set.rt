@@ -78,7 +78,7 @@ fn without(one: Option<Granted>, granted: &Granted) -> Option<Granted>
 }
 
 impl GrantorSet {
-    /// No slots. It takes no memory.
+    /// No slots. It doesn't allocate.
     pub fn new(alloc: Global) -> Self
         ensures { result ≡ [] }
     {

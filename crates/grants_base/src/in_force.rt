@@ -16,8 +16,8 @@ use model_base::{Grant, HashSeed, Place, Record, User};
 use std::alloc::{AllocError, Global};
 use std::collections::HashMap;
 
-/// What is in force under each grantee, kind and table. Where memory was refused, or grants and ends were taken back, it isn't whole any more:
-/// then it tells nothing.
+/// What is in force under each grantee, kind and table. Where memory was refused, or grants and ends were taken back, it isn't whole any
+/// more: then it says nothing.
 #[derive(Drop)]
 pub(crate) struct InForceIndex {
     alloc: Global,
@@ -36,7 +36,7 @@ fn granted_at(grant: &Grant, slot: usize) -> Granted
 }
 
 impl InForceIndex {
-    /// No grants, and sides are found under this seed. It takes no memory.
+    /// No grants, and sides are found under this seed. It doesn't allocate.
     pub fn seeded(alloc: Global, seed: HashSeed) -> Self
         ensures { KeepsInForce result [] }
     {
@@ -47,7 +47,7 @@ impl InForceIndex {
         }
     }
 
-    /// An index that tells nothing. It stays empty, so its seed doesn't matter.
+    /// An index that says nothing. It stays empty, so its seed doesn't matter.
     pub fn silent(alloc: Global) -> Self
         ensures none { KeepsInForce result [] }
         ensures all { (entries : List Record) → KeepsInForce result entries }
@@ -59,7 +59,7 @@ impl InForceIndex {
         }
     }
 
-    /// Forgets all, and tells nothing from now on.
+    /// Forgets all, and says nothing from now on.
     pub fn forget(&mut self)
         ensures { (entries : List Record) → KeepsInForce self.new entries }
     {
@@ -71,16 +71,14 @@ impl InForceIndex {
         ensures whole { self.new.is_whole ≡ self.old.is_whole }
         ensures ok { OnOk result (IsChanged side (IsGranted granted option) self.old self.new) }
     {
-        if let Some(privilege) = self.sides.get_mut(&side) {
-            return privilege.push(granted, option);
-        }
-        let mut privilege = Privilege::new(self.alloc);
-        privilege.push(granted, option)?;
-        self.sides.insert(side, privilege)?;
-        Ok(())
+        let privilege = self
+            .sides
+            .entry(side)?
+            .or_insert(Privilege::new(self.alloc));
+        privilege.push(granted, option)
     }
 
-    /// Takes away the slot of a grant that left force at a place, and answers whether there was anything under its side.
+    /// Takes away the slot of a grant that left force at a place, and returns whether there was anything under its side.
     fn take(&mut self, side: &Side, granted: &Granted, place: Place, option: bool) -> bool
         ensures whole { self.new.is_whole ≡ self.old.is_whole }
         ensures taken { result ≡ true → IsChanged side.now (IsWithdrawn granted.now place option) self.old self.new }
@@ -94,7 +92,7 @@ impl InForceIndex {
         }
     }
 
-    /// Adds the record of a grant, without an end, behind all others.
+    /// Adds the record of a grant, without an end, after all others.
     pub fn push(&mut self, grant: &Grant, slot: usize)
         ensures { (entries : List Record) → slot ≡ length entries → KeepsInForce self.old entries
             → KeepsInForce self.new (entries ++ unended grant.now ∷ []) }

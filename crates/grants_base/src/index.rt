@@ -1,20 +1,45 @@
 //! Slots under grantees or grantors, kinds and tables.
 
 ghost use Rattle.std.specs.Prelude.{◌≡◌, ◌-◌, ◌++◌, ◌∷◌, [], ℕ, false, OnErr, OnOk, length, slice_get, take, if◌then◌else◌};
+ghost use Rattle.std.proofs.Common.{rules};
+ghost use Rattle.std.specs.Cmp.Rules.{hashing};
+ghost use Rattle.std.specs.Hash as fed;
 ghost use Rattle.grants_base.specs.Index.{is_one_of, IsFirst};
-ghost use Rattle.grants_base.specs.Sides.{AreAscending, IsEmpty, IsPopped, IsPushed, IsSame, holder_code, kind_code, side_of, slots_under, to_side};
+ghost use Rattle.grants_base.specs.Sides.{AreAscending, IsEmpty, IsPopped, IsPushed, IsSame, holder_code, kind_code, side_of, side_word, slots_under, to_side};
 
 use model_base::{Grant, Grantee, HashSeed, Kind, Table};
 use std::alloc::{AllocError, Global};
 use std::collections::HashMap;
+use std::hash::{Hash, Hasher};
 use std::marker::Model;
 
 /// The code of a grantee, and so of a user, with a table and the code of a kind.
-#[derive(Clone, Copy, PartialEq, Eq, Hash, Debug)]
+#[derive(Clone, Copy, PartialEq, Eq, Debug)]
 pub(crate) struct Side {
     holder: u64,
     table: Table,
     kind: u8,
+}
+
+impl Side {
+    /// The number that is hashed. Those of two sides differ: a holder's code has 33 bits, and a log has at most 2^16 tables.
+    #[inline(always)]
+    fn word(&self) -> u64
+        ensures { result ≡ side_word self.now }
+    {
+        self.holder ^ ((self.table.0 as u64) << 34) ^ ((self.kind as u64) << 50)
+    }
+}
+
+impl Hash for Side {
+    ghost hash_input = { λ side. fed.u64 (side_word side) };
+
+    ghost respects_eq = { Prim.search (hashing, rules) };
+
+    #[inline(always)]
+    fn hash<H: Hasher>(&self, state: &mut H) {
+        state.write_u64(self.word());
+    }
 }
 
 /// The code of a kind: 0 for READ, 1 for INSERT, 2 for UPDATE, 3 for DELETE.
@@ -73,48 +98,54 @@ pub(crate) fn next_slot(slots: &[usize], from: usize) -> Option<usize>
     slot_at(slots, i)
 }
 
-/// The slots under one side in the order in which they were added, of which there is one at least. A single one takes no heap
-/// block.
+/// Some slots in the order in which they were added. A single one takes no heap block.
 #[derive(Drop)]
 struct Slots {
-    first: usize,
+    first: Option<usize>,
     later: Vec<usize>,
 }
 
 impl Model for Slots {
-    ghost use Rattle.std.specs.Prelude.{List, ℕ, ◌∷◌};
+    ghost use Rattle.std.specs.Prelude.{List, ℕ, ◌++◌};
+    ghost use Rattle.std.specs.Option.{option_to_list};
 
     ghost Value = { List ℕ };
 
-    ghost view = { λ slots. slots.first ∷ slots.later.items };
+    ghost view = { λ slots. option_to_list slots.first ++ slots.later.items };
 }
 
 impl Slots {
-    /// One slot. It takes no memory.
-    fn one(alloc: Global, slot: usize) -> Self
-        ensures { result ≡ slot ∷ [] }
+    /// No slots. It doesn't allocate.
+    fn new(alloc: Global) -> Self
+        ensures { result ≡ [] }
     {
         Slots {
-            first: slot,
+            first: None,
             later: Vec::new(alloc),
         }
     }
 
     /// Adds a slot last. On `Err` memory was refused, and the slots are as they were.
+    #[inline(always)]
     fn push(&mut self, slot: usize) -> Result<(), AllocError>
         ensures ok { OnOk result (self.new ≡ self.old ++ slot ∷ []) }
         ensures err { OnErr result (self.new ≡ self.old) }
     {
-        self.later.push(slot)?;
+        if self.first.is_none() && self.later.is_empty() {
+            self.first = Some(slot);
+        } else {
+            self.later.push(slot)?;
+        }
         Ok(())
     }
 
-    /// Takes the last slot away, unless it is the only one, and answers whether it did.
-    fn pop(&mut self) -> bool
-        ensures slots { self.new ≡ (if result then take (length self.old - 1) self.old else self.old) }
-        ensures only { result ≡ false → length self.old ≡ 1 }
+    /// Takes the last slot away, if there is one.
+    fn pop(&mut self)
+        ensures { self.new ≡ take (length self.old - 1) self.old }
     {
-        self.later.pop().is_some()
+        if self.later.pop().is_none() {
+            self.first = None;
+        }
     }
 
     /// The least slot at or above this one, in a time that grows with the logarithm of their number.
@@ -122,10 +153,11 @@ impl Slots {
         requires { AreAscending self.now }
         ensures { IsFirst (is_one_of self.now) from result }
     {
-        if from <= self.first {
-            return Some(self.first);
+        match self.first {
+            Some(first) if from <= first => Some(first),
+            Some(_) => next_slot(self.later.as_slice(), from),
+            None => next_slot(self.later.as_slice(), from),
         }
-        next_slot(self.later.as_slice(), from)
     }
 }
 
@@ -137,7 +169,7 @@ pub(crate) struct Index {
 }
 
 impl Index {
-    /// No slots, and sides are found under this seed. It takes no memory.
+    /// No slots, and sides are found under this seed. It doesn't allocate.
     pub fn seeded(alloc: Global, seed: HashSeed) -> Self
         ensures { IsEmpty result }
     {
@@ -152,13 +184,8 @@ impl Index {
         ensures ok { OnOk result (IsPushed side slot self.old self.new) }
         ensures err { OnErr result (IsSame self.old self.new) }
     {
-        match self.sides.get_mut(&side) {
-            Some(slots) => slots.push(slot),
-            None => {
-                self.sides.insert(side, Slots::one(self.alloc, slot))?;
-                Ok(())
-            }
-        }
+        let slots = self.sides.entry(side)?.or_insert(Slots::new(self.alloc));
+        slots.push(slot)
     }
 
     /// Takes the last slot under a side away, if there is one.
@@ -166,11 +193,8 @@ impl Index {
         ensures { IsPopped side.now self.old self.new }
     {
         if let Some(slots) = self.sides.get_mut(side) {
-            if slots.pop() {
-                return;
-            }
+            slots.pop();
         }
-        self.sides.remove(side);
     }
 
     /// The least slot at or above this one, under a side whose slots rise.

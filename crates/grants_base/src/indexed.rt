@@ -115,14 +115,14 @@ fn made_below(records: &[Record], place: Place) -> bool
 }
 
 impl IndexedRecords {
-    /// No records. It takes no memory.
+    /// No records. It doesn't allocate.
     pub fn new(alloc: Global) -> Self
         ensures { result ≡ [] }
     {
         IndexedRecords::seeded(alloc, HashSeed::fixed())
     }
 
-    /// No records, which are found under this seed. It takes no memory.
+    /// No records, which are found under this seed. It doesn't allocate.
     pub fn seeded(alloc: Global, seed: HashSeed) -> Self
         ensures { result ≡ [] }
     {
@@ -135,7 +135,7 @@ impl IndexedRecords {
         }
     }
 
-    /// No records, which are found under this seed. Those in force are not kept by themselves. It takes no memory.
+    /// No records, which are found under this seed. Those in force are not kept by themselves. It doesn't allocate.
     pub(crate) fn plain(alloc: Global, seed: HashSeed) -> Self
         ensures { result ≡ [] }
     {
@@ -190,8 +190,8 @@ impl IndexedRecords {
         Ok(())
     }
 
-    /// Adds the records of grants last, and then ends records by their slots. On `Err` memory was refused, and more records
-    /// may be behind those that were there.
+    /// Adds the records of grants last, and then ends records by their slots. On `Err` memory was refused, and more records may be after
+    /// those that were there.
     fn put(&mut self, grants: &[Grant], ends: &[End]) -> Result<(), AllocError>
         requires { All (λ (end : End). end.slot < length self.old + length grants.now) ends.now }
         ensures ok { OnOk result (self.new ≡ end_slots (self.old ++ map unended grants.now) ends.now) }
@@ -240,7 +240,7 @@ impl IndexedRecords {
         }
     }
 
-    /// Takes the last records away, so that at most so many stay.
+    /// Takes the last records away, so that at most this many stay.
     pub fn truncate(&mut self, len: usize)
         ensures { self.new ≡ take len self.old }
     {

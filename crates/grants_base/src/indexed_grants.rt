@@ -26,14 +26,14 @@ impl Model for IndexedGrants {
 }
 
 impl IndexedGrants {
-    /// No grants. It takes no memory.
+    /// No grants. It doesn't allocate.
     pub fn new(alloc: Global) -> Self
         ensures { result ≡ [] }
     {
         IndexedGrants::seeded(alloc, HashSeed::fixed())
     }
 
-    /// No grants, which are found under this seed. It takes no memory.
+    /// No grants, which are found under this seed. It doesn't allocate.
     pub fn seeded(alloc: Global, seed: HashSeed) -> Self
         ensures { result ≡ [] }
     {
@@ -66,7 +66,7 @@ impl IndexedGrants {
         self.records.as_slice()[slot].grant
     }
 
-    /// The least slot at or above this one whose grant is to the grantee, of the kind on the table. It takes no memory, and a time
+    /// The least slot at or above this one whose grant is to the grantee, of the kind on the table. It doesn't allocate, and takes a time
     /// that grows with the logarithm of the number of such grants.
     pub fn next_to(&self, grantee: Grantee, kind: Kind, table: Table, from: usize) -> Option<usize>
         ensures { IsNext (is_to grantee kind table) self.now from result }
@@ -74,8 +74,8 @@ impl IndexedGrants {
         self.records.next_to(grantee, kind, table, from)
     }
 
-    /// The least slot at or above this one whose grant is by the user, of the kind on the table. It takes no memory, and a time
-    /// that grows with the logarithm of the number of such grants.
+    /// The least slot at or above this one whose grant is by the user, of the kind on the table. It doesn't allocate, and takes a time that
+    /// grows with the logarithm of the number of such grants.
     pub fn next_by(&self, user: User, kind: Kind, table: Table, from: usize) -> Option<usize>
         ensures { IsNext (is_by user kind table) self.now from result }
     {

@@ -1,4 +1,12 @@
-//! Records of grants: what a view of them shows, and how those of a grantee or of a grantor are found.
+//! Records of grants, and how they are found.
+//!
+//! `Records` is a view at one place: the grants made before it, each in a slot, with its end if that lies before it
+//! too. `next_to`, `next_by` and `next_in_force` return the next slot of a grantee, of a grantor, and of a grant in
+//! force to a grantee. `IndexedRecords` has all records in the order of their places, `IndexedGrants` grants that a
+//! batch may make.
+//!
+//! A look-up costs the logarithm of the grants of that kind and table to that grantee, in force or in all as is asked,
+//! and doesn't allocate. On `Err`, out of memory, the records are as they were.
 #![tactic(auto)]
 
 mod endings;
@@ -20,3 +28,4 @@ pub use index::{holder_code, kind_code};
 pub use indexed::IndexedRecords;
 pub use indexed_grants::IndexedGrants;
 pub use records::{Records, is_by, is_to};
+pub use slot_set::SlotSet;

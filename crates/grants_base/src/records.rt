@@ -10,10 +10,10 @@ ghost use Rattle.grants_base.specs.View.{View, IsLawful, end_in, grant_in, slot_
 use crate::force::{NextBy, NextInForce};
 use model_base::{Grant, Grantee, Kind, Place, Table, User};
 
-/// The records of grants as they stand at a place: those of the grants below it, on the tables that the view covers, each
-/// with its end if that lies below. A slot has one record or none. A reader of words that others fill makes steps when it
-/// reads, and so a read may change the view; what it shows stays. `asked` has one grant for each slot, whether it was made
-/// or not: that which the slot shows if it shows one.
+/// The records of grants as they are at a place: those of the grants below it, on the tables that the view covers, each with its end if
+/// that lies below. A slot has one record or none. A reader of words that others fill makes steps when it reads, and so a read may change
+/// the view; what it shows stays. `asked` has one grant for each slot, whether it was made or not: that which the slot shows if it shows
+/// one.
 pub trait Records {
     ghost shown: { Self → View };
 
@@ -24,7 +24,7 @@ pub trait Records {
         ensures value { result ≡ (shown self.now).place }
         ensures lawful { IsLawful (shown self.now) };
 
-    /// Whether the view tells of the grants on this table.
+    /// Whether the view covers the grants on this table.
     fn covers(&self, table: Table) -> bool
         ensures { result ≡ is_some ((shown self.now).owner table) };
 
@@ -51,25 +51,25 @@ pub trait Records {
         ensures same { shown self.new ≡ shown self.old }
         ensures still { asked self.new ≡ asked self.old };
 
-    /// The least slot at or above this one whose grant, made or not, is to this user or to PUBLIC, as the grantee says, of
-    /// this kind on this table, in force or not. It takes no memory.
+    /// The least slot at or above this one whose grant, made or not, is to this user or to PUBLIC, as the grantee says, of this kind on
+    /// this table, in force or not. It doesn't allocate.
     fn next_to(&mut self, grantee: Grantee, kind: Kind, table: Table, from: usize) -> Option<usize>
         ensures next { IsNext (is_to grantee kind table) (asked self.old) from result }
         ensures asked { AreAsked (shown self.old) (asked self.old) }
         ensures same { shown self.new ≡ shown self.old }
         ensures still { asked self.new ≡ asked self.old };
 
-    /// The least slot at or above this one whose grant, made or not, is by this user, of this kind on this table, in force
-    /// or not. It takes no memory.
+    /// The least slot at or above this one whose grant, made or not, is by this user, of this kind on this table, in force or not. It
+    /// doesn't allocate.
     fn next_by(&mut self, user: User, kind: Kind, table: Table, from: usize) -> Option<usize>
         ensures next { IsNext (is_by user kind table) (asked self.old) from result }
         ensures asked { AreAsked (shown self.old) (asked self.old) }
         ensures same { shown self.new ≡ shown self.old }
         ensures still { asked self.new ≡ asked self.old };
 
-    /// The least slot at or above this one of a grant in force to this user or to PUBLIC, of this kind on this table, and the last
-    /// end of such a grant; of grants with the option, where it is asked for. None where that isn't known unless one goes through the
-    /// slots. It takes no memory.
+    /// The least slot at or above this one of a grant in force to this user or to PUBLIC, of this kind on this table, and the last end of
+    /// such a grant; of grants with the option, where it is asked for. None where that isn't known unless one goes through the slots. It
+    /// doesn't allocate.
     fn next_in_force(
         &mut self,
         grantee: Grantee,
@@ -86,8 +86,29 @@ pub trait Records {
         None
     }
 
+    /// The slot that `next_in_force` finds, without the last end. None where that isn't known unless one goes through the slots. It doesn't
+    /// allocate.
+    fn next_slot_in_force(
+        &mut self,
+        grantee: Grantee,
+        kind: Kind,
+        table: Table,
+        option: bool,
+        from: usize,
+    ) -> Option<NextBy>
+        ensures next { IfSome result (λ next.
+            IsFirst (λ k. is_in_force (gives_to grantee kind table option) (slot_at (shown self.old) k)) from next.slot) }
+        ensures same { shown self.new ≡ shown self.old }
+        ensures still { asked self.new ≡ asked self.old }
+    {
+        match self.next_in_force(grantee, kind, table, option, from) {
+            Some(next) => Some(NextBy { slot: next.slot }),
+            None => None,
+        }
+    }
+
     /// The least slot at or above this one of a grant in force by this user to a user or to PUBLIC, as the grantee says, of this kind on
-    /// this table. None where that isn't known unless one goes through the slots. It takes no memory.
+    /// this table. None where that isn't known unless one goes through the slots. It doesn't allocate.
     fn next_in_force_by(
         &mut self,
         user: User,

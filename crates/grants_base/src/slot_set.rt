@@ -1,6 +1,6 @@
 //! A set of slots that has one as a rule.
 
-ghost use Rattle.std.specs.Prelude.{◌≡◌, [], OnErr, OnOk};
+ghost use Rattle.std.specs.Prelude.{◌≡◌, ◌<◌, ◌∷◌, [], All, IfNone, IfSome, OnErr, OnOk};
 ghost use Rattle.grants_base.specs.Index.{IsFirst, is_one_of};
 ghost use Rattle.grants_base.specs.SlotSet.{HasGained, HasLost};
 
@@ -11,7 +11,7 @@ use std::marker::Model;
 /// A set of slots. A single one takes no heap block. To add one, to take one away and to find the next takes a time that grows with the
 /// logarithm of their number.
 #[derive(Drop)]
-pub(crate) struct SlotSet {
+pub struct SlotSet {
     least: Option<usize>,
     others: BTreeSet<usize>,
 }
@@ -29,7 +29,7 @@ impl Model for SlotSet {
 }
 
 impl SlotSet {
-    /// No slots. It takes no memory.
+    /// No slots. It doesn't allocate.
     pub fn new(alloc: Global) -> Self
         ensures { result ≡ [] }
     {
@@ -65,6 +65,22 @@ impl SlotSet {
             self.least = self.others.pop_first();
         } else {
             self.others.remove(&slot);
+        }
+    }
+
+    /// Takes the least slot away, if there is one.
+    pub fn pop_first(&mut self) -> Option<usize>
+        ensures removal { IfSome result (λ slot. self.old ≡ slot ∷ self.new) }
+        ensures above { IfSome result (λ slot. All (λ other. slot < other) self.new) }
+        ensures none { IfNone result (self.old ≡ []) }
+        ensures same { IfNone result (self.new ≡ []) }
+    {
+        match self.least {
+            Some(slot) => {
+                self.least = self.others.pop_first();
+                Some(slot)
+            }
+            None => None,
         }
     }
 

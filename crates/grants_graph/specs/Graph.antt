@@ -1,5 +1,5 @@
--- How the grants in force at a place are spelled, as a digraph of Graphviz. Names stand between quotes as they are: one that the
--- grammar reads has small letters, digits and `_` alone (docs/FORMAT.md), so it holds no quote and no backslash.
+-- How the grants in force at a place are spelled, as a digraph of Graphviz. Names are between quotes as they are: one that the grammar
+-- reads has small letters, digits and `_` alone (docs/FORMAT.md), so it holds no quote and no backslash.
 use Rattle.std.specs.Prelude.{◌++◌, ◌&&◌, ℕ, Bool, List, [], codes, if◌then◌else◌, slice_get, unwrap_or}
 use Rattle.std.specs.Fmt.{decimal}
 use Rattle.std.specs.List.{flat_map, list_any}

@@ -16,7 +16,7 @@ use report::put_cause;
 use sequencer::{Catalog, NameTable};
 use std::alloc::AllocError;
 
-/// Puts the name of this number; nothing where there is none.
+/// Writes the name of this number; nothing where there is none.
 fn put_name(text: &mut Vec<u8>, names: &NameTable, number: usize) -> Result<(), AllocError>
     ensures { OnOk result (text.new.items ≡ text.old.items ++ table_name names.now number) }
 {
@@ -26,7 +26,7 @@ fn put_name(text: &mut Vec<u8>, names: &NameTable, number: usize) -> Result<(), 
     text.extend_from_slice(names.name(number as u32).as_bytes())
 }
 
-/// Puts a user as a node.
+/// Writes a user as a node.
 fn put_user(text: &mut Vec<u8>, users: &NameTable, user: User) -> Result<(), AllocError>
     ensures { OnOk result (text.new.items ≡ text.old.items ++ user_text users.now user) }
 {
@@ -35,7 +35,7 @@ fn put_user(text: &mut Vec<u8>, users: &NameTable, user: User) -> Result<(), All
     text.extend_from_slice(b"\"")
 }
 
-/// Puts a user as a box.
+/// Writes a user as a box.
 fn put_box(text: &mut Vec<u8>, users: &NameTable, user: User) -> Result<(), AllocError>
     ensures { OnOk result (text.new.items ≡ text.old.items ++ box_text users.now user) }
 {
@@ -44,7 +44,7 @@ fn put_box(text: &mut Vec<u8>, users: &NameTable, user: User) -> Result<(), Allo
     text.extend_from_slice(b" [shape=box];")
 }
 
-/// Puts the line of the table of this number: its owner as a box.
+/// Writes the line of the table of this number: its owner as a box.
 fn put_owner(
     text: &mut Vec<u8>,
     names: &Catalog,
@@ -59,7 +59,7 @@ fn put_owner(
     text.extend_from_slice(b"\n")
 }
 
-/// Puts the line of a table if it was created below the place.
+/// Writes the line of a table if it was created below the place.
 fn put_table(
     text: &mut Vec<u8>,
     names: &Catalog,
@@ -77,7 +77,7 @@ fn put_table(
     }
 }
 
-/// Puts the lines of the tables.
+/// Writes the lines of the tables.
 fn put_tables(
     text: &mut Vec<u8>,
     names: &Catalog,
@@ -93,7 +93,7 @@ fn put_tables(
     Ok(())
 }
 
-/// Puts a place.
+/// Writes a place.
 fn put_place(text: &mut Vec<u8>, place: Place) -> Result<(), AllocError>
     ensures { OnOk result (text.new.items ≡ text.old.items ++ decimal place) }
 {
@@ -101,7 +101,7 @@ fn put_place(text: &mut Vec<u8>, place: Place) -> Result<(), AllocError>
     text.extend_from_slice(buffer.format(place).as_bytes())
 }
 
-/// Puts that a grant is with the option.
+/// Writes that a grant is with the option.
 fn put_option(text: &mut Vec<u8>, option: bool) -> Result<(), AllocError>
     ensures { OnOk result (text.new.items ≡ text.old.items ++ (if option then codes " option" else [])) }
 {
@@ -112,7 +112,7 @@ fn put_option(text: &mut Vec<u8>, option: bool) -> Result<(), AllocError>
     }
 }
 
-/// Puts the label of a grant: its place, its kind, its table, and whether it is with the option.
+/// Writes the label of a grant: its place, its kind, its table, and whether it is with the option.
 fn put_label(text: &mut Vec<u8>, tables: &NameTable, grant: &Grant) -> Result<(), AllocError>
     ensures { OnOk result (text.new.items ≡ text.old.items ++ label_text tables.now grant.now) }
 {
@@ -134,7 +134,7 @@ fn fell_at(place: Place, entry: &Record) -> bool
     }
 }
 
-/// Puts how the edge of a grant ends that fell at the place: it is dashed, and says the place.
+/// Writes how the edge of a grant ends that fell at the place: it is dashed, and says the place.
 fn put_fallen(text: &mut Vec<u8>, place: Place) -> Result<(), AllocError>
     ensures { OnOk result (text.new.items ≡ text.old.items ++ fallen_text place) }
 {
@@ -142,7 +142,7 @@ fn put_fallen(text: &mut Vec<u8>, place: Place) -> Result<(), AllocError>
     text.extend_from_slice(b"\", style=dashed];\n")
 }
 
-/// Puts how the edge of a grant ends.
+/// Writes how the edge of a grant ends.
 fn put_ending(text: &mut Vec<u8>, place: Place, entry: &Record) -> Result<(), AllocError>
     ensures { OnOk result (text.new.items ≡ text.old.items ++ edge_ending_text place entry.now) }
 {
@@ -153,7 +153,7 @@ fn put_ending(text: &mut Vec<u8>, place: Place, entry: &Record) -> Result<(), Al
     }
 }
 
-/// Puts a grantee as a node.
+/// Writes a grantee as a node.
 fn put_grantee(text: &mut Vec<u8>, users: &NameTable, grantee: &Grantee) -> Result<(), AllocError>
     ensures { OnOk result (text.new.items ≡ text.old.items ++ grantee_text users.now grantee.now) }
 {
@@ -163,7 +163,7 @@ fn put_grantee(text: &mut Vec<u8>, users: &NameTable, grantee: &Grantee) -> Resu
     }
 }
 
-/// Puts a grant as an edge from its grantor to its grantee.
+/// Writes a grant as an edge from its grantor to its grantee.
 fn put_edge(
     text: &mut Vec<u8>,
     names: &Catalog,
@@ -192,7 +192,7 @@ fn is_in_force_at(place: Place, entry: &Record) -> bool
     entry.grant.place < place && !has_fallen
 }
 
-/// Puts the line of a grant if it was in force at the place.
+/// Writes the line of a grant if it was in force at the place.
 fn put_grant(
     text: &mut Vec<u8>,
     names: &Catalog,
@@ -209,7 +209,7 @@ fn put_grant(
     }
 }
 
-/// Puts the lines of the grants.
+/// Writes the lines of the grants.
 fn put_grants(
     text: &mut Vec<u8>,
     names: &Catalog,
@@ -242,7 +242,7 @@ fn draws_public(place: Place, records: &[Record]) -> bool
     records.iter().any(|entry| is_drawn_to_public(place, entry))
 }
 
-/// Puts PUBLIC as a double circle if a grant to it was in force at the place.
+/// Writes PUBLIC as a double circle if a grant to it was in force at the place.
 fn put_public(text: &mut Vec<u8>, place: Place, records: &[Record]) -> Result<(), AllocError>
     ensures { OnOk result (text.new.items ≡ text.old.items ++ public_text place records.now) }
 {
@@ -253,7 +253,7 @@ fn put_public(text: &mut Vec<u8>, place: Place, records: &[Record]) -> Result<()
     }
 }
 
-/// Puts PUBLIC, where an edge leads to it, and the lines of the grants.
+/// Writes PUBLIC, where an edge leads to it, and the lines of the grants.
 fn put_granted(
     text: &mut Vec<u8>,
     names: &Catalog,
@@ -266,13 +266,12 @@ fn put_granted(
     put_grants(text, names, place, records)
 }
 
-/// Puts the grants in force at a place behind the text, as a digraph of Graphviz: a line for each table that was created below
-/// the place, in their order, with its owner as a box, one for PUBLIC as a double circle if an edge leads to it, and then an edge
-/// for each grant that was made below the place and was in force there, in the order of their places. An edge leads from the
-/// grantor to the grantee, and its label is the place of the grant, its kind and its table, and `option` where it has that. What
-/// the statement of the place itself took is still there, dashed, with `taken` and the place. The names are those of the log that
-/// made the book; where one is missing nothing stands for it. After an error, which is want of memory, some of the digraph may
-/// stand behind the text.
+/// Appends the grants in force at a place to the text, as a digraph of Graphviz: a line for each table that was created below the place, in
+/// their order, with its owner as a box, one for PUBLIC as a double circle if an edge leads to it, and then an edge for each grant that was
+/// made below the place and was in force there, in the order of their places. An edge leads from the grantor to the grantee, and its label
+/// is the place of the grant, its kind and its table, and `option` where it has that. What the statement of the place itself took is still
+/// there, dashed, with `taken` and the place. The names are those of the log that made the book; where one is missing nothing stands for
+/// it. After an error, which means out of memory, some of the digraph may be after the text.
 pub fn put_graph(
     text: &mut Vec<u8>,
     names: &Catalog,

@@ -43,7 +43,7 @@ countdown =
       deed = λ index. Some (revocation_of index);
     }
 
--- the number that the own words of a place tell
+-- the number that the own words of a place say
 abbrev pub told_number : List ℕ → ℕ
 told_number (_ ∷ suc _ ∷ number ∷ _) = number
 told_number _ = 0

@@ -1,5 +1,5 @@
-//! Logs of a few lines, and each call of the names and of the catalog. Where memory is refused once, a line is put again, and
-//! all has to be as it was.
+//! Logs of a few lines, and each call of the names and of the catalog. Where memory is refused once, a line is written again, and all has
+//! to be as it was.
 
 use crate::telling::tell;
 use log_text::{LineFault, RawStatement, parse_line};
@@ -32,7 +32,7 @@ fn counts(catalog: &Catalog) -> (usize, usize, Place) {
     )
 }
 
-/// The log's answer to a line, which is put again if memory was refused and nothing has changed.
+/// The log's answer to a line, which is written again if memory was refused and nothing has changed.
 fn pushed(alloc: Global, log: &mut Log, line: &str) -> Result<Place, Refused> {
     let before = counts(log.catalog());
     let answer = push(alloc, log, line);
@@ -42,7 +42,7 @@ fn pushed(alloc: Global, log: &mut Log, line: &str) -> Result<Place, Refused> {
     answer
 }
 
-/// Tells the log's answer to each line, and how many names and statements it has then.
+/// Reports the log's answer to each line, and how many names and statements it has then.
 fn tell_lines(rt: &impl Print, alloc: Global, log: &mut Log, lines: &[&str]) {
     for line in lines {
         let answer = pushed(alloc, log, line);
@@ -74,7 +74,7 @@ fn tell_table(rt: &impl Print, log: &Log, name: &str) {
     tell(rt, tables.name(number), &(table, owner, columns));
 }
 
-/// Tells the answers to lines, the names of the log that they make, and its statements with numbers.
+/// Reports the answers to lines, the names of the log that they make, and its statements with numbers.
 fn tell_growing(rt: &impl Print, alloc: Global, log: &mut Log, lines: &[&str]) {
     tell_lines(rt, alloc, log, lines);
     tell(rt, "places", &log.len());
@@ -132,7 +132,7 @@ fn admitted(alloc: Global, catalog: &mut Catalog, line: &str) -> Result<User, Re
     Ok(kept[kept.len() - 1].user)
 }
 
-/// The catalog's answer to a line, which is put again if memory was refused and nothing has changed.
+/// The catalog's answer to a line, which is written again if memory was refused and nothing has changed.
 fn admitted_again(alloc: Global, catalog: &mut Catalog, line: &str) -> Result<User, Refused> {
     let before = counts(catalog);
     let answer = admitted(alloc, catalog, line);
@@ -142,7 +142,7 @@ fn admitted_again(alloc: Global, catalog: &mut Catalog, line: &str) -> Result<Us
     answer
 }
 
-/// Tells the catalog's answer to each line: the user who asks, if it is taken.
+/// Reports the catalog's answer to each line: the user who asks, if it is taken.
 fn tell_catalog(rt: &impl Print, alloc: Global, catalog: &mut Catalog, lines: &[&str]) {
     for line in lines {
         let answer = admitted_again(alloc, catalog, line);
@@ -160,7 +160,7 @@ fn admit_user(alloc: Global, catalog: &mut Catalog, number: u32) -> Result<User,
     admitted(alloc, catalog, line.as_str())
 }
 
-/// Puts users behind the first one, up to so many.
+/// Appends users after the first one, up to this many.
 fn admit_users(alloc: Global, catalog: &mut Catalog, users: u32) -> Result<(), Refused> {
     for number in 1..users {
         admit_user(alloc, catalog, number)?;
@@ -216,7 +216,7 @@ fn tell_names(rt: &impl Print, names: &mut NameTable) {
     tell(rt, "bea is found", &names.find("bea"));
 }
 
-/// Tells what a new log answers to lines.
+/// Reports what a new log answers to lines.
 fn tell_log(rt: &impl Print, alloc: Global, lines: &[&str]) {
     tell_growing(rt, alloc, &mut Log::new(alloc), lines);
 }
@@ -231,7 +231,7 @@ fn tell_new_catalog(rt: &impl Print, alloc: Global, many: bool) {
     }
 }
 
-/// Tells what logs and catalogs answer.
+/// Reports what logs and catalogs answer.
 pub fn tell_admitted_lines(rt: &impl Print, alloc: Global) {
     tell_log(rt, alloc, &FEW);
     tell_log(rt, alloc, &DEEDS);

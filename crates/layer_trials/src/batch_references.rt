@@ -19,7 +19,7 @@ fn parsed<'a>(alloc: Global, line: &'a str) -> Result<RawStatement<'a>, LineFaul
     }
 }
 
-/// Puts a line behind a log.
+/// Appends a line after a log.
 fn put_line(alloc: Global, log: &mut LogTail, line: &str) -> Result<(), TrialFault> {
     for _ in 0..2 {
         if let Ok(statement) = parsed(alloc, line) {
@@ -31,7 +31,7 @@ fn put_line(alloc: Global, log: &mut LogTail, line: &str) -> Result<(), TrialFau
     Err(TrialFault::Line)
 }
 
-/// The place, or the first one whose statement is kept if that lies behind it.
+/// The place, or the first one whose statement is kept if that lies after it.
 fn kept_from(log: &LogTail, place: Place) -> Place
     ensures { log.now.dropped ≤ result }
 {
@@ -114,7 +114,7 @@ const LINES: [&str; 7] = [
     "alice REVOKE READ t bob",
 ];
 
-/// Puts the lines behind a log.
+/// Appends the lines after a log.
 fn put_lines(alloc: Global, log: &mut LogTail) -> Result<(), TrialFault> {
     for line in LINES {
         put_line(alloc, log, line)?;

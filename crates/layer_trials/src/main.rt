@@ -1,5 +1,7 @@
-//! Single layers, tried: each call on a few values, and what is left where a growth, a read or a write is refused. What is
-//! printed, a line for each finding, is compared with `stdout`.
+//! Trials of single layers.
+//!
+//! Each call on a few values, and what is left after a refused growth, read or write. What is printed, a line for each
+//! finding, is compared with `stdout`.
 #![tactic(auto)]
 
 mod admitted_lines;

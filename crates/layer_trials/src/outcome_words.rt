@@ -77,7 +77,7 @@ fn answering(alloc: Global) -> Result<Form, AllocError>
     })
 }
 
-/// Tells the words of an outcome, and the outcome that they tell.
+/// Reports the words of an outcome, and the outcome that they say.
 fn tell_words(rt: &impl Print, alloc: Global, form: &Form, outcome: &Outcome)
     requires needs { length (needs form.now) ≤ 2 }
     requires outputs { outputs_of form.now ≤ 1 }
@@ -89,7 +89,7 @@ fn tell_words(rt: &impl Print, alloc: Global, form: &Form, outcome: &Outcome)
     tell(rt, "the words of an outcome", &(words.as_slice(), &told));
 }
 
-/// Tells what words tell that are of no outcome.
+/// Reports what words say that are of no outcome.
 fn tell_no_words(rt: &impl Print, alloc: Global, words: &[u64]) {
     let told = decoded(&revoking(), words, Items::empty(alloc));
     tell(rt, "no words of an outcome", &(words, &told));
@@ -164,7 +164,7 @@ fn tell_others(rt: &impl Print, alloc: Global) -> Result<(), TrialFault> {
     tell_answering(rt, alloc, &Outcome::Undeclared { step: 0 })
 }
 
-/// The row of two columns that the words from a number on tell.
+/// The row of two columns that the words from a number on say.
 fn row_from(words: &OwnWords, number: usize) -> Option<Row> {
     let words = words.as_slice();
     if words.len() < number {
@@ -183,7 +183,7 @@ fn row() -> Row
     row
 }
 
-/// Tells the words of a version cell without a row and of one with a row, and the rows that they tell.
+/// Reports the words of a version cell without a row and of one with a row, and the rows that they say.
 fn tell_rows(rt: &impl Print) {
     let mut words = OwnWords::new();
     words.put_header(&creating(), &Outcome::Created);
@@ -198,7 +198,7 @@ fn tell_rows(rt: &impl Print) {
     tell(rt, "their rows", &(first, second));
 }
 
-/// Tells numbers as 64 bits, and what such tell.
+/// Reports numbers as 64 bits, and what such say.
 fn tell_numbers(rt: &impl Print) {
     tell(rt, "bits", &(bits_of(-1), bits_of(i64::MIN)));
     let (last, half) = (18_446_744_073_709_551_615, 9_223_372_036_854_775_808);

@@ -395,7 +395,7 @@ fn revoke(alloc: Global, book: &mut Book) -> Result<(), TrialFault> {
     Ok(())
 }
 
-/// Tells the words of places and what they end. Behind the revocation of place 4 Carol lacks READ, the first of the needs.
+/// Reports the words of places and what they end. After the revocation of place 4 Carol lacks READ, the first of the needs.
 fn tell_with(rt: &impl Print, alloc: Global, book: &mut Book) -> Result<(), TrialFault> {
     put_shared(book)?;
     tell_bodies(rt, alloc, book)?;

@@ -9,7 +9,7 @@ use crate::telling::text_of;
 use log_text_base::{Counted, LineReader, MemoryReader};
 use std::alloc::{AllocError, Global};
 
-/// Puts a piece so many times behind a text.
+/// Appends a piece this many times after a text.
 fn put_piece(text: &mut Vec<u8>, piece: &str, times: usize) -> Result<(), AllocError> {
     for _ in 0..times {
         text.extend_from_slice(piece.as_bytes())?;
@@ -17,7 +17,7 @@ fn put_piece(text: &mut Vec<u8>, piece: &str, times: usize) -> Result<(), AllocE
     Ok(())
 }
 
-/// The text of pieces, each so many times.
+/// The text of pieces, each this many times.
 fn text_of_pieces(alloc: Global, pieces: &[(&str, usize)]) -> Result<Vec<u8>, AllocError> {
     let mut text = Vec::new(alloc);
     for (piece, times) in pieces {
@@ -40,7 +40,7 @@ fn shortened(line: &[u8]) -> &str {
     text_of(line)
 }
 
-/// Asks for so many lines. Tells of each the answer, and the line that is there then.
+/// Asks for this many lines. Tells of each the answer, and the line that is there then.
 fn tell_calls(
     rt: &impl Print,
     name: &str,
@@ -61,7 +61,7 @@ fn tell_calls(
     }
 }
 
-/// Tells so many lines of a reader.
+/// Reports this many lines of a reader.
 fn tell_lines(
     rt: &impl Print,
     alloc: Global,

@@ -18,7 +18,7 @@ struct Countdown {
     alloc: Global,
 }
 
-/// The number that own words tell.
+/// The number that own words say.
 fn number_told(own: &[u64]) -> u64
     ensures { result ≡ told_number own.now }
 {
@@ -195,7 +195,7 @@ fn tell_state(rt: &impl Print, state: &State) {
     tell(rt, "  the record", &state.end(0));
 }
 
-/// Makes events, list by list, and tells what they come to.
+/// Makes events, list by list, and says what they result in.
 fn tell_events(
     rt: &impl Print,
     name: &str,
@@ -214,7 +214,7 @@ fn tell_events(
     Ok(())
 }
 
-/// Tells what events come to.
+/// Reports what events result in.
 fn tell_after(
     rt: &impl Print,
     alloc: Global,

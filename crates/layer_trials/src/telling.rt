@@ -2,7 +2,7 @@
 
 use std::fmt::Debug;
 
-/// Tells what was found of something. A line that can't be written is missing in what is compared, so nobody is told of it.
+/// Reports what was found of something. A line that can't be written is missing in what is compared, so it isn't noticed otherwise.
 pub fn tell<T: Debug>(rt: &impl Print, what: &str, found: &T) {
     let _ = println!(rt; "{what}: {found:?}");
 }

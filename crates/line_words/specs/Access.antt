@@ -36,15 +36,15 @@ is_in_order (c ∷ cs) (b ∷ bs) = if b == c then is_in_order cs bs else is_in_
 abbrev pub is_letters : List ℕ → Bool
 is_letters w = not (length w == 0) && is_in_order (codes "RIUD") w
 
--- what stands before a word's first colon
+-- what is before a word's first colon
 abbrev pub before_colon : List ℕ → List ℕ
 before_colon w = before_first (λ b. b == 58) w
 
--- what stands behind it, empty if there is no colon
+-- what comes after it, empty if there is no colon
 abbrev pub after_colon : List ℕ → List ℕ
 after_colon w = after_first (λ b. b == 58) w
 
--- the fault of a word where an access stands: it is cut at its first two colons, and a part that is missing is empty
+-- the fault of a word where an access is expected: it is cut at its first two colons, and a part that is missing is empty
 abbrev pub access_fault : List ℕ → Option LineFault
 access_fault w =
     or_else (unless (is_name (before_colon w)) BadName)

@@ -12,7 +12,7 @@ abbrev pub or_else : Option LineFault → Option LineFault → Option LineFault
 or_else None later = later
 or_else (Some f) later = Some f
 
--- want of memory, or the fault that is there
+-- out of memory, or the fault that is there
 abbrev pub IsFault : LineFault → Option LineFault → Type 0
 IsFault NoMemory found = Unit {0}
 IsFault f found = found ≡ Some f

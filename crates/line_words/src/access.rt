@@ -17,7 +17,7 @@ pub struct RawAccess<'a> {
     pub kinds: Kinds,
 }
 
-/// The parts before and behind the first colon.
+/// The parts before and after the first colon.
 fn cut(word: &[u8]) -> (&[u8], &[u8])
     ensures before { result.0.now ≡ before_colon word.now }
     ensures behind { result.1.now ≡ after_colon word.now }
@@ -29,7 +29,7 @@ fn cut(word: &[u8]) -> (&[u8], &[u8])
     (&word[..end], &word[end + 1..])
 }
 
-/// Takes a letter off, if it stands first.
+/// Takes a letter off, if it is first.
 #[tactic(auto, using(crate::proofs::AccessLemmas::order_nil, crate::proofs::AccessLemmas::order_other))]
 fn strip(text: &[u8], letter: u8) -> (bool, &[u8])
     ensures text { text.now ≡ letter_if result.0 letter ++ result.1.now }

@@ -14,15 +14,15 @@ pub enum LineFault {
     NotAscii = 2,
     /// No byte.
     Empty = 3,
-    /// Not one of the fixed words that may stand here, no letters of an access, or a word behind the end.
+    /// Not one of the fixed words that may come here, no letters of an access, or a word after the end.
     UnknownWord = 4,
-    /// Not a number of the form that stands here.
+    /// Not a number of the form that is wanted here.
     BadNumber = 5,
     /// Not a name.
     BadName = 6,
-    /// A step behind `MOST_STEPS`, or an OUT behind `MOST_OUTPUTS`.
+    /// A step after `MOST_STEPS`, or an OUT after `MOST_OUTPUTS`.
     TooManySteps = 7,
-    /// An access behind `MOST_ACCESSES`.
+    /// An access after `MOST_ACCESSES`.
     TooManyAccesses = 8,
     /// A register of the number `MOST_REGISTERS` or above.
     BadRegister = 9,

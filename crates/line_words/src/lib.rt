@@ -1,4 +1,11 @@
-//! The words of a line: pieces between single spaces, and which of them are names, numbers and accesses.
+//! The words of a line: names, numbers, steps and accesses.
+//!
+//! `Words` gives the pieces between single spaces. `next_name`, `next_number`, `next_step`, `next_access` and the like
+//! take a word of the usual form where it is, in one pass over its bytes; if they find none, the words are as they
+//! were, and the caller cuts the next word and judges it. `Name` is a slice of its line, and `plain_value`,
+//! `whole_value` and `access_of` read the one spelling that a value has. `LineFault` says why a line is no statement.
+//!
+//! Nothing here allocates.
 #![tactic(auto)]
 
 mod access;

@@ -6,7 +6,7 @@ use std::marker::Model;
 
 /// The name of a user or a table: a to z, then a to z, 0 to 9 and underscore, at most `MOST_NAME_BYTES` in all.
 ///
-/// It is a slice of the line that spells it, so it takes no memory of its own.
+/// It is a slice of the line that spells it, so it doesn't allocate of its own.
 #[derive(Drop)]
 pub struct Name<'a> {
     text: &'a str,
@@ -61,7 +61,7 @@ ghost use Rattle.std.specs.Prelude.{◌≡◌};
 ghost use Rattle.std.specs.List.{list_all};
 ghost use Rattle.line_words.specs.Words.{is_name, is_name_byte};
 
-/// Whether the byte may stand in a name. It is looked up in a table that has an n for those that may.
+/// Whether the byte may be in a name. It is looked up in a table that has an n for those that may.
 #[inline(always)]
 pub(crate) fn may_be_in_name(byte: u8) -> bool
     ensures { result ≡ is_name_byte byte }
@@ -71,7 +71,7 @@ pub(crate) fn may_be_in_name(byte: u8) -> bool
     table[usize::from(byte)] == b'n'
 }
 
-/// Whether each byte may stand in a name.
+/// Whether each byte may be in a name.
 fn has_name_bytes(bytes: &[u8]) -> bool
     ensures { result ≡ list_all is_name_byte bytes.now }
 {

@@ -54,7 +54,7 @@ pub fn plain_value(word: &[u8]) -> Option<u32>
     Some(value as u32)
 }
 
-/// The number of 64 bits that digits behind a minus spell.
+/// The number of 64 bits that digits after a minus spell.
 fn negative_value(digits: &[u8]) -> Option<i64>
     ensures { result ≡ signed_of (45 ∷ digits.now) }
 {

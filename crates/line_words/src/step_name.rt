@@ -46,8 +46,8 @@ impl StepName {
         }
     }
 
-    /// The step with whose word and a space a text begins. Of fewer than five bytes it tells none, and of fewer than
-    /// seven none whose word has five bytes or six.
+    /// The step with whose word and a space a text begins. Of fewer than five bytes it says none, and of fewer than seven none whose word
+    /// has five bytes or six.
     #[inline(always)]
     pub(crate) fn at_front(text: &[u8]) -> Option<StepName>
         ensures within { IfSome result (λ s. length (step_word s) < length text.now) }

@@ -13,7 +13,7 @@ use crate::step_name::StepName;
 use model_base::{Kinds, MOST_NAME_BYTES, MOST_REGISTERS, Register};
 use std::marker::Model;
 
-/// The index of the first byte of this value at or behind `start`, or the length if there is none.
+/// The index of the first byte of this value at or after `start`, or the length if there is none.
 pub(crate) fn place_from(bytes: &[u8], start: usize, value: u8) -> usize
     requires { start ≤ length bytes.now }
     ensures value { result ≡ start + position_or_len (λ b. b == value) (drop start bytes.now) }
@@ -26,7 +26,7 @@ pub(crate) fn place_from(bytes: &[u8], start: usize, value: u8) -> usize
     place
 }
 
-/// The index of the first byte at or behind `start` that can't stand in a name, or the length if there is none.
+/// The index of the first byte at or after `start` that can't be in a name, or the length if there is none.
 fn name_end(bytes: &[u8], start: usize) -> usize
     requires { start ≤ length bytes.now }
     ensures value { result ≡ start + prefix_len is_name_byte (drop start bytes.now) }
@@ -79,7 +79,7 @@ fn begins_with(text: &[u8], word: &[u8]) -> bool
     same_four(text, word, 0) && same_four(text, word, len - 4)
 }
 
-/// Whether a name stands at an index of a line, with a colon behind it.
+/// Whether a name is at an index of a line, with a colon after it.
 #[inline(always)]
 fn has_name_at(line: &[u8], start: usize, name: &Name<'_>) -> bool
     requires { start ≤ length line.now }
@@ -92,8 +92,8 @@ fn has_name_at(line: &[u8], start: usize, name: &Name<'_>) -> bool
     text.len() > word.len() && text[word.len()] == b':' && begins_with(text, word)
 }
 
-/// The index of the first byte at or behind `start` that can't stand in a name, as `name_end`. One name is compared first: where it
-/// stands there, with a colon behind it, its bytes aren't gone over one by one.
+/// The index of the first byte at or after `start` that can't be in a name, as `name_end`. One name is compared first: where it is there,
+/// with a colon after it, its bytes aren't gone over one by one.
 #[inline(always)]
 fn name_end_by(line: &[u8], start: usize, near: Option<&Name<'_>>) -> usize
     requires { start ≤ length line.now }
@@ -106,7 +106,7 @@ fn name_end_by(line: &[u8], start: usize, near: Option<&Name<'_>>) -> usize
     }
 }
 
-/// Whether a word ends before an index of a line: a space stands there, or the line ends.
+/// Whether a word ends before an index of a line: a space is there, or the line ends.
 #[inline(always)]
 fn ends_at(line: &[u8], end: usize) -> bool
     ensures { OnTrue result (end < length line.now → slice_index_or line.now end 0 ≡ 32) }
@@ -117,7 +117,7 @@ fn ends_at(line: &[u8], end: usize) -> bool
 /// So many digits at most are taken at once: what they write is below 2^32.
 const MOST_DIGITS: usize = 9;
 
-/// The number that the digits at an index of the line write, `MOST_DIGITS` of them at most, and the index behind them.
+/// The number that the digits at an index of the line write, `MOST_DIGITS` of them at most, and the index after them.
 #[inline(always)]
 fn digits_from(line: &[u8], start: usize) -> (u32, usize)
     requires { start ≤ length line.now }
@@ -137,7 +137,7 @@ fn digits_from(line: &[u8], start: usize) -> (u32, usize)
     (value, place)
 }
 
-/// The word at an index of a line, and the index of the word behind it. None past the line's end.
+/// The word at an index of a line, and the index of the word after it. None past the line's end.
 #[inline(never)]
 fn word_at(line: &[u8], start: usize) -> Option<(&[u8], usize)>
     ensures { MatchOption result (words_from start line.now ≡ []) (λ w. words_from start line.now ≡ w.0.now ∷ words_from w.1 line.now) }
@@ -149,7 +149,7 @@ fn word_at(line: &[u8], start: usize) -> Option<(&[u8], usize)>
     Some((&line[start..end], end + 1))
 }
 
-/// The number of two to nine digits that is the word at an index of a line, in decimal form, and the index behind it, or that index itself
+/// The number of two to nine digits that is the word at an index of a line, in decimal form, and the index after it, or that index itself
 /// where no such number is the word.
 #[inline(always)]
 fn long_number_at(line: &[u8], start: usize) -> (u32, usize)
@@ -169,7 +169,7 @@ fn long_number_at(line: &[u8], start: usize) -> (u32, usize)
     }
 }
 
-/// Whether a letter stands at an index of the line, and the index behind it.
+/// Whether a letter is at an index of the line, and the index after it.
 #[inline(always)]
 fn behind_letter(line: &[u8], place: usize, letter: u8) -> (bool, usize)
     requires { place ≤ length line.now }
@@ -254,7 +254,7 @@ impl<'a> Words<'a> {
         Some(word)
     }
 
-    /// Takes a bar, if it is the next word and stands as it does in most lines; otherwise the words stay as they are.
+    /// Takes a bar, if it is the next word and is spelled as in most lines; otherwise the words stay as they are.
     #[inline(always)]
     pub fn next_bar(&mut self) -> bool
         ensures { MatchBool result (self.old ≡ codes "|" ∷ self.new) (self.new ≡ self.old) }
@@ -304,7 +304,7 @@ impl<'a> Words<'a> {
         Some(number)
     }
 
-    /// Takes three registers of one digit each and the bar behind them, if these are the next words and another follows; otherwise the words
+    /// Takes three registers of one digit each and the bar after them, if these are the next words and another follows; otherwise the words
     /// stay as they are. It looks at the eight bytes at once.
     #[inline(always)]
     pub fn next_operands(&mut self) -> Option<(Register, Register, Register)>

@@ -22,3 +22,4 @@ pub mod Earlier
 pub mod OnlySlot
 pub mod Referring
 pub mod AtHand
+pub mod AtStart

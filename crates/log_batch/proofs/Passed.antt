@@ -21,7 +21,7 @@ behind-at [] (suc count) k = refl
 behind-at (first ∷ grants) (suc count) k =
     let same : suc (count + k) ≡ suc count + k = omega arith in behind-at grants count k ∙ ap (λ i. slice_get (first ∷ grants) i) same
 
-taken-past : (passes : Grant → Bool) (grants : List Grant) (count k : ℕ) → count ≤ k → passes_at passes (take count grants) k ≡ false
+pub taken-past : (passes : Grant → Bool) (grants : List Grant) (count k : ℕ) → count ≤ k → passes_at passes (take count grants) k ≡ false
 taken-past passes grants count k over =
     let long = length-take count grants in
     ap (λ found. option_map_or passes found false) (slice_get_past (take count grants) k (omega arith))

@@ -1,4 +1,4 @@
--- What is at hand of the references of a range's places: the references, or only how many each place has.
+-- What is available of the references of a range's places: the references, or only how many each place has.
 use Rattle.std.specs.Prelude.{◌≡◌, ◌<◌, ◌+◌, ℕ, Bool, true, false, List, [], length, map, slice_index}
 use Rattle.model_base.specs.declared.reference.Reference.{Reference}
 use Rattle.model_base.specs.declared.statement.Statement.{Statement}
@@ -21,12 +21,12 @@ abbrev pub counts_in : References → List ℕ
 counts_in (Found listed) = map (λ (list : List Reference). length list) listed
 counts_in (Counted counts) = counts.items
 
--- so many references have so many places of the log, from the first of a range on
+-- this many references have this many places of the log, from the first of a range on
 pub record AreCounts (log : List Statement) (first size : ℕ) (counts : List ℕ) : Type 0 where
   pub every : length counts ≡ size
   pub each : (index : ℕ) → index < size → slice_index counts index ≡ length (references log first (first + index))
 
--- it is at hand for a range of the log: the references of its places, if they were found, and how many each place has
+-- it is available for a range of the log: the references of its places, if they were found, and how many each place has
 pub record AreAtHand (log : List Statement) (first size : ℕ) (at_hand : References) : Type 0 where
   pub found : is_found at_hand ≡ true → listed_in at_hand ≡ batch_references log first (first + size)
   pub counts : AreCounts log first size (counts_in at_hand)

@@ -5,6 +5,7 @@ ghost use Rattle.std.specs.Option.{MatchOption};
 ghost use Rattle.model_base.specs.declared.deed.Grant.{Grant};
 ghost use Rattle.grants_base.specs.Index.{IsNext, is_by, is_to};
 ghost use Rattle.bohm_core_base.specs.Batch.{batch_slots};
+ghost use Rattle.log_batch.specs.Earlier.{earlier_count};
 ghost use Rattle.log_batch.specs.Supplied.{batch_in};
 
 use crate::batch::LogBatch;
@@ -12,8 +13,8 @@ use bohm_core_base::slots_stand_in_order;
 use model_base::{Grantee, Kind, Place, Table, User};
 
 impl LogBatch<'_> {
-    /// The first slot whose grant doesn't lie below the place. It takes no memory, and a time that grows with the logarithm of
-    /// the number of slots.
+    /// The first slot whose grant doesn't lie below the place. It doesn't allocate, and takes a time that grows with the logarithm of the
+    /// number of slots.
     fn slot_from(&self, place: Place) -> usize
         ensures below { (slot : ℕ) (grant : Grant)
             → slot < result → slice_get (batch_slots (batch_in self.now)) slot ≡ Some grant → grant.place < place }
@@ -35,8 +36,8 @@ impl LogBatch<'_> {
         low
     }
 
-    /// The slot of the grant of a place, if there is one. It takes no memory, and a time that grows with the logarithm of the
-    /// number of slots.
+    /// The slot of the grant of a place, if there is one. It doesn't allocate, and takes a time that grows with the logarithm of the number
+    /// of slots.
     pub fn slot_of(&self, place: Place) -> Option<usize>
         ensures found { MatchOption result
             ((slot : ℕ) (grant : Grant) → slice_get (batch_slots (batch_in self.now)) slot ≡ Some grant → grant.place ≢ place)
@@ -55,8 +56,8 @@ impl LogBatch<'_> {
         }
     }
 
-    /// The least slot at or above this one whose grant, made or not, is to this grantee, of this kind on this table, in force or
-    /// not. It takes no memory, and a time that grows with the logarithm of the number of such grants.
+    /// The least slot at or above this one whose grant, made or not, is to this grantee, of this kind on this table, in force or not. It
+    /// doesn't allocate, and takes a time that grows with the logarithm of the number of such grants.
     pub fn next_to(&self, grantee: &Grantee, kind: Kind, table: Table, from: usize) -> Option<usize>
         ensures { IsNext (is_to grantee.now kind table) (batch_slots (batch_in self.now)) from result }
     {
@@ -70,8 +71,28 @@ impl LogBatch<'_> {
         }
     }
 
-    /// The least slot at or above this one whose grant, made or not, is by this user, of this kind on this table, in force or
-    /// not. It takes no memory, and a time that grows with the logarithm of the number of such grants.
+    /// The least slot at or above this one, which is one of the batch's own grants or above, whose grant, made or not, is to this grantee,
+    /// of this kind on this table. It doesn't allocate, and takes a time that grows with the logarithm of the number of such grants of the
+    /// batch.
+    pub fn next_own_to(
+        &self,
+        grantee: &Grantee,
+        kind: Kind,
+        table: Table,
+        from: usize,
+    ) -> Option<usize>
+        requires { earlier_count (batch_in self.now) ≤ from }
+        ensures { IsNext (is_to grantee.now kind table) (batch_slots (batch_in self.now)) from result }
+    {
+        let earlier = self.earlier_count();
+        match self.own_to(grantee, kind, table, from - earlier) {
+            Some(slot) => Some(earlier + slot),
+            None => None,
+        }
+    }
+
+    /// The least slot at or above this one whose grant, made or not, is by this user, of this kind on this table, in force or not. It
+    /// doesn't allocate, and takes a time that grows with the logarithm of the number of such grants.
     pub fn next_by(&self, user: User, kind: Kind, table: Table, from: usize) -> Option<usize>
         ensures { IsNext (is_by user kind table) (batch_slots (batch_in self.now)) from result }
     {

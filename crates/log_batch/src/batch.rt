@@ -6,18 +6,20 @@ ghost use Rattle.model_base.specs.Records.{grants_of};
 ghost use Rattle.model_base.specs.Outcomes.{deeds_before, owners, rows_before};
 ghost use Rattle.model_base.specs.References.{batch_references, references};
 ghost use Rattle.grants_base.specs.Book.{ShowsBook};
-ghost use Rattle.grants_base.specs.Index.{IsNext, is_by, is_to};
+ghost use Rattle.grants_base.specs.Force.{gives_by, gives_to, is_in_force};
+ghost use Rattle.grants_base.specs.InForce.{IsNextInForce};
+ghost use Rattle.grants_base.specs.Index.{IsFirst, IsNext, is_by, is_to};
 ghost use Rattle.chains.specs.Store.{IsRight};
 ghost use Rattle.sequencer.specs.Taken.{IsTaken, IsWhole};
 ghost use Rattle.bohm_core_base.specs.Batch.{batch_slots, reference_words};
 ghost use Rattle.bohm_core_base.specs.Machine.{end_of, start};
 ghost use Rattle.log_batch.specs.Laws.{IsOfLog};
-ghost use Rattle.log_batch.specs.Earlier.{earlier_count, earlier_grants, own_grants};
+ghost use Rattle.log_batch.specs.Earlier.{earlier_count, earlier_grants, own_grants, records_before};
 ghost use Rattle.log_batch.specs.Named.{grants_named};
 
 use crate::referred::{References, reference_counts};
 use chains::Chains;
-use grants::{Book, IndexedGrants, Records};
+use grants::{Book, IndexedGrants, NextBy, NextInForce, Records};
 use model_base::{
     Deed, Grant, Grantee, Key, Kind, MOST_PLACES, Place, Reference, Row, Statement, Table, User,
 };
@@ -67,7 +69,7 @@ impl<'a> Model for LogBatch<'a> {
         batch.log.now.dropped batch.chains.now batch.book.now batch.references batch.named };
 }
 
-/// Puts the grant behind the others, if the deed is one.
+/// Appends the grant to the others, if the deed is one.
 fn push_grant(grants: &mut IndexedGrants, deed: Option<Deed>) -> Result<(), AllocError>
     ensures { OnOk result (grants.new ≡ grants.old ++ grants_of (option_to_list deed)) }
 {
@@ -99,7 +101,7 @@ impl<'a> LogBatch<'a> {
     ghost use Rattle.log_batch.specs.Referred.{AreAtHand, is_found};
     ghost use Rattle.log_batch.specs.Supplied.{batch_in, range_of};
 
-    // The places of the range as a batch, with what is at hand of their references.
+    // The places of the range as a batch, with what is available of their references.
     fn of(
         alloc: Global,
         log: &'a LogTail,
@@ -142,9 +144,8 @@ impl<'a> LogBatch<'a> {
         })
     }
 
-    /// The places of the range as a batch, placed by so many partitions. The versions of rows end where the range begins and
-    /// are those of the log, the book has the deeds before the range, and the references are `merge`'s for it. An error is want
-    /// of memory.
+    /// The places of the range as a batch, placed by this many partitions. The versions of rows end where the range begins and are those of
+    /// the log, the book has the deeds before the range, and the references are `merge`'s for it. An error means out of memory.
     pub fn new(
         alloc: Global,
         log: &'a LogTail,
@@ -338,8 +339,8 @@ impl<'a> LogBatch<'a> {
         self.book.records().len()
     }
 
-    /// The least slot at or above this one whose grant was made before the batch and is to the grantee, of the kind on the
-    /// table, in force or not. It takes no memory, and what the book's index takes: the logarithm of the number of such grants.
+    /// The least slot at or above this one whose grant was made before the batch and is to the grantee, of the kind on the table, in force
+    /// or not. It doesn't allocate, and takes what the book's index takes: the logarithm of the number of such grants.
     pub fn earlier_to(
         &self,
         grantee: &Grantee,
@@ -353,8 +354,8 @@ impl<'a> LogBatch<'a> {
         view.next_to(*grantee, kind, table, from)
     }
 
-    /// The least slot at or above this one whose grant was made before the batch and is by the user, of the kind on the table,
-    /// in force or not. It takes no memory, and what the book's index takes: the logarithm of the number of such grants.
+    /// The least slot at or above this one whose grant was made before the batch and is by the user, of the kind on the table, in force or
+    /// not. It doesn't allocate, and takes what the book's index takes: the logarithm of the number of such grants.
     pub fn earlier_by(&self, user: User, kind: Kind, table: Table, from: usize) -> Option<usize>
         ensures { IsNext (is_by user kind table) (earlier_grants (batch_in self.now)) from result }
     {
@@ -362,8 +363,43 @@ impl<'a> LogBatch<'a> {
         view.next_by(user, kind, table, from)
     }
 
-    /// The least of the grants that the batch may make, counted from 0, at or above this one that is to the grantee, of the kind
-    /// on the table. It takes no memory, and the logarithm of the number of such grants.
+    /// The least slot at or above this one of a grant in force before the batch to the grantee, of the kind on the table, and the last end
+    /// before the batch of such a grant; of grants with the option, where it is asked for. It doesn't allocate, and takes the logarithm of
+    /// the number of those in force. None where the book doesn't know what is in force.
+    pub fn earlier_in_force(
+        &self,
+        grantee: Grantee,
+        kind: Kind,
+        table: Table,
+        option: bool,
+        from: usize,
+    ) -> Option<NextInForce>
+        ensures { IfSome result (λ next.
+            IsNextInForce (gives_to grantee kind table option) (records_before (batch_in self.now)) from next) }
+    {
+        let mut view = self.book.at(self.first);
+        view.next_in_force(grantee, kind, table, option, from)
+    }
+
+    /// The least slot at or above this one of a grant in force before the batch by the user to the grantee, of the kind on the table. It
+    /// doesn't allocate, and takes the logarithm of the number of those in force to the grantee. None as in `earlier_in_force`.
+    pub fn earlier_in_force_by(
+        &self,
+        user: User,
+        grantee: Grantee,
+        kind: Kind,
+        table: Table,
+        from: usize,
+    ) -> Option<NextBy>
+        ensures { IfSome result (λ next.
+            IsFirst (λ k. is_in_force (gives_by user grantee kind table) (slice_get (records_before (batch_in self.now)) k)) from next.slot) }
+    {
+        let mut view = self.book.at(self.first);
+        view.next_in_force_by(user, grantee, kind, table, from)
+    }
+
+    /// The least of the grants that the batch may make, counted from 0, at or above this one that is to the grantee, of the kind on the
+    /// table. It doesn't allocate, and takes the logarithm of the number of such grants.
     pub(crate) fn own_to(
         &self,
         grantee: &Grantee,
@@ -378,8 +414,8 @@ impl<'a> LogBatch<'a> {
         self.named.next_to(*grantee, kind, table, from)
     }
 
-    /// The least of the grants that the batch may make, counted from 0, at or above this one that is by the user, of the kind on
-    /// the table. It takes no memory, and the logarithm of the number of such grants.
+    /// The least of the grants that the batch may make, counted from 0, at or above this one that is by the user, of the kind on the table.
+    /// It doesn't allocate, and takes the logarithm of the number of such grants.
     pub(crate) fn own_by(&self, user: User, kind: Kind, table: Table, from: usize) -> Option<usize>
         ensures next { IsNext (is_by user kind table) (own_grants (batch_in self.now)) from result }
         ensures within { IfSome result (λ slot. earlier_count (batch_in self.now) + slot < 2 ^ 64) }

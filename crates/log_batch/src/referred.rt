@@ -1,4 +1,4 @@
-//! What is at hand of the references of a batch.
+//! What is available of the references of a batch.
 
 ghost use Rattle.std.specs.Prelude.{◌≡◌, ◌<◌, ◌≤◌, ◌+◌, ◌-◌, IfOk, length, slice_index};
 ghost use Rattle.model_base.specs.References.{tables_of};
@@ -11,12 +11,12 @@ use sequencer::LogTail;
 use std::alloc::{AllocError, Global};
 use std::ops::Range;
 
-/// What is at hand of the references of the places of a batch.
+/// What is available of the references of the places of a batch.
 #[derive(Drop)]
 pub(crate) enum References {
     /// They were found.
     Found(Refs),
-    /// They are only counted: so many has each place.
+    /// They are only counted: this many has each place.
     Counted(Vec<usize>),
 }
 

@@ -1,4 +1,4 @@
-//! What the machine over a log tells of a place that is done.
+//! What the machine over a log says of a place that is done.
 
 ghost use Rattle.std.specs.Prelude.{◌≡◌, ◌≢◌, ◌+◌, ◌++◌, ◌∷◌, [], IfOk, IfSome, IsTrue, OnErr, OnOk, Some, if◌then◌else◌};
 ghost use Rattle.std.specs.Option.{MatchOption};
@@ -34,7 +34,7 @@ pub fn done_words<'a>(machine: &'a Machine<OfLog<'_>>, index: usize) -> Option<&
     }
 }
 
-/// Puts the grant's place behind the others, if its record ended. Otherwise it takes no memory.
+/// Appends the grant's place to the others, if its record ended. Otherwise it doesn't allocate.
 fn push_ended(places: &mut Vec<Place>, ended: bool, grant: &Grant) -> Result<(), AllocError>
     ensures pushed { OnOk result (places.new.items ≡ places.old.items ++ (if ended then grant.now.place ∷ [] else [])) }
     ensures memory { OnErr result (IsTrue ended) }
@@ -45,8 +45,7 @@ fn push_ended(places: &mut Vec<Place>, ended: bool, grant: &Grant) -> Result<(),
     Ok(())
 }
 
-/// The places of the grants of slots whose records ended at the place of the log, in order. Where there are none it takes no
-/// memory.
+/// The places of the grants of slots whose records ended at the place of the log, in order. Where there are none it doesn't allocate.
 fn ended_at(
     alloc: Global,
     batch: &LogBatch<'_>,
@@ -67,8 +66,8 @@ fn ended_at(
     Ok(places)
 }
 
-/// The places of the grants that the revocation of a place ended, if the place is done: those of its outcome in the log, and
-/// none where it has no revocation, or wasn't done. An error is want of memory, and comes only where there are some.
+/// The places of the grants that the revocation of a place ended, if the place is done: those of its outcome in the log, and none where it
+/// has no revocation, or wasn't done. An error means out of memory, and comes only where there are some.
 pub fn done_ends(
     alloc: Global,
     machine: &Machine<OfLog<'_>>,
@@ -94,8 +93,8 @@ pub fn done_ends(
     }
 }
 
-/// The outcome of a place that is done, whatever the events were: what its own words tell, with the places of the grants that
-/// its revocation ended. The list of these places is all that takes memory, so an error comes only where there are some.
+/// The outcome of a place that is done, whatever the events were: what its own words give, with the places of the grants that its
+/// revocation ended. The list of these places is all that takes memory, so an error comes only where there are some.
 pub fn done_outcome(
     alloc: Global,
     machine: &Machine<OfLog<'_>>,

@@ -1,5 +1,9 @@
-//! The machine over the statements of a log: a range of the log as a batch, with the rows and grants that stand before it, and
-//! what each of its places stores and ends by what the machine's state shows it.
+//! The machine over the statements of a log.
+//!
+//! `OfLog` is a range of a log as `Statements` of the machine: what a place stores and ends is judged by `reading`.
+//! `done_words`, `done_ends` and `done_outcome` return what a place that is done stored and ended, and its outcome,
+//! which are the log's. Words are made again for each word that is stored: it is there to be compared with, and the
+//! program doesn't use it.
 //!
 //! After J. M. Faleiro and D. J. Abadi, "Rethinking Serializable Multiversion Concurrency Control", PVLDB 8 (2015),
 //! section 3.

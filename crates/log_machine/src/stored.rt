@@ -25,7 +25,7 @@ fn word_of(first: Place, reference: Reference) -> usize
     }
 }
 
-/// Puts the partition of each access's key behind the others.
+/// Appends the partition of each access's key to the others.
 fn push_key_partitions(
     found: &mut Vec<usize>,
     accesses: &[Declared],
@@ -41,7 +41,7 @@ fn push_key_partitions(
     Ok(())
 }
 
-/// Puts the partition of the deeds on each table behind the others.
+/// Appends the partition of the deeds on each table to the others.
 fn push_table_partitions(
     found: &mut Vec<usize>,
     tables: &[Table],

@@ -14,7 +14,7 @@ use Rattle.model_base.specs.declared.deed.Kind.TheVariants as kind
 use Rattle.line_words.specs.declared.step_name.StepName.{StepName}
 use Rattle.line_words.specs.declared.step_name.StepName.TheVariants.{Const, Compute, Has, Load, Store, Insert, Delete, Check, Skip, Out}
 
--- what may stand next in a line
+-- what may come next in a line
 pub data Expected : Type 0 where
   OfName : Expected
   OfPlain : Expected
@@ -22,7 +22,7 @@ pub data Expected : Type 0 where
   OfRegister : Expected
   OfRow : Expected
   OfKind : Expected
-  -- a name or PUBLIC; in a grant OPTION may stand behind a name
+  -- a name or PUBLIC; in a grant OPTION may be after a name
   OfGrantee : (grants : Bool) → Expected
   -- OPTION or the end
   OfOption : Expected
@@ -30,13 +30,13 @@ pub data Expected : Type 0 where
   OfForm : Expected
   -- the first access
   OfAccess : Expected
-  -- a further access, when there are so many, or a bar or the end
+  -- a further access, when there are this many, or a bar or the end
   OfNext : (accesses : ℕ) → Expected
-  -- a step's word, when there are so many steps and outs, or GRANT or REVOKE
+  -- a step's word, when there are this many steps and outs, or GRANT or REVOKE
   OfStep : (steps outs : ℕ) → Expected
   -- a bar or the end
   OfBar : (steps outs : ℕ) → Expected
-  -- a further register of an INSERT, when there are so many, or a bar or the end
+  -- a further register of an INSERT, when there are this many, or a bar or the end
   OfMore : (registers steps outs : ℕ) → Expected
 
 abbrev pub is_bar : List ℕ → Bool
@@ -64,7 +64,7 @@ step_fault None steps outs = Some UnknownWord
 step_fault (Some Out) steps outs = unless (nat_lt steps MOST_STEPS && nat_lt outs MOST_OUTPUTS) TooManySteps
 step_fault (Some _) steps outs = unless (nat_lt steps MOST_STEPS) TooManySteps
 
--- what follows the word of a step, when there are so many steps and outs before it
+-- what follows the word of a step, when there are this many steps and outs before it
 abbrev pub expected_in : Option StepName → ℕ → ℕ → List Expected
 expected_in None steps outs = []
 expected_in (Some Const) steps outs = OfRegister ∷ OfWhole ∷ OfBar (steps + 1) outs ∷ []
@@ -78,7 +78,7 @@ expected_in (Some Check) steps outs = OfRegister ∷ OfBar (steps + 1) outs ∷ 
 expected_in (Some Skip) steps outs = OfRegister ∷ OfPlain ∷ OfBar (steps + 1) outs ∷ []
 expected_in (Some Out) steps outs = OfRegister ∷ OfBar (steps + 1) (outs + 1) ∷ []
 
--- what follows GRANT, and what REVOKE: nothing stands behind a deed
+-- what follows GRANT, and what REVOKE: nothing is after a deed
 abbrev pub expected_in_grant : List Expected
 expected_in_grant = OfKind ∷ OfName ∷ OfGrantee true ∷ []
 

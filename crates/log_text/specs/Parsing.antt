@@ -12,7 +12,7 @@ abbrev pub TakesStep : List (List ℕ) → RawStep → Bool → List (List ℕ) 
 TakesStep old s true left = old ≡ step_words s ++ codes "|" ∷ left
 TakesStep old s false left = old ≡ step_words s
 
--- the fault of what is left behind a bar, or none at the end
+-- the fault of what is left after a bar, or none at the end
 abbrev pub fault_behind : Bool → ℕ → ℕ → List (List ℕ) → Option LineFault
 fault_behind true steps outs left = fault_from (OfStep steps outs ∷ []) left
 fault_behind false steps outs left = None
@@ -26,16 +26,16 @@ abbrev pub TakesRegisters : List ℕ → List (List ℕ) → List ℕ → Bool �
 TakesRegisters old words new true left = map decimal old ++ words ≡ map decimal new ++ codes "|" ∷ left
 TakesRegisters old words new false left = map decimal old ++ words ≡ map decimal new
 
--- behind so many registers of an INSERT the words have the fault of what is left behind the bar, or none at the end
+-- after this many registers of an INSERT the words have the fault of what is left after the bar, or none at the end
 abbrev pub FitAsRegisters : ℕ → List (List ℕ) → Bool → List (List ℕ) → Type 0
 FitAsRegisters registers words more left =
     (steps outs : ℕ) → fault_from (OfMore registers steps outs ∷ []) words ≡ fault_behind more steps outs left
 
--- behind so many registers of an INSERT the words have this fault
+-- after this many registers of an INSERT the words have this fault
 abbrev pub FailAsRegisters : ℕ → List (List ℕ) → LineFault → Type 0
 FailAsRegisters registers words fault =
     (steps outs : ℕ) → fault_from (OfMore registers steps outs ∷ []) words ≡ Some fault
 
--- each word behind a space
+-- each word after a space
 abbrev pub spaced : List (List ℕ) → List ℕ
 spaced ws = flat_map (λ w. 32 ∷ w) ws

@@ -12,6 +12,6 @@ abbrev pub other_or_run : Option Sentence → List ℕ → List RawAccess → Li
 other_or_run None user accesses steps deed = record { user = user; form = Run accesses steps deed }
 other_or_run (Some statement) user accesses steps deed = statement
 
--- the statement that stands in a room
+-- the statement that is in a room
 abbrev pub sentence_of : RawRoom → Sentence
 sentence_of room = other_or_run room.other room.user room.accesses.items room.steps.items room.deed

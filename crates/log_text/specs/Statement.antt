@@ -136,7 +136,7 @@ IsDeed (Grant kind table grantee option) =
     IsTrue (is_name table) × IsGrantee grantee × IsTrue (not (option && is_everyone grantee))
 IsDeed (Revoke kind table grantee) = IsTrue (is_name table) × IsGrantee grantee
 
--- those of the deed behind the steps, if there is one
+-- those of the deed after the steps, if there is one
 abbrev pub IsLastDeed : Option RawDeed → Type 0
 IsLastDeed None = Unit {0}
 IsLastDeed (Some deed) = IsDeed deed

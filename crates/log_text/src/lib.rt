@@ -1,4 +1,11 @@
-//! Lines of a log: read as statements with names as text, and printed back.
+//! Lines read as statements with names, and printed back.
+//!
+//! `read_into` reads a line into a `RawRoom`, or returns the line's fault, the first from left to right. `read_line`
+//! and `parse_line` return the statement; `print_statement` gives the one line that reads as it. No line reads as two
+//! statements (`one_spelling`), and each without a fault reads as one (`every_line_reads`).
+//!
+//! A line costs its bytes; a step's table and the user's name are first compared with those before. Memory is taken
+//! only if the room is too small. A `RawStatement` is made here alone, so it is within the grammar and its limits.
 #![tactic(auto)]
 
 mod kind;

@@ -241,7 +241,7 @@ fn push_steps(text: &mut String, steps: &[RawStep<'_>]) -> Result<(), AllocError
     Ok(())
 }
 
-/// Appends a grant or a revocation, each word behind a space.
+/// Appends a grant or a revocation, each word after a space.
 fn push_deed(text: &mut String, deed: &RawDeed<'_>) -> Result<(), AllocError>
     ensures { OnOk result (string_bytes text.new ≡ string_bytes text.old ++ spaced (deed_words deed.now)) }
 {

@@ -12,8 +12,8 @@ use model_base::Items;
 use std::alloc::Global;
 use std::mem;
 
-/// What a line reads as, where `read_into` leaves it: one line after another, so that none of it is moved, and memory is taken only
-/// where the room isn't enough. Before the first line, and after a line with a fault, nothing is told of it.
+/// What a line reads as, where `read_into` leaves it: one line after another, so that none of it is moved, and memory is taken only where
+/// the room isn't enough. Before the first line, and after a line with a fault, nothing is known of it.
 #[derive(Drop)]
 pub struct RawRoom<'a> {
     /// The name of the user who makes it.
@@ -32,7 +32,7 @@ impl<'a> RawRoom<'a> {
     ghost use Rattle.log_text.specs.Room.{sentence_of};
     ghost use Rattle.log_text.specs.Statement.{IsInGrammar};
 
-    /// Room for nothing yet. It takes no memory.
+    /// Room for nothing yet. It doesn't allocate.
     pub fn new(alloc: Global) -> RawRoom<'a>
         ensures accesses { result.accesses.items ≡ [] }
         ensures steps { result.steps.items ≡ [] }
@@ -64,7 +64,7 @@ impl<'a> RawRoom<'a> {
         RawStatement::of(same_name(&self.user), form)
     }
 
-    /// Takes back what a statement was read into, with what stands in it.
+    /// Takes back what a statement was read into, with what is in it.
     pub fn take_back(&mut self, statement: RawStatement<'a>)
         ensures accesses { (accesses : List RawAccess) (steps : List RawStep) (deed : Option RawDeed)
             → statement.entry.form ≡ RawForm.Run accesses steps deed → self.new.accesses.items ≡ accesses }

@@ -98,7 +98,7 @@ pub enum RawDeed<'a> {
 /// What a statement asks for.
 #[derive(Drop)]
 pub enum RawForm<'a> {
-    /// A table with so many columns, which the line may give as any number of 32 bits.
+    /// A table with this many columns, which the line may give as any number of 32 bits.
     Create {
         table: Name<'a>,
         columns: u32,
@@ -156,7 +156,7 @@ impl<'a> RawStatement<'a> {
         &self.form
     }
 
-    /// The user's name and what it asks for. It takes no memory.
+    /// The user's name and what it asks for. It doesn't allocate.
     pub fn into_parts(self) -> (Name<'a>, RawForm<'a>)
         ensures user { result.0 ≡ self.entry.user }
         ensures form { result.1 ≡ self.entry.form }

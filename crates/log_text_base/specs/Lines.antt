@@ -12,11 +12,11 @@ abbrev pub first_line : List ℕ → List ℕ
 first_line [] = []
 first_line (b ∷ bs) = if b == 10 then [] else b ∷ first_line bs
 
--- The bytes behind the first LF, or none if there is none.
+-- The bytes after the first LF, or none if there is none.
 abbrev pub other_lines : List ℕ → List ℕ
 other_lines [] = []
 other_lines (b ∷ bs) = if b == 10 then bs else other_lines bs
 
--- A whole line stands among the bytes, one that an LF ends.
+-- A whole line is among the bytes, one that an LF ends.
 abbrev pub HasLine : List ℕ → Type 0
 HasLine bytes = (k : ℕ) × (k < length bytes) × (slice_index bytes k ≡ 10)

@@ -1,5 +1,5 @@
 //! A reader or a writer that counts its failures.
-ghost use Rattle.std.specs.Prelude.{◌≡◌, ◌<◌, ◌+◌, ◌^◌, IfOk, OnOk, OnErr, length, true};
+ghost use Rattle.std.specs.Prelude.{◌≡◌, ◌<◌, ◌+◌, ◌^◌, IfOk, OnOk, OnErr, false, length, true};
 ghost use Rattle.std.specs.Io.{ReadsAtMost, WritesAtMost};
 ghost use Rattle.std.specs.Io.KnownBytes.{ReadConsumes, WriteAppends, Keeps};
 ghost use Rattle.log_text_base.specs.Known.{raised};
@@ -13,8 +13,7 @@ use std::io::{ErrorKind, Read, Write};
 pub struct Counted<T> {
     /// The reader or the writer itself.
     pub inner: T,
-    /// The errors answered and, of a writer, the writes that took no byte of a piece that wasn't
-    /// empty. The count stops at `u64::MAX`.
+    /// The errors returned and, of a writer, the writes that took no byte of a piece that wasn't empty. The count stops at `u64::MAX`.
     pub errors: u64,
     /// The bytes that a reader gave.
     pub given: u64,
@@ -31,6 +30,7 @@ impl<T> Counted<T> {
         ensures errors { result.errors ≡ 0 }
         ensures given { result.given ≡ 0 }
         ensures flushes { result.flushes ≡ 0 }
+        ensures unflushed { result.is_flushed ≡ false }
     {
         Counted {
             inner,
@@ -45,7 +45,7 @@ impl<T> Counted<T> {
 impl<R: Read> Read for Counted<R> {
     ghost remaining = { λ c. R.remaining c.inner };
 
-    /// Reads into `buf`, and counts. Once `MOST_GIVEN_BYTES` were given it answers an error of its own.
+    /// Reads into `buf`, and counts. Once `MOST_GIVEN_BYTES` were given it returns an error of its own.
     fn read(&mut self, buf: &mut [u8]) -> io::Result<usize>
         ensures bound { ReadsAtMost result buf.new }
         ensures bytes { ReadConsumes (R.remaining self.old.inner) (R.remaining self.new.inner)
@@ -85,6 +85,7 @@ impl<W: Write> Write for Counted<W> {
             × (n ≡ 0 → 0 < length buf.now → self.new.errors ≡ raised self.old.errors)) }
         ensures err { OnErr result (self.new.errors ≡ raised self.old.errors) }
         ensures flushes { self.new.flushes ≡ self.old.flushes }
+        ensures written { self.new.is_flushed ≡ false }
     {
         self.is_flushed = false;
         match self.inner.write(buf) {

@@ -1,4 +1,4 @@
-//! Lines cut off bytes that are at hand.
+//! Lines cut off bytes that are available.
 ghost use Rattle.std.specs.Prelude.{◌<◌, ◌≤◌, [], List, MatchOption, Option, drop, length, ℕ};
 ghost use Rattle.std.specs.Io.KnownBytes.{prepend_known};
 ghost use Rattle.log_text_base.specs.Known.{HadSome, TookLine};
@@ -11,7 +11,7 @@ use memchr::memchr;
 /// no line is whole.
 #[inline(always)]
 pub fn cut_line(bytes: &[u8]) -> Option<(&[u8], usize)>
-    // Whatever stands behind the bytes, the line is their first one.
+    // Whatever is after the bytes, the line is their first one.
     ensures line { MatchOption result (HasLine bytes.now → ⊥) (λ cut. (behind : Option (List ℕ))
         → TookLine (prepend_known bytes.now behind) (prepend_known (drop cut.1 bytes.now) behind) [] cut.0.now
         × HadSome (prepend_known bytes.now behind)) }

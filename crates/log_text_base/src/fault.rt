@@ -11,7 +11,7 @@ pub enum ReadFault {
     /// No memory was left for the line.
     #[error("out of memory")]
     NoMemory,
-    /// The reader answered an error.
+    /// The reader returned an error.
     #[error("cannot read")]
     Read,
 }

@@ -11,7 +11,7 @@ pub fn lines_laws()
     // The lines are the first one and those of the rest.
     ensures first { (b : ℕ) (bs : List ℕ)
         → lines_of (b ∷ bs) ≡ first_line (b ∷ bs) ∷ lines_of (other_lines (b ∷ bs)) }
-    // What stands before an LF is a line.
+    // What is before an LF is a line.
     ensures cut { (line rest : List ℕ) → All (λ b. b ≢ 10) line
         → lines_of (line ++ 10 ∷ rest) ≡ line ∷ lines_of rest }
     // A last piece without LF is a line if it isn't empty.

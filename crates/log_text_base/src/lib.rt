@@ -1,5 +1,12 @@
-//! The bytes below a text: readers and writers that count their failures, a reader of lines, and
-//! writing in pieces.
+//! Readers and writers of bytes that count their failures, and lines.
+//!
+//! `Counted` counts what a reader gives, and failures and flushes. `LineReader::next_line` finds the next line, of
+//! which `line` has at most `KEPT_BYTES`; `cut_line` cuts whole lines off what was read ahead, `bytes_ahead`.
+//! `write_out` and `write_pending` write all of a piece, or on `Err` a beginning of it. Nothing is tried again: a fault
+//! comes only if a count of failures rose, if `MOST_GIVEN_BYTES` were read, or if memory ran out. `MemoryReader` and
+//! `MemoryWriter` work in memory and can be made to fail.
+//!
+//! Only a line over the end of the buffer is copied, and memory is one buffer.
 #![tactic(auto)]
 
 mod counted;

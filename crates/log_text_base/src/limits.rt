@@ -12,7 +12,7 @@ pub const BUFFER_BYTES: usize = 1_048_576;
 /// Bytes that are read at once at first.
 pub const FIRST_BUFFER_BYTES: usize = 65_536;
 
-/// Bytes that a counted reader gives; a read behind so many is answered by an error.
+/// Bytes that a counted reader gives; a read after this many returns an error.
 pub const MOST_GIVEN_BYTES: u64 = 1 << 62;
 
 /// Bytes for which there is room where a report waits to be written.

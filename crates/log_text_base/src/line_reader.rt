@@ -13,7 +13,7 @@ use memchr::memchr;
 use std::alloc::{AllocError, Global};
 use std::io::Read;
 
-/// A buffer of so many bytes to read into.
+/// A buffer of this many bytes to read into.
 fn empty_buffer(alloc: Global, bytes: usize) -> Result<Vec<u8>, AllocError>
     ensures { IfOk result (λ buffer. vec_len buffer ≡ bytes) }
 {
@@ -21,9 +21,8 @@ fn empty_buffer(alloc: Global, bytes: usize) -> Result<Vec<u8>, AllocError>
     Ok(buffer)
 }
 
-/// Reads a text line by line, through a buffer of `FIRST_BUFFER_BYTES`, or one that grows up to
-/// `BUFFER_BYTES`. Lines are cut at LF, and a last piece without LF is a line if it isn't empty.
-/// Of a line longer than `KEPT_BYTES` the first so many are kept.
+/// Reads a text line by line, through a buffer of `FIRST_BUFFER_BYTES`, or one that grows up to `BUFFER_BYTES`. Lines are cut at LF, and a
+/// last piece without LF is a line if it isn't empty. Of a line longer than `KEPT_BYTES` the first this many are kept.
 ///
 /// It doesn't own the reader, so each call is to be made with the same one.
 #[derive(Drop)]
@@ -32,7 +31,7 @@ pub struct LineReader {
     buffer: Vec<u8>,
     start: usize,
     end: usize,
-    /// Where the line that was found last stands in the buffer, if it isn't `kept`.
+    /// Where the line that was found last is in the buffer, if it isn't `kept`.
     line_start: usize,
     line_end: usize,
     /// Whether that line crossed the buffer's end, and was copied.
@@ -84,8 +83,8 @@ impl LineReader {
         Ok(lines)
     }
 
-    /// The line that the last `next_line` found, without its LF: its first `KEPT_BYTES`, if it has
-    /// more. Where that call answered false or an error, no promise is made of these bytes.
+    /// The line that the last `next_line` found, without its LF: its first `KEPT_BYTES`, if it has more. Where that call returned false or
+    /// an error, no promise is made of these bytes.
     pub fn line(&self) -> &[u8]
         ensures { result.now ≡ found_line self.now }
     {
@@ -102,7 +101,7 @@ impl LineReader {
         &self.buffer[self.start..self.end]
     }
 
-    /// Takes the first so many of the bytes ahead. The line that was found last stays so.
+    /// Takes the first this many of the bytes ahead. The line that was found last stays so.
     #[tactic(auto, using(crate::proofs::Pieces::drop_range, crate::proofs::Pieces::length_range))]
     pub fn take_ahead(&mut self, count: usize)
         requires { count ≤ length (ahead self.old) }
@@ -203,7 +202,7 @@ impl LineReader {
     }
 
     #[tactic(auto, using(crate::proofs::Pieces::keep_piece))]
-    /// Keeps the next n bytes ahead behind what is kept, up to `KEPT_BYTES` in all.
+    /// Keeps the next n bytes ahead after what is kept, up to `KEPT_BYTES` in all.
     fn keep(&mut self, n: usize) -> Result<(), AllocError>
         requires { n ≤ length (ahead self.old) }
         ensures kept { OnOk result (self.new.kept.items
@@ -220,7 +219,7 @@ impl LineReader {
     }
 
     #[tactic(auto, using(crate::proofs::Pieces::line_start))]
-    /// Takes the rest of the line, and keeps it behind what is kept, up to `KEPT_BYTES` in all.
+    /// Takes the rest of the line, and keeps it after what is kept, up to `KEPT_BYTES` in all.
     fn rest_of_line<R: Read>(&mut self, reader: &mut Counted<R>) -> Result<(), ReadFault>
         requires some { 0 < length (ahead self.old) }
         requires given { reader.old.given ≤ MOST_GIVEN_BYTES + BUFFER_BYTES }
@@ -253,9 +252,8 @@ impl LineReader {
 
     /// Finds the next line, and takes it. False at the end of what the reader gives.
     ///
-    /// `Read` comes only where the reader answered an error, or had given
-    /// `MOST_GIVEN_BYTES`. After an error the part of a line that was read is gone, and a further call
-    /// may be made.
+    /// `Read` comes only where the reader returned an error, or had given `MOST_GIVEN_BYTES`. After an error the part of a line that was
+    /// read is gone, and a further call may be made.
     #[inline(always)]
     pub fn next_line<R: Read>(&mut self, reader: &mut Counted<R>) -> Result<bool, ReadFault>
         requires { 0 < length (ahead self.old) → reader.old.given ≤ MOST_GIVEN_BYTES + BUFFER_BYTES }
@@ -266,7 +264,7 @@ impl LineReader {
             [] (found_line self.new)
             × HadSome (prepend_known (ahead self.old) (R.remaining reader.old.inner)))
             (IsAtEnd (prepend_known (ahead self.old) (R.remaining reader.old.inner)))) }
-        // An error of the reader is answered as such, and nothing else is.
+        // An error of the reader is returned as such, and nothing else is.
         ensures read { result ≡ Err ReadFault.Read → reader.new.errors ≡ raised reader.old.errors }
         ensures other { (result ≡ Err ReadFault.Read → ⊥)
             → reader.new.errors ≡ reader.old.errors }

@@ -1,5 +1,5 @@
-//! A reader and a writer over memory, which tell their bytes and fail where they are made to.
-ghost use Rattle.std.specs.Prelude.{◌≡◌, ◌↔◌, [], Some, IsErr, false};
+//! A reader and a writer over memory, whose bytes are known, and which fail where they are made to.
+ghost use Rattle.std.specs.Prelude.{◌≡◌, ◌-◌, ◌↔◌, [], Some, IfOk, IsErr, false, length, max, min, option_map};
 ghost use Rattle.std.specs.Io.{ReadsAtMost, WritesAtMost};
 ghost use Rattle.std.specs.Io.KnownBytes.{ReadConsumes, WriteAppends, Keeps};
 
@@ -7,10 +7,11 @@ use std::alloc::Global;
 use std::io;
 use std::io::{ErrorKind, Read, Write};
 
-/// Whether one more call goes well, of which so many do before the rest fail, and takes it off them. All go well where no number is
+/// Whether one more call goes well, of which this many do before the rest fail, and takes it off them. All go well where no number is
 /// given.
 fn goes_well(calls: &mut Option<u64>) -> bool
-    ensures { (result ≡ false) ↔ (calls.old ≡ Some 0) }
+    ensures fails { (result ≡ false) ↔ (calls.old ≡ Some 0) }
+    ensures left { calls.new ≡ option_map (λ count. count - 1) calls.old }
 {
     match *calls {
         None => true,
@@ -22,7 +23,7 @@ fn goes_well(calls: &mut Option<u64>) -> bool
     }
 }
 
-/// Gives the bytes of a slice, so many a read, and fails where it is made to. It tells which bytes it still has.
+/// Gives the bytes of a slice, this many a read, and fails where it is made to. It says which bytes it still has.
 #[derive(Drop)]
 pub struct MemoryReader<'a> {
     /// The bytes that are left to give.
@@ -54,6 +55,9 @@ impl Read for MemoryReader<'_> {
         ensures bound { ReadsAtMost result buf.new }
         ensures bytes { ReadConsumes (Some self.old.left.now) (Some self.new.left.now) result buf.new }
         ensures fails { IsErr result ↔ (self.old.reads ≡ Some 0) }
+        ensures count { IfOk result (λ n. n ≡ min (min (max self.old.most 1) (length buf.old)) (length self.old.left.now)) }
+        ensures left { self.new.reads ≡ option_map (λ count. count - 1) self.old.reads }
+        ensures most { self.new.most ≡ self.old.most }
     {
         if !goes_well(&mut self.reads) {
             return Err(io::Error::from(ErrorKind::Other));
@@ -66,7 +70,7 @@ impl Read for MemoryReader<'_> {
     }
 }
 
-/// Keeps what is written, takes so many bytes a write, and fails where it is made to. It tells which bytes it has taken.
+/// Keeps what is written, takes this many bytes a write, and fails where it is made to. It says which bytes it has taken.
 #[derive(Drop)]
 pub struct MemoryWriter {
     /// The bytes that were written.
@@ -103,6 +107,9 @@ impl Write for MemoryWriter {
         ensures bound { WritesAtMost result buf.now }
         ensures bytes { WriteAppends (Some self.old.taken.items) (Some self.new.taken.items) result buf.now }
         ensures fails { self.old.writes ≡ Some 0 → IsErr result }
+        ensures count { IfOk result (λ n. n ≡ min (length buf.now) self.old.most) }
+        ensures left { self.new.writes ≡ option_map (λ count. count - 1) self.old.writes }
+        ensures rest { (self.new.most ≡ self.old.most) × (self.new.flushes ≡ self.old.flushes) }
     {
         if !goes_well(&mut self.writes) {
             return Err(io::Error::from(ErrorKind::Other));
@@ -115,6 +122,8 @@ impl Write for MemoryWriter {
     fn flush(&mut self) -> io::Result<()>
         ensures bytes { Keeps (Some self.old.taken.items) (Some self.new.taken.items) }
         ensures fails { IsErr result ↔ (self.old.flushes ≡ Some 0) }
+        ensures left { self.new.flushes ≡ option_map (λ count. count - 1) self.old.flushes }
+        ensures rest { (self.new.most ≡ self.old.most) × (self.new.writes ≡ self.old.writes) }
     {
         if !goes_well(&mut self.flushes) {
             return Err(io::Error::from(ErrorKind::Other));

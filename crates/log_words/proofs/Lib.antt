@@ -1,3 +1,4 @@
 pub mod HolderSets
 pub mod Reaching
 pub mod Listed
+pub mod OpenSlots

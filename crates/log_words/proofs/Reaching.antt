@@ -22,7 +22,7 @@ use Rattle.log_words.specs.declared.holders.Holders.{Holders}
 use Rattle.log_words.specs.declared.reach.Reach.{Reach}
 use Rattle.log_words.specs.Holders.{grantee_holder, grantor_of, has_holder, holder_of, new_holder, same_holder}
 use Rattle.log_words.specs.Listing.{is_against, is_lent, is_open, is_reached, is_revoked, lends, listed_below}
-use Rattle.log_words.specs.Reach.{Adds, AreSeeds, IsDue, IsReach}
+use Rattle.log_words.specs.Reach.{Adds, AreSeeds, IsDue, IsNextOpen, IsReach}
 use Rattle.grants_base.specs.Index.{is_one_of}
 use Rattle.log_words.proofs.HolderSets.{by-holder, same_holder-true, to-holder}
 use Rattle.grants_base.proofs.Walks.{nothing}
@@ -104,7 +104,7 @@ holder-found lent grant (Some other) user is =
     (λ new. rw new at is)
 
 module _ (b : Batch) where
-  passes-earlier : (passes : Grant → Bool) (j : ℕ) → j < earlier_count b → passes_at passes (earlier_grants b) j ≡ passes_at passes (batch_slots b) j
+  pub passes-earlier : (passes : Grant → Bool) (j : ℕ) → j < earlier_count b → passes_at passes (earlier_grants b) j ≡ passes_at passes (batch_slots b) j
   passes-earlier passes j less = ap (λ found. option_map_or passes found false) (take_at (batch_slots b) (earlier_count b) j less)
 
   -- what is found stands before the batch
@@ -115,22 +115,33 @@ module _ (b : Batch) where
         | inr over ↦ absurd (true≢false (sym found ∙ ap (λ grant. option_map_or passes grant false) (take_past (batch_slots b) (earlier_count b) j over)))
       ]
 
+  -- the next grant, in force or not, lies before those that are in force
+  pub open-next : (passes : Grant → Bool) (from : ℕ) (found : Option ℕ) → IsNext passes (earlier_grants b) from found → IsNextOpen b passes from found
+  open-next passes from None next = record {
+    there = tt;
+    passed = λ k low less before open_k. sym (passes-earlier passes k less) ∙ next k low;
+  }
+  open-next passes from (Some i) next = record {
+    there = (next.0, next.1);
+    passed = λ k low less before open_k. sym (passes-earlier passes k less) ∙ next.2 k low before;
+  }
+
   module _ (passes : Grant → Bool) (start : ℕ) (old : List ℕ) where
     -- at first none are added
     pub adds-none : Adds b passes start start old old
     adds-none = record { found = λ j low less. absurd (omega arith); kept = λ j is. is; only = λ j is. inl is }
 
     -- one more that is found
-    pub adds-one : (from slot : ℕ) (due more : List ℕ) → start ≤ from → Adds b passes start from old due → IsNext passes (earlier_grants b) from (Some slot)
+    pub adds-one : (from slot : ℕ) (due more : List ℕ) → start ≤ from → Adds b passes start from old due → IsNextOpen b passes from (Some slot)
         → ((j : ℕ) → is_one_of more j ≡ ((is_open b slot && (slot == j)) || is_one_of due j)) → Adds b passes start (slot + 1) old more
     adds-one from slot due more low so_far next one =
-        let here = found-earlier passes slot next.1 in record {
+        let here = found-earlier passes slot next.there.1 in record {
           found = λ j above less open_j passes_j. elim (cases_lt j from) [
             | inl earlier ↦ one j ∙ or_right _ (is_one_of due j) (so_far.found j above earlier open_j passes_j)
             | inr later ↦ elim (cases_lt j slot) [
               | inl skipped ↦
                   let less' : j < earlier_count b = omega arith in
-                  absurd (true≢false (sym passes_j ∙ sym (passes-earlier passes j less') ∙ next.2 j later skipped))
+                  absurd (true≢false (sym passes_j ∙ next.passed j later less' skipped open_j))
               | inr over ↦
                   let same : slot ≡ j = omega arith in
                   one j ∙ or_first (is_open b slot && (slot == j)) (is_one_of due j) (and_from (is_open b slot) (slot == j) (ap (is_open b) same ∙ open_j) (eq-eqb slot j same))
@@ -141,24 +152,24 @@ module _ (b : Batch) where
             | inl now ↦
                 let parts = and_parts (is_open b slot) (slot == j) now in
                 let same : slot ≡ j = eqb-true slot j parts.1 in
-                let above = next.0 in
+                let above = next.there.0 in
                 inr (
                   omega arith,
                   omega arith,
                   ap (is_open b) (sym same) ∙ parts.0,
-                  ap (passes_at passes (batch_slots b)) (sym same) ∙ sym (passes-earlier passes slot here) ∙ next.1,
+                  ap (passes_at passes (batch_slots b)) (sym same) ∙ sym (passes-earlier passes slot here) ∙ next.there.1,
                 )
             | inr before ↦ so_far.only j before
           ];
         }
 
     -- no more are found
-    pub adds-last : (from : ℕ) (due : List ℕ) → Adds b passes start from old due → IsNext passes (earlier_grants b) from None
+    pub adds-last : (from : ℕ) (due : List ℕ) → Adds b passes start from old due → IsNextOpen b passes from None
         → Adds b passes start (earlier_count b) old due
     adds-last from due so_far next = record {
       found = λ j above less open_j passes_j. elim (cases_lt j from) [
         | inl earlier ↦ so_far.found j above earlier open_j passes_j
-        | inr later ↦ absurd (true≢false (sym passes_j ∙ sym (passes-earlier passes j less) ∙ next j later))
+        | inr later ↦ absurd (true≢false (sym passes_j ∙ next.passed j later less tt open_j))
       ];
       kept = so_far.kept;
       only = so_far.only;

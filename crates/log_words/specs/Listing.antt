@@ -20,7 +20,7 @@ is_against None grant = false
 is_against (Some (Granting made)) grant = false
 is_against (Some (Revoking revocation)) grant = is_to revocation.grantee revocation.kind revocation.table grant
 
--- whether one of so many places may make such a revocation
+-- whether one of this many places may make such a revocation
 abbrev pub is_revoked : Batch → ℕ → Grant → Bool
 is_revoked batch zero grant = false
 is_revoked batch (suc index) grant = is_against (batch.deed index) grant || is_revoked batch index grant
@@ -44,7 +44,7 @@ is_reached batch listed slot =
     is_open batch slot
     && option_map_or (λ grant. is_revoked batch batch.size grant || is_lent batch listed grant) (slice_get (batch_slots batch) slot) false
 
--- those of so many slots that the batch may reach, in order
+-- those of this many slots that the batch may reach, in order
 abbrev pub listed_below : Batch → ℕ → List ℕ
 listed_below batch zero = []
 listed_below batch (suc slot) =

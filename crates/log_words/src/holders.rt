@@ -51,7 +51,7 @@ impl Holders {
         self.holders.contains(&holder)
     }
 
-    /// One more, if it isn't among them; answers whether it wasn't. On `Err` memory was refused.
+    /// One more, if it isn't among them; returns whether it wasn't. On `Err` memory was refused.
     pub(crate) fn put(&mut self, holder: Holder) -> Result<bool, AllocError>
         ensures put { OnOk result ((other : Holder) → has_holder self.new other ≡ (same_holder holder other || has_holder self.old other)) }
         ensures was { IfOk result (λ is_new. is_new ≡ not (has_holder self.old holder)) }

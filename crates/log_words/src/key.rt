@@ -72,7 +72,7 @@ fn reference_at(references: &[Reference], number: usize) -> Reference
     references[number]
 }
 
-/// A reference as a word of the batch that begins here: 0 for what stood before it, or one more than the index of the place.
+/// A reference as a word of the batch that begins here: 0 for what was before it, or one more than the index of the place.
 pub fn word_of(first: Place, reference: Reference) -> u64
     requires { word_of first reference < 2 ^ 64 }
     ensures { result ≡ word_of first reference }

@@ -30,7 +30,7 @@ impl<'a> Model for LogWords<'a> {
 }
 
 impl<'a> LogWords<'a> {
-    /// The words of the batch, all of which is placed, with all places free, and its first pass. An error is want of memory.
+    /// The words of the batch, all of which is placed, with all places free, and its first pass. An error means out of memory.
     pub fn new(alloc: Global, key: LogKey<'a>) -> Result<(LogWords<'a>, Pass), AllocError>
         requires { key.batch.placed ≡ true }
         ensures { IfOk result (λ made. (made.0.key ≡ key.entry) × (made.1 ≡ first_pass made.0)) }
@@ -54,9 +54,8 @@ impl<'a> LogWords<'a> {
         &self.words
     }
 
-    /// The batch, and its words as they stand. Each place whose claim is done has the own words and the ends of the serial run,
-    /// and of any other place the words are a beginning of them. If the pass knows that all is placed, the references are the
-    /// batch's.
+    /// The batch, and its words as they are. Each place whose claim is done has the own words and the ends of the serial run, and of any
+    /// other place the words are a beginning of them. If the pass knows that all is placed, the references are the batch's.
     pub fn close(self, pass: Pass) -> (LogKey<'a>, Closed)
         requires { IsPassOf self pass }
         ensures key { result.0 ≡ self.entry.key }

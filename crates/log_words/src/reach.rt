@@ -1,18 +1,20 @@
 //! Which slots the revocations of a batch may reach.
 
-ghost use Rattle.std.specs.Prelude.{◌≡◌, ◌<◌, ◌≤◌, ◌+◌, ◌++◌, ◌∷◌, ◌||◌, ◌&&◌, ◌==◌, [], ℕ, suc, not, true, IfOk, OnOk, length, slice_get, Some};
+ghost use Rattle.std.specs.Prelude.{◌≡◌, ◌<◌, ◌≤◌, ◌+◌, ◌++◌, ◌∷◌, ◌||◌, ◌&&◌, ◌==◌, [], ℕ, suc, not, true, IfOk, IfSome, OnOk, length, slice_get, Some};
 ghost use Rattle.model_base.specs.declared.deed.Grant.{Grant};
-ghost use Rattle.grants_base.specs.Index.{IsNext, is_by};
+ghost use Rattle.grants_base.specs.Force.{is_in_force};
+ghost use Rattle.grants_base.specs.Index.{IsFirst, IsNext, is_by};
 ghost use Rattle.model_base.specs.Privileges.{option_holder};
 ghost use Rattle.bohm_core_base.specs.Batch.{batch_slots};
-ghost use Rattle.log_batch.specs.Earlier.{earlier_count, earlier_grants};
+ghost use Rattle.log_batch.specs.Earlier.{earlier_count, earlier_grants, records_before};
 ghost use Rattle.log_batch.specs.Supplied.{batch_in};
 ghost use Rattle.log_words.specs.Holders.{grantee_holder, grantor_of, has_holder, new_holder};
 ghost use Rattle.log_words.specs.Listing.{is_open, is_reached, lends};
-ghost use Rattle.log_words.specs.Reach.{Adds, AreSeeds, IsDue, IsReach, has_party};
+ghost use Rattle.log_words.specs.Reach.{Adds, AreSeeds, IsDue, IsNextOpen, IsReach, has_party};
 ghost use Rattle.grants_base.specs.Index.{is_one_of};
 
 use crate::holders::{Holders, holder_of};
+use grants::NextInForce;
 use log_batch::LogBatch;
 use model_base::{Deed, Grant, Grantee, Kind, Table, User};
 use std::alloc::{AllocError, Global};
@@ -34,8 +36,8 @@ pub(crate) struct Reach {
 }
 
 /// The least slot at or above this one whose grant was made before the batch and is one of this party, of the kind on the
-/// table.
-fn next_of(
+/// table, in force or not.
+fn next_made(
     batch: &LogBatch<'_>,
     party: &Party,
     kind: Kind,
@@ -47,6 +49,43 @@ fn next_of(
     match party {
         Party::To(grantee) => batch.earlier_to(grantee, kind, table, from),
         Party::By(user) => batch.earlier_by(*user, kind, table, from),
+    }
+}
+
+/// The least slot at or above this one of a grant in force before the batch of this party, of the kind on the table. None where
+/// that isn't known, as by whom those in force are.
+fn next_in_force(
+    batch: &LogBatch<'_>,
+    party: &Party,
+    kind: Kind,
+    table: Table,
+    from: usize,
+) -> Option<NextInForce>
+    ensures { IfSome result (λ next.
+        IsFirst (λ k. is_in_force (has_party party.now kind table) (slice_get (records_before (batch_in batch.now)) k)) from next.slot) }
+{
+    match party {
+        Party::To(grantee) => batch.earlier_in_force(*grantee, kind, table, false, from),
+        Party::By(_) => None,
+    }
+}
+
+/// A slot at or above this one of a grant of this party, of the kind on the table, such that none from this one on and before it
+/// is in force before the batch; none where there is no later one. It goes through those that aren't in force only by a
+/// user, or where the book doesn't know which are.
+fn next_of(
+    batch: &LogBatch<'_>,
+    party: &Party,
+    kind: Kind,
+    table: Table,
+    from: usize,
+) -> Option<usize>
+    ensures { IsNextOpen (batch_in batch.now) (has_party party.now kind table) from result }
+{
+    let _log = batch.log();
+    match next_in_force(batch, party, kind, table, from) {
+        Some(next) => next.slot,
+        None => next_made(batch, party, kind, table, from),
     }
 }
 
@@ -232,7 +271,7 @@ impl Reach {
         Ok(())
     }
 
-    /// All slots that the batch may reach. An error is want of memory.
+    /// All slots that the batch may reach. An error means out of memory.
     pub(crate) fn of(alloc: Global, batch: &LogBatch<'_>) -> Result<Reach, AllocError>
         ensures { IfOk result (λ reach. IsReach (batch_in batch.now) (length (batch_slots (batch_in batch.now))) reach) }
     {

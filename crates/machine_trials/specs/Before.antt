@@ -1,4 +1,4 @@
--- What stands before a place of a log.
+-- What is before a place of a log.
 use Rattle.std.specs.Prelude.{◌≡◌, ℕ, List}
 use Rattle.model_base.specs.declared.statement.Statement.{Statement}
 use Rattle.model_base.specs.Outcomes.{deeds_before, owners}

@@ -22,7 +22,7 @@ inserted = record {
   kinds = record { read = false; insert = true; update = false; delete = false };
 }
 
--- 9 is put into register 0
+-- 9 is written into register 0
 abbrev pub nine : Step
 nine = Step.Const 0 (pos 9)
 

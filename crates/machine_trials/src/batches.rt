@@ -20,7 +20,7 @@ use sequencer::LogTail;
 use std::alloc::{AllocError, Global};
 use std::ops::Range;
 
-/// What stands before a batch: the versions of rows, and the book of grants.
+/// What is before a batch: the versions of rows, and the book of grants.
 #[derive(Drop)]
 pub struct Before {
     pub chains: Chains,
@@ -47,7 +47,7 @@ pub fn log_of(alloc: Global, lines: &[&str]) -> Result<LogTail, TrialFault>
     Ok(log)
 }
 
-/// Nothing stands before a log.
+/// Nothing is before a log.
 pub fn nothing(alloc: Global) -> Before
     ensures { (log : List Statement) → IsBefore result log 0 }
 {
@@ -57,7 +57,7 @@ pub fn nothing(alloc: Global) -> Before
     }
 }
 
-/// What the placers of so many partitions find in a range of the log.
+/// What the placers of this many partitions find in a range of the log.
 fn parts_of(
     alloc: Global,
     log: &LogTail,
@@ -77,7 +77,7 @@ fn parts_of(
     Ok(parts)
 }
 
-/// A range of the log as a batch that so many partitions place.
+/// A range of the log as a batch that this many partitions place.
 pub fn batch_of<'a>(
     alloc: Global,
     log: &'a LogTail,

@@ -1,4 +1,4 @@
-//! What a batch tells of itself, each call once.
+//! What a batch says of itself, each call once.
 
 ghost use Rattle.std.specs.Prelude.{◌≡◌, true};
 ghost use Rattle.machine_trials.specs.Before.{IsBefore};
@@ -65,7 +65,7 @@ fn tell_grants(rt: &impl Print, batch: &LogBatch<'_>) -> Result<(), TrialFault> 
     Ok(())
 }
 
-/// Tells all that the calls of a batch answer.
+/// Reports all that the calls of a batch answer.
 pub fn tell_batch(rt: &impl Print, batch: &LogBatch<'_>) -> Result<(), TrialFault>
     requires { batch.now.placed ≡ true }
 {

@@ -1,4 +1,4 @@
-//! A log completed on one thread, behind words of which nothing is stored.
+//! A log completed on one thread, after words of which nothing is stored.
 
 ghost use Rattle.std.specs.Prelude.{◌≡◌, ◌<◌, IfOk, length, true};
 ghost use Rattle.machine_trials.specs.Before.{IsBefore};
@@ -41,7 +41,7 @@ fn tell_outcome(
     requires all { done.now.size ≡ length log.now.log.statements }
     requires within { index < done.now.size }
 {
-    let ended = done.ended(alloc, index)?;
+    let ended = Vec::from_slice(alloc, done.ended(index))?;
     let statement = log.statement(index as Place);
     let outcome = decoded(&statement.form, done.own(index), Items::new(ended));
     println!(rt; "{index}: {outcome:?}")?;
@@ -64,7 +64,7 @@ fn tell_outcomes(
     Ok(())
 }
 
-/// Finishes a batch behind words of which nothing is stored.
+/// Finishes a batch after words of which nothing is stored.
 fn finish_unstored<'a>(alloc: Global, key: LogKey<'a>) -> Result<Finished<'a>, AllocError>
     requires { key.batch.placed ≡ true }
     ensures { IfOk result (λ done. done
@@ -75,7 +75,7 @@ fn finish_unstored<'a>(alloc: Global, key: LogKey<'a>) -> Result<Finished<'a>, A
     finish(alloc, key, &closed)
 }
 
-/// The log finished behind words of which nothing is stored.
+/// The log finished after words of which nothing is stored.
 fn finished<'a>(
     alloc: Global,
     log: &'a LogTail,

@@ -1,6 +1,6 @@
-//! Drawn lists of events over six places, of which the last ends two grants. However they are drawn, each place that is done
-//! has the outcome of the slow serial run, and each end that is set is one that the run names: any other is told, and in the
-//! end how much was compared.
+//! Drawn lists of events over six places, of which the last ends two grants. However they are drawn, each place that is done has the
+//! outcome of the slow serial run, and each end that is set is one that the run names: any other is reported, and in the end how much was
+//! compared.
 
 ghost use Rattle.std.specs.Prelude.{◌≡◌, ◌<◌, length};
 ghost use Rattle.machine_trials.specs.Before.{IsBefore};
@@ -27,7 +27,7 @@ const LINES: [&str; 6] = [
     "alice REVOKE READ t bob",
 ];
 
-/// The place that reads, for eve, by a grant that the revocation behind it ends.
+/// The place that reads, for eve, by a grant that the revocation after it ends.
 const READER: usize = 4;
 
 /// All places, and all but the reader.
@@ -39,7 +39,7 @@ const LISTS: u32 = 200;
 
 const EVENTS: u32 = 200;
 
-/// What drawn lists came to.
+/// What drawn lists resulted in.
 #[derive(Clone, Copy, Default)]
 struct Counts {
     /// The places that are done.
@@ -51,7 +51,7 @@ struct Counts {
 }
 
 impl Counts {
-    /// Adds what another list came to.
+    /// Adds what another list resulted in.
     fn add(&mut self, one: Counts) {
         self.done = self.done.saturating_add(one.done);
         self.ended = self.ended.saturating_add(one.ended);
@@ -73,7 +73,7 @@ fn has_late_reader(state: &State) -> bool {
     ended && state.own(READER).is_empty()
 }
 
-/// Makes so many drawn events of some places. Answers whether an end was set before the reader had a word.
+/// Makes this many drawn events of some places. Answers whether an end was set before the reader had a word.
 fn run_drawn(
     machine: &mut Machine<OfLog<'_>>,
     generator: &mut Generator,
@@ -106,7 +106,7 @@ fn run_list(
     Ok(early || late)
 }
 
-/// How many places are done. One whose outcome isn't that of the serial run is told.
+/// How many places are done. One whose outcome isn't that of the serial run is reported.
 fn compare_places(
     rt: &impl Print,
     alloc: Global,
@@ -140,7 +140,7 @@ fn ends_grant(outcomes: &[Outcome], place: Place, granted: Place) -> bool {
     }
 }
 
-/// How many ends are set. One that no revocation of the serial run sets is told.
+/// How many ends are set. One that no revocation of the serial run sets is reported.
 fn compare_ends(
     rt: &impl Print,
     machine: &Machine<OfLog<'_>>,
@@ -159,7 +159,7 @@ fn compare_ends(
     Ok(ended)
 }
 
-/// What a drawn list comes to on a machine that no event has reached.
+/// What a drawn list results in on a machine that no event has reached.
 fn compare_events(
     rt: &impl Print,
     alloc: Global,
@@ -174,7 +174,7 @@ fn compare_events(
     Ok(Counts { done, ended, late })
 }
 
-/// What a drawn list comes to.
+/// What a drawn list results in.
 fn compare_list(
     rt: &impl Print,
     alloc: Global,
@@ -190,7 +190,7 @@ fn compare_list(
     compare_events(rt, alloc, &mut machine, generator, outcomes)
 }
 
-/// What all lists come to.
+/// What all lists result in.
 fn compare_lists(
     rt: &impl Print,
     alloc: Global,
@@ -218,7 +218,7 @@ fn serial_outcomes(alloc: Global, log: &LogTail) -> Result<Vec<Outcome>, AllocEr
     serial(alloc, log.kept_statements())
 }
 
-/// What all lists of the log come to.
+/// What all lists of the log result in.
 fn compare_with_serial(rt: &impl Print, alloc: Global, log: &LogTail) -> Result<Counts, TrialFault>
     requires { log.now.dropped ≡ 0 }
 {
@@ -227,7 +227,7 @@ fn compare_with_serial(rt: &impl Print, alloc: Global, log: &LogTail) -> Result<
     compare_lists(rt, alloc, log, &before, &outcomes)
 }
 
-/// What all lists come to.
+/// What all lists result in.
 fn compare_all(rt: &impl Print, alloc: Global) -> Result<Counts, TrialFault> {
     let log = log_of(alloc, &LINES)?;
     compare_with_serial(rt, alloc, &log)

@@ -15,7 +15,7 @@ pub enum TrialFault {
     /// A statement isn't taken into a trial's log.
     #[error("a statement is refused")]
     Refused,
-    /// A log doesn't begin with the statements that its rows and its book of grants are told for.
+    /// A log doesn't begin with the statements that its rows and its book of grants are given for.
     #[error("a log begins otherwise")]
     OtherLog,
     /// A growth was refused.

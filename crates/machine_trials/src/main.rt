@@ -1,7 +1,8 @@
-//! The machine over logs, tried. Rows of events on a whole log and on a batch in the middle of it, each event told with what it
-//! changed, and the calls of a batch; a row of calls of two passes on the shared words of two places, which grants a batch may
-//! end, and a log completed on one thread; and drawn lists of events against the slow serial run. What is printed is compared
-//! with `stdout`.
+//! Trials of the machine over logs.
+//!
+//! Events on a whole log and on a batch in the middle of it, each with what it changed, and the calls of a batch; calls
+//! of two passes on the shared words of two places, which grants a batch may end, and a log completed on one thread;
+//! and drawn lists of events against the slow run. What is printed is compared with `stdout`.
 #![tactic(auto)]
 
 mod batches;
@@ -15,6 +16,7 @@ mod middle;
 mod outcome;
 mod shared;
 mod telling;
+mod two_words;
 mod whole;
 mod worked;
 
@@ -27,6 +29,7 @@ use middle::tell_middle;
 use shared::tell_shared;
 use std::alloc::Global;
 use std::process::ExitCode;
+use two_words::tell_two_words;
 use whole::tell_whole;
 
 /// Tells the trials one after another.
@@ -35,6 +38,7 @@ fn run(rt: &impl Print, alloc: Global) -> Result<(), TrialFault> {
     tell_middle(rt, alloc)?;
     tell_calls(rt, alloc)?;
     tell_shared(rt, alloc)?;
+    tell_two_words(rt, alloc)?;
     tell_ended(rt, alloc)?;
     tell_completed(rt, alloc)?;
     tell_drawn(rt, alloc)

@@ -131,7 +131,7 @@ fn tell_machine(
     tell_row(rt, alloc, machine)
 }
 
-/// Tells the row of events on the reader and the revocation, with what stands before them.
+/// Reports the row of events on the reader and the revocation, with what is before them.
 fn tell_behind(
     rt: &impl Print,
     alloc: Global,

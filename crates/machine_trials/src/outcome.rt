@@ -1,4 +1,4 @@
-//! What a place of a batch came to.
+//! What a place of a batch resulted in.
 
 use bohm_core::Machine;
 use log_machine::{OfLog, done_ends, done_words};

@@ -1,5 +1,5 @@
-//! The shared words of the reader and the revocation of the worked log: a row of calls of two passes, the parts of one that was
-//! split. What they store is what a machine that has done the revocation tells.
+//! The shared words of the reader and the revocation of the worked log: a row of calls of two passes, the parts of one that was split. What
+//! they store is what a machine that has done the revocation says.
 
 ghost use Rattle.std.specs.Prelude.{◌≡◌, ◌==◌, ◌<◌, ◌≤◌, [], ℕ, IfOk, IsTrue, length, slice_index_or, suc, true};
 ghost use Rattle.std.specs.List.{list_all};
@@ -47,7 +47,7 @@ const REVOKING: [Event; 9] = [
 ];
 
 /// Whether the machine has done the place.
-fn is_done(machine: &Machine<OfLog<'_>>, index: usize) -> bool
+pub(crate) fn is_done(machine: &Machine<OfLog<'_>>, index: usize) -> bool
     ensures { IsTrue result → hold_of machine.now.state index ≡ Done }
 {
     match machine.state().hold(index) {
@@ -57,7 +57,7 @@ fn is_done(machine: &Machine<OfLog<'_>>, index: usize) -> bool
 }
 
 /// The own words of a place that the machine has done: those of the serial run.
-fn serial_own<'a>(machine: &'a Machine<OfLog<'_>>, index: usize) -> &'a [u64]
+pub(crate) fn serial_own<'a>(machine: &'a Machine<OfLog<'_>>, index: usize) -> &'a [u64]
     requires { hold_of machine.now.state index ≡ Done }
     ensures { result.now ≡ serial_words (batch_in machine.now.statements) index }
 {
@@ -77,7 +77,7 @@ fn ends_slot(machine: &Machine<OfLog<'_>>, index: usize, slot: usize) -> bool
     machine.state().is_ended_by(slot, place)
 }
 
-/// Whether all these references are to what stood before the batch.
+/// Whether all these references are to what was there before the batch.
 fn are_base(references: &[usize]) -> bool
     ensures { result ≡ list_all (λ reference. reference == 0) references.now }
 {
@@ -85,7 +85,7 @@ fn are_base(references: &[usize]) -> bool
 }
 
 /// Whether a place that the machine has done refers to none of the batch.
-fn refers_to_none(machine: &Machine<OfLog<'_>>, index: usize) -> bool
+pub(crate) fn refers_to_none(machine: &Machine<OfLog<'_>>, index: usize) -> bool
     requires { hold_of machine.now.state index ≡ Done }
     ensures { IsTrue result → (other : ℕ) → ¬ (In (suc other) (reference_words (batch_in machine.now.statements) index)) }
 {
@@ -94,7 +94,7 @@ fn refers_to_none(machine: &Machine<OfLog<'_>>, index: usize) -> bool
 }
 
 /// A word of a list, or 0 past its end.
-fn word_at(own: &[u64], number: usize) -> u64
+pub(crate) fn word_at(own: &[u64], number: usize) -> u64
     ensures { result ≡ slice_index_or own.now number 0 }
 {
     if number < own.len() { own[number] } else { 0 }
@@ -256,17 +256,17 @@ fn tell_calls(
 }
 
 /// Tells what each of the two places is when the batch is finished.
-fn tell_finished(rt: &impl Print, alloc: Global, done: &Finished<'_>) -> Result<(), TrialFault>
+fn tell_finished(rt: &impl Print, done: &Finished<'_>) -> Result<(), TrialFault>
     requires { done.now.size ≡ 2 }
 {
     let (reader, revocation) = (done.own(0), done.own(1));
-    let ended = done.ended(alloc, 1)?;
+    let ended = done.ended(1);
     println!(rt; "finished, 3 has {reader:?} and 4 has {revocation:?} and ended {ended:?}")?;
     Ok(())
 }
 
-/// Tells the claims of the two places when the words are closed, and what each is when the batch is finished behind them.
-fn tell_closed(
+/// Reports the claims of the two places when the words are closed, and what each is when the batch is finished after them.
+pub(crate) fn tell_closed(
     rt: &impl Print,
     alloc: Global,
     words: LogWords<'_>,
@@ -282,7 +282,7 @@ fn tell_closed(
     let (reader, revocation) = (closed.claim(0), closed.claim(1));
     println!(rt; "closed, the claims of 3 and 4 are {reader} and {revocation}")?;
     let done = finishing::finish(alloc, key, &closed)?;
-    tell_finished(rt, alloc, &done)
+    tell_finished(rt, &done)
 }
 
 /// Tells the row of calls on the words of a batch of two places, of which a machine has done the second.
@@ -328,11 +328,12 @@ fn tell_beside(
     tell_batch_words(rt, alloc, machine, batch)
 }
 
-/// The machine over the reader and the revocation, after the events that do the revocation.
-fn revoked<'a>(
+/// The machine over the reader and the revocation, after these events.
+pub(crate) fn machine_after<'a>(
     alloc: Global,
     log: &'a LogTail,
     before: &'a Before,
+    events: &[Event],
 ) -> Result<Machine<OfLog<'a>>, TrialFault>
     requires kept { log.now.dropped ≡ 0 }
     requires within { 5 ≤ length log.now.log.statements }
@@ -342,11 +343,11 @@ fn revoked<'a>(
 {
     let batch = batch_of(alloc, log, before, 3..5, 1)?;
     let mut machine = Machine::new(alloc, OfLog::new(batch))?;
-    machine.run_events(&REVOKING)?;
+    machine.run_events(events)?;
     Ok(machine)
 }
 
-/// Tells the row of calls on the reader and the revocation, with what stands before them.
+/// Reports the row of calls on the reader and the revocation, with what is before them.
 fn tell_behind(
     rt: &impl Print,
     alloc: Global,
@@ -357,7 +358,7 @@ fn tell_behind(
     requires within { 5 ≤ length log.now.log.statements }
     requires before { IsBefore before.now log.now.log.statements 3 }
 {
-    let machine = revoked(alloc, log, before)?;
+    let machine = machine_after(alloc, log, before, &REVOKING)?;
     tell_beside(rt, alloc, log, before, &machine)
 }
 

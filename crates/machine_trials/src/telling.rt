@@ -1,4 +1,4 @@
-//! Events as they are made, and what places and records came to, a line for each.
+//! Events as they are made, and what places and records resulted in, a line for each.
 
 use crate::batches::make;
 use crate::fault::TrialFault;
@@ -10,7 +10,7 @@ use model_base::{DeedDone, Outcome};
 use std::alloc::{AllocError, Global};
 use std::fmt::Write;
 
-/// Puts how far the partitions are.
+/// Writes how far the partitions are.
 fn put_fronts(text: &mut String, state: &State, partitions: usize) -> Result<(), AllocError> {
     for partition in 0..partitions {
         let front = state.front(partition);
@@ -19,7 +19,7 @@ fn put_fronts(text: &mut String, state: &State, partitions: usize) -> Result<(),
     Ok(())
 }
 
-/// Puts what is stored of each place.
+/// Writes what is stored of each place.
 fn put_places(text: &mut String, state: &State) -> Result<(), AllocError> {
     for index in 0..state.places() {
         let (references, own) = (state.references(index), state.own(index));
@@ -29,7 +29,7 @@ fn put_places(text: &mut String, state: &State) -> Result<(), AllocError> {
     Ok(())
 }
 
-/// Puts the end of each slot's record.
+/// Writes the end of each slot's record.
 fn put_ends(text: &mut String, state: &State) -> Result<(), AllocError> {
     for slot in 0..state.slots() {
         let end = state.end(slot);
@@ -70,7 +70,7 @@ fn concerned(alloc: Global, state: &State, event: Event) -> Result<String, Alloc
     }
 }
 
-/// Makes the event, and tells what it asked for, and what is stored of that now if anything changed at all.
+/// Makes the event, and says what it asked for, and what is stored of that now if anything changed at all.
 pub fn tell_event(
     rt: &impl Print,
     alloc: Global,
@@ -90,7 +90,7 @@ pub fn tell_event(
     Ok(())
 }
 
-/// Makes the events, and tells each.
+/// Makes the events, and says each.
 pub fn tell_events(
     rt: &impl Print,
     alloc: Global,
@@ -138,7 +138,7 @@ fn tell_outcome_at(
     }
 }
 
-/// Tells what a place came to.
+/// Reports what a place resulted in.
 fn tell_place(
     rt: &impl Print,
     alloc: Global,
@@ -163,7 +163,7 @@ fn tell_slots(rt: &impl Print, machine: &Machine<OfLog<'_>>) -> Result<(), Trial
     Ok(())
 }
 
-/// Tells what all places and records came to.
+/// Reports what all places and records resulted in.
 pub fn tell_found(
     rt: &impl Print,
     alloc: Global,

@@ -128,7 +128,7 @@ fn tell_row(
     tell_last(rt, alloc, machine, placing)
 }
 
-/// Tells the row of events on all of a log, by so many partitions, with what stands before it.
+/// Reports the row of events on all of a log, by this many partitions, with what is before it.
 fn tell_behind(
     rt: &impl Print,
     alloc: Global,
@@ -144,7 +144,7 @@ fn tell_behind(
     tell_row(rt, alloc, &mut machine, placing)
 }
 
-/// Tells the row of events on all of a log, by so many partitions.
+/// Reports the row of events on all of a log, by this many partitions.
 fn tell_all(
     rt: &impl Print,
     alloc: Global,

@@ -1,5 +1,5 @@
-//! The worked log: a reader, and behind it the revocation of the grant by which it reads. Its first three statements are told
-//! by their numbers, and so are the versions of rows and the book that they leave.
+//! The worked log: a reader, and after it the revocation of the grant by which it reads. Its first three statements are given by their
+//! numbers, and so are the versions of rows and the book that they leave.
 
 ghost use Rattle.std.specs.Prelude.{◌≡◌, ◌∷◌, [], IfOk, IsTrue, List, ℕ};
 ghost use Rattle.model_base.specs.declared.deed.Deed.TheVariants.{Granting};
@@ -198,7 +198,7 @@ fn worked_book(alloc: Global) -> Result<Book, AllocError>
     Ok(book)
 }
 
-/// What stands before place 3 of a log that begins with the three.
+/// What is before place 3 of a log that begins with the three.
 pub fn before_the_reader(alloc: Global) -> Result<Before, AllocError>
     ensures { IfOk result (λ before. (log : List Statement) → BeginsWorked log → IsBefore before log 3) }
 {

@@ -1,4 +1,4 @@
-//! What a deed comes to.
+//! What a deed results in.
 
 ghost use Rattle.std.specs.Prelude.{◌≡◌, ◌++◌, ◌∷◌, [], IfOk, OnOk};
 ghost use Rattle.model_base.specs.Outcomes.{deed_done};
@@ -30,8 +30,8 @@ fn lost(alloc: Global, before: &[Grant], after: &[Grant]) -> Result<Vec<Place>, 
     Ok(places)
 }
 
-/// Puts the deed of a completed statement, if it has one, behind those made so far, after which the grants are in force.
-/// Says what the deed came to.
+/// Appends the deed of a completed statement, if it has one, after those made so far, after which the grants are in force. Says what the
+/// deed resulted in.
 pub(crate) fn make(
     alloc: Global,
     owners: &[User],

@@ -1,7 +1,11 @@
-//! The slow serial run of a log: each place in turn, by replaying all that came before it.
+//! The slow serial run of a log, by the definitions.
 //!
-//! It follows the definitions of `model_base` one by one, so that it can be read beside them. What is held is found by
-//! making all deeds anew, and what took a privilege away by making each beginning of the deeds anew.
+//! `serial` returns the outcome of each place of a list of statements. It follows the definitions of `model_base` one
+//! by one, so that it can be read beside them: what is held is found by replaying all earlier deeds, and what took a
+//! privilege away by replaying each beginning of them, which takes up to the cube of their number. It is what the
+//! faster ways are compared with.
+//!
+//! On `Err`, out of memory. Each body has to fit a window, which holds for every statement of a log.
 #![tactic(auto)]
 
 ghost use Rattle.std.specs.Prelude.{◌≡◌, ℕ, All, IfOk, slice_get};
@@ -20,9 +24,9 @@ use std::alloc::{AllocError, Global};
 
 /// The outcome of each place of a log, found by following the definition: plain and slow.
 ///
-/// What is held before a statement is found by making all deeds before it anew, which takes up to D² steps for D deeds.
-/// Where a statement is denied, that is done for each beginning of those deeds too, which takes up to D³. So N statements
-/// take up to N·D² steps and D³ for each denied one, and the bodies what `body::run_on` takes for them.
+/// What is held before a statement is found by making all deeds before it again, which takes up to D² steps for D deeds. Where a statement
+/// is denied, that is done for each beginning of those deeds too, which takes up to D³. So N statements take up to N·D² steps and D³ for
+/// each denied one, and the bodies what `body::run_on` takes for them.
 pub fn serial(alloc: Global, statements: &[Statement]) -> Result<Vec<Outcome>, AllocError>
     requires { All IsRunnable statements.now }
     ensures { IfOk result (λ outcomes. (place : ℕ) → slice_get outcomes.items place ≡ outcome statements.now place) }

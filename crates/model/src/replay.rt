@@ -1,4 +1,4 @@
-//! Who holds what, found by making all deeds anew.
+//! Who holds what, found by making all deeds again.
 
 ghost use Rattle.std.specs.Prelude.{◌≡◌, ◌++◌, [], IfOk, OnOk};
 ghost use Rattle.std.specs.List.{list_any};
@@ -98,8 +98,7 @@ fn erased(alloc: Global, deeds: &[Deed]) -> Result<Vec<Grant>, AllocError>
     Ok(grants)
 }
 
-/// The grants made anew, in order: each stands if its grantor has the option as owner, or by a grant that stands before
-/// it.
+/// The grants made again, in order: each is in force if its grantor has the option as owner, or by a grant that is before it.
 fn replayed(alloc: Global, owners: &[User], grants: &[Grant]) -> Result<Vec<Grant>, AllocError>
     ensures { IfOk result (λ standing. standing.items ≡ replayed owners.now [] grants.now) }
 {

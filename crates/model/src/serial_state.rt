@@ -1,4 +1,4 @@
-//! What stands before a place of a log, and what the place makes of it.
+//! What is before a place of a log, and what the place makes of it.
 
 ghost use Rattle.std.specs.Prelude.{◌≡◌, None, IfOk};
 ghost use Rattle.model_base.specs.Outcomes.{at_place, empty_world, judged};
@@ -13,7 +13,7 @@ use body::{BodyEnd, RowMap, run_on};
 use model_base::{Deed, Form, Grant, HashSeed, Outcome, Place, Statement, User};
 use std::alloc::{AllocError, Global};
 
-/// What stands before a place of a log: the rows, and the deeds made so far.
+/// What is before a place of a log: the rows, and the deeds made so far.
 #[derive(Drop)]
 pub(crate) struct State {
     rows: RowMap,
@@ -21,7 +21,7 @@ pub(crate) struct State {
 }
 
 impl State {
-    /// Before the first place there is no row and no deed. Rows are found under this seed. It takes no memory.
+    /// Before the first place there is no row and no deed. Rows are found under this seed. It doesn't allocate.
     pub(crate) fn seeded(alloc: Global, seed: HashSeed) -> Self
         ensures { world_of result ≡ empty_world }
     {

@@ -23,7 +23,7 @@ pub record Machine : Type 0 where
   pub registers : List ℤ
   pub outputs : List ℤ
 
--- what one step comes to: it goes on, passing over some steps, or it ends the body
+-- what one step results in: it goes on, passing over some steps, or it ends the body
 pub data Effect : Type 0 where
   goes_on : Machine → ℕ → Effect
   aborts : Reason → Effect
@@ -76,11 +76,11 @@ abbrev pub fits_64_bits : ℤ → Bool
 fits_64_bits (pos n) = nat_lt n (2 ^ 63)
 fits_64_bits (negsuc n) = nat_lt n (2 ^ 63)
 
--- a number is put into a register
+-- a number is written into a register
 abbrev pub put : Machine → ℕ → ℤ → Effect
 put machine register value = goes_on (with_register machine register value) 0
 
--- what was computed is put there if it fits
+-- what was computed is written there if it fits
 abbrev pub put_fitting : Machine → ℕ → ℤ → Effect
 put_fitting machine register value = if fits_64_bits value then put machine register value else aborts Overflow
 
@@ -101,7 +101,7 @@ abbrev pub is_zero : ℤ → Bool
 is_zero (pos n) = n == 0
 is_zero (negsuc _) = false
 
--- a column of a row that is there is put into a register
+-- a column of a row that is there is written into a register
 abbrev pub load_column : Machine → ℕ → ℕ → Option (List ℤ) → Effect
 load_column machine to column None = aborts NoRow
 load_column machine to column (Some row) = put machine to (slice_index_or row column (pos 0))

@@ -1,6 +1,6 @@
--- What each place of a log comes to, by a serial run: each statement in turn is checked, run, and may change who holds
--- what. The order of the log is the order of the transactions, and a transaction's timestamp is its place: J. M. Faleiro
--- and D. J. Abadi, "Rethinking Serializable Multiversion Concurrency Control", PVLDB 8 (2015), section 3.
+-- What each place of a log results in, by a serial run: each statement in turn is checked, run, and may change who holds what. The order of
+-- the log is the order of the transactions, and a transaction's timestamp is its place: J. M. Faleiro and D. J. Abadi, "Rethinking
+-- Serializable Multiversion Concurrency Control", PVLDB 8 (2015), section 3.
 use Rattle.std.specs.Prelude.{ℕ, ◌+◌, ◌&&◌, not, true, false, Option, Some, None, List, [], ◌∷◌, ◌++◌, take, map, slice_get, if◌then◌else◌}
 use Rattle.std.specs.List.{flat_map, find}
 use Rattle.std.specs.Option.{option_map_or, option_map}
@@ -83,7 +83,7 @@ cause_after owners user need past (deed ∷ later) found =
 abbrev pub cause : List ℕ → List Deed → ℕ → Need → Cause
 cause owners deeds user need = cause_after owners user need [] deeds Never
 
--- what stands before a place: the rows, and the deeds made so far
+-- what is before a place: the rows, and the deeds made so far
 pub record World : Type 0 where
   pub rows : Rows
   pub deeds : List Deed
@@ -96,7 +96,7 @@ empty_world = record { rows = no_rows; deeds = [] }
 abbrev pub missing : List ℕ → World → ℕ → Form → Option Need
 missing owners world user form = find (λ need. not (holds owners world.deeds user need)) (needs form)
 
--- what a deed comes to
+-- what a deed results in
 abbrev pub deed_done : List ℕ → World → Option Deed → DeedDone
 deed_done owners world None = DeedDone.None
 deed_done owners world (Some (Granting grant)) = DeedDone.Granted
@@ -146,7 +146,7 @@ world_after owners place world [] = world
 world_after owners place world (statement ∷ statements) =
     world_after owners (place + 1) (at_place owners place world statement).1 statements
 
--- what stands before a place of the log
+-- what is before a place of the log
 abbrev pub world_before : List Statement → ℕ → World
 world_before log place = world_after (owners log) 0 empty_world (take place log)
 

@@ -1,7 +1,7 @@
--- By which grants in force a user came to a need: the earliest that gives it, before that the earliest that gave its
--- grantor the option, and so on, down to a grant by the table's owner. That support comes from earlier grants is the rule
--- of P. P. Griffiths and B. W. Wade, "An Authorization Mechanism for a Relational Database System", ACM Transactions on
--- Database Systems 1 (1976), with R. Fagin's correction, "On an Authorization Mechanism", in the same journal, 3 (1978).
+-- By which grants in force a user got what a need asks for: the earliest that gives it, before that the earliest that gave its grantor the
+-- option, and so on, down to a grant by the table's owner. That support comes from earlier grants is the rule of P. P. Griffiths and B. W.
+-- Wade, "An Authorization Mechanism for a Relational Database System", ACM Transactions on Database Systems 1 (1976), with R. Fagin's
+-- correction, "On an Authorization Mechanism", in the same journal, 3 (1978).
 use Rattle.std.specs.Prelude.{ℕ, List, [], ◌∷◌, ◌++◌, reverse, if◌then◌else◌, IsTrue}
 use Rattle.model_base.specs.declared.deed.Grant.{Grant}
 use Rattle.model_base.specs.declared.deed.Need.{Need}

@@ -95,8 +95,8 @@ erased (Granting grant ∷ later) =
     if list_any (λ deed. revokes deed grant) later then erased later else grant ∷ erased later
 erased (Revoking _ ∷ later) = erased later
 
--- the grants made anew, in order, after those that stand already: each stands if its grantor has the
--- option as owner, or by a grant that stands before it
+-- the grants made again, in order, after those already in force: each is in force if its grantor has the option as owner, or by a grant
+-- that is before it
 abbrev pub replayed : List ℕ → List Grant → List Grant → List Grant
 replayed owners standing [] = []
 replayed owners standing (grant ∷ grants) =

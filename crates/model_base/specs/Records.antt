@@ -1,6 +1,6 @@
--- The grants of some deeds as records, each with the place at which it left force, and what records tell of who holds
--- what. That every grant is kept by itself, with its own time, is R. Fagin's correction, "On an Authorization Mechanism",
--- ACM Transactions on Database Systems 3 (1978).
+-- The grants of some deeds as records, each with the place at which it left force, and what records say of who holds what. That every grant
+-- is kept by itself, with its own time, is R. Fagin's correction, "On an Authorization Mechanism", ACM Transactions on Database Systems 3
+-- (1978).
 use Rattle.std.specs.Prelude.{◌==◌, ◌&&◌, not, nat_lt, ℕ, zero, suc, Bool, Option, Some, None, List, [], ◌∷◌, ◌++◌, filter, map, is_none, if◌then◌else◌}
 use Rattle.std.specs.List.{list_any}
 use Rattle.model_base.specs.declared.deed.Grant.{Grant}
@@ -66,7 +66,7 @@ abbrev pub end_below : ℕ → Option ℕ → Option ℕ
 end_below place None = None
 end_below place (Some end) = if nat_lt end place then Some end else None
 
--- the records as they stood at a place: those made below it, with the ends that lie below it
+-- the records as they were at a place: those made below it, with the ends that lie below it
 abbrev pub cut : ℕ → List Record → List Record
 cut place [] = []
 cut place (entry ∷ entries) =

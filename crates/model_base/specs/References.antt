@@ -38,12 +38,12 @@ deed_tables (Form.Deed deed) = table_of deed ∷ []
 abbrev pub has_deed_on : ℕ → Statement → Bool
 has_deed_on table statement = list_any (λ of_deed. of_deed == table) (deed_tables statement.form)
 
--- the numbers, each once, in the order in which they first stand
+-- the numbers, each once, in the order in which they first appear
 abbrev pub each_once : List ℕ → List ℕ
 each_once [] = []
 each_once (number ∷ numbers) = number ∷ filter (λ other. not (other == number)) (each_once numbers)
 
--- the tables of a statement's needs and of its deed, each once, in the order in which they first stand
+-- the tables of a statement's needs and of its deed, each once, in the order in which they first appear
 abbrev pub tables_of : Form → List ℕ
 tables_of form = each_once (map (λ (need : Need). need.table) (needs form) ++ deed_tables form)
 

@@ -1,5 +1,5 @@
--- Up to `MOST_COLUMNS` registers: the first `len` of an array of so many, whose others are register 0, so that equal lists of
--- registers are equal values.
+-- Up to `MOST_COLUMNS` registers: the first `len` of an array of this many, whose others are register 0, so that equal lists of registers
+-- are equal values.
 use Rattle.std.specs.Prelude.{◌≡◌, ℕ, ◌-◌, ◌≤◌, ◌++◌, List, length, take, replicate}
 use Rattle.std.proofs.Common.{arith, refl}
 use Rattle.std.proofs.lemmas.List.{length-take-le}
@@ -10,7 +10,7 @@ use Rattle.model_base.specs.declared.statement.Registers.TheInside.{Inside}
 abbrev pub registers_of : Inside → List ℕ
 registers_of r = take r.len r.registers
 
--- the registers fit the array, and register 0 stands behind them
+-- the registers fit the array, and register 0 is after them
 pub record IsPadded (r : Inside) : Type 0 where
   pub within : r.len ≤ MOST_COLUMNS
   pub whole : length r.registers ≡ MOST_COLUMNS

@@ -1,5 +1,5 @@
--- Up to `MOST_VALUES` whole numbers: the first `len` of an array of so many, whose others are 0, so that equal lists of
--- numbers are equal values.
+-- Up to `MOST_VALUES` whole numbers: the first `len` of an array of this many, whose others are 0, so that equal lists of numbers are equal
+-- values.
 use Rattle.std.specs.Prelude.{◌≡◌, ◌-◌, ◌≤◌, ◌++◌, ℤ, pos, List, length, take, replicate}
 use Rattle.std.proofs.Common.{arith, refl}
 use Rattle.std.proofs.lemmas.List.{length-take-le}
@@ -10,7 +10,7 @@ use Rattle.model_base.specs.declared.row.Values.TheInside.{Inside}
 abbrev pub values_of : Inside → List ℤ
 values_of v = take v.len v.values
 
--- the numbers fit the array, and 0 stands behind them
+-- the numbers fit the array, and 0 is after them
 pub record IsPadded (v : Inside) : Type 0 where
   pub within : v.len ≤ MOST_VALUES
   pub whole : length v.values ≡ MOST_VALUES

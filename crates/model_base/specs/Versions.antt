@@ -1,6 +1,5 @@
--- The versions of rows that a place of the log leaves: BOHM places one for each declared write before anything runs
--- (Faleiro and Abadi, PVLDB 8, 2015, section 3). That a place which changes nothing fills its versions with what stood
--- before it is this project's own rule.
+-- The versions of rows that a place of the log leaves: BOHM places one for each declared write before anything runs (Faleiro and Abadi,
+-- PVLDB 8, 2015, section 3). That a place which changes nothing fills its versions with what was before it is this project's own rule.
 use Rattle.std.specs.Prelude.{ℕ, ◌+◌, ◌||◌, Bool, Option, List, [], ℤ, map, filter, slice_get}
 use Rattle.std.specs.Option.{option_map_or}
 use Rattle.model_base.specs.declared.statement.Access.{Access}

@@ -8,9 +8,9 @@ ghost use Rattle.model_base.specs.Versions.{version_cells};
 ghost use Rattle.model_base.specs.declared.statement.Access.{Access};
 ghost use Rattle.model_base.specs.declared.statement.Statement.{Statement};
 
-/// Statements that are appended to a log change nothing of its places: what stands before each of them, and before the next
-/// one, their outcomes and version cells, and what they are referred to. Their tables have later numbers, so the condition is
-/// that each need of the log is on a table of the log; to what a place is referred has no condition.
+/// Statements that are appended to a log change nothing of its places: what is before each of them, and before the next one, their outcomes
+/// and version cells, and what they are referred to. Their tables have later numbers, so the condition is that each need of the log is on a
+/// table of the log; to what a place is referred has no condition.
 pub fn earlier_places_stand()
     ensures world { (log more : List Statement) (place : ℕ) → NeedsOwnTables log → place ≤ length log
         → world_before (log ++ more) place ≡ world_before log place }

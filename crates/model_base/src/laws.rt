@@ -53,8 +53,8 @@ pub fn revocations_add_none()
         → IsPart (kept owners (deeds ++ Revoking revocation ∷ [])) (kept owners deeds) }
 {}
 
-/// Leaving out a grant never brings another into force: of the deeds, as the erasure does, or of the grants that are
-/// replayed or that stand before these.
+/// Leaving out a grant never brings another into force: of the deeds, as the erasure does, or of the grants that are replayed or that are
+/// before these.
 pub fn fewer_grants_keep_fewer()
     ensures deeds { (owners : List ℕ) (past later : List Deed) (grant : Grant)
         → IsPart (kept owners (past ++ later)) (kept owners (past ++ Granting grant ∷ later)) }
@@ -124,8 +124,8 @@ pub fn held_needs_have_paths()
         → IsProper owners deeds → IsRising (path owners (kept owners deeds) user need) }
 {}
 
-/// What the path of a need is: empty for the table's owner, and otherwise the earliest grant that gives the need, behind
-/// the path of its grantor's option by the grants before it. A need that isn't held has none.
+/// What the path of a need is: empty for the table's owner, and otherwise the earliest grant that gives the need, after the path of its
+/// grantor's option by the grants before it. A need that isn't held has none.
 pub fn paths_take_the_earliest()
     ensures owner { (owners : List ℕ) (grants : List Grant) (user : ℕ) (need : Need)
         → owns owners user need.table ≡ true → path owners grants user need ≡ [] }

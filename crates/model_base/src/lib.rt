@@ -1,7 +1,12 @@
-//! The statements of a log, what they mean, and the plain types that all other crates share.
+//! The types and definitions that all other crates share.
 //!
-//! The definitions of `specs/` are what a reader has to believe: who holds which privilege, what a body does,
-//! and what each place of a log comes to.
+//! `Statement`, `Outcome`, `Grant` and their parts are plain data; `limits.rt` has each limit of a log and of its runs,
+//! `HashSeed` where the hashes of a map start. The definitions of `specs/` are what a reader has to believe: who holds
+//! which privilege, what a body does, and the outcome of each place. The laws, as `admitted_exactly_when_privileged`
+//! and `causes_are_last_losses`, hold of every log; they do nothing when they run.
+//!
+//! Privileges are those of P. P. Griffiths and B. W. Wade, "An Authorization Mechanism for a Relational Database
+//! System", ACM TODS 1 (1976), with the correction of R. Fagin, "On an Authorization Mechanism", ACM TODS 3 (1978).
 #![tactic(auto)]
 
 mod deed;

@@ -27,7 +27,7 @@ pub const MOST_NAME_BYTES: usize = 32;
 /// Users of a log, and its tables as well; a statement that would bring in one more of either is refused.
 pub const MOST_NAMES: usize = 65_536;
 
-/// Places of a log; each statement behind the last of them is refused.
+/// Places of a log; each statement after the last of them is refused.
 pub const MOST_PLACES: u64 = 4_294_967_295;
 
 /// Statements of a batch; a run by larger batches is refused.

@@ -20,14 +20,14 @@ impl<T: Drop> Model for Items<T> {
 impl<T: Drop> Items<T> {
     ghost use Rattle.std.specs.Prelude.{◌≡◌, [], length};
 
-    /// The list of these items. It takes no memory.
+    /// The list of these items. It doesn't allocate.
     pub fn new(items: Vec<T>) -> Self
         ensures { result ≡ items.items }
     {
         Items { items }
     }
 
-    /// The list without items. It takes no memory.
+    /// The list without items. It doesn't allocate.
     pub fn empty(alloc: Global) -> Self
         ensures { result ≡ [] }
     {
@@ -43,7 +43,7 @@ impl<T: Drop> Items<T> {
         self.items.as_slice()
     }
 
-    /// The vector of the items. It takes no memory.
+    /// The vector of the items. It doesn't allocate.
     pub fn into_vec(self) -> Vec<T>
         ensures { result.items ≡ self }
     {

@@ -1,4 +1,4 @@
-//! What a place of the log comes to.
+//! What a place of the log results in.
 
 use crate::deed::{Cause, Need};
 use crate::list::Items;
@@ -18,7 +18,7 @@ pub enum Reason {
     Check,
 }
 
-/// What the deed of a completed transaction came to.
+/// What the deed of a completed transaction resulted in.
 #[derive(Debug, Drop)]
 pub enum DeedDone {
     /// The transaction has no deed.

@@ -1,5 +1,5 @@
-//! What holds of the records of grants with their ends: they tell of every list of deeds, and of every log, what the
-//! deeds tell, also those of some tables alone, and at every earlier place.
+//! What holds of the records of grants with their ends: they say of every list of deeds, and of every log, what the deeds say, also those
+//! of some tables alone, and at every earlier place.
 
 ghost use Rattle.std.specs.Prelude.{◌≡◌, ◌≢◌, ◌↔◌, ℕ, ◌<◌, ◌≤◌, Bool, true, false, Some, None, is_none, ◌&&◌, ◌||◌, All, Contains, List, [], ◌∷◌, ◌++◌, length, filter, map};
 ghost use Rattle.std.specs.List.{list_any};
@@ -18,8 +18,8 @@ ghost use Rattle.model_base.specs.declared.deed.Record.{Record};
 ghost use Rattle.model_base.specs.declared.deed.Revocation.{Revocation};
 ghost use Rattle.model_base.specs.declared.statement.Statement.{Statement};
 
-/// The grants of the records that have no end are those in force, so the records tell who holds what: the table's owner,
-/// and whom one of the records without an end gives it.
+/// The grants of the records that have no end are those in force, so the records say who holds what: the table's owner, and whom one of the
+/// records without an end gives it.
 pub fn unended_records_are_in_force()
     ensures in_force { (owners : List ℕ) (deeds : List Deed)
         → IsProper owners deeds → in_force (records owners deeds) ≡ kept owners deeds }
@@ -45,8 +45,8 @@ pub fn deeds_change_records()
         ≡ map (ended_at revocation.place (ended_by owners deeds revocation)) (records owners deeds) }
 {}
 
-/// The records are of all grants of the deeds, and their places rise, as do those of the grants in force, of the records of
-/// some tables, and of the records as they stood at a place, since these are some of all.
+/// The records are of all grants of the deeds, and their places rise, as do those of the grants in force, of the records of some tables,
+/// and of the records as they were at a place, since these are some of all.
 pub fn records_rise()
     ensures grants { (owners : List ℕ) (deeds : List Deed) → recorded (records owners deeds) ≡ grants_of deeds }
     ensures rises { (owners : List ℕ) (deeds : List Deed)
@@ -79,8 +79,8 @@ pub fn ends_are_losses()
         ↔ ((is_among place (kept owners past) ≡ true) × (is_among place (kept owners (past ++ deed ∷ [])) ≡ false)) }
 {}
 
-/// Each record was authorised when it was made: its grantor held the option by the deeds below its place, and by the
-/// records as they stood there.
+/// Each record was authorised when it was made: its grantor held the option by the deeds below its place, and by the records as they were
+/// there.
 pub fn records_were_authorised()
     ensures deeds { (owners : List ℕ) (deeds : List Deed)
         → IsProper owners deeds
@@ -92,7 +92,7 @@ pub fn records_were_authorised()
         (records owners deeds) }
 {}
 
-/// The records of the deeds below a place are those of all deeds, cut at the place, and so they tell who held what there.
+/// The records of the deeds below a place are those of all deeds, cut at the place, and so they say who held what there.
 pub fn earlier_records_are_cut()
     ensures beginning { (owners : List ℕ) (place : ℕ) (past later : List Deed)
         → All (λ deed. place_of deed < place) past → All (λ deed. place ≤ place_of deed) later
@@ -104,8 +104,8 @@ pub fn earlier_records_are_cut()
         → holds_by owners (cut place (records owners deeds)) user need ≡ holds owners (deeds_below place deeds) user need }
 {}
 
-/// The records of some tables tell of these tables what all records tell: who holds what, and which place took a need away
-/// last. Cutting them is the same as taking them of the cut records.
+/// The records of some tables say of these tables what all records say: who holds what, and which place took a need away last. Cutting them
+/// is the same as taking them of the cut records.
 pub fn covered_records_tell()
     ensures held { (owners : List ℕ) (covers : ℕ → Bool) (entries : List Record) (user : ℕ) (need : Need)
         → covers need.table ≡ true
@@ -117,9 +117,9 @@ pub fn covered_records_tell()
         → cut place (covered covers entries) ≡ covered covers (cut place entries) }
 {}
 
-/// Which grants a revocation ends, the records tell, those of some tables with its own among them, and even those of its
-/// kind on its table alone. This holds of all records whose grants in force have rising places and bear their own replay,
-/// as do those of proper deeds, and those of some tables.
+/// Which grants a revocation ends, the records say, those of some tables with its own among them, and even those of its kind on its table
+/// alone. This holds of all records whose grants in force have rising places and bear their own replay, as do those of proper deeds, and
+/// those of some tables.
 pub fn records_tell_what_revocations_end()
     ensures all { (owners : List ℕ) (deeds : List Deed) (revocation : Revocation)
         → IsProper owners deeds
@@ -155,8 +155,8 @@ pub fn causes_are_losses_by_records()
         ≡ option_map_or Taken (last_loss_by owners (records owners deeds) user need place) Never }
 {}
 
-/// Owners that are added behind, of tables created later, change nothing for grants on the tables that there are. The
-/// grants of proper deeds are on such tables.
+/// Owners that are added after, of tables created later, change nothing for grants on the tables that there are. The grants of proper deeds
+/// are on such tables.
 pub fn later_owners_change_nothing()
     ensures tables { (owners : List ℕ) (deeds : List Deed)
         → IsProper owners deeds → AreOnOwnedTables owners (grants_of deeds) }
@@ -189,9 +189,8 @@ pub fn later_owners_change_nothing()
         → ended_by_records (owners ++ more) entries revocation ≡ ended_by_records owners entries revocation }
 {}
 
-/// The records of the deeds before a place of a log tell of every place up to it: cut there, they are the records of the
-/// deeds before that place; and those of some tables tell of these tables who held what, which grants a revocation ended,
-/// and the cause of a denial.
+/// The records of the deeds before a place of a log say of every place up to it: cut there, they are the records of the deeds before that
+/// place; and those of some tables say of these tables who held what, which grants a revocation ended, and the cause of a denial.
 pub fn records_tell_of_logs()
     ensures cut { (log : List Statement) (place later : ℕ) → place ≤ later
         → records (owners log) (deeds_before log place) ≡ cut place (records (owners log) (deeds_before log later)) }

@@ -2,8 +2,8 @@
 
 use crate::name::Place;
 
-/// What a place of a batch is referred to: what stood before the batch, or an earlier place of the batch. BOHM stores such a
-/// reference for each read before anything runs (Faleiro and Abadi, PVLDB 8, 2015, section 3).
+/// What a place of a batch is referred to: what was there before the batch, or an earlier place of the batch. BOHM stores such a reference
+/// for each read before anything runs (Faleiro and Abadi, PVLDB 8, 2015, section 3).
 #[derive(Clone, Copy, PartialEq, Eq, Debug)]
 pub enum Reference {
     Base,

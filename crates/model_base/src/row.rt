@@ -17,7 +17,7 @@ pub type Row = Values;
 /// What a body answers: the numbers that its OUT steps gave, in order.
 pub type Outputs = Values;
 
-/// Up to `MOST_VALUES` numbers, kept in the value itself, so that a copy takes no memory.
+/// Up to `MOST_VALUES` numbers, kept in the value itself, so that a copy doesn't allocate.
 #[derive(Clone, Copy, PartialEq, Eq, Debug)]
 pub struct Values {
     len: u8,
@@ -67,7 +67,7 @@ impl Values {
         &self.values[..self.len as usize]
     }
 
-    /// Puts a number behind the others.
+    /// Appends a number to the others.
     pub fn push(&mut self, value: i64)
         requires { length self.old < MOST_VALUES }
         ensures { self.new ≡ self.old ++ value ∷ [] }
@@ -87,7 +87,7 @@ impl Values {
         }
     }
 
-    /// Puts a number into a column, if there is one.
+    /// Writes a number into a column, if there is one.
     pub fn set_column(&mut self, column: u32, value: i64)
         ensures { self.new ≡ slice_set self.old column value }
     {

@@ -44,7 +44,7 @@ impl Register {
     }
 }
 
-/// Up to `MOST_COLUMNS` registers in order, kept in the value itself, so that a step is a plain value and takes no memory of its own.
+/// Up to `MOST_COLUMNS` registers in order, kept in the value itself, so that a step is a plain value and doesn't allocate of its own.
 #[derive(Clone, Copy, PartialEq, Eq, Debug)]
 pub struct Registers {
     len: u8,
@@ -94,7 +94,7 @@ impl Registers {
         &self.registers[..self.len as usize]
     }
 
-    /// Puts a register behind the others.
+    /// Appends a register to the others.
     pub fn push(&mut self, register: Register)
         requires { length self.old < MOST_COLUMNS }
         ensures { self.new ≡ self.old ++ register ∷ [] }

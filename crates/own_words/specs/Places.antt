@@ -1,6 +1,6 @@
--- The own words of a place, by what it comes to: those of its outcome, and behind them its version cells. BOHM makes room
--- for each version that a transaction may write before anything runs (J. M. Faleiro and D. J. Abadi, "Rethinking
--- Serializable Multiversion Concurrency Control", PVLDB 8, 2015, section 3).
+-- The own words of a place, by what it results in: those of its outcome, and after them its version cells. BOHM makes room for each version
+-- that a transaction may write before anything runs (J. M. Faleiro and D. J. Abadi, "Rethinking Serializable Multiversion Concurrency
+-- Control", PVLDB 8, 2015, section 3).
 use Rattle.std.specs.Prelude.{ℕ, List, [], ◌++◌, filter, slice_get}
 use Rattle.std.specs.List.{flat_map}
 use Rattle.std.specs.Option.{option_map_or}
@@ -13,13 +13,13 @@ use Rattle.model_base.specs.Rows.{Rows}
 use Rattle.model_base.specs.Versions.{accesses_of, is_writing}
 use Rattle.own_words.specs.Words.{header, row_words}
 
--- the version cells, by the rows behind the place: one for each access that may change its row, in order
+-- the version cells, by the rows after the place: one for each access that may change its row, in order
 abbrev pub cells : (ℕ → ℕ) → Form → Rows → List ℕ
 cells columns form rows =
     flat_map (λ (access : Access). row_words (columns access.key.table) (rows access.key.table access.key.row))
     (filter is_writing (accesses_of form))
 
--- the own words of a place with this outcome, behind which this stands
+-- the own words of a place with this outcome, after which this stands
 abbrev pub own_words : (ℕ → ℕ) → Form → Outcome × World → List ℕ
 own_words columns form result = header form result.0 ++ cells columns form result.1.rows
 

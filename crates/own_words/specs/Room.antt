@@ -1,5 +1,5 @@
--- Up to `MOST_OWN_WORDS` numbers: the first `len` of an array of so many, whose others are 0, so that equal lists of
--- numbers are equal values.
+-- Up to `MOST_OWN_WORDS` numbers: the first `len` of an array of this many, whose others are 0, so that equal lists of numbers are equal
+-- values.
 use Rattle.std.specs.Prelude.{◌≡◌, ◌-◌, ◌≤◌, ◌++◌, ℕ, List, length, take, replicate}
 use Rattle.std.proofs.Common.{arith, refl}
 use Rattle.std.proofs.lemmas.List.{length-take-le}
@@ -10,7 +10,7 @@ use Rattle.own_words.specs.declared.room.OwnWords.TheInside.{Inside}
 abbrev pub words_in : Inside → List ℕ
 words_in room = take room.len room.words
 
--- the numbers fit the array, and 0 stands behind them
+-- the numbers fit the array, and 0 is after them
 pub record IsRoomPadded (room : Inside) : Type 0 where
   pub within : room.len ≤ MOST_OWN_WORDS
   pub whole : length room.words ≡ MOST_OWN_WORDS

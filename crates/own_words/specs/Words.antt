@@ -1,7 +1,7 @@
--- A place's own words: its outcome and its version cells as numbers of 64 bits. BOHM makes room for each version before
--- anything runs (J. M. Faleiro and D. J. Abadi, "Rethinking Serializable Multiversion Concurrency Control", PVLDB 8, 2015,
--- section 3); that a place's outcome is kept in the same way, and the words for it, are this project's own. What a
--- revocation ended isn't in the words, and is told apart from them.
+-- A place's own words: its outcome and its version cells as numbers of 64 bits. BOHM makes room for each version before anything runs (J.
+-- M. Faleiro and D. J. Abadi, "Rethinking Serializable Multiversion Concurrency Control", PVLDB 8, 2015, section 3); that a place's outcome
+-- is kept in the same way, and the words for it, are this project's own. What a revocation ended isn't in the words, and is known apart
+-- from them.
 use Rattle.std.specs.Prelude.{◌≡◌, ◌==◌, ◌&&◌, ◌+◌, ◌-◌, ◌^◌, ◌<◌, ◌≤◌, ℕ, min, not, Bool, true, false, Option, Some, None, List, [], ◌∷◌, ◌++◌, ℤ, All, Contains, length, map, take, drop, replicate, slice_get, slice_index, count_by, if◌then◌else◌}
 use Rattle.std.specs.Int.{cast_signed, cast_unsigned, w64}
 use Rattle.std.specs.Int.RustNames.{FitsSigned}
@@ -96,7 +96,7 @@ outputs_told (Outcome.Denied need cause) = []
 outputs_told (Outcome.Aborted step reason) = []
 outputs_told (Outcome.Undeclared step) = []
 
--- the outputs in their room, with 0 behind them
+-- the outputs in their room, with 0 after them
 abbrev pub output_words : ℕ → List ℤ → List ℕ
 output_words room outputs = map bits outputs ++ replicate (room - length outputs) 0
 
@@ -112,7 +112,7 @@ abbrev pub row_words : ℕ → Option (List ℤ) → List ℕ
 row_words columns None = 0 ∷ replicate columns 0
 row_words columns (Some row) = 1 ∷ map bits row
 
--- so many whole numbers, from the words behind the first few
+-- this many whole numbers, from the words after the first few
 abbrev pub numbers_from : ℕ → ℕ → List ℕ → List ℤ
 numbers_from first count words = map signed (take count (drop first words))
 
@@ -126,13 +126,13 @@ deed_form (Form.Create table columns) = None
 deed_form (Form.Run accesses steps deed) = deed
 deed_form (Form.Deed deed) = Some deed
 
--- what a deed comes to, by the places that its revocation ended
+-- what a deed results in, by the places that its revocation ended
 abbrev pub deed_told : List ℕ → Option DeedForm → DeedDone
 deed_told ended None = DeedDone.None
 deed_told ended (Some (DeedForm.Grant kind table grantee option)) = DeedDone.Granted
 deed_told ended (Some (DeedForm.Revoke kind table grantee)) = DeedDone.Revoked ended
 
--- a completed transaction: of the words behind word 3 so many are outputs as that says, and at most `MOST_OUTPUTS`
+-- a completed transaction: of the words after word 3 this many are outputs as that says, and at most `MOST_OUTPUTS`
 abbrev pub done_from : Form → List ℕ → List ℕ → Outcome
 done_from form words ended =
     Outcome.Done (numbers_from 4 (min (slice_index words 3) MOST_OUTPUTS) words) (deed_told ended (deed_form form))
@@ -155,8 +155,8 @@ aborted_from step word =
     then Outcome.Aborted step RowExists
     else (if word == 2 then Outcome.Aborted step Overflow else (if word == 3 then Outcome.Aborted step Check else Outcome.Undeclared step)))
 
--- the outcome that a place's words tell, with the places that its revocation ended. Words that are missing read as 0, and
--- where word 0 is none of the five, the place reads as undeclared at the step of word 1
+-- the outcome that a place's words give, with the places that its revocation ended. Words that are missing read as 0, and where word 0 is
+-- none of the five, the place reads as undeclared at the step of word 1
 abbrev pub outcome_from : Form → List ℕ → List ℕ → Outcome
 outcome_from form words ended =
     if slice_index words 0 == 1
@@ -209,7 +209,7 @@ abbrev pub FitsColumns : ℕ → Option (List ℤ) → Type 0
 FitsColumns columns None = Unit {0}
 FitsColumns columns (Some row) = (length row ≡ columns) × All (FitsSigned w64) row
 
--- the details of an outcome are such that words of 64 bits tell them
+-- the details of an outcome are such that words of 64 bits give them
 abbrev pub FitsDetails : Form → Outcome → Type 0
 FitsDetails form (Outcome.Done outputs deed) = FitsDone form outputs deed
 FitsDetails form Outcome.Created = Unit {0}
@@ -217,7 +217,7 @@ FitsDetails form (Outcome.Denied need cause) = Contains (needs form) need × (ca
 FitsDetails form (Outcome.Aborted step reason) = step < 2 ^ 64
 FitsDetails form (Outcome.Undeclared step) = step < 2 ^ 64
 
--- what the words need in order to tell the outcome of a statement: only a created table is told as that
+-- what the words need in order to give the outcome of a statement: only a created table is known as that
 pub record FitsForm (form : Form) (outcome : Outcome) : Type 0 where
   pub created : is_created outcome ≡ creates form
   pub details : FitsDetails form outcome

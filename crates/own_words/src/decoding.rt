@@ -19,7 +19,7 @@ fn word(words: &[u64], index: usize) -> u64
     if index < words.len() { words[index] } else { 0 }
 }
 
-/// The words behind the first few.
+/// The words after the first few.
 fn behind(words: &[u64], first: usize) -> &[u64]
     ensures { result.now ≡ drop first words.now }
 {
@@ -41,7 +41,7 @@ fn front(words: &[u64], count: usize) -> &[u64]
     }
 }
 
-/// So many whole numbers, from the words behind the first few.
+/// So many whole numbers, from the words after the first few.
 fn numbers_from(first: usize, count: usize, words: &[u64]) -> Values
     requires { count ≤ MOST_VALUES }
     ensures { result ≡ numbers_from first count words.now }
@@ -54,8 +54,8 @@ fn numbers_from(first: usize, count: usize, words: &[u64]) -> Values
     numbers
 }
 
-/// The row of a version cell of a table with so many columns, of which a first word 0 says that it is absent. Words that are
-/// missing give no numbers. It takes no memory.
+/// The row of a version cell of a table with this many columns, of which a first word 0 says that it is absent. Words that are missing give
+/// no numbers. It doesn't allocate.
 pub fn row_of(columns: u8, words: &[u64]) -> Option<Row>
     requires { columns ≤ MOST_COLUMNS }
     ensures { result ≡ row_of columns words.now }
@@ -67,7 +67,7 @@ pub fn row_of(columns: u8, words: &[u64]) -> Option<Row>
     }
 }
 
-/// What a deed comes to, by the places that its revocation ended.
+/// What a deed results in, by the places that its revocation ended.
 fn deed_told(ended: Items<Place>, deed: Option<DeedForm>) -> DeedDone
     ensures { result ≡ deed_told ended deed }
 {
@@ -111,7 +111,7 @@ fn cause_from(word: u64) -> Cause
     }
 }
 
-/// A denial by the need of this number, if the statement has so many.
+/// A denial by the need of this number, if the statement has this many.
 fn denied_from(form: &Form, number: u64, cause: Cause) -> Outcome
     ensures { result ≡ denied_from number cause (slice_get (needs form.now) number) }
 {
@@ -135,10 +135,10 @@ fn aborted_from(step: u64, word: u64) -> Outcome
     Outcome::Aborted { step, reason }
 }
 
-/// The outcome that a place's words tell; the places that its revocation ended are given, since the words don't have them.
-/// Words that are missing read as 0. Where word 0 is none of the five, where a denial has a number that no need of the
-/// statement has, and where an abortion has no reason, the outcome is undeclared at the step of word 1. Of more than
-/// `MOST_OUTPUTS` outputs so many are told. It takes no memory.
+/// The outcome that a place's words give; the places that its revocation ended are given, since the words don't have them. Words that are
+/// missing read as 0. Where word 0 is none of the five, where a denial has a number that no need of the statement has, and where an
+/// abortion has no reason, the outcome is undeclared at the step of word 1. Of more than `MOST_OUTPUTS` outputs this many are known. It
+/// doesn't allocate.
 pub fn decoded(form: &Form, words: &[u64], ended: Items<Place>) -> Outcome
     ensures { result ≡ outcome_from form.now words.now ended }
 {

@@ -9,7 +9,7 @@ ghost use Rattle.model_base.specs.Outcomes.{needs};
 ghost use Rattle.model_base.specs.Versions.{accesses_of};
 ghost use Rattle.own_words.specs.Words.{FitsColumns, FitsForm, bits, ended_in, header, outcome_from, outputs_of, row_of, row_words, second_detail, signed};
 
-/// The words of an outcome tell it, with the places that its revocation ended, whatever words stand behind them.
+/// The words of an outcome give it, with the places that its revocation ended, whatever words are after them.
 pub fn decoding_undoes_coding()
     ensures alone { (form : Form) (outcome : Outcome) → FitsForm form outcome
         → outcome_from form (header form outcome) (ended_in outcome) ≡ outcome }
@@ -17,7 +17,7 @@ pub fn decoding_undoes_coding()
         → outcome_from form (header form outcome ++ more) (ended_in outcome) ≡ outcome }
 {}
 
-/// The words of a version cell tell its row, whatever words stand behind them.
+/// The words of a version cell give its row, whatever words are after them.
 pub fn rows_are_told()
     ensures { (columns : ℕ) (row : Option (List ℤ)) (more : List ℕ) → FitsColumns columns row
         → row_of columns (row_words columns row ++ more) ≡ row }

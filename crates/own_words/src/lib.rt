@@ -1,9 +1,11 @@
-//! A place's own words: its outcome and its version cells, coded as numbers of 64 bits and decoded from them.
+//! The outcome and rows of a place as words of 64 bits, and back.
 //!
-//! Words 0 to 3 and the outputs are the header: which kind of outcome it is, its two details and how many outputs it has,
-//! and then room for an output of each OUT step. Behind it stand the version cells, one for each access that may change
-//! its row, in order: 1 if the row is there and 0 if not, and a word for each column. What a revocation ended isn't in the
-//! words.
+//! Words 0 to 3 are the kind of outcome, two details and the number of outputs; then there is room for each output, and
+//! a version cell for each access that may change its row: 1 or 0 for a row that is there or absent, and a word for
+//! each column. What a revocation ended isn't in the words.
+//!
+//! `OwnWords` has up to `MOST_OWN_WORDS` in itself. `put_header` and `push_row` write them, `decoded` and `row_of` read
+//! them; `decoding_undoes_coding` and `rows_are_told` are the laws. Nothing allocates.
 #![tactic(auto)]
 
 mod bits;

@@ -97,8 +97,8 @@ fn deed_number(deed: &DeedForm, need: &Need) -> u64
     }
 }
 
-/// The number of a need among those of a statement: its first position, or their number if it is none of them. The need of a
-/// deed stands behind those of the accesses.
+/// The number of a need among those of a statement: its first position, or their number if it is none of them. The need of a deed is after
+/// those of the accesses.
 #[tactic(auto, using(crate::proofs::Numbers::numbers))]
 pub(crate) fn need_number(form: &Form, need: &Need) -> u64
     requires { length (needs form.now) < 2 ^ 64 }
@@ -136,7 +136,7 @@ fn take_kind(access: &Access, kind: Kind, later: &mut u64) -> Option<Need>
     })
 }
 
-/// The need of an access behind so many others, if it has one.
+/// The need of an access after this many others, if it has one.
 #[tactic(auto, using(crate::proofs::Numbers::places))]
 fn take_of_access(access: &Access, later: &mut u64) -> Option<Need>
     ensures need { result ≡ slice_get (needs_of_access access.now) later.old }
@@ -157,7 +157,7 @@ fn take_of_access(access: &Access, later: &mut u64) -> Option<Need>
     take_kind(access, Kind::Delete, later)
 }
 
-/// The need of some accesses behind so many others, if they have one.
+/// The need of some accesses after this many others, if they have one.
 #[tactic(auto, using(crate::proofs::Numbers::places))]
 fn take_of_accesses(accesses: &[Access], later: &mut u64) -> Option<Need>
     ensures need { result ≡ slice_get (flat_map needs_of_access accesses.now) later.old }
@@ -188,7 +188,7 @@ fn need_of_deed(deed: &DeedForm, later: u64) -> Option<Need>
     }
 }
 
-/// The need of this number among those of a statement, if it has so many.
+/// The need of this number among those of a statement, if it has this many.
 #[tactic(auto, using(crate::proofs::Numbers::places))]
 pub(crate) fn need_at(form: &Form, number: u64) -> Option<Need>
     ensures { result ≡ slice_get (needs form.now) number }

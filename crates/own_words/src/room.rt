@@ -10,7 +10,7 @@ use std::marker::Model;
 /// of its row.
 pub const MOST_OWN_WORDS: usize = 4 + MOST_OUTPUTS + MOST_ACCESSES * (1 + MOST_COLUMNS);
 
-/// A place's own words, at most `MOST_OWN_WORDS`, kept in the value itself, so that they take no memory.
+/// A place's own words, at most `MOST_OWN_WORDS`, kept in the value itself, so that they don't allocate.
 #[derive(Clone, Copy, PartialEq, Eq, Debug)]
 pub struct OwnWords {
     len: u8,
@@ -39,7 +39,7 @@ impl OwnWords {
     ghost use Rattle.model_base.specs.Outcomes.{needs};
     ghost use Rattle.own_words.specs.Words.{bits, header, outputs_of, row_words, second_detail};
 
-    /// No word. It takes no memory.
+    /// No word. It doesn't allocate.
     pub fn new() -> Self
         ensures { result ≡ [] }
     {
@@ -49,7 +49,7 @@ impl OwnWords {
         }
     }
 
-    /// Takes all words away. It costs what so many words cost, and not what there is room for.
+    /// Takes all words away. It costs what this many words cost, and not what there is room for.
     pub fn clear(&mut self)
         ensures { self.new ≡ [] }
     {
@@ -71,7 +71,7 @@ impl OwnWords {
         &self.words[..self.len as usize]
     }
 
-    /// Puts a word behind the others, of which there are fewer than `MOST_OWN_WORDS`. It takes no memory.
+    /// Appends a word to the others, of which there are fewer than `MOST_OWN_WORDS`. It doesn't allocate.
     pub fn push(&mut self, word: u64)
         requires { length self.old < MOST_OWN_WORDS }
         ensures { self.new ≡ self.old ++ word ∷ [] }
@@ -80,7 +80,7 @@ impl OwnWords {
         self.len += 1;
     }
 
-    /// Puts so many words 0 behind the others.
+    /// Appends this many words 0 to the others.
     pub(crate) fn push_zeros(&mut self, count: u8)
         requires { length self.old + count ≤ MOST_OWN_WORDS }
         ensures { self.new ≡ self.old ++ replicate count 0 }
@@ -88,7 +88,7 @@ impl OwnWords {
         self.len += count;
     }
 
-    /// Puts a word for each number behind the others.
+    /// Appends a word for each number to the others.
     pub(crate) fn push_numbers(&mut self, numbers: &[i64])
         requires { length self.old + length numbers.now ≤ MOST_OWN_WORDS }
         ensures { self.new ≡ self.old ++ map bits numbers.now }
@@ -98,9 +98,9 @@ impl OwnWords {
         }
     }
 
-    /// Puts the words 0 to 3 of an outcome of a statement, where no word is yet, and behind them its outputs, with 0 in the room
-    /// for those that it didn't give. The statement has at most `MOST_OUTPUTS` OUT steps, and the place of a revocation that took a need
-    /// lies below 2^64 - 1. A need is told only if it is one of the statement's. It takes no memory.
+    /// Appends the words 0 to 3 of an outcome of a statement, where no word is yet, and after them its outputs, with 0 in the room for
+    /// those that it didn't give. The statement has at most `MOST_OUTPUTS` OUT steps, and the place of a revocation that took a need lies
+    /// below 2^64 - 1. A need is known only if it is one of the statement's. It doesn't allocate.
     pub fn put_header(&mut self, form: &Form, outcome: &Outcome)
         requires empty { self.old ≡ [] }
         requires outputs { outputs_of form.now ≤ MOST_OUTPUTS }
@@ -119,8 +119,8 @@ impl OwnWords {
         self.push_zeros(room.saturating_sub(count));
     }
 
-    /// Puts a version cell behind the others: the row of a table with so many columns, or that there is none. There has to be
-    /// room for it, and a row has a number for each column. It takes no memory.
+    /// Appends a version cell to the others: the row of a table with this many columns, or that there is none. There has to be room for it,
+    /// and a row has a number for each column. It doesn't allocate.
     pub fn push_row(&mut self, columns: u8, row: Option<&Row>)
         requires room { length self.old + (1 + columns) ≤ MOST_OWN_WORDS }
         requires columns { ForSome row (λ numbers. length numbers.now ≡ columns) }

@@ -4,8 +4,8 @@ ghost use Rattle.std.specs.Prelude.{◌≡◌, ◌≤◌, ◌++◌, drop, length
 
 use crate::Past;
 
-/// Drops the first items of those that are kept, so many, and puts them behind those that were dropped before. It takes no memory,
-/// and costs what there is to drop and to move.
+/// Drops the first items of those that are kept, this many, and puts them after those that were dropped before. It doesn't allocate, and
+/// costs what there is to drop and to move.
 #[tactic(auto, using(crate::proofs::Rotated::first_gone))]
 pub fn forget_first<T: Drop>(past: &mut Past<T>, kept: &mut Vec<T>, count: usize)
     requires { count ≤ length kept.old.items }

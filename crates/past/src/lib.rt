@@ -1,4 +1,8 @@
-//! A list of what was dropped, which only clauses read.
+//! A list of dropped items, which only clauses read.
+//!
+//! `Past` has no bytes. `forget_first` drops the first items of a list and appends them to the past. It doesn't
+//! allocate, and costs what there is to drop and to move. So a log that forgets its first statements can still be
+//! spoken of as a whole.
 #![tactic(auto)]
 
 ghost use Rattle.std.specs.Prelude.{◌≡◌, List, [], ◌∷◌};

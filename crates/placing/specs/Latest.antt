@@ -73,7 +73,8 @@ pub record IsBehind (latest : Latest) (log : List Statement) (first place : ℕ)
   pub partitions : latest.partitions ≡ exact.partitions
   pub part : (statement : Statement) → slice_get log place ≡ Some statement → ChangesOnly exact latest statement
 
--- so many places of the batch were gone through: before any nothing is kept, and then all are noted but the last, of which maybe a part is
+-- this many places of the batch were gone through: before any nothing is kept, and then all are noted but the last, of which maybe a part
+-- is
 abbrev pub IsUpTo : Latest → List Statement → ℕ → ℕ → Type 0
 IsUpTo latest log first zero = IsLatest latest log first first
 IsUpTo latest log first (suc last) = IsBehind latest log first (first + last)

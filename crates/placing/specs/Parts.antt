@@ -12,7 +12,7 @@ use Rattle.model_base.specs.References.{prior, tables_of, writer}
 use Rattle.model_base.specs.Versions.{accesses_of}
 use Rattle.placing.specs.declared.part.Found.{Found}
 
--- the partition, of so many, of a row
+-- the partition, of this many, of a row
 abbrev pub key_partition : ℕ → ℕ → ℕ → ℕ
 key_partition partitions table row = (table + row) % partitions
 
@@ -82,12 +82,12 @@ with_place part references = with_end (fold with_reference part references)
 abbrev pub own_references : ℕ → List Statement → ℕ → ℕ → ℕ → List Reference
 own_references partitions log first partition place = map (own_reference partition) (referrals_at partitions log first place)
 
--- what the partition's placer gives for so many places of the batch, one after another
+-- what the partition's placer gives for this many places of the batch, one after another
 abbrev pub part_of : ℕ → List Statement → ℕ → ℕ → ℕ → PartOf
 part_of partitions log first places partition =
     fold with_place empty_part (map (own_references partitions log first partition) (range_with_len first places))
 
--- the parts of all partitions for so many places of a batch, in the order of the partitions
+-- the parts of all partitions for this many places of a batch, in the order of the partitions
 abbrev pub ArePartsOf : List PartOf → ℕ → List Statement → ℕ → ℕ → Type 0
 ArePartsOf parts partitions log first places =
     (0 < partitions) × (parts ≡ map (part_of partitions log first places) (range_with_len 0 partitions))

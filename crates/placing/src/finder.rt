@@ -19,7 +19,7 @@ pub struct Finder {
 }
 
 impl Finder {
-    /// Before the first place of a batch. It takes no memory.
+    /// Before the first place of a batch. It doesn't allocate.
     pub fn new(alloc: Global, partition: usize, partitions: usize) -> Self
         requires { 0 < partitions }
         ensures partition { result.latest.partition ≡ partition }

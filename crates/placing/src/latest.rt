@@ -26,7 +26,7 @@ impl Latest {
     ghost use Rattle.model_base.specs.References.{has_deed_on, is_write_to};
     ghost use Rattle.placing.specs.Latest.{IsLatest, ChangesOnly, Notes, is_own_row, is_own_table, own_prior, own_writer, prior_in, reference_to, writer_in};
 
-    /// Before the first place of the batch nothing is kept. It takes no memory.
+    /// Before the first place of the batch nothing is kept. It doesn't allocate.
     pub(crate) fn new(alloc: Global, partition: usize, partitions: usize) -> Self
         requires { 0 < partitions }
         ensures partition { result.partition ≡ partition }

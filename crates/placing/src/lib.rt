@@ -1,10 +1,12 @@
-//! Placing: before anything of a batch runs, each of its places is told where it finds the rows that it reads and the
-//! grants that it is judged by.
+//! Where each place of a batch finds the rows that it reads and its grants.
+//!
+//! `place` goes through a batch for one partition and returns its `Part`; `merge` makes `Refs` of the parts, the same
+//! for every number of partitions. `Finder` does so place by place: `find`, `writer`, `prior`, and `note` once a place
+//! was placed. A step for each place and reference; on `Err`, out of memory.
 //!
 //! After J. M. Faleiro and D. J. Abadi, "Rethinking Serializable Multiversion Concurrency Control", PVLDB 8 (2015),
-//! section 3: the keys are cut into partitions, each partition is gone through in the order of the log without a look at
-//! another, and a reader's version is known beforehand, by a reference. Here a place is also referred to the last deed on
-//! each of its tables.
+//! section 3: each partition is gone through in the order of the log, without the others. References to deeds are this
+//! project's own.
 #![tactic(auto)]
 
 mod finder;

@@ -34,7 +34,7 @@ impl Part {
     ghost use Rattle.std.specs.Prelude.{◌≡◌, ◌<◌, ◌^◌, OnOk};
     ghost use Rattle.placing.specs.Parts.{AreRisingEnds, empty_part, with_end, with_reference};
 
-    /// Of no place. It takes no memory.
+    /// Of no place. It doesn't allocate.
     pub(crate) fn new(alloc: Global) -> Self
         ensures { result ≡ empty_part }
     {

@@ -12,8 +12,8 @@ use model_base::Reference;
 use std::alloc::{AllocError, Global};
 use std::marker::Model;
 
-/// What each place of a batch is referred to: for each of its accesses in order, and then for each table of its needs and of
-/// its deed, in the order in which these first stand.
+/// What each place of a batch is referred to: for each of its accesses in order, and then for each table of its needs and of its deed, in
+/// the order in which these first appear.
 #[derive(Drop)]
 pub struct Refs {
     ends: Vec<usize>,
@@ -78,7 +78,7 @@ fn bases(alloc: Global, count: usize) -> Result<Vec<Reference>, AllocError>
     vec![in alloc; Reference::Base; count]
 }
 
-/// Puts what was found at its index.
+/// Writes what was found at its index.
 fn put_found(references: &mut [Reference], found: &[Found])
     ensures { references.new ≡ fold with_found references.old found.now }
 {
@@ -111,9 +111,8 @@ fn first_ends(alloc: Global, mut parts: Vec<Part>) -> Vec<usize>
     }
 }
 
-/// Puts together what the placers of all partitions found, in the order of the partitions: the references of the batch, the
-/// same for every number of partitions. The cost is a step for each place and each reference. `Err` says that memory was
-/// refused.
+/// Writes together what the placers of all partitions found, in the order of the partitions: the references of the batch, the same for
+/// every number of partitions. The cost is a step for each place and each reference. `Err` says that memory was refused.
 pub fn merge(alloc: Global, parts: Vec<Part>) -> Result<Refs, AllocError>
     ensures { IfOk result (λ refs. (partitions : ℕ) (log : List Statement) (first places : ℕ)
         → ArePartsOf parts.items partitions log first places → refs ≡ batch_references log first (first + places)) }

@@ -11,7 +11,7 @@ ghost use Rattle.placing.specs.Tables.{has_need, with_number, with_numbers};
 use model_base::{Access, Statement, Table};
 use std::alloc::AllocError;
 
-/// Puts a table behind the others, if it isn't there.
+/// Appends a table to the others, if it isn't there.
 fn add_table(tables: &mut Vec<Table>, table: Table) -> Result<(), AllocError>
     ensures tables { OnOk result (tables.new.items ≡ with_number tables.old.items table) }
     ensures count { OnOk result (vec_len tables.new ≤ vec_len tables.old + 1) }
@@ -29,7 +29,7 @@ fn has_need(access: &Access) -> bool
     access.kinds.read || access.kinds.insert || access.kinds.update || access.kinds.delete
 }
 
-/// Puts the tables of the accesses' needs behind the others, each that isn't there.
+/// Appends the tables of the accesses' needs to the others, each that isn't there.
 fn add_needs(tables: &mut Vec<Table>, accesses: &[Access]) -> Result<(), AllocError>
     ensures tables { OnOk result (tables.new.items
         ≡ with_numbers tables.old.items (map (λ (need : Need). need.table) (flat_map needs_of_access accesses.now))) }
@@ -43,8 +43,8 @@ fn add_needs(tables: &mut Vec<Table>, accesses: &[Access]) -> Result<(), AllocEr
     Ok(())
 }
 
-/// Puts the tables of a statement's needs and of its deed into an empty list, each once, in the order in which they first
-/// stand. On `Err` memory was refused, and some may stand in it.
+/// Writes the tables of a statement's needs and of its deed into an empty list, each once, in the order in which they first appear. On
+/// `Err` memory was refused, and some may be in it.
 pub fn find_tables(tables: &mut Vec<Table>, statement: &Statement) -> Result<(), AllocError>
     requires { tables.old.items ≡ [] }
     ensures tables { OnOk result (tables.new.items ≡ tables_of statement.now.form) }

@@ -1,4 +1,4 @@
--- What stands before a place of a log, and a range of it that is placed while it is run.
+-- What is before a place of a log, and a range of it that is placed while it is run.
 use Rattle.std.specs.Prelude.{ℕ, List, false}
 use Rattle.model_base.specs.declared.statement.Statement.{Statement}
 use Rattle.log_batch.specs.Supplied.{Ranged}
@@ -10,6 +10,6 @@ use Rattle.placing_trials.specs.declared.before.Before.{Before}
 abbrev pub StandsBefore : Before → List Statement → ℕ → Type 0
 StandsBefore before log place = Stands log place before.chains before.book
 
--- so many places of the log from one on, which so many partitions are to place
+-- this many places of the log from one on, which this many partitions are to place
 abbrev pub open_range : Accepted → ℕ → ℕ → ℕ → Ranged
 open_range log first size partitions = record { log = log; first = first; size = size; partitions = partitions; placed = false }

@@ -13,7 +13,7 @@ use model_base::{DeedDone, Outcome, Place};
 use std::alloc::Global;
 use words::{Pass, Placed};
 
-/// A log that creates a table, puts 0 into so many of its rows, and then adds 1 to each in turn, at so many places.
+/// A log that creates a table, puts 0 into this many of its rows, and then adds 1 to each in turn, at this many places.
 pub fn adding_log(alloc: Global, places: usize, rows: usize) -> Result<WholeLog, TrialFault> {
     let mut log = WholeLog::new(alloc);
     push_all(alloc, &mut log, places, rows)?;
@@ -58,7 +58,7 @@ fn push_places(
     Ok(())
 }
 
-/// What stands before the places that add to so many rows, and the first of these places.
+/// What is before the places that add to this many rows, and the first of these places.
 pub fn before_adding(
     alloc: Global,
     log: &WholeLog,
@@ -111,7 +111,7 @@ pub fn is_right(batch: &Batch<RangeKey<'_>>, pass: Pass, index: usize, rows: usi
     }
 }
 
-/// How many of so many places are done and have the outcome of the run in order.
+/// How many of this many places are done and have the outcome of the run in order.
 pub fn count_right(
     batch: &Batch<RangeKey<'_>>,
     pass: Pass,

@@ -13,7 +13,7 @@ use std::sync::atomic::{AtomicBool, Ordering};
 use std::thread;
 use words::Pass;
 
-/// Asks for a place, if the batch has it. Returns whether it is done. If memory runs out, all threads are told to stop.
+/// Asks for a place, if the batch has it. Returns whether it is done. If memory runs out, all threads are known to stop.
 fn ask<K: Fills>(batch: &Batch<K>, stop: &AtomicBool, pass: Pass, index: usize) -> (Pass, bool)
     requires { IsPassOf batch.now pass }
     ensures { IsPassOf batch.now result.0 }
@@ -70,8 +70,8 @@ pub fn ask_round<K: Fills>(
     last
 }
 
-/// Goes round over the places of the rest until each is done or all threads are told to stop. After a round in which none was
-/// done it lets other threads run.
+/// Goes round over the places of the rest until each is done or all threads are known to stop. After a round in which none was done it lets
+/// other threads run.
 pub fn ask_all<K: Fills, R: Wait>(
     rt: &R,
     batch: &Batch<K>,

@@ -1,4 +1,4 @@
-//! What stands before a place of a log.
+//! What is before a place of a log.
 
 ghost use Rattle.std.specs.Prelude.{◌≡◌, ◌≤◌, OnOk, length};
 ghost use Rattle.placing_trials.specs.Before.{StandsBefore};
@@ -12,14 +12,14 @@ use standing::{RememberingBook, run_in_order};
 use std::alloc::Global;
 use workers::NoGate;
 
-/// What stands before a place of a log: the versions of rows, and the book of grants.
+/// What is before a place of a log: the versions of rows, and the book of grants.
 #[derive(Drop)]
 pub struct Before {
     pub chains: Chains,
     pub book: RememberingBook,
 }
 
-/// Nothing stands before a log.
+/// Nothing is before a log.
 pub fn nothing(alloc: Global, log: &WholeLog) -> Before
     ensures { StandsBefore result log.now.statements 0 }
 {
@@ -30,7 +30,7 @@ pub fn nothing(alloc: Global, log: &WholeLog) -> Before
     }
 }
 
-/// Runs the first places of a log in order, behind nothing.
+/// Runs the first places of a log in order, after nothing.
 pub fn run_first(
     alloc: Global,
     log: &WholeLog,

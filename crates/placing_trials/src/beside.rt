@@ -32,7 +32,7 @@ const ROWS: usize = 16;
 
 const ROUND_CREW: usize = 16;
 
-/// What came of a batch.
+/// The outcome of a batch.
 #[derive(Clone, Copy)]
 struct Ended {
     /// How many places have the outcome of the run in order.
@@ -42,7 +42,7 @@ struct Ended {
     is_placed: bool,
 }
 
-/// Places and runs a batch, and counts what came of its places.
+/// Places and runs a batch, and counts the outcome of its places.
 fn count_ended<R: Threads + Wait + Sync>(
     rt: &R,
     alloc: Global,
@@ -69,7 +69,7 @@ fn count_ended<R: Threads + Wait + Sync>(
     })
 }
 
-/// Places and runs the places of a log that add to rows, by so many placers and passes.
+/// Places and runs the places of a log that add to rows, by this many placers and passes.
 fn run_adding<R: Threads + Wait + Sync>(
     rt: &R,
     alloc: Global,
@@ -88,7 +88,7 @@ fn run_adding<R: Threads + Wait + Sync>(
     count_ended(rt, alloc, &batch, pass, placers, rows, crew)
 }
 
-/// Tells what comes of a chain, behind what stands before it.
+/// Reports what comes of a chain, after what is before it.
 fn tell_links<R: Threads + Wait + Print + Sync>(
     rt: &R,
     alloc: Global,
@@ -111,7 +111,7 @@ fn tell_links<R: Threads + Wait + Print + Sync>(
     Ok(())
 }
 
-/// Runs what stands before a chain, and tells what comes of the chain.
+/// Runs what is before a chain, and says what comes of the chain.
 fn tell_chain_of<R: Threads + Wait + Print + Sync>(
     rt: &R,
     alloc: Global,
@@ -131,7 +131,7 @@ pub fn tell_chain<R: Threads + Wait + Print + Sync>(
     tell_chain_of(rt, alloc, &log)
 }
 
-/// Runs the places that add to rows so many times, each time as a new batch. Returns in how many rounds all came out right.
+/// Runs the places that add to rows this many times, each time as a new batch. Returns in how many rounds all came out right.
 fn count_rounds<R: Threads + Wait + Sync>(
     rt: &R,
     alloc: Global,
@@ -152,7 +152,7 @@ fn count_rounds<R: Threads + Wait + Sync>(
     Ok(right)
 }
 
-/// Tells of the rounds, behind what stands before them.
+/// Reports of the rounds, after what is before them.
 fn tell_right<R: Threads + Wait + Print + Sync>(
     rt: &R,
     alloc: Global,
@@ -170,7 +170,7 @@ fn tell_right<R: Threads + Wait + Print + Sync>(
     Ok(())
 }
 
-/// Runs what stands before the rounds, and tells of them.
+/// Runs what is before the rounds, and says of them.
 fn tell_rounds_of<R: Threads + Wait + Print + Sync>(
     rt: &R,
     alloc: Global,

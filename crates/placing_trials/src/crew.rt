@@ -13,7 +13,7 @@ use std::thread;
 use std::thread::{Promise, Scope, Threads};
 use words::Pass;
 
-/// Places one place more. Returns whether there was one. If memory runs out, all threads are told to stop.
+/// Places one place more. Returns whether there was one. If memory runs out, all threads are known to stop.
 fn place_one<K: Fills, P: BatchPlacer<K>>(
     batch: &Batch<K>,
     stop: &AtomicBool,
@@ -32,7 +32,7 @@ fn place_one<K: Fills, P: BatchPlacer<K>>(
     }
 }
 
-/// Places so many places for a partition, or all that there are, one after another, and drops the placer.
+/// Places this many places for a partition, or all that there are, one after another, and drops the placer.
 fn place_some<K: Fills, P: BatchPlacer<K>>(
     batch: &Batch<K>,
     stop: &AtomicBool,
@@ -125,9 +125,9 @@ impl<'a, K: Fills> Promise<Pass> for OfBatch<'a, K> {
     ghost kept_by = { λ promise pass. IsPassOf promise.0.now pass };
 }
 
-/// A thread for each of these placers, with a pass of its own, all at the same time. Thread w begins with the place of index
-/// w times the share. The first pass is kept back, and knows in the end what all know. Returns whether every thread was started;
-/// if one wasn't, all are told to stop.
+/// A thread for each of these placers, with a pass of its own, all at the same time. Thread w begins with the place of index w times the
+/// share. The first pass is kept back, and knows in the end what all know. Returns whether every thread was started; if one wasn't, all are
+/// known to stop.
 fn run_together<'s, E, K: Fills + Sync, P: BatchPlacer<K> + Send + 's, R: Threads + Wait + Sync>(
     rt: &'s R,
     scope: &Scope<'s, E>,
@@ -163,8 +163,8 @@ fn run_together<'s, E, K: Fills + Sync, P: BatchPlacer<K> + Send + 's, R: Thread
     (batch.join(pass, other), are_started)
 }
 
-/// A thread for each of these placers, which only places: so many places the last of them, and the others all. Returns whether
-/// every thread was started; if one wasn't, all are told to stop.
+/// A thread for each of these placers, which only places: this many places the last of them, and the others all. Returns whether every
+/// thread was started; if one wasn't, all are known to stop.
 pub fn start_placers<'s, E, K: Fills + Sync, P: BatchPlacer<K> + Send + 's>(
     scope: &Scope<'s, E>,
     batch: &'s Batch<K>,
@@ -190,9 +190,9 @@ pub fn start_placers<'s, E, K: Fills + Sync, P: BatchPlacer<K> + Send + 's>(
     start_placers(scope, batch, stop, placers, places)
 }
 
-/// So many threads, each with a pass of its own, which only run places, all at the same time. Thread w begins with the place of
-/// index w times the share. The first pass is kept back, and knows in the end what all know. Returns whether every thread was
-/// started; if one wasn't, all are told to stop.
+/// So many threads, each with a pass of its own, which only run places, all at the same time. Thread w begins with the place of index w
+/// times the share. The first pass is kept back, and knows in the end what all know. Returns whether every thread was started; if one
+/// wasn't, all are known to stop.
 fn run_passes<'s, E, K: Fills + Sync, R: Threads + Wait + Sync>(
     rt: &'s R,
     scope: &Scope<'s, E>,

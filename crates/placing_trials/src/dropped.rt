@@ -103,7 +103,7 @@ fn run_left<R: Threads + Wait + Sync>(
     Ok(finish_left(rt, alloc, &batch, pass, placers))
 }
 
-/// Tells what comes of a batch that is left midway, behind what stands before it.
+/// Reports what comes of a batch that is left midway, after what is before it.
 fn tell_left<R: Threads + Wait + Print + Sync>(
     rt: &R,
     alloc: Global,
@@ -134,7 +134,7 @@ fn tell_left<R: Threads + Wait + Print + Sync>(
     Ok(())
 }
 
-/// Runs what stands before the places, and tells what comes of them.
+/// Runs what is before the places, and says what comes of them.
 fn tell_dropped_of<R: Threads + Wait + Print + Sync>(
     rt: &R,
     alloc: Global,

@@ -9,7 +9,7 @@ ghost use Rattle.standing.specs.Known.{AreKnown, AreNamed, IsKnown};
 
 use model_base::{Access, Form, MOST_NAMES, Statement};
 
-/// Whether all accesses are on the first so many tables.
+/// Whether all accesses are on the first this many tables.
 fn are_within(accesses: &[Access], tables: usize) -> bool
     ensures { IsTrue result → All (λ access. access.key.table < tables) accesses.now }
 {
@@ -21,7 +21,7 @@ fn are_within(accesses: &[Access], tables: usize) -> bool
     true
 }
 
-/// Whether the deed of a statement is on one of the first so many tables, if it has one.
+/// Whether the deed of a statement is on one of the first this many tables, if it has one.
 #[tactic(auto, using(crate::proofs::Knowing::some_within, crate::proofs::Knowing::none_within))]
 fn is_deed_within(statement: &Statement, tables: usize) -> bool
     ensures { IsTrue result → All (λ table. table < tables) (deed_tables statement.now.form) }
@@ -43,7 +43,7 @@ fn created(statement: &Statement) -> usize
     }
 }
 
-/// Whether a statement is on the first so many tables, behind which there is room for one more.
+/// Whether a statement is on the first this many tables, after which there is room for one more.
 #[tactic(auto, using(crate::proofs::Knowing::known_form, crate::proofs::Knowing::named_form))]
 fn is_known(statement: &Statement, tables: usize) -> bool
     ensures known { IsTrue result → IsKnown tables statement.now.form }

@@ -37,8 +37,8 @@ fn ask_once<K: Fills>(alloc: Global, batch: &Batch<K>, stop: &AtomicBool, pass: 
     let _pass = ask_round(batch, stop, pass, &mut rest);
 }
 
-/// So many threads, each with a pass, which asks once for each place and is dropped. Returns whether every thread was started; if
-/// one wasn't, all are told to stop.
+/// So many threads, each with a pass, which asks once for each place and is dropped. Returns whether every thread was started; if one
+/// wasn't, all are known to stop.
 fn start_passes<'s, E, K: Fills + Sync>(
     scope: &Scope<'s, E>,
     alloc: Global,
@@ -67,7 +67,7 @@ fn start_passes<'s, E, K: Fills + Sync>(
     start_passes(scope, alloc, batch, stop, pass, count - 1)
 }
 
-/// What came of the threads.
+/// The outcome of the threads.
 #[derive(Clone, Copy)]
 pub struct Left {
     /// Whether every thread was started.

@@ -1,6 +1,7 @@
-//! Places of parsed logs that are placed while they are run, tried: a row of calls on two places, and a placer that is dropped midway;
-//! on threads, a chain, rounds over some rows, and placers and passes that are dropped midway. What is printed is compared with
-//! `stdout`.
+//! Trials of places that are placed while they are run.
+//!
+//! A sequence of calls on two places, and a placer that is dropped midway; on threads, a chain, rounds over some rows,
+//! and placers and passes that are dropped midway. What is printed is compared with `stdout`.
 #![tactic(auto)]
 
 mod adding;

@@ -16,7 +16,7 @@ use std::alloc::{AllocError, Global};
 use std::ops::Range;
 use words::Pass;
 
-/// A range of a log, which so many partitions are to place.
+/// A range of a log, which this many partitions are to place.
 fn range_of<'a>(
     alloc: Global,
     log: &'a WholeLog,

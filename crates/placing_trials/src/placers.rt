@@ -6,7 +6,7 @@ ghost use Rattle.filling.specs.Placers.{IsPlacerIn};
 use filling::{Advanced, Placer, RangeKey};
 use filling_base::Batch;
 
-/// Places until there is no further place, or memory is refused; tells whether all is placed for the partition.
+/// Places until there is no further place, or memory is refused; says whether all is placed for the partition.
 fn place_all(batch: &Batch<RangeKey<'_>>, placer: &mut Placer) -> bool
     requires { IsPlacerIn batch.now placer.old }
     ensures { IsPlacerIn batch.now placer.new }

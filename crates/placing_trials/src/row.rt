@@ -1,4 +1,4 @@
-//! A reader, and behind it the revocation of the grant by which it reads, asked for while they are placed.
+//! A reader, and after it the revocation of the grant by which it reads, asked for while they are placed.
 
 ghost use Rattle.std.specs.Prelude.{◌≡◌, ◌<◌, ◌≤◌, ◌+◌, All, IfOk, length};
 ghost use Rattle.words.specs.Passes.{IsPassOf};
@@ -24,7 +24,7 @@ const LINES: [&str; 5] = [
     "alice REVOKE READ t bob",
 ];
 
-/// Asks for a place, and tells what came of it.
+/// Asks for a place, and says the outcome of it.
 pub fn tell_run(
     rt: &impl Print,
     batch: &Batch<RangeKey<'_>>,
@@ -55,7 +55,7 @@ pub fn tell_placed(
     Ok(pass)
 }
 
-/// Tells so many steps of a placer.
+/// Reports this many steps of a placer.
 pub fn tell_steps(
     rt: &impl Print,
     batch: &Batch<RangeKey<'_>>,
@@ -121,7 +121,7 @@ fn tell_placers(
     tell_row(rt, batch, pass, &mut first, &mut second)
 }
 
-/// Tells the row of calls on the last two places of the log, with what stands before them.
+/// Reports the row of calls on the last two places of the log, with what is before them.
 fn tell_last(
     rt: &impl Print,
     alloc: Global,
@@ -135,7 +135,7 @@ fn tell_last(
     tell_placers(rt, &batch, pass, placers)
 }
 
-/// Runs the first three places, and tells the row of calls on the other two.
+/// Runs the first three places, and says the row of calls on the other two.
 fn tell_log(rt: &impl Print, alloc: Global, log: &WholeLog) -> Result<(), TrialFault> {
     if log.len() < 5 {
         return Err(TrialFault::Short);

@@ -43,7 +43,7 @@ impl PlainBook {
     ghost use Rattle.grants_base.specs.Book.{Continues, IsLater, IsSoundBook, ShowsBook, cut_book, extended, owners_of, table_of_deed, view_of, with_ends, with_grant, with_table};
     ghost use Rattle.grants_base.specs.View.{ShowsDeeds, holds_in};
 
-    /// A book without tables and grants. It takes no memory.
+    /// A book without tables and grants. It doesn't allocate.
     #[tactic(auto, using(grants::proofs::BookLaws::sound_empty))]
     pub fn new(alloc: Global) -> Self
         ensures tables { result.tables ≡ [] }
@@ -71,8 +71,8 @@ impl PlainBook {
         &self.records
     }
 
-    /// Adds a table last, which its creator owns, and answers its number. The place has to lie above all of the book. On
-    /// `Err` memory was refused, and the book is as it was.
+    /// Adds a table last, which its creator owns, and returns its number. The place has to lie above all of the book. On `Err` memory was
+    /// refused, and the book is as it was.
     #[tactic(auto, using(grants::proofs::BookLaws::sound_table, grants::proofs::LaterLaws::later_table))]
     pub fn add_table(&mut self, owner: User, place: Place) -> Result<Table, AllocError>
         requires room { length self.old.tables < MOST_NAMES }
@@ -89,9 +89,8 @@ impl PlainBook {
         Ok(Table(number as u32))
     }
 
-    /// Adds a grant last. The place has to lie above all of the book, the table to be one of its tables, and the grantor to
-    /// hold the kind with the option, as `holds_option` tells by the book's view. On `Err` memory was refused, and the book
-    /// is as it was.
+    /// Adds a grant last. The place has to lie above all of the book, the table to be one of its tables, and the grantor to hold the kind
+    /// with the option, as `holds_option` says by the book's view. On `Err` memory was refused, and the book is as it was.
     #[tactic(auto, using(grants::proofs::GrantLaws::sound_grant, grants::proofs::GrantLaws::shows_grant, grants::proofs::LaterLaws::later_grant))]
     pub fn grant(&mut self, grant: Grant) -> Result<(), AllocError>
         requires later { IsLater self.old grant.place }
@@ -107,8 +106,7 @@ impl PlainBook {
         Ok(())
     }
 
-    /// The book at a place: the grants made below it, with the ends that lie below it, on all tables of the book. It takes
-    /// no memory.
+    /// The book at a place: the grants made below it, with the ends that lie below it, on all tables of the book. It doesn't allocate.
     #[tactic(auto, using(grants::proofs::SeenLaws::shows_view))]
     pub fn at(&self, place: Place) -> PlainView<'_>
         ensures book { result.book.now ≡ self.now }
@@ -130,10 +128,10 @@ impl PlainBook {
         Ok(ended)
     }
 
-    /// Ends the grants that the revocation takes out of force, at its place, and answers their places in rising order. The
-    /// place has to lie above all of the book, and the table to be one of its tables. It costs what `to_end` does on the
-    /// book's view, and for each grant of the book a look-up among the ended places, in a time that grows with the logarithm
-    /// of their number. On `Err` memory was refused, and the book is as it was.
+    /// Ends the grants that the revocation takes out of force, at its place, and returns their places in rising order. The place has to lie
+    /// above all of the book, and the table to be one of its tables. It costs what `to_end` does on the book's view, and for each grant of
+    /// the book a look-up among the ended places, in a time that grows with the logarithm of their number. On `Err` memory was refused, and
+    /// the book is as it was.
     pub fn revoke(
         &mut self,
         alloc: Global,
@@ -168,9 +166,9 @@ impl PlainBook {
                 .all(|record| lies_below(record, place))
     }
 
-    /// Adds tables and grants behind the others, the grants without an end, and then ends records by their slots. What is
-    /// so put together has to be a book. Where the book showed some deeds, and the grants and ends are what more deeds make
-    /// of their records, it then shows them all. On `Err` memory was refused, and the book is as it was.
+    /// Adds tables and grants after the others, the grants without an end, and then ends records by their slots. What is so put together
+    /// has to be a book. Where the book showed some deeds, and the grants and ends are what more deeds make of their records, it then shows
+    /// them all. On `Err` memory was refused, and the book is as it was.
     pub fn extend(
         &mut self,
         tables: &[Creation],
@@ -192,7 +190,7 @@ impl PlainBook {
         Ok(())
     }
 
-    /// Forgets the tables, grants and ends of the place and of later ones. It takes no memory, and looks once at each.
+    /// Forgets the tables, grants and ends of the place and of later ones. It doesn't allocate, and looks once at each.
     pub fn cut(&mut self, place: Place)
         ensures cut { self.new ≡ cut_book place self.old }
         ensures after { (owners others more : List ℕ) (deeds : List Deed) → ShowsBook self.old owners deeds
@@ -205,7 +203,7 @@ impl PlainBook {
     }
 }
 
-/// Adds the grants without an end behind the others, for which there is room.
+/// Adds the grants without an end after the others, for which there is room.
 fn append_grants(records: &mut Vec<Record>, grants: &[Grant])
     requires { vec_len records.old + length grants.now ≤ vec_capacity records.old }
     ensures { records.new.items ≡ records.old.items ++ map unended grants.now }

@@ -1,4 +1,6 @@
-//! A book of grants without an index, which is compared with the indexed one.
+//! A book of grants without an index, to compare with.
+//!
+//! `PlainBook` has the contracts of `grants::Book` and goes through its lists, so each call costs all records.
 #![tactic(auto)]
 
 mod book;

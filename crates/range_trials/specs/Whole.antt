@@ -14,6 +14,6 @@ pub record IsNothing (before : Before) (log : List Statement) : Type 0 where
   pub right : IsRight log before.chains
   pub book : ShowsBook before.book (owners log) (deeds_before log 0)
 
--- all places of the log, which so many partitions are to place
+-- all places of the log, which this many partitions are to place
 abbrev pub whole : Accepted → ℕ → Ranged
 whole log partitions = record { log = log; first = 0; size = length log.statements; partitions = partitions; placed = false }

@@ -9,7 +9,7 @@ use std::thread;
 use std::thread::Threads;
 use words::Pass;
 
-/// By how many places each of eight threads goes on. Round thirty places it comes to each.
+/// By how many places each of eight threads goes on. Round thirty places it results in each.
 const STEPS: [usize; 8] = [1, 29, 7, 23, 11, 19, 13, 17];
 
 /// Asks for a place, if the batch has it.
@@ -39,7 +39,7 @@ pub struct Counts {
     pub busy: usize,
 }
 
-/// Counts what came of a place that was asked for.
+/// Counts the outcome of a place that was asked for.
 fn count(counts: &mut Counts, tried: Tried) {
     match tried {
         Tried::Done => counts.done = counts.done.saturating_add(1),
@@ -49,8 +49,7 @@ fn count(counts: &mut Counts, tried: Tried) {
     }
 }
 
-/// Asks for as many places as there are, in the order of a thread, and counts what came of it. That of thread 0 comes to each
-/// place.
+/// Asks for as many places as there are, in the order of a thread, and counts the outcome of it. That of thread 0 results in each place.
 pub fn ask_round<K: Fills>(batch: &Batch<K>, pass: Pass, thread: usize) -> (Pass, Counts)
     requires { IsPassOf batch.now pass }
     ensures { IsPassOf batch.now result.0 }

@@ -16,14 +16,14 @@ use log_batch::LogBatch;
 use std::alloc::{AllocError, Global};
 use words::Pass;
 
-/// What stands before a log: no version of a row, and no grant.
+/// What is before a log: no version of a row, and no grant.
 #[derive(Drop)]
 pub struct Before {
     pub chains: Chains,
     pub book: Book,
 }
 
-/// Nothing stands before a log.
+/// Nothing is before a log.
 pub fn nothing(alloc: Global, log: &WholeLog) -> Before
     ensures { IsNothing result log.now.statements }
 {
@@ -34,7 +34,7 @@ pub fn nothing(alloc: Global, log: &WholeLog) -> Before
     }
 }
 
-/// All places of a log as a batch, which so many partitions are to place.
+/// All places of a log as a batch, which this many partitions are to place.
 fn batch_of<'a>(
     alloc: Global,
     log: &'a WholeLog,
@@ -112,7 +112,7 @@ pub fn placed(
     }
 }
 
-/// The shared words of all places of a log, each placed by so many partitions, and their first pass.
+/// The shared words of all places of a log, each placed by this many partitions, and their first pass.
 pub fn words_of<'a>(
     alloc: Global,
     log: &'a WholeLog,
@@ -129,7 +129,7 @@ pub fn words_of<'a>(
     Ok((batch, pass))
 }
 
-/// Completes a batch behind what its words have of the places that are done. The pass knows that all is placed.
+/// Completes a batch after what its words have of the places that are done. The pass knows that all is placed.
 pub fn finished<'a>(
     alloc: Global,
     words: Batch<RangeKey<'a>>,

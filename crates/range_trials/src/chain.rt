@@ -30,7 +30,7 @@ fn push_chain(alloc: Global, log: &mut WholeLog) -> Result<(), TrialFault> {
     Ok(())
 }
 
-/// How many places are told with an outcome.
+/// How many places are known with an outcome.
 fn count_told(batch: &Batch<RangeKey<'_>>, pass: Pass) -> (Pass, usize)
     requires { IsPassOf batch.now pass }
     ensures { IsPassOf batch.now result.0 }

@@ -1,4 +1,4 @@
-//! Drawn logs of so many places.
+//! Drawn logs of this many places.
 
 use crate::fault::TrialFault;
 use crate::logs::WholeLog;

@@ -19,10 +19,10 @@ use words::{Claimed, Holding, Pass};
 /// How many logs are drawn.
 const LOGS: u32 = 300;
 
-/// Of so many places one is held.
+/// Of this many places one is held.
 const APART: usize = 7;
 
-/// What came of some logs.
+/// The outcome of some logs.
 #[derive(Clone, Copy, Default)]
 struct Counts {
     places: usize,
@@ -54,24 +54,17 @@ fn hold_some<K: Fills>(batch: &Batch<K>, pass: Pass, first: usize) -> usize
 }
 
 /// How many places have the same own words and end the same grants.
-fn count_same(
-    alloc: Global,
-    log: &WholeLog,
-    one: &Finished<'_>,
-    other: &Finished<'_>,
-) -> Result<usize, TrialFault>
+fn count_same(log: &WholeLog, one: &Finished<'_>, other: &Finished<'_>) -> usize
     requires one { one.now.size ≡ length log.now.statements }
     requires other { other.now.size ≡ length log.now.statements }
 {
     let mut same = 0usize;
     for index in 0..log.len() as usize {
-        if one.own(index) == other.own(index)
-            && one.ended(alloc, index)? == other.ended(alloc, index)?
-        {
+        if one.own(index) == other.own(index) && one.ended(index) == other.ended(index) {
             same = same.saturating_add(1);
         }
     }
-    Ok(same)
+    same
 }
 
 /// What is taken from a finished log, as text: the outcomes, and the versions of rows.
@@ -103,7 +96,7 @@ fn run_beside<'a>(
     finished(alloc, batch, pass)
 }
 
-/// A log completed in order, on one thread, behind words of which nothing is stored.
+/// A log completed in order, on one thread, after words of which nothing is stored.
 fn in_order<'a>(
     alloc: Global,
     log: &'a WholeLog,
@@ -142,7 +135,7 @@ fn compare_both(
     requires one { one.now ≡ record { log = log.now; first = 0; size = length log.now.statements } }
     requires other { other.now ≡ record { log = log.now; first = 0; size = length log.now.statements } }
 {
-    let same = count_same(alloc, log, one, other)?;
+    let same = count_same(log, one, other);
     let is_same = is_same_taken(alloc, log, one, other)?;
     counts.places = counts.places.saturating_add(log.len() as usize);
     counts.same = counts.same.saturating_add(same);
@@ -150,7 +143,7 @@ fn compare_both(
     Ok(())
 }
 
-/// Compares a log completed behind a dropped pass with one that was run in order.
+/// Compares a log completed after a dropped pass with one that was run in order.
 fn compare_with(
     alloc: Global,
     log: &WholeLog,
@@ -166,7 +159,7 @@ fn compare_with(
     compare_both(alloc, log, plain, &done, counts)
 }
 
-/// Compares a log completed behind a dropped pass with the same run in order.
+/// Compares a log completed after a dropped pass with the same run in order.
 fn compare(
     alloc: Global,
     log: &WholeLog,

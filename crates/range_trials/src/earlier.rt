@@ -1,4 +1,4 @@
-//! What stands before a place of a log once the places before it are finished.
+//! What is before a place of a log once the places before it are finished.
 
 ghost use Rattle.std.specs.Prelude.{◌≡◌, ◌≤◌, IfOk, OnOk, length};
 ghost use Rattle.standing.specs.Stands.{Stands};
@@ -57,7 +57,7 @@ fn run_first(
     Ok(())
 }
 
-/// What stands before a place of a log: the places before it are run in order.
+/// What is before a place of a log: the places before it are run in order.
 pub fn earlier_than(alloc: Global, log: &WholeLog, place: Place) -> Result<Earlier, TrialFault>
     requires within { place ≤ length log.now.statements }
     ensures { IfOk result (λ earlier. Stands log.now.statements place earlier.chains earlier.book) }

@@ -28,7 +28,7 @@ const LINES: [&str; 13] = [
     "bob RUN t:1:R | LOAD 0 t 1 0 | OUT 0 | GRANT READ t eve",
 ];
 
-/// The later revocation, the readers behind it from the last on, those before it, and last the table's.
+/// The later revocation, the readers after it from the last on, those before it, and last the table's.
 const ORDER: [usize; 8] = [9, 12, 11, 10, 8, 7, 6, 0];
 
 /// Tells the outcomes of all places that are done.
@@ -48,7 +48,7 @@ fn tell_outcomes(
     Ok(())
 }
 
-/// Asks for the places in such an order that the later revocation comes first, and tells the outcomes of all.
+/// Asks for the places in such an order that the later revocation comes first, and says the outcomes of all.
 fn tell_order(
     rt: &impl Print,
     alloc: Global,

@@ -22,7 +22,7 @@ const LOGS: u32 = 300;
 /// The number of the last of eight threads.
 const LAST_THREAD: usize = 7;
 
-/// What places come to.
+/// What places result in.
 #[derive(Clone, Copy, Default)]
 struct Kinds {
     created: usize,
@@ -41,7 +41,7 @@ fn add(count: &mut usize, more: usize) {
     *count = count.saturating_add(more);
 }
 
-/// Counts what the deed of a completed transaction came to.
+/// Counts what the deed of a completed transaction resulted in.
 fn count_deed(kinds: &mut Kinds, deed: &DeedDone) {
     match deed {
         DeedDone::None => add(&mut kinds.done, 1),
@@ -85,7 +85,7 @@ struct Found {
 }
 
 impl Trial for Found {
-    /// Asks for all places by eight threads, and counts how many are told with the outcomes that are wanted.
+    /// Asks for all places by eight threads, and counts how many are known with the outcomes that are wanted.
     fn run<R: Threads + Print + Sync>(
         &mut self,
         rt: &R,
@@ -104,7 +104,7 @@ impl Trial for Found {
     }
 }
 
-/// Tells what the places of the drawn logs came to.
+/// Reports what the places of the drawn logs resulted in.
 fn tell_kinds(rt: &impl Print, kinds: Kinds) -> Result<(), TrialFault> {
     let Kinds {
         created,
@@ -126,7 +126,7 @@ fn tell_kinds(rt: &impl Print, kinds: Kinds) -> Result<(), TrialFault> {
     Ok(())
 }
 
-/// Counts what the places of a log come to by the serial run, and runs it.
+/// Counts what the places of a log result in by the serial run, and runs it.
 fn run_log<R: Threads + Print + Sync>(
     rt: &R,
     alloc: Global,

@@ -9,7 +9,7 @@ use thiserror::Error;
 /// Why a trial ends without success.
 #[derive(Clone, Copy, Debug, PartialEq, Eq, Error)]
 pub enum TrialFault {
-    /// The words of the command line tell nothing to do.
+    /// The words of the command line say nothing to do.
     #[error("no such trial")]
     Words,
     /// A line of a trial's log isn't taken.
@@ -27,7 +27,7 @@ pub enum TrialFault {
     /// A growth was refused.
     #[error("out of memory")]
     NoMemory,
-    /// The system can't write, or tell the words of the command line.
+    /// The system can't write, or say the words of the command line.
     #[error("the system failed")]
     System,
 }

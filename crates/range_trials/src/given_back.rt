@@ -52,7 +52,7 @@ fn tell_holding(
     tell_asked(rt, batch, asker, LAST)
 }
 
-/// Takes a place by one pass, and tells what another finds.
+/// Takes a place by one pass, and says what another finds.
 fn tell_calls(
     rt: &impl Print,
     batch: &Batch<RangeKey<'_>>,
@@ -74,7 +74,7 @@ fn tell_calls(
     }
 }
 
-/// Runs the places before both, and goes on by two passes; a third tells their outcomes.
+/// Runs the places before both, and goes on by two passes; a third says their outcomes.
 fn tell_parts(
     rt: &impl Print,
     alloc: Global,

@@ -77,7 +77,7 @@ pub fn placed_range<'a>(
     Ok((batch, pass))
 }
 
-/// Asks for a place of the log, and tells what came of it.
+/// Asks for a place of the log, and says the outcome of it.
 pub fn tell_run(
     rt: &impl Print,
     batch: &Batch<RangeKey<'_>>,

@@ -1,7 +1,9 @@
-//! Places of a parsed log run on shared words: a place that another pass holds, one that is given back, a revocation that is run
-//! before an earlier reader, a long chain asked for from its end, places after finished ones, drawn logs run by eight threads and
-//! after passes that were dropped, and a log whose growths may be refused. The word `refused` makes the last trial alone, so that a
-//! tool can refuse each growth. What is printed without it is compared with `stdout`.
+//! Trials of places of parsed logs on shared words.
+//!
+//! A place that another pass holds, one that is given back, a revocation run before an earlier reader, a long chain
+//! asked for from its end, places after finished ones, drawn logs by eight threads and after dropped passes, and a log
+//! whose growths may be refused. The word `refused` makes the last trial alone, so that a tool can refuse each growth.
+//! What is printed without it is compared with `stdout`.
 #![tactic(auto)]
 
 mod asking;

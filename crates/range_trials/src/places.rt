@@ -77,7 +77,7 @@ fn tell_holding(
     tell_run(rt, batch, asker, 3)
 }
 
-/// Takes the first place by one pass, and tells what another finds.
+/// Takes the first place by one pass, and says what another finds.
 fn tell_taken(
     rt: &impl Print,
     batch: &Batch<RangeKey<'_>>,
@@ -102,7 +102,7 @@ fn tell_taken(
     }
 }
 
-/// A place is held while the one after it is asked for; a third pass tells its outcome then.
+/// A place is held while the one after it is asked for; a third pass says its outcome then.
 fn tell_held_place(
     rt: &impl Print,
     alloc: Global,

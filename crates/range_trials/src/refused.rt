@@ -26,7 +26,7 @@ const LINES: [&str; 9] = [
     "cid RUN t:1:R | LOAD 0 t 1 0 | OUT 0",
 ];
 
-/// Asks for a place twice, and counts how often memory was wanting.
+/// Asks for a place twice, and counts how often memory ran out.
 fn ask_twice(batch: &Batch<RangeKey<'_>>, pass: Pass, index: usize) -> (Pass, usize)
     requires { IsPassOf batch.now pass }
     ensures { IsPassOf batch.now result.0 }
@@ -43,7 +43,7 @@ fn ask_twice(batch: &Batch<RangeKey<'_>>, pass: Pass, index: usize) -> (Pass, us
     }
 }
 
-/// Asks for all places, the last first, and counts how often memory was wanting.
+/// Asks for all places, the last first, and counts how often memory ran out.
 fn ask_back(batch: &Batch<RangeKey<'_>>, pass: Pass) -> (Pass, usize)
     requires { IsPassOf batch.now pass }
     ensures { IsPassOf batch.now result.0 }
@@ -59,7 +59,7 @@ fn ask_back(batch: &Batch<RangeKey<'_>>, pass: Pass) -> (Pass, usize)
     (last, refused)
 }
 
-/// The outcome of a place, asked for once more where memory was wanting, and how often it was.
+/// The outcome of a place, asked for once more where memory ran out, and how often it was.
 fn told_twice(
     batch: &Batch<RangeKey<'_>>,
     pass: Pass,
@@ -79,7 +79,7 @@ fn told_twice(
     }
 }
 
-/// How many places are told with the outcomes that are wanted, and how often memory was wanting.
+/// How many places are known with the outcomes that are wanted, and how often memory ran out.
 fn count_told(
     alloc: Global,
     batch: &Batch<RangeKey<'_>>,
@@ -102,7 +102,7 @@ fn count_told(
     Ok((same, refused))
 }
 
-/// Asks for all places, and tells how many have the outcomes that are wanted, and how often memory was wanting.
+/// Asks for all places, and says how many have the outcomes that are wanted, and how often memory ran out.
 fn tell_told(
     rt: &impl Print,
     alloc: Global,

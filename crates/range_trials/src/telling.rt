@@ -36,7 +36,7 @@ pub fn told(
     outcome(batch, pass, index)
 }
 
-/// Whether an outcome is told, and is the one that is wanted.
+/// Whether an outcome is known, and is the one that is wanted.
 pub fn is_wanted(alloc: Global, found: &Option<Outcome>, wanted: &str) -> Result<bool, TrialFault> {
     match found {
         None => Ok(false),
@@ -44,7 +44,7 @@ pub fn is_wanted(alloc: Global, found: &Option<Outcome>, wanted: &str) -> Result
     }
 }
 
-/// How many places are told with the outcomes that are wanted.
+/// How many places are known with the outcomes that are wanted.
 pub fn count_wanted(
     alloc: Global,
     batch: &Batch<RangeKey<'_>>,
@@ -65,7 +65,7 @@ pub fn count_wanted(
     Ok(same)
 }
 
-/// Asks for a place and tells what came of it.
+/// Asks for a place and says the outcome of it.
 pub fn tell_asked(
     rt: &impl Print,
     batch: &Batch<RangeKey<'_>>,

@@ -16,7 +16,7 @@ use words::Pass;
 
 /// What is tried on the shared words of a log.
 pub trait Trial {
-    /// Makes the trial by the first pass; these are the outcomes that the serial run tells, as text.
+    /// Makes the trial by the first pass; these are the outcomes that the serial run says, as text.
     fn run<R: Threads + Print + Sync>(
         &mut self,
         rt: &R,
@@ -29,7 +29,7 @@ pub trait Trial {
         requires pass { IsPassOf batch.now pass };
 }
 
-/// Makes a trial on the words of all places of a log, placed by so many partitions.
+/// Makes a trial on the words of all places of a log, placed by this many partitions.
 pub fn try_words<R: Threads + Print + Sync, T: Trial>(
     rt: &R,
     alloc: Global,

@@ -15,7 +15,7 @@ use Rattle.read_ahead.specs.declared.ahead.Found.{Found}
 abbrev pub line_from : List ℕ → ℕ → List ℕ
 line_from bytes from = take KEPT_BYTES (first_line (drop from bytes))
 
--- this line begins at an index of the bytes, and ends among them: with its LF it takes so many, whatever comes after the bytes
+-- this line begins at an index of the bytes, and ends among them: with its LF it takes this many, whatever comes after the bytes
 pub record IsLineAt (bytes : List ℕ) (from count : ℕ) (line : List ℕ) : Type 0 where
   pub some : 0 < count
   pub within : from + count ≤ length bytes

@@ -17,11 +17,11 @@ pub enum Found {
     Known(Statement),
     /// Its fault.
     Faulty(LineFault),
-    /// Nothing: its turn will tell.
+    /// Nothing: its turn will give.
     Unread,
 }
 
-/// A line that was read before its turn, and where it stands among the bytes.
+/// A line that was read before its turn, and where it is among the bytes.
 #[derive(Drop)]
 pub struct Ahead {
     /// The index of its first byte.
@@ -31,7 +31,7 @@ pub struct Ahead {
     pub found: Found,
 }
 
-/// What a line's fault tells. Want of memory tells nothing.
+/// What a line's fault gives. Want of memory says nothing.
 fn found_faulty(fault: LineFault) -> Found
     ensures { (names : Names) (line : List ℕ)
         → (fault ≢ LineFault.NoMemory → line_fault line ≡ Some fault) → IsFoundOf names line result }

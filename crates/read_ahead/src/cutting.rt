@@ -5,7 +5,7 @@ ghost use Rattle.std.specs.Prelude.{◌≡◌, ◌≤◌, ◌<◌, ◌+◌, All,
 use log_text_base::cut_line;
 use std::alloc::{AllocError, Global};
 
-/// The end of the line in which an index of the bytes lies, up to another: the index behind the first LF from there on.
+/// The end of the line in which an index of the bytes lies, up to another: the index after the first LF from there on.
 fn line_end(bytes: &[u8], from: usize, to: usize) -> usize
     requires order { from ≤ to }
     requires within { to ≤ length bytes.now }
@@ -18,8 +18,8 @@ fn line_end(bytes: &[u8], from: usize, to: usize) -> usize
     }
 }
 
-/// Cuts the bytes from one index on and before another into so many pieces of about one length, each but the first behind a whole
-/// line, where lines are short enough for that. It answers where each begins, and where the last ends.
+/// Cuts the bytes from one index on and before another into this many pieces of about one length, each but the first after a whole line,
+/// where lines are short enough for that. It returns where each begins, and where the last ends.
 pub fn piece_cuts(
     alloc: Global,
     bytes: &[u8],

@@ -1,4 +1,11 @@
-//! Lines that are read, and statements that are numbered, before their turn.
+//! Lines read, and their statements numbered, before their turn.
+//!
+//! `foretell_lines` reads the lines of a piece of some bytes by a catalog: for each where it begins, its length, and a
+//! foretold statement, its fault or nothing. `Stretch` has the pieces of the bytes read so far, which threads share:
+//! `read_next`, `read_until` and `read_all` read pieces that nobody has taken up, `take` gives what was found in one.
+//!
+//! What is found holds whatever thread found it and whenever (`Basis` names the bytes and the catalog). Statements
+//! reuse the lists of lines that were run.
 #![tactic(auto)]
 
 mod ahead;

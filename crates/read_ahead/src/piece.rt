@@ -10,8 +10,8 @@ use std::mem;
 /// By how many lines a full list grows. Many pieces wait at once, so that lists of twice the length would take much memory.
 const MORE_LINES: usize = 64;
 
-/// Lines that were read before their turn, in order. Lists of lines that are of no more use stay behind them, so that the lines
-/// of one piece after another need no memory.
+/// Lines that were read before their turn, in order. Lists of lines that are of no more use stay after them, so that the lines of one piece
+/// after another need no memory.
 #[derive(Drop)]
 pub struct Piece {
     lines: Vec<Ahead>,
@@ -45,7 +45,7 @@ impl Model for Piece {
 impl Piece {
     ghost use Rattle.std.specs.Prelude.{◌≡◌, ◌++◌, ◌∷◌, ◌≤◌, [], if◌then◌else◌, length, take};
 
-    /// No lines. It takes no memory.
+    /// No lines. It doesn't allocate.
     pub fn new(alloc: Global) -> Self
         ensures { result ≡ [] }
     {
@@ -74,7 +74,7 @@ impl Piece {
         piece
     }
 
-    /// The lines, in order, and how many they are; behind them there may be lines of no more use.
+    /// The lines, in order, and how many they are; after them there may be lines of no more use.
     pub fn into_lines(self) -> (Vec<Ahead>, usize)
         ensures lines { take result.1 result.0.items ≡ self }
         ensures within { result.1 ≤ length result.0.items }
@@ -115,7 +115,7 @@ impl Piece {
         self.lines.truncate(self.len);
     }
 
-    /// Puts a line behind the others. False where memory was refused, and then nothing has changed.
+    /// Appends a line to the others. False where memory was refused, and then nothing has changed.
     pub(crate) fn put(&mut self, line: Ahead) -> bool
         ensures { self.new ≡ (if result then self.old ++ line ∷ [] else self.old) }
     {

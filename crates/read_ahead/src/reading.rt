@@ -13,8 +13,8 @@ use std::alloc::Global;
 /// How many lines of a piece are read before their turn, at most: what they become is kept until then.
 pub const MOST_LINES_AHEAD: usize = 4096;
 
-/// Reads the line that begins at an index of the bytes, puts what was found of it behind the others of the piece, and answers how
-/// many bytes it takes. None where no line is whole there, or where memory was refused.
+/// Reads the line that begins at an index of the bytes, puts what was found of it after the others of the piece, and returns how many bytes
+/// it takes. None where no line is whole there, or where memory was refused.
 fn read_next<'a>(
     alloc: Global,
     catalog: &Catalog,

@@ -1,4 +1,4 @@
-//! A stretch of the bytes at hand, whose pieces are read before their turn by whichever thread comes first.
+//! A stretch of the buffered bytes, whose pieces are read before their turn by whichever thread comes first.
 
 ghost use Rattle.std.specs.Prelude.{◌≡◌, ◌<◌, ◌≤◌, ℕ, [], All, IfOk, IfSome, List, length};
 ghost use Rattle.sequencer.specs.Catalog.{Names, no_names};
@@ -78,7 +78,7 @@ pub struct Stretch<B: Basis> {
     ghost within: { All (λ cut. cut ≤ length B.bytes) cuts.items },
 }
 
-/// Room for so many pieces, none of which is read.
+/// Room for this many pieces, none of which is read.
 fn unread<B: Basis>(alloc: Global, count: usize) -> Result<Vec<Place<B>>, AllocError> {
     let mut pieces = Vec::new(alloc);
     for _ in 0..count {
@@ -91,7 +91,7 @@ fn unread<B: Basis>(alloc: Global, count: usize) -> Result<Vec<Place<B>>, AllocE
 }
 
 impl<B: Basis> Stretch<B> {
-    /// The bytes before an index, in so many pieces of about one length. The spare pieces are filled.
+    /// The bytes before an index, in this many pieces of about one length. The spare pieces are filled.
     pub fn new(
         alloc: Global,
         bytes: &[u8],

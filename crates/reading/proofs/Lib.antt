@@ -6,3 +6,6 @@ pub mod Slots
 pub mod Referred
 pub mod Asked
 pub mod Rising
+pub mod LastEnds
+pub mod InForce
+pub mod Steps

@@ -1,2 +1,3 @@
 pub mod Told
 pub mod Seen
+pub mod Sought

@@ -1,4 +1,4 @@
-//! What a place stores and ends, by what it is told.
+//! What a place stores and ends, by what it is shown.
 
 ghost use Rattle.std.specs.Prelude.{◌≡◌, ◌==◌, ◌+◌, ℕ, true, Some, IfOk, slice_get};
 ghost use Rattle.std.specs.List.{list_any};
@@ -24,7 +24,7 @@ use own_words::OwnWords;
 use std::alloc::{AllocError, Global};
 use std::marker::{Brand, PhantomData};
 
-/// Puts all own words of the reader in the place of those that were there, and gives the reader again.
+/// Writes all own words of the reader in the place of those that were there, and gives the reader again.
 fn judge<T: Told, P: Pinned>(batch: &LogBatch<'_>, told: T, words: &mut OwnWords) -> T
     requires batch { (T.told told).batch ≡ batch_in batch.now }
     requires place { Some (T.told told) ≡ P.told }
@@ -53,8 +53,8 @@ fn judge<T: Told, P: Pinned>(batch: &LogBatch<'_>, told: T, words: &mut OwnWords
     told
 }
 
-/// Puts all own words of the reader, which are those of its place in the log, in the place of those that were there, and gives
-/// the reader again. It takes no memory.
+/// Writes all own words of the reader, which are those of its place in the log, in the place of those that were there, and gives the reader
+/// again. It doesn't allocate.
 pub fn words_told<T: Told>(batch: &LogBatch<'_>, told: T, words: &mut OwnWords) -> T
     requires batch { (T.told told).batch ≡ batch_in batch.now }
     ensures value { words.new ≡ words_at (columns_by batch.now.log.names) batch.now.log.statements (batch.now.first + (T.told told).index) }
@@ -99,9 +99,8 @@ fn judge_ends<T: Told, P: Pinned>(
     (places, told)
 }
 
-/// The places of the grants whose records the reader ends, if its own words say that it was done: a slot's record is one of
-/// these exactly if its grant's place is among them. They stand in rising order. And the reader again. An error is want of
-/// memory.
+/// The places of the grants whose records the reader ends, if its own words say that it was done: a slot's record is one of these exactly
+/// if its grant's place is among them. They are in rising order. And the reader again. An error means out of memory.
 pub fn ends_told<T: Told>(
     alloc: Global,
     batch: &LogBatch<'_>,

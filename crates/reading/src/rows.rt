@@ -34,7 +34,7 @@ fn columns_of(batch: &LogBatch, table: Table) -> u8
     }
 }
 
-/// How many words of a statement stand before its version cells: four, and one for each OUT step.
+/// How many words of a statement are before its version cells: four, and one for each OUT step.
 fn header_length(statement: &Statement) -> usize
     requires { IsRunnable statement.now }
     ensures value { result ≡ 4 + outputs_of statement.now.form }
@@ -71,7 +71,7 @@ pub fn words_length(batch: &LogBatch, index: usize) -> usize
     header_length(statement) + cells_length(batch, statement.accesses())
 }
 
-/// The row of a version cell with so many columns, whose words begin at a number of a place's own words.
+/// The row of a version cell with this many columns, whose words begin at a number of a place's own words.
 fn row_at<T: Told>(told: &mut T, index: usize, number: usize, columns: u8) -> Option<Row>
     requires referred { IsReferred (T.told told.old) index }
     requires within { number + columns < words_length (T.told told.old).batch index }
@@ -92,8 +92,8 @@ fn row_at<T: Told>(told: &mut T, index: usize, number: usize, columns: u8) -> Op
     Some(row)
 }
 
-/// The row of a key as the own words of a place tell it that the reader refers to: that of the first version cell of the key.
-/// Where its statement can't change the row there is none.
+/// The row of a key as the own words of a place give it that the reader refers to: that of the first version cell of the key. Where its
+/// statement can't change the row there is none.
 fn row_told<T: Told>(
     batch: &LogBatch,
     told: &mut T,
@@ -121,8 +121,8 @@ fn row_told<T: Told>(
     None
 }
 
-/// The row of a key as the own words of a place tell it that the reader refers to; an index behind the log's end has no cells,
-/// and so no row.
+/// The row of a key as the own words of a place give it that the reader refers to; an index after the log's end has no cells, and so no
+/// row.
 #[tactic(auto, using(crate::proofs::Cells::cell_past))]
 fn row_in<T: Told>(batch: &LogBatch, told: &mut T, index: usize, key: Key) -> Option<Row>
     requires batch { (T.told told.old).batch ≡ batch_in batch.now }
@@ -136,8 +136,7 @@ fn row_in<T: Told>(batch: &LogBatch, told: &mut T, index: usize, key: Key) -> Op
     }
 }
 
-/// The row that a reference of the reader shows: that before the batch, or the one that the own words tell of the place that it
-/// is to.
+/// The row that a reference of the reader shows: that before the batch, or the one that the own words say of the place that it is to.
 fn row_shown<T: Told>(
     batch: &LogBatch,
     told: &mut T,
@@ -156,8 +155,8 @@ fn row_shown<T: Told>(
     }
 }
 
-/// Puts the rows that the reader is shown by its references, which are those before its place of the log, into a window without
-/// an output.
+/// Writes the rows that the reader is shown by its references, which are those before its place of the log, into a window without an
+/// output.
 pub(crate) fn show_rows<T: Told>(batch: &LogBatch, told: &mut T, window: &mut Window)
     requires batch { (T.told told.old).batch ≡ batch_in batch.now }
     requires whole { length window.old.rows ≡ MOST_ACCESSES }

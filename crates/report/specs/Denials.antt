@@ -53,7 +53,7 @@ pub record TellsPrivileges (log : List Statement) (tables : List (List ℕ)) (pl
       → IsDenial (owners log) (deeds_before log place) statement.user (needs statement.form) need why
       → line ≡ denial_text tables place need why
 
--- the report has a line for this place, the one of the line that the log takes there, and it tells who holds what
+-- the report has a line for this place, the one of the line that the log takes there, and it says who holds what
 pub record HasLineFor (readings : List Reading) (index place : ℕ) (statement : Statement) : Type 0 where
   pub line : List ℕ
   pub stands : slice_get (report_lines readings) index ≡ Some line

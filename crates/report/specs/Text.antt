@@ -15,7 +15,7 @@ use Rattle.log_text.specs.Statement.{kind_word}
 use Rattle.line_words.specs.declared.fault.LineFault.{LineFault}
 use Rattle.sequencer.specs.declared.refused.Refused.{Refused}
 
--- the word of a line's fault; want of memory is no line's fault, and has none
+-- the word of a line's fault; out of memory is no line's fault, and has none
 abbrev pub fault_word : LineFault → List ℕ
 fault_word LineFault.TooLong = codes "too-long"
 fault_word LineFault.NotAscii = codes "not-ascii"
@@ -28,7 +28,7 @@ fault_word LineFault.TooManyAccesses = codes "too-many-accesses"
 fault_word LineFault.BadRegister = codes "bad-register"
 fault_word LineFault.NoMemory = []
 
--- the word of the log's refusal; want of memory has none
+-- the word of the log's refusal; out of memory has none
 abbrev pub refused_word : Refused → List ℕ
 refused_word Refused.UnknownTable = codes "unknown-table"
 refused_word Refused.TableExists = codes "table-exists"
@@ -44,7 +44,7 @@ refused_word Refused.NoMemory = []
 abbrev pub refused_text : ℕ → List ℕ → List ℕ
 refused_text number word = codes "line " ++ decimal number ++ codes " refused " ++ word ++ codes "\n"
 
--- the text has no room for these bytes behind it
+-- the text has no room for these bytes after it
 abbrev pub LacksRoom : Vec ℕ Global → List ℕ → Type 0
 LacksRoom text bytes = vec_capacity text < vec_len text + length bytes
 
@@ -55,21 +55,21 @@ reason_word RowExists = codes "row-exists"
 reason_word Overflow = codes "overflow"
 reason_word Check = codes "check"
 
--- each number behind a space
+-- each number after a space
 abbrev pub numbers_text : List ℤ → List ℕ
 numbers_text numbers = flat_map (λ n. 32 ∷ signed_decimal n) numbers
 
--- each place behind a space
+-- each place after a space
 abbrev pub places_text : List ℕ → List ℕ
 places_text places = flat_map (λ place. 32 ∷ decimal place) places
 
--- what the deed of a transaction came to
+-- what the deed of a transaction resulted in
 abbrev pub deed_text : DeedDone → List ℕ
 deed_text DeedDone.None = []
 deed_text DeedDone.Granted = codes " granted"
 deed_text (DeedDone.Revoked places) = codes " revoked" ++ places_text places
 
--- a RUN that is done has its outputs, and a deed by itself only what it came to
+-- a RUN that is done has its outputs, and a deed by itself only what it resulted in
 abbrev pub done_text : Form → List ℤ → DeedDone → List ℕ
 done_text (Form.Create table columns) outputs deed = codes " done" ++ numbers_text outputs ++ deed_text deed
 done_text (Form.Run accesses steps asked) outputs deed = codes " done" ++ numbers_text outputs ++ deed_text deed
@@ -89,7 +89,7 @@ abbrev pub cause_text : Cause → List ℕ
 cause_text Never = codes " never"
 cause_text (Taken place) = codes " taken " ++ decimal place
 
--- what stands behind a place
+-- what comes after a place
 abbrev pub ending_text : List (List ℕ) → Form → Outcome → List ℕ
 ending_text tables form Outcome.Created = codes " created"
 ending_text tables form (Outcome.Done outputs deed) = done_text form outputs deed
@@ -102,7 +102,7 @@ ending_text tables form (Outcome.Undeclared step) = codes " undeclared " ++ deci
 abbrev pub outcome_text : List (List ℕ) → ℕ → Form → Outcome → List ℕ
 outcome_text tables place form outcome = decimal place ++ ending_text tables form outcome ++ codes "\n"
 
--- an outcome names no table but the first so many
+-- an outcome names no table but the first this many
 abbrev pub IsNamed : ℕ → Outcome → Type 0
 IsNamed tables (Outcome.Denied need cause) = need.table < tables
 IsNamed tables Outcome.Created = Unit {0}

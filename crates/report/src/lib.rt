@@ -1,4 +1,9 @@
-//! The report of a log: what it says of each line, as a definition and as text.
+//! The report of a log, as a definition and as text.
+//!
+//! `put_outcome`, `put_fault` and `put_refused` append the line of a place, of a faulty line and of a refused one;
+//! `put_need`, `put_cause` and `put_places` are its parts. `each_text_has_one_report` says that every text has a report
+//! and only one, `reports_tell_who_was_denied` what its denials say. A line costs its bytes; on `Err`, out of memory,
+//! some of it may have been appended.
 #![tactic(auto)]
 
 mod laws;

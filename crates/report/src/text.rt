@@ -57,7 +57,7 @@ fn reason_word(reason: Reason) -> &'static str
     }
 }
 
-/// Puts a place, a step or a line's number behind the text.
+/// Appends a place, a step or a line's number to the text.
 #[inline(always)]
 fn put_decimal(text: &mut Vec<u8>, number: u64) -> Result<(), AllocError>
     ensures ok { OnOk result (text.new.items ≡ text.old.items ++ decimal number) }
@@ -76,7 +76,7 @@ fn put_signed(text: &mut Vec<u8>, number: i64) -> Result<(), AllocError>
     text.extend_from_slice(buffer.format(number).as_bytes())
 }
 
-/// Puts each number behind a space.
+/// Appends each number after a space.
 fn put_numbers(text: &mut Vec<u8>, numbers: &[i64]) -> Result<(), AllocError>
     ensures { OnOk result (text.new.items ≡ text.old.items ++ numbers_text numbers.now) }
 {
@@ -87,7 +87,7 @@ fn put_numbers(text: &mut Vec<u8>, numbers: &[i64]) -> Result<(), AllocError>
     Ok(())
 }
 
-/// Puts each place behind a space. After an error some of them may stand behind the text.
+/// Appends each place after a space. After an error some of them may be to the text.
 pub fn put_places(text: &mut Vec<u8>, places: &[Place]) -> Result<(), AllocError>
     ensures { OnOk result (text.new.items ≡ text.old.items ++ places_text places.now) }
 {
@@ -98,7 +98,7 @@ pub fn put_places(text: &mut Vec<u8>, places: &[Place]) -> Result<(), AllocError
     Ok(())
 }
 
-/// Puts what the deed of a transaction came to.
+/// Writes what the deed of a transaction resulted in.
 #[inline(always)]
 fn put_deed(text: &mut Vec<u8>, deed: &DeedDone) -> Result<(), AllocError>
     ensures { OnOk result (text.new.items ≡ text.old.items ++ deed_text deed.now) }
@@ -113,7 +113,7 @@ fn put_deed(text: &mut Vec<u8>, deed: &DeedDone) -> Result<(), AllocError>
     }
 }
 
-/// Puts the outputs and the deed of a transaction that is done. A deed by itself has no outputs.
+/// Writes the outputs and the deed of a transaction that is done. A deed by itself has no outputs.
 fn put_done(
     text: &mut Vec<u8>,
     form: &Form,
@@ -130,7 +130,7 @@ fn put_done(
     put_deed(text, deed)
 }
 
-/// Puts a need: its kind and table, and whether it is with the option. After an error a part of it may stand behind the text.
+/// Appends a need: its kind and table, and whether it is with the option. After an error a part of it may be to the text.
 pub fn put_need(text: &mut Vec<u8>, tables: &NameTable, need: &Need) -> Result<(), AllocError>
     requires { need.now.table < length tables.now }
     ensures { OnOk result (text.new.items ≡ text.old.items ++ need_text tables.now need.now) }
@@ -144,7 +144,7 @@ pub fn put_need(text: &mut Vec<u8>, tables: &NameTable, need: &Need) -> Result<(
     Ok(())
 }
 
-/// Puts why a need isn't held. After an error a part of it may stand behind the text.
+/// Appends why a need isn't held. After an error a part of it may be to the text.
 pub fn put_cause(text: &mut Vec<u8>, cause: Cause) -> Result<(), AllocError>
     ensures { OnOk result (text.new.items ≡ text.old.items ++ cause_text cause) }
 {
@@ -157,7 +157,7 @@ pub fn put_cause(text: &mut Vec<u8>, cause: Cause) -> Result<(), AllocError>
     }
 }
 
-/// Puts at which step a body was aborted, and why.
+/// Writes at which step a body was aborted, and why.
 fn put_aborted(text: &mut Vec<u8>, step: u64, reason: Reason) -> Result<(), AllocError>
     ensures { OnOk result (text.new.items ≡ text.old.items ++ (codes " aborted " ++ decimal step ++ codes " " ++ reason_word reason)) }
 {
@@ -167,7 +167,7 @@ fn put_aborted(text: &mut Vec<u8>, step: u64, reason: Reason) -> Result<(), Allo
     text.extend_from_slice(reason_word(reason).as_bytes())
 }
 
-/// Puts which need a user misses, and why.
+/// Writes which need a user misses, and why.
 fn put_denied(
     text: &mut Vec<u8>,
     tables: &NameTable,
@@ -182,7 +182,7 @@ fn put_denied(
     put_cause(text, cause)
 }
 
-/// Puts what stands behind a place.
+/// Writes what comes after a place.
 fn put_ending(
     text: &mut Vec<u8>,
     tables: &NameTable,
@@ -204,7 +204,7 @@ fn put_ending(
     }
 }
 
-/// Puts the report's line for a place.
+/// Writes the report's line for a place.
 #[inline(always)]
 pub fn put_outcome(
     text: &mut Vec<u8>,
@@ -221,7 +221,7 @@ pub fn put_outcome(
     text.extend_from_slice(b"\n")
 }
 
-/// Puts the report's line for a line that isn't accepted.
+/// Writes the report's line for a line that isn't accepted.
 fn put_word(text: &mut Vec<u8>, number: u64, word: &str) -> Result<(), AllocError>
     ensures ok { OnOk result (text.new.items ≡ text.old.items ++ refused_text number word.now) }
     ensures full { OnErr result (LacksRoom text.old (refused_text number word.now)) }
@@ -233,7 +233,7 @@ fn put_word(text: &mut Vec<u8>, number: u64, word: &str) -> Result<(), AllocErro
     text.extend_from_slice(b"\n")
 }
 
-/// Puts the report's line for a line that has a fault. It is refused memory only where the text has no room for the line.
+/// Writes the report's line for a line that has a fault. It is refused memory only where the text has no room for the line.
 pub fn put_fault(text: &mut Vec<u8>, number: u64, fault: LineFault) -> Result<(), AllocError>
     ensures ok { OnOk result (text.new.items ≡ text.old.items ++ refused_text number (fault_word fault)) }
     ensures full { OnErr result (LacksRoom text.old (refused_text number (fault_word fault))) }
@@ -241,8 +241,7 @@ pub fn put_fault(text: &mut Vec<u8>, number: u64, fault: LineFault) -> Result<()
     put_word(text, number, fault_word(fault))
 }
 
-/// Puts the report's line for a statement that the log refuses. It is refused memory only where the text has no room for the
-/// line.
+/// Writes the report's line for a statement that the log refuses. It is refused memory only where the text has no room for the line.
 pub fn put_refused(text: &mut Vec<u8>, number: u64, refused: Refused) -> Result<(), AllocError>
     ensures ok { OnOk result (text.new.items ≡ text.old.items ++ refused_text number (refused_word refused)) }
     ensures full { OnErr result (LacksRoom text.old (refused_text number (refused_word refused))) }

@@ -16,7 +16,7 @@ abbrev pub Appends : {X Y : Type 0} → Result X Refused → Option Refused → 
 Appends result found old new value =
     MatchResult result (λ _. (found ≡ None) × (new ≡ old ++ value ∷ [])) (λ refused. (found ≡ Some refused) × (refused ≢ NoMemory))
 
--- a user asks for a table of this name with so many columns
+-- a user asks for a table of this name with this many columns
 abbrev pub create_by : List ℕ → List ℕ → ℕ → Sentence
 create_by user table columns = record { user = user; form = RawForm.Create table columns }
 

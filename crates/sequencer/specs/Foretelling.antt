@@ -22,7 +22,7 @@ pub record Begins (names later : Names) : Type 0 where
 abbrev pub with_one_place : Names → Names
 with_one_place names = record names { places = names.places + 1 }
 
--- the names with the first so many tables of a later place
+-- the names with the first this many tables of a later place
 abbrev pub with_tables_of : Names → Names → ℕ → Names
 with_tables_of names later count =
     record names {

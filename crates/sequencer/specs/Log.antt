@@ -4,7 +4,7 @@ use Rattle.model_base.specs.declared.statement.Statement.{Statement}
 use Rattle.log_text.specs.Statement.{Sentence}
 use Rattle.sequencer.specs.Catalog.{Names, no_names, numbered, with_statement}
 
--- the accepted statements, by number, and the names behind the numbers
+-- the accepted statements, by number, and the names after the numbers
 pub record Accepted : Type 0 where
   pub names : Names
   pub statements : List Statement

@@ -31,7 +31,7 @@ access_refusal names earlier access =
     or_refused (refuse_unless (is_known names.tables access.table) UnknownTable)
     (refuse_unless (not (list_any (same_row access) earlier)) DuplicateAccess)
 
--- the accesses from left to right, behind those before them
+-- the accesses from left to right, after those before them
 abbrev pub accesses_refusal : Names → List RawAccess → List RawAccess → Option Refused
 accesses_refusal names earlier [] = None
 accesses_refusal names earlier (access ∷ accesses) =
@@ -56,8 +56,8 @@ width_refusal names table width =
 abbrev pub known_refusal : Names → List ℕ → Option Refused
 known_refusal names table = refuse_unless (is_known names.tables table) UnknownTable
 
--- a step behind which there are so many names a known table, a column that the table has, and as many registers for a new
--- row as it has columns; and it passes over no more steps than there are
+-- a step after which there are this many names a known table, a column that the table has, and as many registers for a new row as it has
+-- columns; and it passes over no more steps than there are
 abbrev pub step_refusal : Names → ℕ → RawStep → Option Refused
 step_refusal names later (RawStep.Has to table row) = known_refusal names table
 step_refusal names later (RawStep.Load to table row column) = column_refusal names table column
@@ -132,12 +132,12 @@ refusal names sentence =
     (or_refused (form_refusal names sentence.form)
     (or_refused (users_refusal names.users sentence.user (deed_in sentence.form)) (table_refusal names sentence.form)))
 
--- want of memory comes only where no test refuses, and any other answer is the first test that isn't passed
+-- out of memory comes only where no test refuses, and any other answer is the first test that isn't passed
 abbrev pub IsRefusal : Refused → Option Refused → Type 0
 IsRefusal NoMemory found = found ≡ None
 IsRefusal refused found = found ≡ Some refused
 
--- a test answers the refusal, which is never want of memory, or nothing where there is none
+-- a test answers the refusal, which is never out of memory, or nothing where there is none
 abbrev pub IsAnswer : {X : Type 0} → Result X Refused → Option Refused → Type 0
 IsAnswer result found = MatchResult result (λ _. found ≡ None) (λ refused. (found ≡ Some refused) × (refused ≢ NoMemory))
 

@@ -1,4 +1,4 @@
--- What holds of each log: what its statements are, and the names behind them.
+-- What holds of each log: what its statements are, and the names after them.
 use Rattle.std.specs.Prelude.{◌≡◌, ℕ, ◌<◌, ◌≤◌, All, length, slice_index_or}
 use Rattle.model_base.specs.declared.limits.TheConstants.{MOST_COLUMNS, MOST_STEPS}
 use Rattle.model_base.specs.declared.deed.Need.{Need}

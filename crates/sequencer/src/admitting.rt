@@ -20,8 +20,8 @@ use model_base::{DeedForm, Form, MOST_PLACES, Statement, Table, User};
 use std::mem;
 
 impl Catalog {
-    /// Enters the user of a statement and then the grantee of its deed, and answers both by number. The deed's table has
-    /// to be known. After a refusal nothing has changed.
+    /// Enters the user of a statement and then the grantee of its deed, and returns both by number. The deed's table has to be known. After
+    /// a refusal nothing has changed.
     #[tactic(auto, using(crate::proofs::RefusalLemmas::refusal_of_test))]
     fn enter_deed(
         &mut self,
@@ -133,7 +133,7 @@ impl Catalog {
         Ok(())
     }
 
-    /// Takes a CREATE that passes the tests. It is refused only for want of memory, and then nothing has changed.
+    /// Takes a CREATE that passes the tests. It is refused only for lack of memory, and then nothing has changed.
     fn create_table(
         &mut self,
         user: &Name<'_>,
@@ -197,11 +197,10 @@ impl Catalog {
         self.create_table(user, table, columns, kept)
     }
 
-    /// Takes a statement as the next place of the log: its users and tables are numbered, the names that it is the
-    /// first to name are entered, and a CREATE makes its table known. The first test that it doesn't pass refuses it, as
-    /// in `test`; one that passes is refused only for want of memory. After a refusal nothing has changed. The statement is appended
-    /// to those that are kept, where there is room for it. Its accesses and steps take the room that is lent, and memory only where it
-    /// isn't enough.
+    /// Takes a statement as the next place of the log: its users and tables are numbered, the names that it is the first to name are
+    /// entered, and a CREATE makes its table known. The first test that it doesn't pass refuses it, as in `test`; one that passes is
+    /// refused only for lack of memory. After a refusal nothing has changed. The statement is appended to those that are kept, where there
+    /// is room for it. Its accesses and steps take the room that is lent, and memory only where it isn't enough.
     #[tactic(auto, using(crate::proofs::RefusalLemmas::refusal_of_test))]
     pub fn admit(
         &mut self,

@@ -38,14 +38,14 @@ impl Catalog {
     ghost use Rattle.sequencer.specs.Names.{known_number};
     ghost use Rattle.sequencer.specs.Catalog.{no_names};
 
-    /// The catalog without names and places. It takes no memory.
+    /// The catalog without names and places. It doesn't allocate.
     pub fn new(alloc: Global) -> Self
         ensures { result ≡ no_names }
     {
         Catalog::seeded(alloc, HashSeed::fixed())
     }
 
-    /// The catalog without names and places, whose names are found under this seed. It takes no memory.
+    /// The catalog without names and places, whose names are found under this seed. It doesn't allocate.
     pub fn seeded(alloc: Global, seed: HashSeed) -> Self
         ensures { result ≡ no_names }
     {

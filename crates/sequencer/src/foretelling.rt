@@ -146,10 +146,10 @@ impl Catalog {
         Some(Statement { user, form })
     }
 
-    /// The statement that a sentence becomes at any later place of the log, whatever is accepted before: it passes the tests,
-    /// makes no table, and names nobody new. Nothing is answered where a test refuses it by these names, where it makes a
-    /// table or names somebody new, or where memory is refused; that promises nothing of it. It leaves the catalog as it is,
-    /// so several threads may ask one catalog. Room is lent as to `admit`.
+    /// The statement that a sentence becomes at any later place of the log, whatever is accepted before: it passes the tests, makes no
+    /// table, and names nobody new. Nothing is returned where a test refuses it by these names, where it makes a table or names somebody
+    /// new, or where memory is refused; that promises nothing of it. It leaves the catalog as it is, so several threads may ask one
+    /// catalog. Room is lent as to `admit`.
     pub fn foretell(
         &self,
         recent: &mut Recent,

@@ -1,4 +1,13 @@
-//! The log: statements in their order, with users and tables by number, and what the log refuses.
+//! The log, in which statements get places and names get numbers.
+//!
+//! `Catalog::admit` takes a statement as the next place, or refuses it by the first test that it fails; after a refusal
+//! the catalog is unchanged, and out of memory is returned only if no test refuses. `Log` keeps every statement.
+//! `LogTail` may `forget` the first, and clauses still speak of the whole log. `Catalog::foretell` numbers a statement
+//! before its turn, and the result holds whatever is admitted before it; `take_foretold` takes it, and `catch_up`
+//! learns another catalog's names.
+//!
+//! A name is found by its hash, and a statement costs its accesses and steps. Lists come from forgotten statements, by
+//! `Room`.
 #![tactic(auto)]
 
 mod admitting;

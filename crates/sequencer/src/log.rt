@@ -32,14 +32,14 @@ impl Log {
     ghost use Rattle.sequencer.specs.Log.{empty_log, with_accepted};
     ghost use Rattle.sequencer.specs.Taken.{IsWhole};
 
-    /// The log without statements. It takes no memory.
+    /// The log without statements. It doesn't allocate.
     pub fn new(alloc: Global) -> Self
         ensures { result ≡ empty_log }
     {
         Log::seeded(alloc, HashSeed::fixed())
     }
 
-    /// The log without statements, whose names are found under this seed. It takes no memory.
+    /// The log without statements, whose names are found under this seed. It doesn't allocate.
     #[tactic(auto, using(crate::proofs::WholeLogs::kept_empty))]
     pub fn seeded(alloc: Global, seed: HashSeed) -> Self
         ensures { result ≡ empty_log }
@@ -50,8 +50,8 @@ impl Log {
         }
     }
 
-    /// Takes a statement as the next place, which is the length until then. The first test that it doesn't pass refuses
-    /// it; one that passes is refused only for want of memory. After a refusal the log is as it was.
+    /// Takes a statement as the next place, which is the length until then. The first test that it doesn't pass refuses it; one that passes
+    /// is refused only for lack of memory. After a refusal the log is as it was.
     pub fn push(&mut self, statement: &RawStatement<'_>) -> Result<Place, Refused>
         ensures place { IfOk result (λ place. place ≡ length self.old.statements) }
         ensures accepted { OnOk result (self.new ≡ with_accepted self.old statement.now) }

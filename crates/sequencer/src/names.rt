@@ -30,7 +30,7 @@ fn recent_place(name: &[u8]) -> usize
 #[derive(Drop)]
 pub struct NameTable {
     names: IndexSet<String, HashSeed>,
-    /// Numbers that were answered before, by the last bytes of their names. They say nothing of the names: one of them is only tried first.
+    /// Numbers that were returned before, by the last bytes of their names. They say nothing of the names: one of them is only tried first.
     recent: [u32; RECENT_NUMBERS],
     alloc: Global,
 }
@@ -52,14 +52,14 @@ impl NameTable {
     ghost use Rattle.sequencer.specs.Catalog.{numbered_grantee, with_named};
     ghost use Rattle.sequencer.specs.Refusal.{IsRefusal, name_refusal, parties_refusal, two_refusal};
 
-    /// The table without names. It takes no memory.
+    /// The table without names. It doesn't allocate.
     pub fn new(alloc: Global) -> Self
         ensures { result ≡ [] }
     {
         NameTable::seeded(alloc, HashSeed::fixed())
     }
 
-    /// The table without names, which are found under this seed. It takes no memory.
+    /// The table without names, which are found under this seed. It doesn't allocate.
     pub fn seeded(alloc: Global, seed: HashSeed) -> Self
         ensures { result ≡ [] }
     {
@@ -115,7 +115,7 @@ impl NameTable {
         self.names.get_index(number as usize).unwrap().as_str()
     }
 
-    /// Enters a name that isn't there last, and answers its number. On `Err` memory was refused, and nothing has changed.
+    /// Enters a name that isn't there last, and returns its number. On `Err` memory was refused, and nothing has changed.
     pub(crate) fn add(&mut self, name: &str) -> Result<u32, AllocError>
         requires room { length self.old < MOST_NAMES }
         requires is_new { is_known self.old name.now ≡ false }
@@ -152,8 +152,8 @@ impl NameTable {
         Ok(())
     }
 
-    /// The number of a name that is there already or is entered last. It says too whether it is new. A new name is
-    /// refused where there are `MOST_NAMES`, or for want of memory; then nothing has changed.
+    /// The number of a name that is there already or is entered last. It says too whether it is new. A new name is refused where there are
+    /// `MOST_NAMES`, or for lack of memory; then nothing has changed.
     pub fn enter(&mut self, name: &str) -> Result<(u32, bool), Refused>
         ensures number { IfOk result (λ r. r.0 ≡ number_of self.old name.now) }
         ensures is_new { IfOk result (λ r. r.1 ≡ not (is_known self.old name.now)) }

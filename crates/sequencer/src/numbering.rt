@@ -74,8 +74,8 @@ impl Catalog {
         Ok(Items::new(found))
     }
 
-    /// Appends the step with its table by number, where so many steps come later. It has to fit the table, and to pass over no
-    /// more steps than there are.
+    /// Appends the step with its table by number, where this many steps come later. It has to fit the table, and to pass over no more steps
+    /// than there are.
     #[inline(always)]
     fn number_step(
         &self,

@@ -21,7 +21,7 @@ pub enum Refused {
     LogFull = 7,
     /// A name that would be the 65,537th user or table.
     TooManyNames = 8,
-    /// A growth was refused. It is answered only for a statement that passes all the other tests.
+    /// A growth was refused. It is returned only for a statement that passes all the other tests.
     NoMemory = 9,
 }
 

@@ -20,7 +20,7 @@ pub struct Room {
 }
 
 impl Room {
-    /// Room for nothing yet. It takes no memory.
+    /// Room for nothing yet. It doesn't allocate.
     pub fn new(alloc: Global) -> Self
         ensures accesses { result.accesses.items ≡ [] }
         ensures steps { result.steps.items ≡ [] }
@@ -31,7 +31,7 @@ impl Room {
         }
     }
 
-    /// Makes room for so many accesses and steps. On `Err` memory was refused.
+    /// Makes room for this many accesses and steps. On `Err` memory was refused.
     #[inline(always)]
     pub(crate) fn reserve_for(&mut self, accesses: usize, steps: usize) -> Result<(), AllocError>
         ensures { OnOk result ((self.new.accesses.items ≡ []) × (self.new.steps.items ≡ [])
@@ -63,7 +63,7 @@ impl Room {
         self.reserve_for(accesses, steps)
     }
 
-    /// Takes back what the statement held, with what stands in it.
+    /// Takes back what the statement held, with what is in it.
     pub fn take_back(&mut self, statement: Statement)
         ensures accesses { (accesses : List Access) (steps : List Step) (deed : Option DeedForm)
             → statement.form ≡ Form.Run accesses steps deed → self.new.accesses.items ≡ accesses }

@@ -83,14 +83,14 @@ fn no_statement() -> Statement {
 }
 
 impl LogTail {
-    /// The log without statements. It takes no memory.
+    /// The log without statements. It doesn't allocate.
     pub fn new(alloc: Global) -> Self
         ensures { result ≡ record { log = empty_log; dropped = 0 } }
     {
         LogTail::seeded(alloc, HashSeed::fixed())
     }
 
-    /// The log without statements, whose names are found under this seed. It takes no memory.
+    /// The log without statements, whose names are found under this seed. It doesn't allocate.
     #[tactic(auto, using(crate::proofs::WholeLogs::kept_empty))]
     pub fn seeded(alloc: Global, seed: HashSeed) -> Self
         ensures { result ≡ record { log = empty_log; dropped = 0 } }
@@ -162,7 +162,7 @@ impl LogTail {
     }
 
     /// Takes a statement that was foretold as the next place, which is the length until then, and leaves another one, of which nothing is
-    /// told. On `Err` memory was refused, and log and statement are as they were.
+    /// known. On `Err` memory was refused, and log and statement are as they were.
     pub fn push_foretold(&mut self, statement: &mut Statement) -> Result<Place, AllocError>
         requires place { length self.old.log.statements < MOST_PLACES }
         requires foretold { (sentence : Sentence) × (IsInGrammar sentence × IsForetold self.old.log.names sentence statement.old) }
@@ -180,8 +180,8 @@ impl LogTail {
         Ok(place)
     }
 
-    /// Exchanges a statement of no more use for the last one that was dropped, if there is one, whose memory may be used again. Nothing
-    /// is told of it.
+    /// Exchanges a statement of no more use for the last one that was dropped, if there is one, whose memory may be used again. Nothing is
+    /// known of it.
     pub fn give_dropped(&mut self, statement: &mut Statement)
         ensures { self.new ≡ self.old }
     {
@@ -227,7 +227,7 @@ impl LogTail {
         &self.kept
     }
 
-    /// Drops the statements below a place. It takes no memory, and costs what there is to drop and to move.
+    /// Drops the statements below a place. It doesn't allocate, and costs what there is to drop and to move.
     pub fn forget(&mut self, place: Place)
         requires order { self.old.dropped ≤ place }
         requires within { place ≤ length self.old.log.statements }
@@ -237,7 +237,7 @@ impl LogTail {
         forget_first(&mut self.past, &mut self.kept, (place - dropped) as usize);
     }
 
-    /// Drops all statements, whose memory later ones take. It takes no memory itself.
+    /// Drops all statements, whose memory later ones take. It doesn't allocate itself.
     pub fn forget_all(&mut self)
         ensures { self.new ≡ record self.old { dropped = length self.old.log.statements } }
     {

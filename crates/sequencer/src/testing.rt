@@ -85,7 +85,7 @@ pub(crate) fn names_in<'a, 'l>(deed: &'l RawDeed<'a>) -> (&'l Name<'a>, &'l RawG
     }
 }
 
-/// A SKIP has to pass over no more steps than there are behind it.
+/// A SKIP has to pass over no more steps than there are after it.
 pub(crate) fn test_skip(steps: u32, later: usize) -> Result<(), Refused>
     ensures { IsAnswer result (refuse_unless (nat_le steps later) Refused.SkipPastEnd) }
 {
@@ -96,8 +96,7 @@ pub(crate) fn test_skip(steps: u32, later: usize) -> Result<(), Refused>
 }
 
 impl Catalog {
-    /// The table of a name that has to be known. The recent table is tried first, and the one that is answered is the
-    /// recent one then.
+    /// The table of a name that has to be known. The recent table is tried first, and the one that is returned is the recent one then.
     pub(crate) fn known_table(&self, recent: &mut Table, name: &Name<'_>) -> Result<Table, Refused>
         ensures answer { IsAnswerOf result (refuse_unless (is_known self.now.tables name.now) Refused.UnknownTable)
             (number_of self.now.tables name.now) }
@@ -155,8 +154,7 @@ impl Catalog {
         Err(Refused::BadColumns)
     }
 
-    /// A step, behind which there are so many, has to fit the table that it names, and to pass over no more steps than
-    /// there are.
+    /// A step, after which there are this many, has to fit the table that it names, and to pass over no more steps than there are.
     fn test_step(&self, recent: &mut Table, later: usize, step: &RawStep<'_>) -> Result<(), Refused>
         ensures { IsAnswer result (step_refusal self.now later step.now) }
     {
@@ -268,7 +266,7 @@ impl Catalog {
         }
     }
 
-    /// The first test that a statement doesn't pass refuses it. It takes no memory.
+    /// The first test that a statement doesn't pass refuses it. It doesn't allocate.
     pub fn test(&self, statement: &RawStatement<'_>) -> Result<(), Refused>
         ensures { IsAnswer result (refusal self.now statement.now) }
     {

@@ -83,7 +83,7 @@ made-all P true deed all = all
 made-all P false deed all = All-nil P
 
 -- a form that creates a table has its user as the creator, and room for the table; another has no creator
-no-creator : (user : ℕ) (form : Form) → creates form ≡ false → creator user form ≡ []
+pub no-creator : (user : ℕ) (form : Form) → creates form ≡ false → creator user form ≡ []
 no-creator user (Form.Create table columns) other = absurd (cc)
 no-creator user form other = refl
 
@@ -144,7 +144,7 @@ module _ (log : List Statement) (place : ℕ) (statement : Statement) (at : slic
         (deed-known (length book.tables) place statement.user statement.form known-here))
 
     module _ (creating : creates statement.form ≡ true) where
-      made_here : (creator statement.user statement.form ≡ statement.user ∷ []) × (length book.tables < 65536)
+      pub made_here : (creator statement.user statement.form ≡ statement.user ∷ []) × (length book.tables < 65536)
       made_here = creating-form (length book.tables) statement.user statement.form creating known-here
 
       pub create_room : length book.tables < 65536

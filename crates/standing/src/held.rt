@@ -81,7 +81,7 @@ impl HeldNeeds {
     ghost use Rattle.model_base.specs.Outcomes.{needs, needs_of_access};
     ghost use Rattle.standing.specs.Held.{AreHeld, HasAll, has_now, use_of};
 
-    /// Nothing is remembered. It takes no memory.
+    /// Nothing is remembered. It doesn't allocate.
     pub(crate) fn new(alloc: Global) -> Self
         ensures { (book : Entries) → AreHeld book result }
     {

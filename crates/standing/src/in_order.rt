@@ -61,7 +61,7 @@ fn run_admitted(
     chains.fill_window(statement, window);
     match run(statement, window) {
         BodyEnd::Completed => {
-            // A window has a row for each access, which the contract of reading one tells.
+            // A window has a row for each access, which the contract of reading one gives.
             let _row = window.row(0);
             chains.put_place(statement.accesses(), window)?;
             let deed = make(alloc, book, log, place, statement.deed_at(place))?;
@@ -165,9 +165,9 @@ fn run_places<G: Gate>(
     Ok(())
 }
 
-/// Runs the places of a range, one after another, and appends their outcomes; rows and grants are those before the range's end
-/// then. The gate is told of each place before it is run and once it is done. On `Err` memory was refused, and rows, grants and
-/// outcomes are as they were.
+/// Runs the places of a range, one after another, and appends their outcomes; rows and grants are those before the range's end then. The
+/// gate is notified of each place before it is run and once it is done. On `Err` memory was refused, and rows, grants and outcomes are as
+/// they were.
 pub fn run_in_order<G: Gate>(
     alloc: Global,
     chains: &mut Chains,

@@ -6,7 +6,7 @@ ghost use Rattle.standing.specs.Known.{AreKnown};
 ghost use Rattle.standing.specs.Stands.{Stands};
 ghost use Rattle.taking.specs.Span.{AreOutcomes};
 
-use crate::booking::book_places;
+use crate::changes::BookChanges;
 use crate::remembering::RememberingBook;
 use chains::{Chains, Version};
 use model_base::{Outcome, Place};
@@ -15,7 +15,8 @@ use std::alloc::{AllocError, Global};
 use std::ops::Range;
 
 /// Moves the versions of rows and the book on over the places of a range, by their outcomes and the versions that they leave:
-/// both or neither. On `Err` memory was refused, and versions and book are as they were.
+/// both or neither. What the batch's revocations ended is taken from the outcomes, and isn't searched for again. On `Err`, out of
+/// memory, and versions and book are as they were.
 pub fn advance(
     alloc: Global,
     chains: &mut Chains,
@@ -38,11 +39,9 @@ pub fn advance(
     ensures book { OnErr result (book.new ≡ book.old) }
 {
     let (start, end) = (range.start, range.end);
-    let booked = book_places(alloc, book, log, outcomes, range);
-    let moved = match booked {
-        Ok(()) => chains.append(versions, end),
-        Err(error) => Err(error),
-    };
+    let changes = BookChanges::of(alloc, book.book(), log, outcomes, range)?;
+    book.extend(changes.tables(), changes.grants(), changes.ends())?;
+    let moved = chains.append(versions, end);
     match moved {
         Ok(()) => Ok(()),
         Err(error) => {

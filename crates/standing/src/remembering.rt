@@ -1,16 +1,18 @@
 //! A book of grants that remembers what it was asked for.
 
-ghost use Rattle.std.specs.Prelude.{◌≡◌, ◌<◌, ◌++◌, ◌∷◌, [], ℕ, List, All, IfOk, IsTrue, OnErr, OnOk, length};
+ghost use Rattle.std.specs.Prelude.{◌≡◌, ◌<◌, ◌++◌, ◌∷◌, [], ℕ, List, All, IfOk, IsTrue, OnErr, OnOk, length, ◌+◌};
 ghost use Rattle.model_base.specs.declared.deed.Deed.TheVariants.{Granting, Revoking};
 ghost use Rattle.model_base.specs.declared.deed.Deed.{Deed};
 ghost use Rattle.model_base.specs.Outcomes.{needs};
 ghost use Rattle.model_base.specs.Privileges.{ended_by, option_of, place_of};
+ghost use Rattle.grants_base.specs.declared.entries.End.{End};
 ghost use Rattle.checker.specs.Admission.{admission};
 ghost use Rattle.checker.specs.Missing.{Covers};
 
 use crate::held::HeldNeeds;
 use checker::{Admission, admit};
 use grants::Book;
+use grants_base::{Creation, End};
 use model_base::{Grant, HashSeed, MOST_NAMES, Place, Revocation, Statement, Table, User};
 use std::alloc::{AllocError, Global};
 use std::marker::Model;
@@ -34,10 +36,10 @@ impl Model for RememberingBook {
 }
 
 impl RememberingBook {
-    ghost use Rattle.grants_base.specs.Book.{IsLater, ShowsBook, cut_book, owners_of, view_of, with_ends, with_grant, with_table};
+    ghost use Rattle.grants_base.specs.Book.{IsLater, IsSoundBook, ShowsBook, cut_book, extended, owners_of, view_of, with_ends, with_grant, with_table};
     ghost use Rattle.grants_base.specs.View.{ShowsDeeds, holds_in};
 
-    /// A book without tables and grants, of which nothing is remembered. It takes no memory.
+    /// A book without tables and grants, of which nothing is remembered. It doesn't allocate.
     pub fn new(alloc: Global) -> Self
         ensures tables { result.tables ≡ [] }
         ensures records { result.records ≡ [] }
@@ -63,8 +65,8 @@ impl RememberingBook {
         &self.book
     }
 
-    /// Whether the statement is admitted at a place above all of the book, as `admit` tells by the book's view there. What is
-    /// remembered as held isn't looked up. Where memory is refused nothing more is remembered.
+    /// Whether the statement is admitted at a place above all of the book, as `admit` gives by the book's view there. What is remembered as
+    /// held isn't looked up. Where memory is refused nothing more is remembered.
     #[inline(always)]
     pub(crate) fn admit(&mut self, statement: &Statement, place: Place) -> Admission
         requires later { IsLater self.old place }
@@ -129,6 +131,22 @@ impl RememberingBook {
     {
         self.held.forget();
         self.book.revoke(alloc, revocation)
+    }
+
+    /// Appends tables and grants, and ends grants by their slots, as `Book::extend`. Nothing is remembered then.
+    pub(crate) fn extend(
+        &mut self,
+        tables: &[Creation],
+        grants: &[Grant],
+        ends: &[End],
+    ) -> Result<(), AllocError>
+        requires slots { All (λ (end : End). end.slot < length self.old.records + length grants.now) ends.now }
+        requires sound { IsSoundBook (extended self.old tables.now grants.now ends.now) }
+        ensures ok { OnOk result (self.new ≡ extended self.old tables.now grants.now ends.now) }
+        ensures err { OnErr result (self.new ≡ self.old) }
+    {
+        HeldNeeds::forget(&mut self.held);
+        self.book.extend(tables, grants, ends)
     }
 
     /// Forgets the tables, grants and ends of the place and of later ones, as `Book::cut`, and all that is remembered.

@@ -1,4 +1,4 @@
-//! What the places of a finished batch come to.
+//! What the places of a finished batch result in.
 
 ghost use Rattle.std.specs.Prelude.{◌≡◌, ◌<◌, ◌≤◌, ◌+◌, ◌-◌, ◌++◌, ◌^◌, IfOk, OnOk, Some, length, slice_get};
 ghost use Rattle.model_base.specs.declared.outcome.Outcome.{Outcome};
@@ -18,14 +18,14 @@ use sequencer::LogTail;
 use std::alloc::{AllocError, Global};
 use std::ops::Range;
 
-/// What the places of a batch come to: their outcomes, and the versions of rows that they leave, in order.
+/// What the places of a batch result in: their outcomes, and the versions of rows that they leave, in order.
 #[derive(Drop)]
 pub struct Taken {
     pub outcomes: Vec<Outcome>,
     pub versions: Vec<Version>,
 }
 
-/// The outcome that the own words of a place tell, with the places of the grants that its revocation ended.
+/// The outcome that the own words of a place give, with the places of the grants that its revocation ended.
 #[tactic(auto, using(crate::proofs::Told::outcome_told))]
 fn outcome_of(log: &LogTail, place: Place, own: &[u64], ended: Vec<Place>) -> Outcome
     requires kept { log.now.dropped ≤ place }
@@ -39,7 +39,7 @@ fn outcome_of(log: &LogTail, place: Place, own: &[u64], ended: Vec<Place>) -> Ou
     decoded(&statement.form, own, Items::new(ended))
 }
 
-/// Puts the versions that a place leaves behind the others, by its own words.
+/// Appends the versions that a place leaves to the others, by its own words.
 fn push_left(
     versions: &mut Vec<Version>,
     log: &LogTail,
@@ -63,7 +63,7 @@ fn push_left(
     )
 }
 
-/// What the places of a finished batch of the log come to. An error is want of memory.
+/// What the places of a finished batch of the log result in. An error means out of memory.
 pub fn take<C: Closed>(
     alloc: Global,
     log: &LogTail,
@@ -85,7 +85,8 @@ pub fn take<C: Closed>(
     for index in 0..size {
         let place = range.start + index as u64;
         let own = closed.own(index);
-        let ended = closed.ended(alloc, index)?;
+        let places = closed.ended(index);
+        let ended = Vec::from_slice(alloc, places)?;
         outcomes.push(outcome_of(log, place, own, ended))?;
         push_left(&mut versions, log, place, own)?;
     }

@@ -1,4 +1,8 @@
-//! What the programs of the gate share: numbers that seem drawn at random, and logs that are drawn by them.
+//! What the programs that CI runs share.
+//!
+//! `Generator` gives numbers that its seed determines, below any bound, by the constants of D. E. Knuth's MMIX.
+//! `drawn_log` writes the log of a `Drawing`, which says how many lines it has, of how many users, and how many of
+//! twenty are deeds. On `Err`, out of memory.
 #![tactic(auto)]
 
 mod drawing;

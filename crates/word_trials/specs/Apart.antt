@@ -2,7 +2,7 @@
 use Rattle.std.specs.Prelude.{ℕ, None, [], replicate}
 use Rattle.bohm_core_base.specs.Batch.{Batch}
 
--- so many places with so many own words, each of which is 1
+-- this many places with this many own words, each of which is 1
 abbrev pub apart : ℕ → ℕ → Batch
 apart size width =
     record {

@@ -2,7 +2,7 @@
 use Rattle.std.specs.Prelude.{ℕ, true, Some, None, [], ◌∷◌}
 use Rattle.bohm_core_base.specs.Batch.{Batch}
 
--- so many places, each of which writes its index into the one row of a table: so each is referred to the one before it
+-- this many places, each of which writes its index into the one row of a table: so each is referred to the one before it
 abbrev pub chain : ℕ → Batch
 chain size =
     record {

@@ -5,7 +5,7 @@ ghost use Rattle.word_trials.specs.Apart.{apart};
 
 use words::Placed;
 
-/// So many places that refer to none, with so many own words.
+/// So many places that refer to none, with this many own words.
 #[derive(Drop)]
 pub struct Apart {
     pub size: usize,

@@ -1,7 +1,9 @@
-//! The shared words of a batch, tried by threads: sixteen claim the same places, and the parts of a split pass fill different
-//! ones; two passes make a row of calls on a reader and a later revocation. Then places are run on such words, each after the
-//! one that it is referred to: a long chain from its end, a place that another pass holds, two threads on one chain, and so
-//! many workers. What is printed is compared with `stdout`.
+//! Trials of threads on the shared words of a batch.
+//!
+//! Sixteen threads claim the same places, the parts of a split pass fill different ones, and two passes make a sequence
+//! of calls on a reader and a later revocation. Then places are run after those that they refer to: a long chain from
+//! its end, a place that another pass holds, two threads on one chain, and 0 to 64 workers. What is printed is compared
+//! with `stdout`.
 #![tactic(auto)]
 
 mod apart;

@@ -14,7 +14,7 @@ use workers::{Gate, run_workers};
 /// The places of the chain.
 const PLACES: usize = 1000;
 
-/// Counts the places that workers were told done.
+/// Counts the places that workers were known done.
 #[derive(Drop)]
 struct Counting {
     done: AtomicUsize,
@@ -28,7 +28,7 @@ impl Gate for Counting {
     }
 }
 
-/// A placer that has placed all of so many places.
+/// A placer that has placed all of this many places.
 #[derive(Drop)]
 struct AtItsEnd {
     places: usize,
@@ -50,8 +50,8 @@ impl<K: Fills> BatchPlacer<K> for AtItsEnd {
     }
 }
 
-/// Tells what comes of a chain that so many workers run, whether each was told each place done, and how many places are done
-/// once they are joined.
+/// Reports what comes of a chain that this many workers run, whether each was known each place done, and how many places are done once they
+/// are joined.
 pub fn tell_workers<R: Threads + Wait + Print + Sync>(
     rt: &R,
     alloc: Global,

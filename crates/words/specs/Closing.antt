@@ -33,7 +33,7 @@ abbrev pub LastWith : Batch → List ℕ → List ℕ → ℕ → View → Type 
 LastWith batch listed words number view =
     (views : List View) × legal batch listed words views × (get_elem? views number ≡ some view)
 
--- the own words of a place are so many first ones of the serial run, and 0 behind them
+-- the own words of a place are this many first ones of the serial run, and 0 after them
 abbrev pub HasBeginning : Batch → ClosedLayout → ℕ → ℕ → Type 0
 HasBeginning batch standing index count =
     (number : ℕ) → number < words_length batch index

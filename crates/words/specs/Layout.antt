@@ -19,7 +19,7 @@ pub data Meaning : Type 0 where
   front_word : ℕ → Meaning
   end_word : ℕ → Meaning
 
--- the reference of a place with this number: 0 for what stood before the batch, or one more than the index of a place
+-- the reference of a place with this number: 0 for what was there before the batch, or one more than the index of a place
 abbrev pub reference_at : Batch → ℕ → ℕ → ℕ
 reference_at batch index number = slice_index_or (reference_words batch index) number 0
 
@@ -60,21 +60,21 @@ pub record IsListed (batch : Batch) (listed : List ℕ) : Type 0 where
 abbrev pub block_length : Batch → ℕ → ℕ
 block_length batch index = (words_length batch index / 8 + 1) * 8
 
--- where the block of a place begins: behind those of all places before it
+-- where the block of a place begins: after those of all places before it
 abbrev pub block_begin : Batch → ℕ → ℕ
 block_begin batch zero = 0
 block_begin batch (suc index) = block_begin batch index + block_length batch index
 
--- where the references of a place begin: behind all blocks, and behind those of all places before it
+-- where the references of a place begin: after all blocks, and after those of all places before it
 abbrev pub reference_begin : Batch → ℕ → ℕ
 reference_begin batch zero = block_begin batch batch.size
 reference_begin batch (suc index) = reference_begin batch index + length (reference_words batch index)
 
--- where the fronts begin: behind all references; each has a group of eight words for itself
+-- where the fronts begin: after all references; each has a group of eight words for itself
 abbrev pub front_begin : Batch → ℕ
 front_begin batch = reference_begin batch batch.size
 
--- where the ends begin: behind all fronts
+-- where the ends begin: after all fronts
 abbrev pub end_begin : Batch → ℕ
 end_begin batch = front_begin batch + batch.partitions * 8
 
@@ -90,7 +90,7 @@ Has batch listed (reference_word index number) = (index < batch.size) × (number
 Has batch listed (front_word partition) = partition < batch.partitions
 Has batch listed (end_word end) = end < length listed
 
--- where the word lies: the claim of a place stands before its own words
+-- where the word lies: the claim of a place is before its own words
 abbrev pub position : Batch → Meaning → ℕ
 position batch (claim_word index) = block_begin batch index
 position batch (own_word index number) = block_begin batch index + suc number

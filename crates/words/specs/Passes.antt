@@ -57,7 +57,7 @@ IsPlacerOf words placer = placer.table ≡ words.table
 abbrev pub placed_on : Placing → View → Placing
 placed_on placer view = record placer { view = view }
 
--- the view is that of the placer of this partition, which has placed so many places
+-- the view is that of the placer of this partition, which has placed this many places
 pub record IsPlacer (me : Me ℕ View) (number count : ℕ) : Type 0 where
   pub bare : me.1 ≡ []
   pub alive : me.0.spent ≡ false
@@ -65,13 +65,13 @@ pub record IsPlacer (me : Me ℕ View) (number count : ℕ) : Type 0 where
   pub partition : number ≡ me.0.partition
   pub front : count ≡ front_in me.0
 
--- where the blocks begin, and behind them the references
+-- where the blocks begin, and after them the references
 pub record AreBlocks (batch : Batch) (begins : List ℕ) (last : ℕ) : Type 0 where
   pub every : length begins ≡ batch.size
   pub begin : (index : ℕ) → index < batch.size → slice_index begins index ≡ block_begin batch index
   pub end : last ≡ block_begin batch batch.size
 
--- where the references of each place begin, and behind them the fronts
+-- where the references of each place begin, and after them the fronts
 pub record AreReferences (batch : Batch) (begins : List ℕ) (last : ℕ) : Type 0 where
   pub every : length begins ≡ batch.size
   pub begin : (index : ℕ) → index < batch.size → slice_index begins index ≡ reference_begin batch index

@@ -201,7 +201,7 @@ abbrev pub track : ℕ → Stored → List Event → Stored
 track index stored [] = stored
 track index stored (event ∷ events) = track index (if is_event_at index event then turn stored event else stored) events
 
--- by its own events the pass holds the place, and has stored so many of its own words and the ends of these slots
+-- by its own events the pass holds the place, and has stored this many of its own words and the ends of these slots
 abbrev pub Holds : View → ℕ → ℕ → List ℕ → Type 0
 Holds view index count ended = track index None view.events ≡ Some (count, ended)
 

@@ -11,7 +11,7 @@ is_other (reference_word index number) = false
 is_other (front_word partition) = false
 is_other (end_word end) = true
 
--- the references of the places below an index, so many of that place's, and so many fronts are stored; all other words are 0
+-- the references of the places below an index, this many of that place's, and this many fronts are stored; all other words are 0
 pub record IsWritten (batch : Batch) (listed row : List ℕ) (index number partition : ℕ) : Type 0 where
   pub wide : length row ≡ total batch listed
   pub references : (place reference : ℕ) → place < batch.size → reference < length (reference_words batch place)

@@ -11,7 +11,7 @@ use atomic_table::Closed as Stood;
 use std::alloc::Global;
 use std::marker::Model;
 
-/// The words of a batch as they stood when it was closed.
+/// The words of a batch as they were when it was closed.
 pub struct Closed {
     stood: Stood<u8, Global>,
     begins: Vec<usize>,
@@ -36,9 +36,9 @@ impl Model for Closed {
 }
 
 impl<K: Placed> BatchWords<K> {
-    /// The words as they stand. Some list of events led to them, with this pass's events in order. Each place whose claim is
-    /// done has the own words and the ends of the serial run; of any other place the words are a beginning of the serial
-    /// run's; and no end is another than the serial run's. If the pass knows that all is placed, the references are the batch's.
+    /// The words as they are. Some list of events led to them, with this pass's events in order. Each place whose claim is done has the own
+    /// words and the ends of the serial run; of any other place the words are a beginning of the serial run's; and no end is another than
+    /// the serial run's. If the pass knows that all is placed, the references are the batch's.
     pub fn close(self, pass: Pass) -> Closed
         requires { IsPassOf self pass }
         ensures last { LastWith (K.batch self.key) (K.listed self.key) result.words pass.number pass.view }
@@ -88,7 +88,7 @@ impl Closed {
         self.stood.word(self.begins[index] + 1 + number)
     }
 
-    /// The reference of a number of a place: 0 for what stood before the batch, or one more than the index of a place.
+    /// The reference of a number of a place: 0 for what was there before the batch, or one more than the index of a place.
     pub fn reference(&self, index: usize, number: usize) -> u64
         requires begins { index < length self.now.references }
         requires within { slice_index self.now.references index + number < length self.now.words }

@@ -30,8 +30,8 @@ impl<K: Placed> BatchWords<K> {
         self.put::<Brand>(&mut pass.seat, at, word, index, 0);
     }
 
-    /// Stores a listed end, not yet set, of a record that the place ends by the serial run: one store. The pass holds the
-    /// place, has stored all its own words, and knows all its references done. `place` is where it stands in the log.
+    /// Stores a listed end, not yet set, of a record that the place ends by the serial run: one store. The pass holds the place, has stored
+    /// all its own words, and knows all its references done. `place` is where it is in the log.
     pub fn set_end(&self, pass: &mut Holding, index: usize, end: usize, place: Place)
         requires ours { IsPassOf self.now pass.old }
         requires within { index < (K.batch self.now.key).size }

@@ -101,7 +101,7 @@ impl<K: Placed> BatchWords<K> {
         self.get::<Brand>(&mut pass.seat, at, partition, 0)
     }
 
-    /// One load of a front, behind which the pass knows that all is placed: it knew each front past the last place.
+    /// One load of a front, after which the pass knows that all is placed: it knew each front past the last place.
     pub fn settle_fronts(&self, pass: &mut Holding, last: usize)
         requires ours { IsPassOf self.now pass.old }
         requires some { 0 < (K.batch self.now.key).partitions }
@@ -114,8 +114,8 @@ impl<K: Placed> BatchWords<K> {
         pass.placed = true;
     }
 
-    /// A reference of a place that the pass knows its partition to have placed: 0 for what stood before the batch, or one more
-    /// than the index of a place. One load.
+    /// A reference of a place that the pass knows its partition to have placed: 0 for what was there before the batch, or one more than the
+    /// index of a place. One load.
     pub fn reference(&self, pass: &mut Holding, index: usize, number: usize) -> u64
         requires ours { IsPassOf self.now pass.old }
         requires within { index < (K.batch self.now.key).size }

@@ -13,9 +13,9 @@ ghost use Rattle.words.specs.declared.view.View.{View};
 ghost use Rattle.words.specs.Legal.{IsEffective, Lawful, events_by, finishes_of, is_event_of};
 ghost use Rattle.words.specs.Views.{Holds, In, IsSettled, KeepsFronts, KnowsFront, KnowsPast, KnowsReferences, front_in, is_event_at, joined, split_left, split_right, with_all_placed, with_event, with_front, with_known};
 
-/// A pass that claims a place holds it with nothing stored; each word that it stores counts as one more, and each end that it
-/// sets is listed behind the others; it holds no more what it finished or gave back. Its events about other places change
-/// nothing of that, and what is stored of a place is one thing.
+/// A pass that claims a place holds it with nothing stored; each word that it stores counts as one more, and each end that it sets is
+/// listed after the others; it holds no more what it finished or gave back. Its events about other places change nothing of that, and what
+/// is stored of a place is one thing.
 pub fn own_events_tell_what_is_held()
     ensures claimed { (view : View) (actor index : ℕ) → Holds (with_event view (Claim actor index)) index 0 [] }
     ensures filled { (view : View) (actor index count : ℕ) (ended : List ℕ)

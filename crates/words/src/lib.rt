@@ -1,9 +1,13 @@
-//! The shared words of a batch, and the passes that step on them: claims, own words and ends of records, under one rule, that
-//! words and passes always show a list of events of the machine.
+//! The words that the threads of a batch share, and the passes that step on them.
+//!
+//! Passes `claim`, `look`, `give_back`, `fill`, `set_end` and `finish_place`; placers `set_reference` and `advance`.
+//! Each is one atomic load, store or compare-exchange; none waits or allocates. Words and passes always show events of
+//! the machine, so what a pass finds done is the serial run's. What it knows is its `View`, in proofs alone. `split`
+//! and `join` cut and join passes, a `Holding` may hold places, `close` ends a batch.
 //!
 //! After J. M. Faleiro and D. J. Abadi, "Rethinking Serializable Multiversion Concurrency Control", PVLDB 8 (2015),
-//! section 3: a thread takes an unprocessed transaction by one compare-and-swap, and sets it to complete once its versions
-//! are filled.
+//! section 3: a thread claims a transaction by one compare-and-swap, and marks it complete once its versions are
+//! filled.
 #![tactic(auto)]
 
 mod claims;

@@ -34,15 +34,15 @@ pub trait Placed {
         requires { index < (batch self.now).size }
         ensures { result ≡ length (reference_words (batch self.now) index) };
 
-    /// A reference of a place, if all is placed: 0 for what stood before the batch, or one more than the index of a place.
+    /// A reference of a place, if all is placed: 0 for what was there before the batch, or one more than the index of a place.
     fn reference_word(&self, index: usize, number: usize) -> u64
         requires placed { placed self.now ≡ true }
         requires within { index < (batch self.now).size }
         requires number { number < length (reference_words (batch self.now) index) }
         ensures { result ≡ reference_at (batch self.now) index number };
 
-    /// How many slots have a word for their record's end. Each of them has no end before the batch, none stands twice, and all
-    /// whose records the batch ends are among them.
+    /// How many slots have a word for their record's end. Each of them has no end before the batch, none is listed twice, and all whose
+    /// records the batch ends are among them.
     fn ends(&self) -> usize
         ensures value { result ≡ length (listed self.now) }
         ensures listed { IsListed (batch self.now) (listed self.now) };

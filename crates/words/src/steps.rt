@@ -145,7 +145,7 @@ impl<K: Placed> BatchWords<K> {
         self.begins[index]
     }
 
-    // Where an own word lies: behind the claim.
+    // Where an own word lies: after the claim.
     pub(crate) fn own_at(&self, index: usize, number: usize) -> usize
         requires within { (index < (K.batch self.now.key).size) × (number < words_length (K.batch self.now.key) index) }
         ensures value { result ≡ position (K.batch self.now.key) (own_word index number) }

@@ -20,8 +20,8 @@ impl<K: Placed> TableRule<u8, View, K> for Rule {
     ghost first = { λ key. first_view (K.placed key) };
 }
 
-/// The words of one batch: for each place a block with its claim and its own words; behind all blocks the references of each
-/// place, then the front of each partition, and then the listed ends.
+/// The words of one batch: for each place a block with its claim and its own words; after all blocks the references of each place, then the
+/// front of each partition, and then the listed ends.
 #[derive(Drop)]
 pub struct BatchWords<K: Placed> {
     pub(crate) table: Table<u8, View, K, Rule, Global>,

@@ -14,22 +14,22 @@ use crate::written::{write_all_references, write_fronts};
 use atomic_table::{Seat, Table};
 use std::alloc::{AllocError, Global};
 
-/// The sum; more words than can be counted are want of memory.
+/// The sum; more words than can be counted are out of memory.
 fn sum(first: usize, second: usize) -> Result<usize, AllocError>
     ensures { IfOk result (λ both. both ≡ first + second) }
 {
     first.checked_add(second).ok_or(AllocError)
 }
 
-/// How many words the block of a place with so many own words has: its claim, these, and as many more as make whole groups of
-/// eight. A line of a processor's cache mostly has eight words.
+/// How many words the block of a place with this many own words has: its claim, these, and as many more as make whole groups of eight. A
+/// line of a processor's cache mostly has eight words.
 fn block_length(words: usize) -> Result<usize, AllocError>
     ensures { IfOk result (λ length. length ≡ (words / 8 + 1) * 8) }
 {
     (words / 8 + 1).checked_mul(8).ok_or(AllocError)
 }
 
-/// Where the next block begins: behind this one, of a place with so many own words.
+/// Where the next block begins: after this one, of a place with this many own words.
 fn block_end(begin: usize, words: usize) -> Result<usize, AllocError>
     ensures { IfOk result (λ end. end ≡ begin + (words / 8 + 1) * 8) }
 {
@@ -69,14 +69,14 @@ fn references<K: Placed>(
     Ok((begins, end))
 }
 
-/// How many words so many fronts have: each a group of eight for itself, so that who stores one leaves the others' lines alone.
+/// How many words this many fronts have: each a group of eight for itself, so that who stores one leaves the others' lines alone.
 fn fronts_length(partitions: usize) -> Result<usize, AllocError>
     ensures { IfOk result (λ length. length ≡ partitions * 8) }
 {
     partitions.checked_mul(8).ok_or(AllocError)
 }
 
-/// Where the ends begin: behind the fronts.
+/// Where the ends begin: after the fronts.
 fn fronts_end<K: Placed>(key: &K, begin: usize) -> Result<usize, AllocError>
     requires { begin ≡ front_begin (K.batch key.now) }
     ensures { IfOk result (λ end. end ≡ end_begin (K.batch key.now)) }
@@ -84,14 +84,14 @@ fn fronts_end<K: Placed>(key: &K, begin: usize) -> Result<usize, AllocError>
     sum(begin, fronts_length(key.partitions())?)
 }
 
-/// A row of so many words, all 0.
+/// A row of this many words, all 0.
 fn all_zero(alloc: Global, count: usize) -> Result<Vec<u64>, AllocError>
     ensures { IfOk result (λ row. row.items ≡ replicate count 0) }
 {
     Vec::from_elem(alloc, 0u64, count)
 }
 
-/// The table of the words, all 0, and its first seat. The ends begin behind all else.
+/// The table of the words, all 0, and its first seat. The ends begin after all else.
 fn table_of<K: Placed>(
     alloc: Global,
     key: &K,
@@ -131,7 +131,7 @@ fn placed_row<K: Placed>(
     Ok(row)
 }
 
-/// The table of such words, and its first seat. The ends begin behind all else.
+/// The table of such words, and its first seat. The ends begin after all else.
 fn placed_table<K: Placed>(
     alloc: Global,
     key: &K,
@@ -155,8 +155,8 @@ fn placed_table<K: Placed>(
 }
 
 impl<K: Placed> BatchWords<K> {
-    /// The words of a batch of which all is placed, with its references and fronts stored and all else 0, and its first pass. An
-    /// error is want of memory, and so is a batch with more words than can be counted.
+    /// The words of a batch of which all is placed, with its references and fronts stored and all else 0, and its first pass. An error
+    /// means out of memory, and so is a batch with more words than can be counted.
     pub fn new(alloc: Global, key: &K) -> Result<(BatchWords<K>, Pass), AllocError>
         requires { K.placed key.now ≡ true }
         ensures { IfOk result (λ made. (made.0.key ≡ key.now) × (made.1 ≡ first_pass made.0)) }
@@ -186,8 +186,8 @@ impl<K: Placed> BatchWords<K> {
         ))
     }
 
-    /// The words of a batch of which nothing is placed yet, all 0, and its first pass. An error is want of memory, and so is a
-    /// batch with more words than can be counted.
+    /// The words of a batch of which nothing is placed yet, all 0, and its first pass. An error means out of memory, and so is a batch with
+    /// more words than can be counted.
     pub fn open(alloc: Global, key: &K) -> Result<(BatchWords<K>, Pass), AllocError>
         requires { K.placed key.now ≡ false }
         ensures { IfOk result (λ made. (made.0.key ≡ key.now) × (made.1 ≡ open_pass made.0)) }

@@ -3,12 +3,12 @@
 -- places while others still place, is this project's own.
 use Rattle.std.specs.Prelude.{◌≡◌, ◌≢◌, ◌⊎◌, ◌==◌, ◌%◌, ◌≤◌, ◌++◌, ℕ, suc, List, [], ◌∷◌, Some, slice_get, if◌then◌else◌}
 
--- each of the placers is one of these words, and has placed so many places at least
+-- each of the placers is one of these words, and has placed this many places at least
 abbrev pub HavePlaced : {W P : Type 0} → (W → P → Type 0) → (P → ℕ) → W → ℕ → List P → Type 0
 HavePlaced {W} {P} is_of front words count placers =
     (index : ℕ) (placer : P) → slice_get placers index ≡ Some placer → is_of words placer × (count ≤ front placer)
 
--- of the placers from this number on, those of a worker: every so many'th has the same worker
+-- of the placers from this number on, those of a worker: every this many'th has the same worker
 abbrev pub dealt : {P : Type 0} → ℕ → ℕ → ℕ → List P → List P
 dealt worker workers number [] = []
 dealt worker workers number (placer ∷ placers) =

@@ -9,12 +9,12 @@ use Rattle.workers.specs.declared.work.Worked.TheVariants.{Done, NoMemory, NotSt
 use Rattle.words.specs.Passes.{Passing}
 use Rattle.words.specs.Views.{In, KeepsFronts}
 
--- of so many places each is known done or among the rest, and the rest are some of them
+-- of this many places each is known done or among the rest, and the rest are some of them
 pub record AreLeft (size : ℕ) (known rest : List ℕ) : Type 0 where
   pub within : (index : ℕ) → In index rest → index < size
   pub every : (index : ℕ) → index < size → In index known ⊎ In index rest
 
--- the pass knows each of so many places done
+-- the pass knows each of this many places done
 abbrev pub KnowsAll : ℕ → View → Type 0
 KnowsAll size view = (index : ℕ) → index < size → In index view.known
 
@@ -25,7 +25,7 @@ pub record GoesOn (pass after : Passing) : Type 0 where
   pub knows : (index : ℕ) → In index pass.view.known → In index after.view.known
   pub fronts : KeepsFronts pass.view after.view
 
--- what came of two workers together
+-- the outcome of two workers together
 abbrev pub worse : Worked → Worked → Worked
 worse NotStarted other = NotStarted
 worse NoMemory NotStarted = NotStarted

@@ -1,13 +1,13 @@
-//! What workers tell of the places that they ask for.
+//! What workers say of the places that they ask for.
 
 use model_base::Place;
 
-/// Who is told what workers do, by places of the log.
+/// Who is known what workers do, by places of the log.
 pub trait Gate {
     /// A worker will ask for a place.
     fn before(&self, place: Place);
 
-    /// A worker was told that a place is done, which it is told once for each place.
+    /// A worker was known that a place is done, which it is known once for each place.
     fn after(&self, place: Place);
 
     /// The placer of a partition has placed a place.

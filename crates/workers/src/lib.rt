@@ -1,7 +1,12 @@
-//! Workers on threads of their own, which together run all places of a batch.
+//! Threads that together place and run all places of a batch.
+//!
+//! `run_workers` runs `workers` workers, the caller's thread first. Worker w of W places the partitions q with q mod W
+//! = w, then goes round over the places that it hasn't found done. A round asks once for each of them; after one in
+//! vain the worker yields. If memory is refused or a thread can't be started, all stop. All are joined. A `Gate` is
+//! given each place as it is placed, asked for and done.
 //!
 //! After J. M. Faleiro and D. J. Abadi, "Rethinking Serializable Multiversion Concurrency Control", PVLDB 8 (2015),
-//! section 3: each execution thread goes over the batch, and leaves alone what another has at hand.
+//! section 3: each thread goes over the batch and leaves alone what another holds.
 #![tactic(auto)]
 
 mod fault;

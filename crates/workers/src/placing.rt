@@ -75,7 +75,7 @@ pub(crate) fn place_all<K: Fills, P: BatchPlacer<K>, G: Gate>(
     true
 }
 
-/// No placer for each of so many workers. An error is out of memory.
+/// No placer for each of this many workers. An error is out of memory.
 fn no_placers<P: Drop>(alloc: Global, workers: usize) -> Result<Vec<Vec<P>>, AllocError>
     ensures len { IfOk result (λ hands. length hands.items ≡ workers) }
     ensures none { IfOk result (λ hands. (worker : ℕ) (hand : _) → slice_get hands.items worker ≡ Some hand → hand.items ≡ []) }
@@ -98,7 +98,7 @@ fn give<P: Drop>(hands: &mut Vec<Vec<P>>, worker: usize, placer: P) -> Result<()
     Ok(())
 }
 
-/// The placers of each of so many workers: worker w has those whose numbers have the remainder w. An error is out of memory.
+/// The placers of each of this many workers: worker w has those whose numbers have the remainder w. An error is out of memory.
 pub(crate) fn deal<P: Drop>(
     alloc: Global,
     placers: Vec<P>,

@@ -17,18 +17,18 @@ use std::sync::atomic::{AtomicBool, Ordering};
 use std::thread;
 use words::Pass;
 
-/// What came of asking for a place.
+/// The outcome of asking for a place.
 #[derive(Clone, Copy, PartialEq, Eq, Debug)]
 enum Asked {
     /// It is done.
     Done,
-    /// Another worker has it at hand, or it isn't placed.
+    /// Another worker has it available, or it isn't placed.
     Open,
     /// It wasn't asked for, since the workers were stopped; or memory was refused, and they are stopped now.
     Stopped,
 }
 
-/// What came of a sweep.
+/// The outcome of a sweep.
 #[derive(Clone, Copy, PartialEq, Eq, Debug)]
 pub(crate) enum Swept {
     /// All places are done.
@@ -164,7 +164,7 @@ fn add_range(rest: &mut VecDeque<usize>, range: Range<usize>)
     }
 }
 
-/// All of so many places, from one on and then round. An error is out of memory.
+/// All of this many places, from one on and then round. An error is out of memory.
 pub(crate) fn all_places(
     alloc: Global,
     first: usize,

@@ -1,6 +1,6 @@
 //! Several workers.
 
-ghost use Rattle.std.specs.Prelude.{◌≡◌, ◌<◌, ◌≤◌, ◌+◌, ◌^◌, IfOk, length, suc};
+ghost use Rattle.std.specs.Prelude.{◌≡◌, ◌≢◌, ◌<◌, ◌≤◌, ◌+◌, ◌^◌, IfOk, length, suc};
 ghost use Rattle.std.specs.Thread.{IsSync};
 ghost use Rattle.words.specs.Passes.{IsPassOf};
 ghost use Rattle.workers.specs.Placing.{HavePlaced, HaveDealt};
@@ -19,7 +19,7 @@ use std::thread;
 use std::thread::{Promise, Scope, Threads};
 use words::Pass;
 
-/// What came of running a batch.
+/// The outcome of running a batch.
 #[derive(Clone, Copy, PartialEq, Eq, Debug)]
 pub enum Worked {
     /// All its places are done.
@@ -51,8 +51,7 @@ fn first_of(worker: usize, workers: usize, size: usize) -> usize
     (worker as u128 * size as u128 / workers as u128) as usize
 }
 
-/// One worker, of so many: it places its partitions, and then goes round over the places. Where memory is refused it stops the
-/// others.
+/// One worker, of this many: it places its partitions, and then goes round over the places. Where memory is refused it stops the others.
 fn work<K: Fills, P: BatchPlacer<K>, G: Gate, R: Wait>(
     rt: &R,
     alloc: Global,
@@ -71,6 +70,7 @@ fn work<K: Fills, P: BatchPlacer<K>, G: Gate, R: Wait>(
     requires number { worker < workers }
     ensures on { GoesOn pass result.0 }
     ensures all { result.1 ≡ Worked.Done → KnowsAll (K.batch batch.now.key).size result.0.view }
+    ensures started { result.1 ≢ Worked.NotStarted }
 {
     let size = batch.key().places();
     let first = first_of(worker, workers, size);
@@ -88,7 +88,7 @@ fn work<K: Fills, P: BatchPlacer<K>, G: Gate, R: Wait>(
     }
 }
 
-/// What came of two workers.
+/// The outcome of two workers.
 fn both(one: Worked, other: Worked) -> Worked
     ensures { result ≡ worse one other }
 {
@@ -113,8 +113,8 @@ impl<'a, K: Fills> Promise<(Pass, Worked)> for OfBatch<'a, K> {
     ghost kept_by = { λ promise ended. IsPassOf promise.0.now ended.0 };
 }
 
-/// A worker, of so many, on a thread of its own, and those below it, the lowest on this thread. If the thread can't be started, all
-/// are stopped.
+/// A worker, of this many, on a thread of its own, and those below it, the lowest on this thread. If the thread can't be started, all are
+/// stopped.
 fn work_below<
     's,
     E,
@@ -142,6 +142,8 @@ fn work_below<
     requires number { worker < workers }
     ensures on { GoesOn pass result.0 }
     ensures all { result.1 ≡ Worked.Done → KnowsAll (K.batch batch.now.key).size result.0.view }
+    // The lowest worker starts no thread.
+    ensures alone { worker ≡ 0 → result.1 ≢ Worked.NotStarted }
 {
     let Some(placers) = hands.pop() else {
         unreachable!()
@@ -185,7 +187,7 @@ fn work_below<
     (batch.join(pass, other), both(mine, theirs))
 }
 
-/// The placers of a batch, dealt to so many workers. An error is out of memory.
+/// The placers of a batch, dealt to this many workers. An error is out of memory.
 fn hands_of<K: Fills, P: BatchPlacer<K>>(
     alloc: Global,
     batch: &Batch<K>,
@@ -202,14 +204,14 @@ fn hands_of<K: Fills, P: BatchPlacer<K>>(
     Ok(hands)
 }
 
-/// Places and runs all places of a batch by so many workers, at least one: the caller's thread is the first, and each further one
-/// has a thread of its own. The placers are those of the partitions that aren't placed whole yet; worker w of W has those whose
-/// numbers have the remainder w, and first places all of the batch for these. Then each begins with a part of the batch of its own and goes round over the places that it hasn't had done yet,
-/// until it has had each done; where another has a place at hand, it goes on with the next. The gate is told places of the log,
-/// of which the batch's first is `start`: each worker tells it of a place before it asks for it, and once when it is done. If a thread
-/// can't be started or memory is refused, all workers stop. No thread runs any more afterwards. The pass knows what it knew and
-/// what the workers know. `Done` tells that all places are done, `NotStarted` that a thread couldn't be started. With one worker no
-/// thread is started.
+/// Places and runs all places of a batch by this many workers, at least one: the caller's thread is the first, and each further one has a
+/// thread of its own. The placers are those of the partitions that aren't placed whole yet; worker w of W has those whose numbers have the
+/// remainder w, and first places all of the batch for these. Then each begins with a part of the batch of its own and goes round over the
+/// places that it hasn't had done yet, until it has had each done; where another has a place available, it goes on with the next. The gate
+/// is known places of the log, of which the batch's first is `start`: each worker gives it of a place before it asks for it, and once when
+/// it is done. If a thread can't be started or memory is refused, all workers stop. No thread runs any more afterwards. The pass knows what
+/// it knew and what the workers know. `Done` says that all places are done, `NotStarted` that a thread couldn't be started. With one worker
+/// no thread is started.
 pub fn run_workers<
     K: Fills + Sync,
     P: BatchPlacer<K> + Send,
@@ -230,6 +232,8 @@ pub fn run_workers<
     requires places { start + (K.batch batch.now.key).size < 2 ^ 64 }
     ensures on { GoesOn pass result.0 }
     ensures all { result.1 ≡ Worked.Done → KnowsAll (K.batch batch.now.key).size result.0.view }
+    // One worker starts no thread.
+    ensures alone { workers ≤ 1 → result.1 ≢ Worked.NotStarted }
 {
     let workers = workers.max(1);
     let Ok(hands) = hands_of(alloc, batch, placers, workers) else {
@@ -243,7 +247,8 @@ pub fn run_workers<
         move |scope| -> (Pass, Worked)
             requires { IsPassOf batch.now pass × HaveDealt (λ hand. hand.items) P.is_of P.front batch.now hands.items
                 × (length hands.items ≡ workers) × (start + (K.batch batch.now.key).size < 2 ^ 64) × (0 < workers) }
-            ensures { GoesOn pass result.0 × (result.1 ≡ Worked.Done → KnowsAll (K.batch batch.entry.now.key).size result.0.view) }
+            ensures { GoesOn pass result.0 × (result.1 ≡ Worked.Done → KnowsAll (K.batch batch.entry.now.key).size result.0.view)
+                × (workers ≤ 1 → result.1 ≢ Worked.NotStarted) }
         {
             work_below(
                 rt,

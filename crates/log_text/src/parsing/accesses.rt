@@ -34,9 +34,9 @@ fn access<'a>(words: &mut Words<'a>, near: Option<&Name<'a>>) -> Result<RawAcces
     access_of(word)
 }
 
-/// Takes the accesses, up to the first bar or the end. It says whether the bar follows. They go where room is, and after an
-/// error some of them may stand there. Most lines are on the table of the line before, and most accesses of a line on one table: that
-/// name is compared first.
+/// Takes the accesses, up to the first bar or the end. It says whether the bar follows. They go where room is, and after an error some of
+/// them may be there. Most lines are on the table of the line before, and most accesses of a line on one table: that name is compared
+/// first.
 #[inline(always)]
 pub(crate) fn accesses<'a>(
     words: &mut Words<'a>,

@@ -11,7 +11,7 @@ use crate::statement::RawStep;
 use line_words::{LineFault, Words};
 use model_base::Operation;
 
-/// What stands behind CONST, up to the next step or the end.
+/// What is after CONST, up to the next step or the end.
 #[inline(always)]
 pub(super) fn constant<'a>(words: &mut Words<'a>, step: &mut RawStep<'a>) -> Result<bool, LineFault>
     ensures ok { IfOk result (λ more. TakesStep (step_word Const ∷ words.old) step.new more words.new
@@ -26,7 +26,7 @@ pub(super) fn constant<'a>(words: &mut Words<'a>, step: &mut RawStep<'a>) -> Res
     bar_or_end(words)
 }
 
-/// What stands behind the word of an operation, up to the next step or the end.
+/// What is after the word of an operation, up to the next step or the end.
 #[inline(always)]
 pub(super) fn compute<'a>(
     operation: Operation,
@@ -52,7 +52,7 @@ pub(super) fn compute<'a>(
     bar_or_end(words)
 }
 
-/// What stands behind CHECK, up to the next step or the end.
+/// What is after CHECK, up to the next step or the end.
 #[inline(always)]
 pub(super) fn check<'a>(words: &mut Words<'a>, step: &mut RawStep<'a>) -> Result<bool, LineFault>
     ensures ok { IfOk result (λ more. TakesStep (step_word Check ∷ words.old) step.new more words.new
@@ -66,7 +66,7 @@ pub(super) fn check<'a>(words: &mut Words<'a>, step: &mut RawStep<'a>) -> Result
     bar_or_end(words)
 }
 
-/// What stands behind SKIP, up to the next step or the end.
+/// What is after SKIP, up to the next step or the end.
 #[inline(always)]
 pub(super) fn skip<'a>(words: &mut Words<'a>, step: &mut RawStep<'a>) -> Result<bool, LineFault>
     ensures ok { IfOk result (λ more. TakesStep (step_word Skip ∷ words.old) step.new more words.new
@@ -81,7 +81,7 @@ pub(super) fn skip<'a>(words: &mut Words<'a>, step: &mut RawStep<'a>) -> Result<
     bar_or_end(words)
 }
 
-/// What stands behind OUT, up to the next step or the end.
+/// What is after OUT, up to the next step or the end.
 #[inline(always)]
 pub(super) fn out<'a>(words: &mut Words<'a>, step: &mut RawStep<'a>) -> Result<bool, LineFault>
     ensures ok { IfOk result (λ more. TakesStep (step_word Out ∷ words.old) step.new more words.new

@@ -22,7 +22,7 @@ fn option_or_end(words: &mut Words<'_>) -> Result<bool, LineFault>
     Err(LineFault::UnknownWord)
 }
 
-/// What stands behind the grantee of a GRANT, to the end of the line: OPTION may, behind a name.
+/// What is after the grantee of a GRANT, to the end of the line: OPTION may, after a name.
 #[tactic(auto, using(crate::proofs::Grantees::name_is_not_public))]
 fn option_behind(grantee: &RawGrantee<'_>, words: &mut Words<'_>) -> Result<bool, LineFault>
     requires { IsGrantee grantee.now }
@@ -38,7 +38,7 @@ fn option_behind(grantee: &RawGrantee<'_>, words: &mut Words<'_>) -> Result<bool
     }
 }
 
-/// What stands behind GRANT, to the end of the line.
+/// What is after GRANT, to the end of the line.
 fn grant<'a>(words: &mut Words<'a>) -> Result<RawDeed<'a>, LineFault>
     ensures ok { IfOk result (λ deed. (codes "GRANT" ∷ words.old ≡ deed_words deed) × IsDeed deed) }
     ensures fault { IfErr result (λ f. fault_from expected_in_grant words.old ≡ Some f) }
@@ -55,7 +55,7 @@ fn grant<'a>(words: &mut Words<'a>) -> Result<RawDeed<'a>, LineFault>
     })
 }
 
-/// What stands behind REVOKE, to the end of the line.
+/// What is after REVOKE, to the end of the line.
 fn revoke<'a>(words: &mut Words<'a>) -> Result<RawDeed<'a>, LineFault>
     ensures ok { IfOk result (λ deed. (codes "REVOKE" ∷ words.old ≡ deed_words deed) × IsDeed deed) }
     ensures fault { IfErr result (λ f. fault_from expected_in_revoke words.old ≡ Some f) }

@@ -14,7 +14,7 @@ use crate::raw_room::{RawRoom, leave_none};
 use crate::statement::RawForm;
 use line_words::{LineFault, Words};
 
-/// What stands behind CREATE.
+/// What is after CREATE.
 fn create<'a>(words: &mut Words<'a>) -> Result<RawForm<'a>, LineFault>
     ensures ok { IfOk result (λ form. (codes "CREATE" ∷ words.old ≡ form_words form) × IsFormInGrammar form) }
     ensures fault { IfErr result (λ f. fault_from (OfName ∷ OfPlain ∷ []) words.old ≡ Some f) }
@@ -25,7 +25,7 @@ fn create<'a>(words: &mut Words<'a>) -> Result<RawForm<'a>, LineFault>
     Ok(RawForm::Create { table, columns })
 }
 
-/// What stands behind RUN. It goes into the room.
+/// What is after RUN. It goes into the room.
 #[inline(always)]
 pub(crate) fn run<'a>(words: &mut Words<'a>, room: &mut RawRoom<'a>) -> Result<(), LineFault>
     ensures ok { OnOk result ((codes "RUN" ∷ words.old ≡ form_words (Run room.new.accesses.items room.new.steps.items room.new.deed))
@@ -44,7 +44,7 @@ pub(crate) fn run<'a>(words: &mut Words<'a>, room: &mut RawRoom<'a>) -> Result<(
     steps(words, near, &mut room.steps, &mut room.deed)
 }
 
-/// Takes the word RUN, if it is the next word, in whatever form it stands; otherwise the words stay as they are.
+/// Takes the word RUN, if it is the next word, in whatever form it is written; otherwise the words stay as they are.
 #[inline(always)]
 fn other_run(words: &mut Words<'_>) -> bool
     ensures { MatchBool result (words.old ≡ codes "RUN" ∷ words.new) ((words.new ≡ words.old) × (first_word words.old ≢ codes "RUN")) }
@@ -67,7 +67,7 @@ pub(crate) fn takes_run(words: &mut Words<'_>) -> bool
     words.next_run() || other_run(words)
 }
 
-/// What stands behind the user, where it isn't a RUN.
+/// What is after the user, where it isn't a RUN.
 #[inline(never)]
 pub(crate) fn other_form<'a>(words: &mut Words<'a>) -> Result<RawForm<'a>, LineFault>
     requires { first_word words.old ≢ codes "RUN" }

@@ -56,12 +56,12 @@ fn take_user<'a>(words: &mut Words<'a>, user: &mut Name<'a>) -> Result<(), LineF
     Ok(())
 }
 
-/// Reads a line, without its end of line, into the room: what stands there then is the statement that the line reads as. Accesses and
-/// steps take memory only where there isn't room enough. `NoMemory` comes only where the allocator refused. After an error nothing is
-/// told of what stands in the room.
+/// Reads a line, without its end of line, into the room: what is there then is the statement that the line reads as. Accesses and steps
+/// take memory only where there isn't room enough. `NoMemory` comes only where the allocator refused. After an error nothing is known of
+/// what is in the room.
 #[tactic(auto, using(crate::proofs::Grammar::only_memory, crate::proofs::Grammar::found_fault))]
 pub fn read_into<'a>(line: &'a [u8], room: &mut RawRoom<'a>) -> Result<(), LineFault>
-    // What stands in the room is what the line reads as.
+    // What is in the room is what the line reads as.
     ensures read { OnOk result (Reads line.now (sentence_of room.new)) }
     // A line that reads as a statement is read, unless memory runs out.
     ensures only { (s : Sentence) → Reads line.now s → MatchResult result (λ _. sentence_of room.new ≡ s) (λ f. f ≡ LineFault.NoMemory) }
@@ -106,9 +106,9 @@ pub fn read_line<'a>(
     line: &'a [u8],
     room: &mut RawRoom<'a>,
 ) -> Result<RawStatement<'a>, LineFault>
-    // What is answered is what the line reads as.
+    // What is returned is what the line reads as.
     ensures read { IfOk result (λ s. Reads line.now s) }
-    // A line that reads as a statement is answered by it, unless memory runs out.
+    // A line that reads as a statement is returned as it, unless memory runs out.
     ensures only { (s : Sentence) → Reads line.now s → MatchResult result (λ found. found ≡ s) (λ f. f ≡ LineFault.NoMemory) }
     // Only a line with no fault is read.
     ensures sound { OnOk result (line_fault line.now ≡ None) }
@@ -123,9 +123,9 @@ pub fn read_line<'a>(
 
 /// The statement that a line reads as, or the line's fault, as `read_line` with room for nothing yet.
 pub fn parse_line<'a>(alloc: Global, line: &'a [u8]) -> Result<RawStatement<'a>, LineFault>
-    // What is answered is what the line reads as.
+    // What is returned is what the line reads as.
     ensures read { IfOk result (λ s. Reads line.now s) }
-    // A line that reads as a statement is answered by it, unless memory runs out.
+    // A line that reads as a statement is returned as it, unless memory runs out.
     ensures only { (s : Sentence) → Reads line.now s → MatchResult result (λ found. found ≡ s) (λ f. f ≡ LineFault.NoMemory) }
     // Only a line with no fault is read.
     ensures sound { OnOk result (line_fault line.now ≡ None) }

@@ -1,4 +1,4 @@
-//! What stands in one place of a line: a name, a number, a register, a row, a kind, a bar.
+//! What is in one place of a line: a name, a number, a register, a row, a kind, a bar.
 ghost use Rattle.std.specs.Prelude.{MatchBool, ◌≡◌, ◌∷◌, ◌<◌, ◌^◌, [], Some, None, List, ℕ, IfOk, IfErr, IsTrue, OnOk, codes, true};
 ghost use Rattle.std.specs.Fmt.{decimal, signed_decimal};
 ghost use Rattle.line_words.specs.Words.{is_name, plain, signed_of, first_word};
@@ -40,7 +40,7 @@ pub(crate) fn grantee<'a>(words: &mut Words<'a>) -> Result<RawGrantee<'a>, LineF
     }
 }
 
-/// Takes a plain number, as `number`, in whatever form it stands.
+/// Takes a plain number, as `number`, in whatever form it is written.
 #[tactic(auto, using(line_words::proofs::Plain::plain_some, line_words::proofs::Plain::plain_empty))]
 #[inline(always)]
 fn other_number(words: &mut Words<'_>) -> Result<u32, LineFault>
@@ -109,7 +109,7 @@ pub(crate) fn register_of(word: &[u8]) -> Result<Register, LineFault>
     numbered_register(number)
 }
 
-/// Takes a register, as `register`, in whatever form it stands.
+/// Takes a register, as `register`, in whatever form it is written.
 #[tactic(auto, using(line_words::proofs::Plain::plain_empty))]
 #[inline(always)]
 fn other_register(words: &mut Words<'_>) -> Result<Register, LineFault>

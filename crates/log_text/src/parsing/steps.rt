@@ -1,4 +1,4 @@
-//! The steps of a RUN, and the deed behind them.
+//! The steps of a RUN, and the deed after them.
 ghost use Rattle.std.specs.Prelude.{◌≡◌, ◌∷◌, ◌+◌, ◌≤◌, ◌<◌, ℕ, [], vec_len, Some, None, IfOk, IfErr, IfSome, MatchOption, OnOk, codes, true};
 ghost use Rattle.std.specs.List.{AllByRecursion, sum_by};
 ghost use Rattle.log_text.specs.Statement.{body_words, last_deed, IsLastDeed, IsStep, outs_of};
@@ -27,7 +27,7 @@ fn next_name(words: &mut Words<'_>) -> Option<StepName>
     }
 }
 
-/// Takes the word of a step, as `next_name`, in whatever form it stands.
+/// Takes the word of a step, as `next_name`, in whatever form it is written.
 #[tactic(auto, using(line_words::proofs::StepNames::named_word))]
 #[inline(always)]
 fn other_name(words: &mut Words<'_>) -> Option<StepName>
@@ -39,7 +39,7 @@ fn other_name(words: &mut Words<'_>) -> Option<StepName>
     Some(name)
 }
 
-/// A step of this name fits behind so many steps and outs.
+/// A step of this name fits after this many steps and outs.
 #[tactic(auto, using(crate::proofs::StepNames::no_step_fault))]
 #[inline(always)]
 fn one_more(name: StepName, steps: usize, outs: usize) -> Result<(), LineFault>
@@ -55,8 +55,8 @@ fn one_more(name: StepName, steps: usize, outs: usize) -> Result<(), LineFault>
     Ok(())
 }
 
-/// Takes what is behind the word of an operation, and the bar behind it, where it stands as in most lines; otherwise the words stay as
-/// they are. Most steps of a long body are operations.
+/// Takes what is after the word of an operation, and the bar after it, where it is as in most lines; otherwise the words stay as they are.
+/// Most steps of a long body are operations.
 #[tactic(auto, using(line_words::proofs::Plain::plain_of_decimal))]
 #[inline(always)]
 fn computing<'a>(name: StepName, words: &mut Words<'a>) -> Option<RawStep<'a>>
@@ -77,8 +77,8 @@ fn computing<'a>(name: StepName, words: &mut Words<'a>) -> Option<RawStep<'a>>
     })
 }
 
-/// What is behind the word of a step, up to the next one or the end, when there are so many steps and outs before it. The step goes
-/// where it is to stay.
+/// What is after the word of a step, up to the next one or the end, when there are this many steps and outs before it. The step goes where
+/// it is to stay.
 #[inline(always)]
 fn step<'a>(
     name: StepName,
@@ -137,8 +137,8 @@ fn out_count(step: &RawStep<'_>) -> usize
     }
 }
 
-/// Takes the steps and the deed behind the first bar, to the end of the line. The steps go where room is, and after an error
-/// some of them may stand there. Most steps of a line are on one table: the near name is compared first.
+/// Takes the steps and the deed after the first bar, to the end of the line. The steps go where room is, and after an error some of them
+/// may be there. Most steps of a line are on one table: the near name is compared first.
 pub(crate) fn steps<'a>(
     words: &mut Words<'a>,
     near: &Name<'a>,

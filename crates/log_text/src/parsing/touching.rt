@@ -25,7 +25,7 @@ fn table<'a>(words: &mut Words<'a>, near: &Name<'a>) -> Result<Name<'a>, LineFau
     name(words)
 }
 
-/// What stands behind HAS, up to the next step or the end.
+/// What is after HAS, up to the next step or the end.
 #[inline(always)]
 pub(super) fn has<'a>(
     words: &mut Words<'a>,
@@ -60,7 +60,7 @@ fn cell<'a>(words: &mut Words<'a>, near: &Name<'a>) -> Result<(Name<'a>, RowName
     Ok((table, row, column))
 }
 
-/// What stands behind LOAD, up to the next step or the end.
+/// What is after LOAD, up to the next step or the end.
 #[inline(always)]
 pub(super) fn load<'a>(
     words: &mut Words<'a>,
@@ -84,7 +84,7 @@ pub(super) fn load<'a>(
     bar_or_end(words)
 }
 
-/// What stands behind STORE, up to the next step or the end.
+/// What is after STORE, up to the next step or the end.
 #[inline(always)]
 pub(super) fn store<'a>(
     words: &mut Words<'a>,
@@ -132,7 +132,7 @@ fn more_registers(words: &mut Words<'_>, registers: &mut Registers) -> Result<bo
     }
 }
 
-/// What stands behind INSERT, up to the next step or the end.
+/// What is after INSERT, up to the next step or the end.
 #[inline(always)]
 pub(super) fn insert<'a>(
     words: &mut Words<'a>,
@@ -154,7 +154,7 @@ pub(super) fn insert<'a>(
     Ok(more)
 }
 
-/// What stands behind DELETE, up to the next step or the end.
+/// What is after DELETE, up to the next step or the end.
 #[inline(always)]
 pub(super) fn delete<'a>(
     words: &mut Words<'a>,

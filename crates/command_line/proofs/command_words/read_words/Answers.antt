@@ -1,8 +1,10 @@
-use Rattle.std.proofs.Common.{subst, sym, ◌≡◌, [], true, refl, ap, inr, ◌∙◌}
-use Rattle.clap.specs.Words.{App, HasKind, fault_of, is_simple, is_simple_and_free, subcommand_of}
+use Rattle.std.proofs.Common.{subst, sym, ◌≡◌, [], true, refl, ap, inl, inr, ◌∙◌}
+use Rattle.clap.specs.declared.error.Error.{Error}
+use Rattle.clap.specs.declared.error.kind.ErrorKind.{ErrorKind}
+use Rattle.clap.specs.Words.{App, HasKind, Kinds, fault_of, is_simple, is_simple_and_free, kind_of, subcommand_of}
 use Rattle.clap.proofs.OnLiterals.{clap_on_literals}
 use Rattle.command_line.specs.Shapes.{bohm_app, texts_of}
-use Rattle.command_line.specs.Words.{Asks, AsksOutsideLimits}
+use Rattle.command_line.specs.Words.{Asks, AsksOutsideLimits, progress_in}
 use Rattle.command_line.proofs.Telling.{told}
 use Rattle.command_line.proofs.command_words.read_words.Goals as goal
 
@@ -14,6 +16,13 @@ simple_and_free : is_simple_and_free bohm_app ≡ true
 unfolding clap_on_literals
 simple_and_free = refl
 
+-- an error of no kind is that memory ran out
+no_kind : (error : Error) → HasKind [] error → kind_of error ≡ ErrorKind.OutOfMemory
+no_kind error has = elim has [
+  | inl out ↦ out
+  | inr among ↦ absurd among
+]
+
 pub returns-in-Some-clause-taken : goal.returns-in-Some-clause-taken
 returns-in-Some-clause-taken c =
     subst (λ (a : App). fault_of a (texts_of c.args.words.now) ≡ []) c.in-Ok.ensures
@@ -24,10 +33,22 @@ returns-in-Some-clause-asked c =
     let found = (c.in-Ok-try_get_matches_from.ensures.matches (ap is_simple c.in-Ok.ensures ∙ simple)).1 in
     subst (Asks c.in-Some.command) (found ∙ ap (λ (a : App). subcommand_of a (texts_of c.args.words.now)) c.in-Ok.ensures) (sym c.in-Some.ensures.asks)
 
+pub returns-in-Some-clause-progress : goal.returns-in-Some-clause-progress
+returns-in-Some-clause-progress c =
+    let found = (c.in-Ok-try_get_matches_from.ensures.matches (ap is_simple c.in-Ok.ensures ∙ simple)).1 in
+    c.progress_in.ensures ∙ ap progress_in (found ∙ ap (λ (a : App). subcommand_of a (texts_of c.args.words.now)) c.in-Ok.ensures)
+
 pub returns-clause-outside : goal.returns-clause-outside
 returns-clause-outside c _ =
     let found = (c.in-Ok-try_get_matches_from.ensures.matches (ap is_simple c.in-Ok.ensures ∙ simple)).1 in
     subst AsksOutsideLimits (found ∙ ap (λ (a : App). subcommand_of a (texts_of c.args.words.now)) c.in-Ok.ensures) (sym c.in-None.ensures.asks)
+
+pub returns-in-Err-try_get_matches_from-clause-fault : goal.returns-in-Err-try_get_matches_from-clause-fault
+returns-in-Err-try_get_matches_from-clause-fault c none =
+    let error = c.in-Err-try_get_matches_from.error in
+    let has = c.in-Err-try_get_matches_from.ensures.kinds (ap is_simple_and_free c.in-Ok.ensures ∙ simple_and_free) in
+    let known = subst (λ (a : App). HasKind (fault_of a (texts_of c.args.words.now)) error) c.in-Ok.ensures has in
+    inl (c.usage_of.ensures.memory (no_kind error (subst (λ (kinds : Kinds). HasKind kinds error) none known)))
 
 pub returns-in-Err-try_get_matches_from-clause-told : goal.returns-in-Err-try_get_matches_from-clause-told
 returns-in-Err-try_get_matches_from-clause-told c =

@@ -4,7 +4,7 @@ use Rattle.std.proofs.lemmas.Bool.{cases_lt, eqb-true, or_cases, or_right}
 use Rattle.grants_base.specs.Index.{AreAsked, is_by}
 use Rattle.grants_base.specs.Index.{is_one_of}
 use Rattle.grants_base.specs.View.{View}
-use Rattle.grants.proofs.Worklist.{one_more}
+use Rattle.grants.proofs.Worklist.{slot_more}
 use Rattle.grants.proofs.Asked.{by-skipped, found_within, nothing_past, or_first}
 use Rattle.grants.proofs.cascade.add_grants_by.Goals as goal
 
@@ -16,7 +16,7 @@ loop-from-preserved g c =
     let are : AreAsked view asked = subst (λ (v : View). AreAsked v asked) c.loop-from.invariant.same c.in-Some.ensures.asked in
     let i = c.in-Some.i in
     let within : i < length view.slots = found_within view asked are (is_by c.args.user revocation.kind revocation.table) i c.in-Some.ensures.next.1 in
-    let more = one_more c.loop-from.due c.insert.new.self i c.in_ok-insert-in-Some.ensures.updates in
+    let more = slot_more c.loop-from.due c.insert.new.self i c.in_ok-insert-in-Some.ensures.ok in
     record {
       same = c.in-Some.ensures.same ∙ c.loop-from.invariant.same;
       slots = c.slots-end.ensures;
@@ -24,14 +24,14 @@ loop-from-preserved g c =
       found = λ j grant from less is by.
           elim (cases_lt j i) [
             | inl earlier ↦ elim (cases_lt j c.loop-from.from) [
-              | inl before ↦ more j ∙ or_right (i == j) (is_one_of c.loop-from.due.keys j) (c.loop-from.invariant.found j grant from before is by)
+              | inl before ↦ more j ∙ or_right (i == j) (is_one_of c.loop-from.due j) (c.loop-from.invariant.found j grant from before is by)
               | inr after ↦ absurd (by-skipped view asked are revocation c.args.user j grant (c.in-Some.ensures.next.2 j after earlier) is by)
             ]
-            | inr later ↦ let here : i ≡ j = omega arith in more j ∙ or_first (i == j) (is_one_of c.loop-from.due.keys j) (eq-eqb i j here)
+            | inr later ↦ let here : i ≡ j = omega arith in more j ∙ or_first (i == j) (is_one_of c.loop-from.due j) (eq-eqb i j here)
           ];
-      kept = λ j is. more j ∙ or_right (i == j) (is_one_of c.loop-from.due.keys j) (c.loop-from.invariant.kept j is);
+      kept = λ j is. more j ∙ or_right (i == j) (is_one_of c.loop-from.due j) (c.loop-from.invariant.kept j is);
       within = λ j is.
-          elim (or_cases (i == j) (is_one_of c.loop-from.due.keys j) (sym (more j) ∙ is)) [
+          elim (or_cases (i == j) (is_one_of c.loop-from.due j) (sym (more j) ∙ is)) [
             | inl now ↦ let here : i ≡ j = eqb-true i j now in inr (omega (arith, c.loop-from.invariant.start, c.in-Some.ensures.next.0), omega arith)
             | inr before ↦ c.loop-from.invariant.within j before
           ];

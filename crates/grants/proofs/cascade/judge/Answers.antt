@@ -35,15 +35,15 @@ returns-in_ok-lose-clause-due g c =
     let seen = g.V.Records.shown c.stays.new.view in
     let same : seen ≡ view = c.if-stays.ensures.same ∙ c.in-Some.ensures.same in
     let found : concerned (slot_at view c.args.slot) c.args.revocation.now ≡ Some c.in-Some.grant = sym c.in-Some.ensures.value in
-    due_more c.args.revocation.now view c.args.slot c.args.work.now.due.keys c.lose.new.due.keys (slots_of c.args.work.now.ended.ends) (slots_of c.push.new.self.ends) c.in-Some.grant c.args.next
+    due_more c.args.revocation.now view c.args.slot c.args.work.now.due c.lose.new.due (slots_of c.args.work.now.ended.ends) (slots_of c.push.new.self.ends) c.in-Some.grant c.args.next
     (omega (arith, c.requires.next)) c.requires.due found
     (end_more c.args.work.now.ended.ends c.push.new.self.ends (record { slot = c.args.slot; place = c.args.revocation.now.place }) c.in_ok-push.ensures.ends)
     c.in_ok-lose.ensures.kept
-    (λ j is. subst (λ (v : View). (is_one_of c.args.work.now.due.keys j ≡ true) ⊎ ((c.args.next ≤ j) × (j < length v.slots))) same (c.in_ok-lose.ensures.within j is))
+    (λ j is. subst (λ (v : View). (is_one_of c.args.work.now.due j ≡ true) ⊎ ((c.args.next ≤ j) × (j < length v.slots))) same (c.in_ok-lose.ensures.within j is))
     (λ j other heir from here.
     let who = by other.grantor (sym c.in-Some-option_holder.is ∙ c.option_holder.ensures ∙ heir) in
-    subst (λ (v : View). (is_one_of c.lose.new.due.keys j ≡ true) ⊎ IsStillBorne c.args.revocation.now v (slots_of c.push.new.self.ends) other.grantor j) same
-    (subst (λ user. (is_one_of c.lose.new.due.keys j ≡ true) ⊎ IsStillBorne c.args.revocation.now seen (slots_of c.push.new.self.ends) user j) (sym who)
+    subst (λ (v : View). (is_one_of c.lose.new.due j ≡ true) ⊎ IsStillBorne c.args.revocation.now v (slots_of c.push.new.self.ends) other.grantor j) same
+    (subst (λ user. (is_one_of c.lose.new.due j ≡ true) ⊎ IsStillBorne c.args.revocation.now seen (slots_of c.push.new.self.ends) user j) (sym who)
     (c.in_ok-lose.ensures.found j other from (ap (λ (v : View). concerned (slot_at v j) c.args.revocation.now) same ∙ here) who)))
   where
     by : (grantor : ℕ) → Some c.in-Some-option_holder.user ≡ Some grantor → grantor ≡ c.in-Some-option_holder.user
@@ -63,7 +63,7 @@ pub returns-in_default-option_holder-clause-due : goal.returns-in_default-option
 returns-in_default-option_holder-clause-due g c =
     let view = g.V.Records.shown c.args.view.now in
     let found : concerned (slot_at view c.args.slot) c.args.revocation.now ≡ Some c.in-Some.grant = sym c.in-Some.ensures.value in
-    due_more c.args.revocation.now view c.args.slot c.args.work.now.due.keys c.args.work.now.due.keys (slots_of c.args.work.now.ended.ends) (slots_of c.push.new.self.ends) c.in-Some.grant c.args.next
+    due_more c.args.revocation.now view c.args.slot c.args.work.now.due c.args.work.now.due (slots_of c.args.work.now.ended.ends) (slots_of c.push.new.self.ends) c.in-Some.grant c.args.next
     (omega (arith, c.requires.next)) c.requires.due found
     (end_more c.args.work.now.ended.ends c.push.new.self.ends (record { slot = c.args.slot; place = c.args.revocation.now.place }) c.in_ok-push.ensures.ends)
     (λ j is. is) (λ j is. inl is) (λ j other heir from here. absurd (c.in_default-option_holder.not-Some other.grantor (c.option_holder.ensures ∙ heir)))

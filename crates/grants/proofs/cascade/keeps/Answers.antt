@@ -1,7 +1,15 @@
-use Rattle.std.proofs.Common.{sym, subst}
+use Rattle.std.proofs.Common.{arith, sym, subst}
 use Rattle.grants.specs.Work.{ArePassed, slots_of}
 use Rattle.grants.proofs.Asking.{kept_by_first, passed_kept, passed_start}
+use Rattle.grants.proofs.Worklist.{keepers-none}
 use Rattle.grants.proofs.cascade.keeps.Goals as goal
+
+pub returns-then-below-start-clause-value : goal.returns-then-below-start-clause-value
+returns-then-below-start-clause-value g c =
+    let view = g.V.Records.shown c.args.view.now in
+    let passed = passed_start c.args.revocation.now view (slots_of c.args.ended.now.ends) c.args.asked.now c.args.user c.requires.passed in
+    sym (keepers-none c.args.revocation.now view (slots_of c.args.ended.now.ends) c.args.below c.args.user
+    (λ k less. passed k (omega (arith, less, c.passed_by-start.ensures, c.if-below-start.true))))
 
 pub first_bearer-first-requires-clause-passed : goal.first_bearer-first-requires-clause-passed
 first_bearer-first-requires-clause-passed g c =

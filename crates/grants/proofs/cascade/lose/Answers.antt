@@ -1,4 +1,4 @@
-use Rattle.std.proofs.Common.{◌≡◌, ◌<◌, ◌≤◌, ◌&&◌, not, true, length, sym, ◌∙◌, ap, subst, arith, inl, inr}
+use Rattle.std.proofs.Common.{◌≡◌, ◌<◌, ◌≤◌, not, true, length, sym, ◌∙◌, ap, subst, arith, inl, inr}
 use Rattle.std.specs.Prelude.{◌⊎◌}
 use Rattle.std.proofs.lemmas.Bool.{and_parts, cases_lt}
 use Rattle.grants.specs.Pass.{concerned}
@@ -41,4 +41,4 @@ returns-clause-passed g c =
 
 pub returns-clause-within : goal.returns-clause-within
 returns-clause-within g c = λ j is.
-    subst (λ (v : View). (is_one_of c.args.due.now.keys j ≡ true) ⊎ ((c.args.start ≤ j) × (j < length v.slots))) c.first_bearer-first.ensures.same (c.in_ok-add_grants_by.ensures.within j is)
+    subst (λ (v : View). (is_one_of c.args.due.now j ≡ true) ⊎ ((c.args.start ≤ j) × (j < length v.slots))) c.first_bearer-first.ensures.same (c.in_ok-add_grants_by.ensures.within j is)

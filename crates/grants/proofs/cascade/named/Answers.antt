@@ -7,7 +7,7 @@ use Rattle.grants.specs.Pass.{concerned}
 use Rattle.grants.specs.Work.{IsNextNamed}
 use Rattle.grants_base.specs.Index.{is_one_of}
 use Rattle.grants_base.specs.View.{View, slot_at}
-use Rattle.grants.proofs.Worklist.{one_more}
+use Rattle.grants.proofs.Worklist.{slot_more}
 use Rattle.grants.proofs.Asked.{HaveNamed, named_step, nothing_past, or_first}
 use Rattle.grants.proofs.Named.{unnamed}
 use Rattle.grants.proofs.cascade.named.Goals as goal
@@ -23,19 +23,19 @@ loop-from-preserved g c =
     let same = c.in-Some.ensures.same ∙ c.loop-from.invariant.same in
     let told : c.is_named.result ≡ option_map_or (names revocation) (concerned (slot_at view i) revocation) false =
     c.is_named.ensures.value ∙ ap (λ (v : View). option_map_or (names revocation) (concerned (slot_at v i) revocation) false) same in
-    let so_far : HaveNamed view revocation c.loop-from.due.keys c.loop-from.from = record { found = c.loop-from.invariant.found; within = c.loop-from.invariant.within } in
-    let step : HaveNamed view revocation c.if-is_named.due.keys (i + 1) =
+    let so_far : HaveNamed view revocation c.loop-from.due c.loop-from.from = record { found = c.loop-from.invariant.found; within = c.loop-from.invariant.within } in
+    let step : HaveNamed view revocation c.if-is_named.due (i + 1) =
     elim c.if-is_named.branch [
       | then-is_named+in_ok-insert-in-Some w ↦
-          let more = one_more c.loop-from.due w.insert.new.self i w.in_ok-insert-in-Some.ensures.updates in
+          let more = slot_more c.loop-from.due w.insert.new.self i w.in_ok-insert-in-Some.ensures.ok in
           rw (w.due-is)
-          (named_step view revocation c.loop-from.due.keys w.insert.new.self.keys c.loop-from.from i found.there.1 found.passed so_far
-          (λ j is. more j ∙ or_right (i == j) (is_one_of c.loop-from.due.keys j) is)
-          (λ _. more i ∙ or_first (i == i) (is_one_of c.loop-from.due.keys i) (eq-eqb i i refl))
-          (λ j is. elim (or_cases (i == j) (is_one_of c.loop-from.due.keys j) (sym (more j) ∙ is)) [ inl now ↦ inr (eqb-true i j now) | inr before ↦ inl before ]))
+          (named_step view revocation c.loop-from.due w.insert.new.self c.loop-from.from i found.there.1 found.passed so_far
+          (λ j is. more j ∙ or_right (i == j) (is_one_of c.loop-from.due j) is)
+          (λ _. more i ∙ or_first (i == i) (is_one_of c.loop-from.due i) (eq-eqb i i refl))
+          (λ j is. elim (or_cases (i == j) (is_one_of c.loop-from.due j) (sym (more j) ∙ is)) [ inl now ↦ inr (eqb-true i j now) | inr before ↦ inl before ]))
       | else-is_named w ↦
           rw (w.due-is)
-          (named_step view revocation c.loop-from.due.keys c.loop-from.due.keys c.loop-from.from i found.there.1 found.passed so_far
+          (named_step view revocation c.loop-from.due c.loop-from.due c.loop-from.from i found.there.1 found.passed so_far
           (λ j is. is) (λ named. absurd (true≢false (sym named ∙ sym told ∙ w.if-is_named.false))) (λ j is. inl is))
     ] in
     record {

@@ -12,8 +12,8 @@ invariant-loop-from g l = record {
   same : g.V.Records.shown l.view ≡ g.V.Records.shown l.initial.view;
   slots : l.end ≡ length (g.V.Records.shown l.initial.view).slots;
   found : (j : ℕ) (grant : Grant) → j < l.from → concerned (slot_at (g.V.Records.shown l.initial.view) j) l.revocation ≡ Some grant
-      → names l.revocation grant ≡ true → is_one_of l.due.keys j ≡ true;
-  within : (j : ℕ) → is_one_of l.due.keys j ≡ true → j < length (g.V.Records.shown l.initial.view).slots;
+      → names l.revocation grant ≡ true → is_one_of l.due j ≡ true;
+  within : (j : ℕ) → is_one_of l.due j ≡ true → j < length (g.V.Records.shown l.initial.view).slots;
 }
 
 abbrev pub decreases-loop-from : goal.decreases-loop-from

@@ -8,7 +8,7 @@ pub loop-from-preserved : goal.loop-from-preserved
 loop-from-preserved c =
     let low = c.loop-from.invariant.start in
     let next = c.in-Some.ensures in
-    let above = next.0 in record {
+    let above = next.there.0 in record {
       end = c.earlier_count-end.ensures.value;
       start = omega arith;
       adds =

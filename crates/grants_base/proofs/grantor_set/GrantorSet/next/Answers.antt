@@ -1,4 +1,4 @@
-use Rattle.std.proofs.Common.{◌||◌, List, sym, ◌∙◌, subst}
+use Rattle.std.proofs.Common.{◌||◌, List, sym, subst}
 use Rattle.std.specs.Option.{option_to_list}
 use Rattle.grants_base.specs.GrantorSet.{has_by}
 use Rattle.grants_base.specs.Index.{IsFirst}

@@ -1,4 +1,4 @@
-use Rattle.std.proofs.Common.{◌≡◌, true, List, ◌∙◌, subst}
+use Rattle.std.proofs.Common.{◌≡◌, true, List, subst}
 use Rattle.std.specs.Prelude.{slice_get}
 use Rattle.model_base.specs.declared.deed.Record.{Record}
 use Rattle.grants_base.specs.Force.{gives_by, is_in_force}

@@ -1,0 +1,227 @@
+//! The run of a text in order for C: see bohm.h.
+//!
+//! A handle is a pointer and a flag that C keeps. Each call takes the run out of the handle, and puts it back.
+#![tactic(auto)]
+
+ghost use Rattle.std.specs.Prelude.{◌≡◌, ◌≤◌, ◌<◌, ◌++◌, ◌↔◌, [], false, ℕ, List, None, Some, IfSome, IfNone, IsSome, drop, length, pos, take, true};
+ghost use Rattle.report.specs.Report.{IsReport};
+ghost use Rattle.fed_run.specs.Stands.{IsFed, unsent};
+ghost use Rattle.bohm_c.specs.Statuses.{IsStatus, status_number, status_text};
+
+mod handle;
+mod parts;
+
+use fed_run::{FedRun, FeedFault};
+pub use handle::Handle;
+use std::alloc::Global;
+use std::boxed::Box;
+use std::mem::replace;
+
+/// The call was done.
+const DONE: i32 = 0;
+/// Out of memory.
+const MEMORY: i32 = 1;
+/// There are as many lines as can be counted.
+const FULL: i32 = 2;
+/// The handle isn't open.
+const CLOSED: i32 = 3;
+/// The handle is open already.
+const OPENED: i32 = 4;
+/// The text was ended before.
+const ENDED: i32 = 5;
+
+/// The version of the library: major * 10000 + minor * 100 + patch.
+const VERSION: u32 = 100;
+
+/// Keeps the run in the handle. What it kept before is dropped.
+fn put(handle: &mut Handle, run: Box<FedRun>)
+    ensures { handle.new.run ≡ Some run.value }
+{
+    let _before = replace(handle, Handle::of(run)).into_box();
+}
+
+/// Takes the run out of the handle, which is closed then.
+fn take(alloc: Global, handle: &mut Handle) -> Option<Box<FedRun>>
+    ensures some { IfSome result (λ run. handle.old.run ≡ Some run.value) }
+    ensures none { IfNone result (handle.old.run ≡ None) }
+    ensures closed { handle.new.run ≡ None }
+{
+    replace(handle, Handle::closed(alloc)).into_box()
+}
+
+/// The status of a call.
+fn status_number(done: Result<(), FeedFault>) -> i32
+    ensures { result ≡ status_number done }
+{
+    match done {
+        Ok(()) => DONE,
+        Err(FeedFault::NoMemory) => MEMORY,
+        Err(FeedFault::Full) => FULL,
+        Err(FeedFault::Ended) => ENDED,
+    }
+}
+
+/// The version of the library.
+#[unsafe(no_mangle)]
+pub extern "C" fn bohm_version() -> u32
+    ensures { result ≡ VERSION }
+{
+    VERSION
+}
+
+/// Opens a closed handle. An open one stays as it is.
+#[unsafe(no_mangle)]
+pub extern "C" fn bohm_open(alloc: Global, handle: &mut Handle) -> i32
+    // An open handle keeps its run.
+    ensures opened { IfSome handle.old.run (λ run. (result ≡ OPENED) × (handle.new.run ≡ Some run)) }
+    // A closed one keeps a run that was given nothing, or stays closed where memory was refused.
+    ensures done { handle.old.run ≡ None → result ≡ DONE → IfSome handle.new.run (λ run. IsFed run [] [] × (run.is_ended ≡ false)) }
+    ensures open { handle.old.run ≡ None → result ≡ DONE → IsSome handle.new.run }
+    ensures memory { handle.old.run ≡ None → (result ≡ DONE → ⊥) → (result ≡ MEMORY) × (handle.new.run ≡ None) }
+{
+    if let Some(run) = take(alloc, handle) {
+        put(handle, run);
+        return OPENED;
+    }
+    let Ok(run) = Box::new(alloc, FedRun::new(alloc)) else {
+        return MEMORY;
+    };
+    put(handle, run);
+    DONE
+}
+
+/// Takes bytes of the log from `input` and writes bytes of its report to `out`, as `FedRun::step`.
+#[unsafe(no_mangle)]
+pub extern "C" fn bohm_step(
+    alloc: Global,
+    handle: &mut Handle,
+    input: &[u8],
+    out: &mut [u8],
+    used: &mut usize,
+    made: &mut usize,
+) -> i32
+    ensures used { used.new ≤ length input.now }
+    ensures made { made.new ≤ length out.old }
+    ensures full { result ≡ DONE → used.new < length input.now → made.new ≡ length out.old }
+    // However a text is cut into calls, what was given and is to be given begins its report.
+    ensures stands { IfSome handle.old.run (λ old. IfSome handle.new.run (λ new. (text written : List ℕ) → IsFed old text written
+        → IsFed new (text ++ take used.new input.now) (written ++ take made.new out.new))) }
+    ensures kept { IfSome handle.old.run (λ old. IfSome handle.new.run (λ new. new.is_ended ≡ old.is_ended)) }
+    ensures open { IfSome handle.old.run (λ _. IsSome handle.new.run) }
+    ensures status { IfSome handle.old.run (λ _. IsStatus result) }
+    // After out of memory, and where no more lines can be counted, what was given is whole lines.
+    ensures lines { (result ≡ DONE → ⊥) → (result ≡ ENDED → ⊥) → IfSome handle.new.run (λ new. unsent new ≡ []) }
+    // A misuse changes nothing.
+    ensures ended { IfSome handle.old.run (λ old. (result ≡ ENDED) ↔ (old.is_ended ≡ true)) }
+    ensures still { result ≡ ENDED → (handle.new.run ≡ handle.old.run) × (out.new ≡ out.old) × (used.new ≡ 0) × (made.new ≡ 0) }
+    ensures closed { handle.old.run ≡ None
+        → (result ≡ CLOSED) × (handle.new.run ≡ None) × (out.new ≡ out.old) × (used.new ≡ 0) × (made.new ≡ 0) }
+{
+    *used = 0;
+    *made = 0;
+    let Some(mut run) = take(alloc, handle) else {
+        return CLOSED;
+    };
+    let (step, done) = run.step(alloc, input, out);
+    *used = step.used;
+    *made = step.made;
+    put(handle, run);
+    status_number(done)
+}
+
+/// Ends the text, and writes the rest of its report to `out`, as `FedRun::finish`.
+#[unsafe(no_mangle)]
+pub extern "C" fn bohm_finish(
+    alloc: Global,
+    handle: &mut Handle,
+    out: &mut [u8],
+    made: &mut usize,
+) -> i32
+    ensures made { made.new ≤ length out.old }
+    ensures stands { IfSome handle.old.run (λ old. IfSome handle.new.run (λ new. (text written : List ℕ) → IsFed old text written
+        → IsFed new text (written ++ take made.new out.new))) }
+    // Once it leaves room, all that was given is the report of all that was taken.
+    ensures report { result ≡ DONE → made.new < length out.old → IfSome handle.old.run (λ old. (text written : List ℕ)
+        → IsFed old text written → IsReport text (written ++ take made.new out.new)) }
+    ensures kept { IfSome handle.old.run (λ _. IfSome handle.new.run (λ new. new.is_ended ≡ true)) }
+    ensures open { IfSome handle.old.run (λ _. IsSome handle.new.run) }
+    ensures status { IfSome handle.old.run (λ _. IsStatus result × (result ≡ ENDED → ⊥)) }
+    // After out of memory, and where no more lines can be counted, what was given is whole lines.
+    ensures lines { (result ≡ DONE → ⊥) → IfSome handle.new.run (λ new. unsent new ≡ []) }
+    // A misuse changes nothing.
+    ensures closed { handle.old.run ≡ None → (result ≡ CLOSED) × (handle.new.run ≡ None) × (out.new ≡ out.old) × (made.new ≡ 0) }
+{
+    *made = 0;
+    let Some(mut run) = take(alloc, handle) else {
+        return CLOSED;
+    };
+    let (count, done) = run.finish(alloc, out);
+    *made = count;
+    put(handle, run);
+    status_number(done)
+}
+
+/// How many lines were reported. 0 where the handle is closed.
+#[unsafe(no_mangle)]
+pub extern "C" fn bohm_lines(alloc: Global, handle: &mut Handle) -> u64
+    ensures same { handle.new.run ≡ handle.old.run }
+    ensures lines { IfSome handle.old.run (λ run. result ≡ run.lines) }
+    ensures closed { handle.old.run ≡ None → result ≡ 0 }
+{
+    let Some(run) = take(alloc, handle) else {
+        return 0;
+    };
+    let lines = run.lines();
+    put(handle, run);
+    lines
+}
+
+/// How many statements were accepted, which is the next place. 0 where the handle is closed.
+#[unsafe(no_mangle)]
+pub extern "C" fn bohm_places(alloc: Global, handle: &mut Handle) -> u64
+    ensures same { handle.new.run ≡ handle.old.run }
+    ensures places { IfSome handle.old.run (λ run. result ≡ length run.order.log.statements) }
+    ensures closed { handle.old.run ≡ None → result ≡ 0 }
+{
+    let Some(run) = take(alloc, handle) else {
+        return 0;
+    };
+    let places = run.places();
+    put(handle, run);
+    places
+}
+
+/// The English of a status.
+fn text_of(status: i32) -> &'static str
+    ensures { result.now ≡ status_text status }
+{
+    match status {
+        DONE => "done",
+        MEMORY => "out of memory",
+        FULL => "too many lines",
+        CLOSED => "the handle is closed",
+        OPENED => "the handle is open already",
+        ENDED => "the log has ended",
+        _ => "no such status",
+    }
+}
+
+/// Writes the English of a status to the front of `out`, as much of it as there is room for, and returns how many bytes it has in all.
+#[unsafe(no_mangle)]
+pub extern "C" fn bohm_status_text(status: i32, out: &mut [u8]) -> usize
+    ensures length { result ≡ length (status_text status) }
+    ensures text { out.new ≡ take (length out.old) (status_text status) ++ drop (length (status_text status)) out.old }
+{
+    let text = text_of(status).as_bytes();
+    let count = out.len().min(text.len());
+    out[..count].copy_from_slice(&text[..count]);
+    text.len()
+}
+
+/// Closes a handle, and frees what it keeps. A closed one stays closed.
+#[unsafe(no_mangle)]
+pub extern "C" fn bohm_close(alloc: Global, handle: &mut Handle)
+    ensures { handle.new.run ≡ None }
+{
+    let _run = take(alloc, handle);
+}

@@ -1,0 +1,71 @@
+-- The report of some lines stands when more comes behind their log.
+use Rattle.std.proofs.Common.{◌≡◌, ◌<◌, ◌≤◌, ◌+◌, ◌++◌, ℕ, suc, List, [], ◌∷◌, Option, Some, None, length, refl, ap, sym, ◌∙◌, subst, arith, append_assoc}
+use Rattle.std.specs.Prelude.{All, slice_get}
+use Rattle.std.proofs.lemmas.List.Elements.{All-weaker}
+use Rattle.model_base.specs.declared.outcome.Outcome.{Outcome}
+use Rattle.model_base.specs.declared.statement.Statement.{Statement}
+use Rattle.model_base.specs.Outcomes.{outcome, owners}
+use Rattle.sequencer.specs.Log.{Accepted}
+use Rattle.sequencer.specs.Taken.{IsTaken, IsWhole}
+use Rattle.report.specs.Text.{IsNamed}
+use Rattle.report.specs.Report.{place_text, text_of}
+use Rattle.bohm_base.specs.Collecting.{became_text, places_of, report_text}
+use Rattle.bohm_base.specs.declared.collecting.Became.{Became}
+use Rattle.bohm_base.proofs.Named.{outcome-named}
+use Rattle.model_base.specs.Growing.{NeedsOwnTables, NeedsWithin}
+use Rattle.model_base.proofs.Growing.{get-front, outcome-stands}
+use Rattle.fed_run.specs.Reported.{places_taken}
+use Rattle.bohm_base.proofs.Reporting.{text-longer}
+
+pub needs-own : (log : Accepted) → IsWhole log → NeedsOwnTables log.statements
+needs-own log whole =
+    let count : length log.names.tables ≡ length (owners log.statements) = sym whole.owned ∙ ap length whole.owners in
+    subst (λ (n : ℕ). All (NeedsWithin n) log.statements) count
+    (All-weaker (IsTaken log.names) (NeedsWithin (length log.names.tables)) (λ statement taken. taken.needs) log.statements whole.taken)
+
+module _ (log : Accepted) (whole : IsWhole log) (more : List Statement) (extra : List (List ℕ)) where
+  text-same : (place : ℕ) (statement : Option Statement) (found : Option Outcome) → ((o : Outcome) → found ≡ Some o → IsNamed (length log.names.tables) o)
+      → text_of (log.names.tables ++ extra) place statement found ≡ text_of log.names.tables place statement found
+  text-same place (Some statement) (Some o) named = text-longer log.names.tables extra place statement.form o (named o refl)
+  text-same place (Some statement) None named = refl
+  text-same place None found named = refl
+
+  pub place-same : (place : ℕ) → place < length log.statements → place_text (log.statements ++ more) (log.names.tables ++ extra) place ≡ place_text log.statements log.names.tables place
+  place-same place less =
+      ap (λ (s : Option Statement). text_of (log.names.tables ++ extra) place s (outcome (log.statements ++ more) place)) (get-front log.statements more place less)
+      ∙ ap (text_of (log.names.tables ++ extra) place (slice_get log.statements place)) (outcome-stands log.statements more place (needs-own log whole) less)
+      ∙ text-same place (slice_get log.statements place) (outcome log.statements place) (λ o is. outcome-named log place o whole is)
+
+  line-same : (number place : ℕ) (line : Became) → place + places_of line ≤ length log.statements
+      → became_text (log.statements ++ more) (log.names.tables ++ extra) number place line ≡ became_text log.statements log.names.tables number place line
+  line-same number place Became.Accepted less = place-same place (omega (arith, less))
+  line-same number place (Became.Faulty fault) less = refl
+  line-same number place (Became.Refused refused) less = refl
+
+  lines-same : (number place : ℕ) (lines : List Became) → place + places_taken lines ≤ length log.statements
+      → report_text (log.statements ++ more) (log.names.tables ++ extra) number place lines ≡ report_text log.statements log.names.tables number place lines
+  lines-same number place [] less = refl
+  lines-same number place (line ∷ lines) less =
+      ap (λ t. t ++ report_text (log.statements ++ more) (log.names.tables ++ extra) (number + 1) (place + places_of line) lines) (line-same number place line (omega (arith, less)))
+      ∙ ap (λ t. became_text log.statements log.names.tables number place line ++ t) (lines-same (number + 1) (place + places_of line) lines (omega (arith, less)))
+
+pub longer : (log : Accepted) (more : List Statement) (extra : List (List ℕ)) (number place : ℕ) (lines : List Became) → IsWhole log → place + places_taken lines ≤ length log.statements
+    → report_text (log.statements ++ more) (log.names.tables ++ extra) number place lines ≡ report_text log.statements log.names.tables number place lines
+longer log more extra number place lines whole less = lines-same log whole more extra number place lines less
+
+pub parts : (log : List Statement) (tables : List (List ℕ)) (number place : ℕ) (lines later : List Became)
+    → report_text log tables number place (lines ++ later)
+    ≡ report_text log tables number place lines ++ report_text log tables (number + length lines) (place + places_taken lines) later
+parts log tables number place [] later =
+    let a : number ≡ number + 0 = omega arith in
+    let b : place ≡ place + 0 = omega arith in
+    ap (λ (n : ℕ). report_text log tables n place later) a ∙ ap (λ (p : ℕ). report_text log tables (number + 0) p later) b
+parts log tables number place (line ∷ lines) later =
+    let a : number + 1 + length lines ≡ number + suc (length lines) = omega arith in
+    let b : place + places_of line + places_taken lines ≡ place + (places_of line + places_taken lines) = omega arith in
+    let first = became_text log tables number place line in
+    ap (λ t. first ++ t)
+    (parts log tables (number + 1) (place + places_of line) lines later
+    ∙ ap (λ (n : ℕ). report_text log tables (number + 1) (place + places_of line) lines ++ report_text log tables n (place + places_of line + places_taken lines) later) a
+    ∙ ap (λ (p : ℕ). report_text log tables (number + 1) (place + places_of line) lines ++ report_text log tables (number + suc (length lines)) p later) b)
+    ∙ sym (append_assoc first (report_text log tables (number + 1) (place + places_of line) lines) _)

@@ -1,0 +1,4 @@
+pub mod Faults
+pub mod Reported
+pub mod Progress
+pub mod Stands

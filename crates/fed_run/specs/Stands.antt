@@ -1,0 +1,50 @@
+-- Where a run stands that is fed piece by piece.
+use Rattle.std.specs.Prelude.{◌≡◌, ◌≤◌, ◌<◌, ◌+◌, ◌++◌, [], ℕ, true, List, drop, length, take}
+use Rattle.log_text_base.specs.Lines.{HasLine}
+use Rattle.log_text_base.specs.declared.limits.TheConstants.{KEPT_BYTES}
+use Rattle.report.specs.Report.{IsReport}
+use Rattle.fed_run.specs.Reported.{IsReported}
+use Rattle.fed_run.specs.declared.fed.FedRun.{FedRun}
+
+-- the bytes of the report that weren't given yet
+abbrev pub unsent : FedRun → List ℕ
+unsent run = drop run.sent run.text.items
+
+-- what may still come: where the end of the text was told, nothing
+abbrev pub MayCome : FedRun → List ℕ → Type 0
+MayCome run future = run.is_ended ≡ true → future ≡ []
+
+-- the run was given the input, and gave what is written. The input ends in a tail without LF, whose first bytes are kept. Whatever
+-- comes, the lines before the tail were dealt with, and what was written and what is to be given are the report's lines for them, but
+-- for a line that waits
+pub record IsFed (run : FedRun) (input written : List ℕ) : Type 0 where
+  pub tail : List ℕ
+  pub kept : run.begun.items ≡ take KEPT_BYTES tail
+  pub unended : HasLine tail → ⊥
+  pub reached : (future : List ℕ) → MayCome run future
+      → IsReported (input ++ future) (tail ++ future) (written ++ unsent run) run.order.log run.order.reported run.order.waiting
+      (run.lines + 1 + length run.order.waiting)
+
+-- bytes of the report were given: those of the room that are made are now so many
+pub record Gives (old new : FedRun) (out_old out_new : List ℕ) (made_old made_new : ℕ) : Type 0 where
+  pub made : made_new ≤ length out_new
+  pub len : length out_new ≡ length out_old
+  pub stands : (input written : List ℕ) → IsFed old input (written ++ take made_old out_old)
+      → IsFed new input (written ++ take made_new out_new)
+  pub ended : new.is_ended ≡ old.is_ended
+
+-- of the input so many bytes were taken, and so many bytes were given
+pub record Feeds (input out : List ℕ) (old new : FedRun) (used made : ℕ) : Type 0 where
+  pub in_input : used ≤ length input
+  pub in_out : made ≤ length out
+  pub stands : (text written : List ℕ) → IsFed old text written → IsFed new (text ++ take used input) (written ++ take made out)
+  pub ended : new.is_ended ≡ old.is_ended
+
+-- no line waits once all was given, and while there is room all was given
+pub record IsGivenOut (run : FedRun) (out : List ℕ) (made : ℕ) : Type 0 where
+  pub settled : unsent run ≡ [] → run.order.waiting ≡ []
+  pub full : made < length out → unsent run ≡ []
+
+-- the bytes are a beginning of the text's report
+abbrev pub BeginsReport : List ℕ → List ℕ → Type 0
+BeginsReport text bytes = (rest : List ℕ) × IsReport text (bytes ++ rest)

@@ -1,0 +1,340 @@
+//! A run that is fed piece by piece.
+
+ghost use Rattle.std.specs.Prelude.{◌≡◌, ◌≤◌, ◌<◌, ◌+◌, ◌++◌, ◌∷◌, ◌↔◌, ℕ, [], List, Err, IfErr, IfOk, Ok, OnErr, OnOk, false, true, drop, length, take};
+ghost use Rattle.log_text_base.specs.declared.limits.TheConstants.{KEPT_BYTES};
+ghost use Rattle.report.specs.Report.{IsReport, Reading};
+ghost use Rattle.sequencer.specs.Taken.{IsWhole};
+ghost use Rattle.bohm_base.specs.Collecting.{ReadsAs};
+
+use crate::fault::FeedFault;
+use crate::in_order::InOrder;
+use crate::keeping::keep_more;
+use log_text::RawRoom;
+use log_text_base::{KEPT_BYTES, cut_line};
+use model_base::Place;
+use std::alloc::Global;
+
+/// How far a call came.
+#[derive(Clone, Copy, Debug, PartialEq, Eq)]
+pub struct Step {
+    /// How many bytes of the log it took.
+    pub used: usize,
+    /// How many bytes of the report it gave.
+    pub made: usize,
+}
+
+/// The run of a text that its caller feeds: bytes of the log go in and bytes of the report come out, in whatever pieces the caller has.
+/// It keeps the rows and the grants before the next place, one line of the report at most, and the first `KEPT_BYTES` of a line.
+#[derive(Drop)]
+pub struct FedRun {
+    order: InOrder,
+    /// How many lines were reported.
+    lines: u64,
+    /// Of the line that has begun its first `KEPT_BYTES`.
+    begun: Vec<u8>,
+    /// The report's line for the last line.
+    text: Vec<u8>,
+    /// How many bytes of it were given.
+    sent: usize,
+    /// Whether the end of the text was told.
+    is_ended: bool,
+    ghost within: { sent ≤ length text.items },
+}
+
+impl FedRun {
+    ghost use Rattle.fed_run.specs.Progress.{TakesLine};
+    ghost use Rattle.fed_run.specs.Stands.{Feeds, Gives, IsGivenOut, IsFed, unsent};
+
+    /// Before the first byte. It takes no memory.
+    pub fn new(alloc: Global) -> FedRun
+        ensures stands { IsFed result [] [] }
+        ensures open { result.is_ended ≡ false }
+    {
+        FedRun {
+            order: InOrder::new(alloc),
+            lines: 0,
+            begun: Vec::new(alloc),
+            text: Vec::new(alloc),
+            sent: 0,
+            is_ended: false,
+        }
+    }
+
+    /// How many lines were reported.
+    pub fn lines(&self) -> u64
+        ensures { result ≡ self.now.lines }
+    {
+        self.lines
+    }
+
+    /// How many statements were accepted: the next place.
+    pub fn places(&self) -> Place
+        ensures { result ≡ length self.now.order.log.statements }
+    {
+        self.order.places()
+    }
+
+    /// How many bytes of the report wait to be given.
+    pub fn waiting(&self) -> usize
+        ensures { result ≡ length (unsent self.now) }
+    {
+        self.text.len() - self.sent
+    }
+
+    /// The bytes of the report that wait to be given.
+    fn rest(&self) -> &[u8]
+        ensures { result.now ≡ unsent self.now }
+    {
+        &self.text[self.sent..]
+    }
+
+    /// Gives as many waiting bytes as there is room for after the first `made` bytes of `out`, and returns how many bytes of it are made
+    /// then.
+    fn give(&mut self, out: &mut [u8], made: usize) -> usize
+        requires { made ≤ length out.old }
+        ensures gives { Gives self.old self.new out.old out.new made result }
+        ensures full { result < length out.old → unsent self.new ≡ [] }
+        ensures order { self.new.order ≡ self.old.order }
+        ensures begun { self.new.begun.items ≡ self.old.begun.items }
+    {
+        let rest = self.rest();
+        let count = rest.len().min(out.len() - made);
+        out[made..made + count].copy_from_slice(&rest[..count]);
+        self.sent += count;
+        made + count
+    }
+
+    /// Runs the line that waits, if one does, and makes the report's line for it. All of the one before it was given. On `Err` the line
+    /// waits still.
+    fn settle(&mut self, alloc: Global) -> Result<(), FeedFault>
+        requires { unsent self.old ≡ [] }
+        ensures stands { (input written : List ℕ) → IsFed self.old input written → IsFed self.new input written }
+        ensures none { OnOk result (self.new.order.waiting ≡ []) }
+        ensures nothing { OnErr result (unsent self.new ≡ []) }
+        ensures open { result ≡ Err FeedFault.Ended → ⊥ }
+        ensures begun { self.new.begun.items ≡ self.old.begun.items }
+        ensures ended { self.new.is_ended ≡ self.old.is_ended }
+    {
+        if !self.order.is_waiting() {
+            return Ok(());
+        }
+        let Some(number) = self.lines.checked_add(1) else {
+            return Err(FeedFault::Full);
+        };
+        self.sent = 0;
+        self.text.clear();
+        match self.order.report(alloc, number, &mut self.text) {
+            Ok(()) => {
+                self.lines = number;
+                Ok(())
+            }
+            Err(_refused) => {
+                self.text.clear();
+                Err(FeedFault::NoMemory)
+            }
+        }
+    }
+
+    /// Runs the line that waits, as `settle`, and gives bytes of the report's line for it, as `give`. On `Err` it gives none.
+    fn make(&mut self, alloc: Global, out: &mut [u8], made: usize) -> Result<usize, FeedFault>
+        requires none { unsent self.old ≡ [] }
+        requires made { made ≤ length out.old }
+        ensures gives { IfOk result (λ now. Gives self.old self.new out.old out.new made now) }
+        ensures settled { IfOk result (λ now. IsGivenOut self.new out.new now) }
+        ensures stands { OnErr result (Gives self.old self.new out.old out.new made made) }
+        ensures nothing { OnErr result (unsent self.new ≡ []) }
+        ensures open { result ≡ Err FeedFault.Ended → ⊥ }
+        ensures begun { self.new.begun.items ≡ self.old.begun.items }
+    {
+        self.settle(alloc)?;
+        Ok(self.give(out, made))
+    }
+
+    /// Gives what waits, and once all of that was given makes the line that waits, as `make`.
+    fn start(&mut self, alloc: Global, out: &mut [u8], step: &mut Step) -> Result<(), FeedFault>
+        ensures gives { Gives self.old self.new out.old out.new 0 step.new.made }
+        ensures used { step.new.used ≡ step.old.used }
+        ensures settled { OnOk result (IsGivenOut self.new out.new step.new.made) }
+        ensures nothing { OnErr result (unsent self.new ≡ []) }
+        ensures open { result ≡ Err FeedFault.Ended → ⊥ }
+        ensures begun { self.new.begun.items ≡ self.old.begun.items }
+    {
+        step.made = self.give(out, 0);
+        if self.waiting() > 0 {
+            return Ok(());
+        }
+        step.made = self.make(alloc, out, step.made)?;
+        Ok(())
+    }
+
+    /// Takes the line that has begun, if one has, and these bytes, which end the line.
+    fn take_line<'a>(
+        &mut self,
+        alloc: Global,
+        end: &'a [u8],
+        raw: &mut RawRoom<'a>,
+    ) -> Result<(), FeedFault>
+        requires none { self.old.order.waiting ≡ [] }
+        requires short { length end.now ≤ KEPT_BYTES }
+        ensures ok { OnOk result ((line : List ℕ) → self.old.begun.items ≡ take KEPT_BYTES line
+            → (reading : Reading) × (ReadsAs (take KEPT_BYTES (line ++ end.now)) reading
+            × TakesLine reading self.old.order self.new.order)) }
+        ensures whole { OnOk result (IsWhole self.new.order.log) }
+        ensures begun { OnOk result (self.new.begun.items ≡ []) }
+        ensures order { OnErr result (self.new.order ≡ self.old.order) }
+        ensures kept { OnErr result (self.new.begun.items ≡ self.old.begun.items) }
+        ensures open { result ≡ Err FeedFault.Ended → ⊥ }
+        ensures lines { self.new.lines ≡ self.old.lines }
+        ensures unsent { unsent self.new ≡ unsent self.old }
+        ensures ended { self.new.is_ended ≡ self.old.is_ended }
+    {
+        if self.begun.is_empty() {
+            self.order.take(end, raw)?;
+            return Ok(());
+        }
+        let before = self.begun.len();
+        keep_more(&mut self.begun, end)?;
+        match self.order.take_alone(alloc, &self.begun) {
+            Ok(()) => {
+                self.begun.clear();
+                Ok(())
+            }
+            Err(_refused) => {
+                self.begun.truncate(before);
+                Err(FeedFault::NoMemory)
+            }
+        }
+    }
+
+    /// Takes the first line of the bytes, or all of them where no line is whole, and returns how many bytes it took. On `Err` it took none.
+    fn take<'a>(
+        &mut self,
+        alloc: Global,
+        bytes: &'a [u8],
+        raw: &mut RawRoom<'a>,
+    ) -> Result<usize, FeedFault>
+        requires some { 0 < length bytes.now }
+        requires open { self.old.is_ended ≡ false }
+        requires none { self.old.order.waiting ≡ [] }
+        ensures count { IfOk result (λ n. (0 < n) × (n ≤ length bytes.now)) }
+        ensures stands { IfOk result (λ n. (input written : List ℕ) → IsFed self.old input written
+            → IsFed self.new (input ++ take n bytes.now) written) }
+        ensures err { OnErr result ((input written : List ℕ) → IsFed self.old input written → IsFed self.new input written) }
+        ensures open { result ≡ Err FeedFault.Ended → ⊥ }
+        ensures unsent { unsent self.new ≡ unsent self.old }
+        ensures ended { self.new.is_ended ≡ self.old.is_ended }
+    {
+        match cut_line(bytes) {
+            None => {
+                keep_more(&mut self.begun, bytes)?;
+                Ok(bytes.len())
+            }
+            Some((line, count)) => {
+                self.take_line(alloc, line, raw)?;
+                Ok(count)
+            }
+        }
+    }
+
+    /// Takes bytes and gives bytes, as `step`, and counts both. Nothing is counted before.
+    fn feed(
+        &mut self,
+        alloc: Global,
+        input: &[u8],
+        out: &mut [u8],
+        step: &mut Step,
+    ) -> Result<(), FeedFault>
+        requires open { self.old.is_ended ≡ true → input.now ≡ [] }
+        requires used { step.old.used ≡ 0 }
+        ensures len { length out.new ≡ length out.old }
+        ensures feeds { Feeds input.now out.new self.old self.new step.new.used step.new.made }
+        ensures settled { OnOk result (IsGivenOut self.new out.new step.new.made) }
+        ensures all { OnOk result (unsent self.new ≡ [] → step.new.used ≡ length input.now) }
+        ensures nothing { OnErr result (unsent self.new ≡ []) }
+        ensures open { result ≡ Err FeedFault.Ended → ⊥ }
+    {
+        self.start(alloc, out, step)?;
+        let mut raw = RawRoom::new(alloc);
+        'lines: while step.used < input.len() && self.waiting() == 0 {
+            step.used += self.take(alloc, &input[step.used..], &mut raw)?;
+            step.made = self.make(alloc, out, step.made)?;
+        }
+        Ok(())
+    }
+
+    /// Takes bytes of the log from `input` and gives bytes of its report into `out`, until all of `input` is taken or `out` is full. A line
+    /// is dealt with once its LF is taken, and its line of the report is given before more is taken.
+    ///
+    /// However a text is cut into calls, and however little room there is, what is given is a beginning of its report. On `NoMemory` a
+    /// growth was refused: what was taken and given is told, it is whole lines, nothing is lost, and the call may be made again with the
+    /// rest. `Full` is returned where there are as many lines as can be counted. After `finish` nothing is done, and `Ended` is returned.
+    pub fn step(
+        &mut self,
+        alloc: Global,
+        input: &[u8],
+        out: &mut [u8],
+    ) -> (Step, Result<(), FeedFault>)
+        ensures used { result.0.used ≤ length input.now }
+        ensures made { result.0.made ≤ length out.old }
+        ensures full { OnOk result.1 (result.0.used < length input.now → result.0.made ≡ length out.old) }
+        // Where the run stood by a text and what was written, it stands by both with what was taken and given.
+        ensures stands { (text written : List ℕ) → IsFed self.old text written
+            → IsFed self.new (text ++ take result.0.used input.now) (written ++ take result.0.made out.new) }
+        // After want of memory what was given is whole lines.
+        ensures lines { IfErr result.1 (λ fault. (fault ≡ FeedFault.Ended → ⊥) → unsent self.new ≡ []) }
+        ensures ended { (result.1 ≡ Err FeedFault.Ended) ↔ (self.old.is_ended ≡ true) }
+        ensures still { result.1 ≡ Err FeedFault.Ended
+            → (self.new ≡ self.old) × (out.new ≡ out.old) × (result.0.used ≡ 0) × (result.0.made ≡ 0) }
+        ensures open { self.new.is_ended ≡ self.old.is_ended }
+    {
+        let mut step = Step { used: 0, made: 0 };
+        if self.is_ended {
+            return (step, Err(FeedFault::Ended));
+        }
+        let done = self.feed(alloc, input, out, &mut step);
+        (step, done)
+    }
+
+    /// Takes the line that has begun, once the end of the text was told, and gives bytes, as `finish`.
+    fn end(&mut self, alloc: Global, out: &mut [u8], step: &mut Step) -> Result<(), FeedFault>
+        requires ended { self.old.is_ended ≡ true }
+        requires used { step.old.used ≡ 0 }
+        ensures len { length out.new ≡ length out.old }
+        ensures feeds { Feeds [] out.new self.old self.new step.new.used step.new.made }
+        ensures settled { OnOk result (IsGivenOut self.new out.new step.new.made) }
+        ensures none { OnOk result (unsent self.new ≡ [] → self.new.begun.items ≡ []) }
+        ensures nothing { OnErr result (unsent self.new ≡ []) }
+        ensures open { result ≡ Err FeedFault.Ended → ⊥ }
+    {
+        self.feed(alloc, &[], out, step)?;
+        if self.waiting() > 0 {
+            return Ok(());
+        }
+        if self.begun.is_empty() {
+            return Ok(());
+        }
+        let mut raw = RawRoom::new(alloc);
+        self.take_line(alloc, &[], &mut raw)?;
+        step.made = self.make(alloc, out, step.made)?;
+        Ok(())
+    }
+
+    /// Tells that the text ends here, so that bytes after its last LF are a line too, and gives bytes of the report into `out`. Where it
+    /// fills less than `out`, that was all, and the report is whole; else it is to be called again. It returns how many bytes it gave, and
+    /// the same faults as `step` but `Ended`.
+    pub fn finish(&mut self, alloc: Global, out: &mut [u8]) -> (usize, Result<(), FeedFault>)
+        ensures made { result.0 ≤ length out.old }
+        ensures stands { (text written : List ℕ) → IsFed self.old text written → IsFed self.new text (written ++ take result.0 out.new) }
+        // Once it leaves room, all that was given is the report of all that was taken.
+        ensures report { OnOk result.1 (result.0 < length out.old → (text written : List ℕ) → IsFed self.old text written
+            → IsReport text (written ++ take result.0 out.new)) }
+        ensures lines { OnErr result.1 (unsent self.new ≡ []) }
+        ensures open { result.1 ≡ Err FeedFault.Ended → ⊥ }
+        ensures ended { self.new.is_ended ≡ true }
+    {
+        self.is_ended = true;
+        let mut step = Step { used: 0, made: 0 };
+        let done = self.end(alloc, out, &mut step);
+        (step.made, done)
+    }
+}
