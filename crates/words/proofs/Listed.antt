@@ -26,10 +26,10 @@ module _ (b : Batch) (listed : List ℕ) (is : IsListed b listed) where
       (λ i j d less within.
       by_cases (get_or listed i d == get_or listed j d)
       (λ same. absurd (
-          let here = get_or_default_zero listed i d (omega arith) in
-          let there = get_or_default_zero listed j d within in
-          let one = is.apart i j (omega arith) within (sym here ∙ eqb-true (get_or listed i d) (get_or listed j d) same ∙ there) in
-          omega arith))
+      let here = get_or_default_zero listed i d (omega arith) in
+      let there = get_or_default_zero listed j d within in
+      let one = is.apart i j (omega arith) within (sym here ∙ eqb-true (get_or listed i d) (get_or listed j d) same ∙ there) in
+      omega arith))
       (λ differ. differ))
 
   pub few-listed : length listed ≤ length (batch_slots b)

@@ -6,16 +6,15 @@ ghost use Rattle.words.specs.Layout.{IsListed, reference_at};
 
 use model_base::{MOST_PARTITIONS, MOST_PLACES};
 
-/// How many own words a place has at most: with its claim they fill a block of 256 words.
+/// How many own words a place has at most. With its claim they are a block of at most 256 words.
 pub const MOST_WORDS_OF_A_PLACE: usize = 255;
 
 /// How many references a place has at most.
 pub const MOST_REFERENCES_OF_A_PLACE: usize = 255;
 
-/// The constant data of a batch: which batch it is, whether all is placed before its words are made, and which slots have a
-/// word for their record's end. These are slots without
-/// an end before the batch, and every slot whose record a place of the batch ends by the serial run is among them. Of all there is a most,
-/// so that the words of every batch can be counted.
+/// The constant data of a batch: which batch it is, whether all is placed before its words are made, and which slots have a word for their
+/// record's end. These are slots without an end before the batch, and every slot whose record a place of the batch ends by the serial run is
+/// among them. Each number has a limit, so a batch has fewer than 2^43 words.
 pub trait Placed {
     ghost batch: { Self → Batch };
 
