@@ -29,5 +29,5 @@ loop-partition-preserved g c =
 pub returns-clause-past : goal.returns-clause-past
 returns-clause-past g c = λ yes p low.
     let end : c.partitions-partition-end.result ≡ (g.K.Placed.batch c.args.batch.now.key).partitions =
-    c.partitions-partition-end.ensures ∙ ap (λ key. (g.K.Placed.batch key).partitions) c.key.ensures in
+    c.partitions-partition-end.ensures.value ∙ ap (λ key. (g.K.Placed.batch key).partitions) c.key.ensures in
     c.loop-partition.invariant.past p (omega (arith, low, end, c.loop-partition-test.false))

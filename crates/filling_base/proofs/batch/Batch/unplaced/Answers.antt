@@ -37,7 +37,7 @@ returns-then-front-index-clause-found g c =
     let index = c.args.index in
     let learns = c.loop-partition.invariant.learns in
     let view-is : new.view ≡ with_front old.view partition found = ap (λ (p : Passing). p.view) c.front.ensures.same in
-    let end : c.partitions-partition-end.result ≡ b.partitions = c.partitions-partition-end.ensures ∙ ap (λ (x : Batch). x.partitions) (sym same) in
+    let end : c.partitions-partition-end.result ≡ b.partitions = c.partitions-partition-end.ensures.value ∙ ap (λ (x : Batch). x.partitions) (sym same) in
     let less = c.loop-partition-test.true in
     let low = c.if-front-index.true in
     let below : index < (g.K.Placed.batch c.self.inside.words.key).size = subst (λ (x : Batch). index < x.size) words c.requires.within in
@@ -88,7 +88,7 @@ returns-clause-found g c p low =
     let view = c.self.view_is in
     let same : g.K.Placed.batch c.args.self.now.key ≡ g.K.Placed.batch c.self.inside.key = cc in
     let b = g.K.Placed.batch c.args.self.now.key in
-    let end : c.partitions-partition-end.result ≡ b.partitions = c.partitions-partition-end.ensures ∙ ap (λ (x : Batch). x.partitions) (sym same) in
+    let end : c.partitions-partition-end.result ≡ b.partitions = c.partitions-partition-end.ensures.value ∙ ap (λ (x : Batch). x.partitions) (sym same) in
     let over = c.loop-partition-test.false in
     let most = c.loop-partition.auto.partition-end in
     c.loop-partition.invariant.past p (omega arith)
