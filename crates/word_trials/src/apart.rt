@@ -1,6 +1,8 @@
 //! A batch of places that refer to none.
 
 ghost use Rattle.std.specs.Prelude.{◌<◌, ◌≤◌, [], true};
+ghost use Rattle.model_base.specs.declared.limits.TheConstants.{MOST_PLACES};
+ghost use Rattle.words.specs.declared.placed.TheConstants.{MOST_WORDS_OF_A_PLACE};
 ghost use Rattle.word_trials.specs.Apart.{apart};
 
 use model_base::MOST_PLACES;

@@ -1,6 +1,7 @@
 //! A batch in which each place is referred to the one before it.
 
 ghost use Rattle.std.specs.Prelude.{◌<◌, ◌≤◌, [], true};
+ghost use Rattle.model_base.specs.declared.limits.TheConstants.{MOST_PLACES};
 ghost use Rattle.word_trials.specs.Chained.{chain};
 
 use filling_base::{Fills, store};
