@@ -85,7 +85,8 @@ fn ran<T: Threads + Wait + Sync, G: Gate + Sync>(
     ensures versions { IfOk result (λ taken. taken.versions.items ≡ versions_between log.now.log.statements range.start range.end) }
 {
     let (start, end) = (range.start, range.end);
-    let batch = LogBatch::open(alloc, log, chains, book, start..end, crew.partitions)?;
+    let partitions = crew.partitions.min(MOST_PARTITIONS);
+    let batch = LogBatch::open(alloc, log, chains, book, start..end, partitions)?;
     let done = execute(rt, alloc, batch, gate, crew.workers)?;
     let taken = take(alloc, log, &done, start..end)?;
     Ok(taken)

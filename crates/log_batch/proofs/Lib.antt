@@ -23,3 +23,5 @@ pub mod OnlySlot
 pub mod Referring
 pub mod AtHand
 pub mod AtStart
+pub mod FewReferences
+pub mod FewSlots

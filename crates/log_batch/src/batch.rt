@@ -1,6 +1,6 @@
 //! A range of a log as a batch.
 
-ghost use Rattle.std.specs.Prelude.{◌≡◌, ◌<◌, ◌≤◌, ◌+◌, ◌-◌, ◌++◌, ℕ, List, None, Some, length, slice_get, slice_index_or, ◌^◌, IfOk, IfSome, OnOk, false, true};
+ghost use Rattle.std.specs.Prelude.{◌≡◌, ◌<◌, ◌≤◌, ◌+◌, ◌*◌, ◌-◌, ◌++◌, ℕ, List, None, Some, length, slice_get, slice_index_or, ◌^◌, IfOk, IfSome, OnOk, false, true};
 ghost use Rattle.std.specs.Option.{MatchOption, option_to_list};
 ghost use Rattle.model_base.specs.Records.{grants_of};
 ghost use Rattle.model_base.specs.Outcomes.{deeds_before, owners, rows_before};
@@ -21,7 +21,8 @@ use crate::referred::{References, reference_counts};
 use chains::Chains;
 use grants::{Book, IndexedGrants, NextBy, NextInForce, Records};
 use model_base::{
-    Deed, Grant, Grantee, Key, Kind, MOST_PLACES, Place, Reference, Row, Statement, Table, User,
+    Deed, Grant, Grantee, Key, Kind, MOST_ACCESSES, MOST_PARTITIONS, MOST_PLACES, Place, Reference,
+    Row, Statement, Table, User,
 };
 use placing::Refs;
 use sequencer::LogTail;
@@ -112,6 +113,7 @@ impl<'a> LogBatch<'a> {
         references: References,
     ) -> Result<Self, AllocError>
         requires partitions { 0 < partitions }
+        requires few { partitions ≤ MOST_PARTITIONS }
         requires kept { log.now.dropped ≤ range.start }
         requires order { range.start ≤ range.end }
         requires within { range.end ≤ length log.now.log.statements }
@@ -144,8 +146,9 @@ impl<'a> LogBatch<'a> {
         })
     }
 
-    /// The places of the range as a batch, placed by this many partitions. The versions of rows end where the range begins and are those of
-    /// the log, the book has the deeds before the range, and the references are `merge`'s for it. An error means out of memory.
+    /// The places of the range as a batch, placed by this many partitions, 1 to `MOST_PARTITIONS`. The versions of rows end where the range
+    /// begins and are those of the log, the book has the deeds before the range, and the references are `merge`'s for it. An error means out
+    /// of memory.
     pub fn new(
         alloc: Global,
         log: &'a LogTail,
@@ -156,6 +159,7 @@ impl<'a> LogBatch<'a> {
         references: Refs,
     ) -> Result<Self, AllocError>
         requires partitions { 0 < partitions }
+        requires few { partitions ≤ MOST_PARTITIONS }
         requires kept { log.now.dropped ≤ range.start }
         requires order { range.start ≤ range.end }
         requires within { range.end ≤ length log.now.log.statements }
@@ -176,8 +180,8 @@ impl<'a> LogBatch<'a> {
     }
 
     /// The places of the range as a batch that isn't placed: no reference is looked for, and of each place only the number of
-    /// its references is kept. So many partitions are to place it. The versions of rows end where the range begins and are those
-    /// of the log, and the book has the deeds before the range. An error is out of memory.
+    /// its references is kept. So many partitions are to place it, 1 to `MOST_PARTITIONS`. The versions of rows end where the range
+    /// begins and are those of the log, and the book has the deeds before the range. An error is out of memory.
     pub fn open(
         alloc: Global,
         log: &'a LogTail,
@@ -187,6 +191,7 @@ impl<'a> LogBatch<'a> {
         partitions: usize,
     ) -> Result<Self, AllocError>
         requires partitions { 0 < partitions }
+        requires few { partitions ≤ MOST_PARTITIONS }
         requires kept { log.now.dropped ≤ range.start }
         requires order { range.start ≤ range.end }
         requires within { range.end ≤ length log.now.log.statements }
@@ -223,10 +228,11 @@ impl<'a> LogBatch<'a> {
         self.size
     }
 
-    /// The number of partitions.
+    /// The number of partitions: 1 to `MOST_PARTITIONS`.
     pub fn partition_count(&self) -> usize
         ensures value { result ≡ self.now.partitions }
         ensures some { 0 < result }
+        ensures few { result ≤ MOST_PARTITIONS }
     {
         self.partitions
     }
@@ -280,10 +286,12 @@ impl<'a> LogBatch<'a> {
         }
     }
 
-    /// How many references an index has, whether the batch was placed or not.
+    /// How many references an index has, whether the batch was placed or not: at most one for each access, one for the table of each, and
+    /// one for that of the deed.
     pub fn references_length(&self, index: usize) -> usize
         requires { index < self.now.size }
-        ensures { result ≡ length (reference_words (batch_in self.now) index) }
+        ensures value { result ≡ length (reference_words (batch_in self.now) index) }
+        ensures few { result ≤ 2 * MOST_ACCESSES + 1 }
     {
         self.references.count(index)
     }

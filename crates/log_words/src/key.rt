@@ -94,6 +94,7 @@ impl Placed for LogKey<'_> {
         // A range of a log is a batch that the machine's law speaks of.
         batches_of_logs_are_sound();
         let _log = self.batch.log();
+        let _first = self.batch.first_place();
         self.batch.size()
     }
 
@@ -116,6 +117,8 @@ impl Placed for LogKey<'_> {
     }
 
     fn ends(&self) -> usize {
+        // The grant of each slot is of another place, below the end of the batch.
+        let _first = self.batch.first_place();
         self.slots.len()
     }
 }

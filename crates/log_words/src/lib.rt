@@ -1,4 +1,4 @@
-//! The shared words of a range of a log, and which grants have one.
+//! The shared words of a range of a log, and which grants it may end.
 //!
 //! `LogKey` is the range as the constant data of `words`. `ended_slots` lists the grants that the range may end: those
 //! that a revocation of it names, and what was granted on their options. It costs a look at each statement and, through

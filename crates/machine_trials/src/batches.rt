@@ -14,7 +14,7 @@ use grants::Book;
 use log_batch::LogBatch;
 use log_machine::OfLog;
 use log_text::parse_line;
-use model_base::Place;
+use model_base::{MOST_PARTITIONS, Place};
 use placing::{Part, merge, place};
 use sequencer::LogTail;
 use std::alloc::{AllocError, Global};
@@ -86,6 +86,7 @@ pub fn batch_of<'a>(
     partitions: usize,
 ) -> Result<LogBatch<'a>, AllocError>
     requires partitions { 0 < partitions }
+    requires few { partitions ≤ MOST_PARTITIONS }
     requires order { range.start ≤ range.end }
     requires kept { log.now.dropped ≤ range.start }
     requires within { range.end ≤ length log.now.log.statements }
@@ -120,6 +121,7 @@ pub fn machine_of<'a>(
     partitions: usize,
 ) -> Result<Machine<OfLog<'a>>, AllocError>
     requires partitions { 0 < partitions }
+    requires few { partitions ≤ MOST_PARTITIONS }
     requires order { range.start ≤ range.end }
     requires kept { log.now.dropped ≤ range.start }
     requires within { range.end ≤ length log.now.log.statements }

@@ -1,6 +1,6 @@
 //! The whole worked log as one batch: the revocation is done before the reader has a word, and the reader still reads.
 
-ghost use Rattle.std.specs.Prelude.{◌≡◌, ◌<◌, length};
+ghost use Rattle.std.specs.Prelude.{◌≡◌, ◌<◌, ◌≤◌, length};
 ghost use Rattle.machine_trials.specs.Before.{IsBefore};
 
 use crate::batches::{Before, log_of, machine_of, nothing};
@@ -10,6 +10,7 @@ use crate::worked::LINES;
 use bohm_core::Machine;
 use bohm_core_base::Event;
 use log_machine::OfLog;
+use model_base::MOST_PARTITIONS;
 use sequencer::LogTail;
 use std::alloc::Global;
 
@@ -138,6 +139,7 @@ fn tell_behind(
 ) -> Result<(), TrialFault>
     requires kept { log.now.dropped ≡ 0 }
     requires some { 0 < length placing.now }
+    requires few { length placing.now ≤ MOST_PARTITIONS }
     requires before { IsBefore before.now log.now.log.statements 0 }
 {
     let mut machine = machine_of(alloc, log, before, 0..log.len(), placing.len())?;
@@ -153,6 +155,7 @@ fn tell_all(
 ) -> Result<(), TrialFault>
     requires kept { log.now.dropped ≡ 0 }
     requires some { 0 < length placing.now }
+    requires few { length placing.now ≤ MOST_PARTITIONS }
 {
     let before = nothing(alloc);
     tell_behind(rt, alloc, log, &before, placing)

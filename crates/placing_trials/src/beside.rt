@@ -1,6 +1,6 @@
 //! Placing beside running: a chain by threads that place and run, and rounds by threads that place and threads that run.
 
-ghost use Rattle.std.specs.Prelude.{◌≡◌, ◌<◌, All, length};
+ghost use Rattle.std.specs.Prelude.{◌≡◌, ◌<◌, ◌≤◌, All, length};
 ghost use Rattle.words.specs.Passes.{IsPassOf};
 ghost use Rattle.filling.specs.Placers.{IsPlacerIn};
 ghost use Rattle.placing_trials.specs.Before.{StandsBefore};
@@ -13,7 +13,7 @@ use crate::logs::WholeLog;
 use crate::opening::opened;
 use filling::{Placer, RangeKey};
 use filling_base::Batch;
-use model_base::Place;
+use model_base::{MOST_PARTITIONS, Place};
 use std::alloc::Global;
 use std::sync::Wait;
 use std::thread::Threads;
@@ -81,6 +81,7 @@ fn run_adding<R: Threads + Wait + Sync>(
     crew: Crew,
 ) -> Result<Ended, TrialFault>
     requires count { 0 < count }
+    requires few { count ≤ MOST_PARTITIONS }
     requires first { first < length log.now.statements }
     requires before { StandsBefore before.now log.now.statements first }
 {

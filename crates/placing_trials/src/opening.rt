@@ -11,7 +11,7 @@ use crate::logs::WholeLog;
 use filling::{Placer, RangeKey, open};
 use filling_base::Batch;
 use log_batch::LogBatch;
-use model_base::Place;
+use model_base::{MOST_PARTITIONS, Place};
 use std::alloc::{AllocError, Global};
 use std::ops::Range;
 use words::Pass;
@@ -25,6 +25,7 @@ fn range_of<'a>(
     partitions: usize,
 ) -> Result<LogBatch<'a>, AllocError>
     requires partitions { 0 < partitions }
+    requires few { partitions ≤ MOST_PARTITIONS }
     requires order { range.start ≤ range.end }
     requires within { range.end ≤ length log.now.statements }
     requires before { StandsBefore before.now log.now.statements range.start }
@@ -43,6 +44,7 @@ pub fn opened<'a>(
     partitions: usize,
 ) -> Result<(Batch<RangeKey<'a>>, Pass, Vec<Placer>), TrialFault>
     requires partitions { 0 < partitions }
+    requires few { partitions ≤ MOST_PARTITIONS }
     requires order { range.start < range.end }
     requires within { range.end ≤ length log.now.statements }
     requires before { StandsBefore before.now log.now.statements range.start }

@@ -1,6 +1,6 @@
 //! Whole logs as batches on shared words.
 
-ghost use Rattle.std.specs.Prelude.{◌≡◌, ◌<◌, All, IfOk, length};
+ghost use Rattle.std.specs.Prelude.{◌≡◌, ◌<◌, ◌≤◌, All, IfOk, length};
 ghost use Rattle.words.specs.Passes.{IsPassOf};
 ghost use Rattle.filling.specs.Placers.{IsPlacerIn};
 ghost use Rattle.range_trials.specs.Whole.{IsNothing, whole};
@@ -13,6 +13,7 @@ use filling_base::Batch;
 use finishing::{Finished, finish};
 use grants::Book;
 use log_batch::LogBatch;
+use model_base::MOST_PARTITIONS;
 use std::alloc::{AllocError, Global};
 use words::Pass;
 
@@ -42,6 +43,7 @@ fn batch_of<'a>(
     partitions: usize,
 ) -> Result<LogBatch<'a>, AllocError>
     requires partitions { 0 < partitions }
+    requires few { partitions ≤ MOST_PARTITIONS }
     requires before { IsNothing before.now log.now.statements }
     ensures { IfOk result (λ batch. batch ≡ whole log.now partitions) }
 {
@@ -57,6 +59,7 @@ fn opened<'a>(
     partitions: usize,
 ) -> Result<(Batch<RangeKey<'a>>, Pass, Vec<Placer>), TrialFault>
     requires partitions { 0 < partitions }
+    requires few { partitions ≤ MOST_PARTITIONS }
     requires before { IsNothing before.now log.now.statements }
     ensures batch { IfOk result (λ made. made.0.key.batch ≡ whole log.now partitions) }
     ensures pass { IfOk result (λ made. IsPassOf made.0 made.1) }
@@ -120,6 +123,7 @@ pub fn words_of<'a>(
     partitions: usize,
 ) -> Result<(Batch<RangeKey<'a>>, Pass), TrialFault>
     requires partitions { 0 < partitions }
+    requires few { partitions ≤ MOST_PARTITIONS }
     requires before { IsNothing before.now log.now.statements }
     ensures batch { IfOk result (λ made. made.0.key.batch ≡ whole log.now partitions) }
     ensures pass { IfOk result (λ made. IsPassOf made.0 made.1) }

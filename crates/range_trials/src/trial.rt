@@ -1,6 +1,6 @@
 //! Trials on the shared words of a log.
 
-ghost use Rattle.std.specs.Prelude.{◌<◌};
+ghost use Rattle.std.specs.Prelude.{◌<◌, ◌≤◌};
 ghost use Rattle.std.specs.Thread.{IsSync};
 ghost use Rattle.words.specs.Passes.{IsPassOf};
 
@@ -10,6 +10,7 @@ use crate::logs::{WholeLog, log_of};
 use crate::telling::wanted;
 use filling::RangeKey;
 use filling_base::Batch;
+use model_base::MOST_PARTITIONS;
 use std::alloc::Global;
 use std::thread::Threads;
 use words::Pass;
@@ -38,7 +39,8 @@ pub fn try_words<R: Threads + Print + Sync, T: Trial>(
     wanted: &[String],
     trial: &mut T,
 ) -> Result<(), TrialFault>
-    requires { 0 < partitions }
+    requires partitions { 0 < partitions }
+    requires few { partitions ≤ MOST_PARTITIONS }
 {
     let before = nothing(alloc, log);
     let (batch, pass) = words_of(alloc, log, &before, partitions)?;
@@ -53,7 +55,8 @@ pub fn try_log<R: Threads + Print + Sync, T: Trial>(
     partitions: usize,
     trial: &mut T,
 ) -> Result<(), TrialFault>
-    requires { 0 < partitions }
+    requires partitions { 0 < partitions }
+    requires few { partitions ≤ MOST_PARTITIONS }
 {
     let wanted = wanted(alloc, log)?;
     try_words(rt, alloc, log, partitions, wanted.as_slice(), trial)
@@ -67,7 +70,8 @@ pub fn try_lines<R: Threads + Print + Sync, T: Trial>(
     partitions: usize,
     trial: &mut T,
 ) -> Result<(), TrialFault>
-    requires { 0 < partitions }
+    requires partitions { 0 < partitions }
+    requires few { partitions ≤ MOST_PARTITIONS }
 {
     let log = log_of(alloc, lines)?;
     try_log(rt, alloc, &log, partitions, trial)

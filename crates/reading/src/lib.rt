@@ -1,4 +1,4 @@
-//! A place of a batch, judged by what it may read of others.
+//! A place of a batch, judged by rows and grants found by reference.
 //!
 //! `Told` is a trait, what the reader may read: its references, the own words of places that it refers to, whether an
 //! earlier deed was done, and the ends of records on its tables. `words_told` writes all own words of the reader and

@@ -1,9 +1,10 @@
 //! A batch of places that refer to none.
 
-ghost use Rattle.std.specs.Prelude.{◌<◌, [], true};
+ghost use Rattle.std.specs.Prelude.{◌<◌, ◌≤◌, [], true};
 ghost use Rattle.word_trials.specs.Apart.{apart};
 
-use words::Placed;
+use model_base::MOST_PLACES;
+use words::{MOST_WORDS_OF_A_PLACE, Placed};
 
 /// So many places that refer to none, with this many own words.
 #[derive(Drop)]
@@ -12,6 +13,8 @@ pub struct Apart {
     pub width: usize,
     pub ghost some: { 0 < size },
     pub ghost wide: { 0 < width },
+    pub ghost few: { size ≤ MOST_PLACES },
+    pub ghost narrow: { width ≤ MOST_WORDS_OF_A_PLACE },
 }
 
 impl Placed for Apart {

@@ -1,9 +1,10 @@
 //! A batch in which each place is referred to the one before it.
 
-ghost use Rattle.std.specs.Prelude.{◌<◌, ◌^◌, [], true};
+ghost use Rattle.std.specs.Prelude.{◌<◌, ◌≤◌, [], true};
 ghost use Rattle.word_trials.specs.Chained.{chain};
 
 use filling_base::{Fills, store};
+use model_base::MOST_PLACES;
 use std::alloc::AllocError;
 use words::{BatchWords, Holding, Placed};
 
@@ -12,7 +13,7 @@ use words::{BatchWords, Holding, Placed};
 pub struct Chain {
     pub size: usize,
     pub ghost some: { 0 < size },
-    pub ghost small: { size < 2 ^ 63 },
+    pub ghost few: { size ≤ MOST_PLACES },
 }
 
 impl Placed for Chain {

@@ -10,6 +10,7 @@ pub mod Keeping
 pub mod Cutting
 pub mod Known
 pub mod Lower
+pub mod Listed
 pub mod Plays
 pub mod Knowing
 pub mod Allowed

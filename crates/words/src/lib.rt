@@ -29,6 +29,6 @@ pub use laws::{
     events_are_their_actors, own_events_tell_what_is_held, passes_keep_the_fronts_that_they_know,
     passes_keep_what_they_know, places_are_finished_once, views_tell_the_state,
 };
-pub use placed::Placed;
+pub use placed::{MOST_REFERENCES_OF_A_PLACE, MOST_WORDS_OF_A_PLACE, Placed};
 pub use table::{BatchWords, Holding, Pass, Placer};
 pub use view::View;

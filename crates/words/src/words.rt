@@ -1,51 +1,41 @@
 //! How the words of a batch and its passes are made, cut and joined.
 
-ghost use Rattle.std.specs.Prelude.{◌≡◌, ◌+◌, ◌*◌, ◌/◌, [], false, true, replicate, IfOk};
+ghost use Rattle.std.specs.Prelude.{◌≡◌, ◌≤◌, ◌+◌, ◌*◌, ◌/◌, ◌^◌, [], false, true, replicate, IfOk};
 ghost use Rattle.bohm_core_base.specs.Batch.{IsSoundBatch};
 ghost use Rattle.words.specs.Layout.{block_begin, end_begin, front_begin, total};
 ghost use Rattle.words.specs.Passes.{AreBlocks, AreReferences, IsPassOf, cut_first, cut_second, first_pass, joined_pass, open_pass};
 ghost use Rattle.words.specs.Views.{first_view};
 ghost use Rattle.words.specs.Written.{IsWritten};
 
-use crate::placed::Placed;
+use crate::placed::{MOST_WORDS_OF_A_PLACE, Placed};
 use crate::table::{BatchWords, Pass, Rule};
 use crate::view::View;
 use crate::written::{write_all_references, write_fronts};
 use atomic_table::{Seat, Table};
 use std::alloc::{AllocError, Global};
 
-/// The sum; more words than can be counted are out of memory.
-fn sum(first: usize, second: usize) -> Result<usize, AllocError>
-    ensures { IfOk result (λ both. both ≡ first + second) }
-{
-    first.checked_add(second).ok_or(AllocError)
-}
-
 /// How many words the block of a place with this many own words has: its claim, these, and as many more as make whole groups of eight. A
 /// line of a processor's cache mostly has eight words.
-fn block_length(words: usize) -> Result<usize, AllocError>
-    ensures { IfOk result (λ length. length ≡ (words / 8 + 1) * 8) }
+fn block_length(words: usize) -> usize
+    requires { words ≤ MOST_WORDS_OF_A_PLACE }
+    ensures value { result ≡ (words / 8 + 1) * 8 }
+    ensures few { result ≤ 2 ^ 8 }
 {
-    (words / 8 + 1).checked_mul(8).ok_or(AllocError)
-}
-
-/// Where the next block begins: after this one, of a place with this many own words.
-fn block_end(begin: usize, words: usize) -> Result<usize, AllocError>
-    ensures { IfOk result (λ end. end ≡ begin + (words / 8 + 1) * 8) }
-{
-    sum(begin, block_length(words)?)
+    let groups = words / 8 + 1;
+    groups * 8
 }
 
 /// Where the block of each place begins, and where the references begin.
 fn blocks<K: Placed>(alloc: Global, key: &K) -> Result<(Vec<usize>, usize), AllocError>
-    ensures { IfOk result (λ found. AreBlocks (K.batch key.now) found.0.items found.1) }
+    ensures begins { IfOk result (λ found. AreBlocks (K.batch key.now) found.0.items found.1) }
+    ensures few { IfOk result (λ found. found.1 ≤ 2 ^ 40) }
 {
     let places = key.places();
     let mut begins = Vec::with_capacity(alloc, places)?;
     let mut ends = 0;
     for index in 0..places {
         begins.push_reserved(ends);
-        ends = block_end(ends, key.words_length(index))?;
+        ends += block_length(key.words_length(index));
     }
     Ok((begins, ends))
 }
@@ -56,32 +46,30 @@ fn references<K: Placed>(
     key: &K,
     begin: usize,
 ) -> Result<(Vec<usize>, usize), AllocError>
-    requires { begin ≡ block_begin (K.batch key.now) (K.batch key.now).size }
-    ensures { IfOk result (λ found. AreReferences (K.batch key.now) found.0.items found.1) }
+    requires begin { begin ≡ block_begin (K.batch key.now) (K.batch key.now).size }
+    requires few { begin ≤ 2 ^ 40 }
+    ensures begins { IfOk result (λ found. AreReferences (K.batch key.now) found.0.items found.1) }
+    ensures few { IfOk result (λ found. found.1 ≤ 2 ^ 41) }
 {
     let places = key.places();
     let mut begins = Vec::with_capacity(alloc, places)?;
     let mut end = begin;
     for index in 0..places {
         begins.push_reserved(end);
-        end = sum(end, key.references_length(index))?;
+        end += key.references_length(index);
     }
     Ok((begins, end))
 }
 
-/// How many words this many fronts have: each a group of eight for itself, so that who stores one leaves the others' lines alone.
-fn fronts_length(partitions: usize) -> Result<usize, AllocError>
-    ensures { IfOk result (λ length. length ≡ partitions * 8) }
+/// Where the ends begin: after the fronts, each of which has a group of eight words for itself, so that who stores one leaves the others'
+/// lines alone.
+fn fronts_end<K: Placed>(key: &K, begin: usize) -> usize
+    requires begin { begin ≡ front_begin (K.batch key.now) }
+    requires few { begin ≤ 2 ^ 41 }
+    ensures end { result ≡ end_begin (K.batch key.now) }
+    ensures few { result ≤ 2 ^ 42 }
 {
-    partitions.checked_mul(8).ok_or(AllocError)
-}
-
-/// Where the ends begin: after the fronts.
-fn fronts_end<K: Placed>(key: &K, begin: usize) -> Result<usize, AllocError>
-    requires { begin ≡ front_begin (K.batch key.now) }
-    ensures { IfOk result (λ end. end ≡ end_begin (K.batch key.now)) }
-{
-    sum(begin, fronts_length(key.partitions())?)
+    begin + key.partitions() * 8
 }
 
 /// A row of this many words, all 0.
@@ -100,13 +88,14 @@ fn table_of<K: Placed>(
     requires sound { IsSoundBatch (K.batch key.now) }
     requires open { K.placed key.now ≡ false }
     requires end { ends ≡ end_begin (K.batch key.now) }
+    requires few { ends ≤ 2 ^ 42 }
     ensures table { IfOk result (λ made.
         (made.0.shared.table_id.words ≡ total (K.batch key.now) (K.listed key.now)) × (made.0.shared.table_id.slots ≡ 0)
         × (made.0.shared.key ≡ key.now)) }
     ensures seat { IfOk result (λ made.
         (made.1.table_id ≡ made.0.shared.table_id) × (made.1.id ≡ 0) × (made.1.me ≡ (first_view false, []))) }
 {
-    let count = sum(ends, key.ends())?;
+    let count = ends + key.ends();
     let row = all_zero(alloc, count)?;
     Table::of_words(alloc, row.as_slice(), key)
 }
@@ -143,20 +132,21 @@ fn placed_table<K: Placed>(
     requires placed { K.placed key.now ≡ true }
     requires begins { AreReferences (K.batch key.now) references.now fronts }
     requires end { ends ≡ end_begin (K.batch key.now) }
+    requires few { ends ≤ 2 ^ 42 }
     ensures table { IfOk result (λ made.
         (made.0.shared.table_id.words ≡ total (K.batch key.now) (K.listed key.now)) × (made.0.shared.table_id.slots ≡ 0)
         × (made.0.shared.key ≡ key.now)) }
     ensures seat { IfOk result (λ made.
         (made.1.table_id ≡ made.0.shared.table_id) × (made.1.id ≡ 0) × (made.1.me ≡ (first_view true, []))) }
 {
-    let count = sum(ends, key.ends())?;
+    let count = ends + key.ends();
     let row = placed_row(alloc, key, references, fronts, count)?;
     Table::of_words(alloc, row.as_slice(), key)
 }
 
 impl<K: Placed> BatchWords<K> {
     /// The words of a batch of which all is placed, with its references and fronts stored and all else 0, and its first pass. An error
-    /// means out of memory, and so is a batch with more words than can be counted.
+    /// means out of memory.
     pub fn new(alloc: Global, key: &K) -> Result<(BatchWords<K>, Pass), AllocError>
         requires { K.placed key.now ≡ true }
         ensures { IfOk result (λ made. (made.0.key ≡ key.now) × (made.1 ≡ first_pass made.0)) }
@@ -164,7 +154,7 @@ impl<K: Placed> BatchWords<K> {
         let places = key.places();
         let (begins, end) = blocks(alloc, key)?;
         let (references, fronts) = references(alloc, key, end)?;
-        let ends = fronts_end(key, fronts)?;
+        let ends = fronts_end(key, fronts);
         let (table, seat) = placed_table(alloc, key, references.as_slice(), fronts, ends)?;
         let count = table.word_count();
         let words = BatchWords {
@@ -186,8 +176,7 @@ impl<K: Placed> BatchWords<K> {
         ))
     }
 
-    /// The words of a batch of which nothing is placed yet, all 0, and its first pass. An error means out of memory, and so is a batch with
-    /// more words than can be counted.
+    /// The words of a batch of which nothing is placed yet, all 0, and its first pass. An error means out of memory.
     pub fn open(alloc: Global, key: &K) -> Result<(BatchWords<K>, Pass), AllocError>
         requires { K.placed key.now ≡ false }
         ensures { IfOk result (λ made. (made.0.key ≡ key.now) × (made.1 ≡ open_pass made.0)) }
@@ -195,7 +184,7 @@ impl<K: Placed> BatchWords<K> {
         let places = key.places();
         let (begins, end) = blocks(alloc, key)?;
         let (references, fronts) = references(alloc, key, end)?;
-        let ends = fronts_end(key, fronts)?;
+        let ends = fronts_end(key, fronts);
         let (table, seat) = table_of(alloc, key, ends)?;
         let count = table.word_count();
         let words = BatchWords {

@@ -10,7 +10,7 @@ loop-partition-preserved g c =
     let listed = g.K.Placed.listed c.args.key.now in
     let partition = c.loop-partition.partition in
     let less = c.loop-partition-test.true in
-    let most = c.partitions-partitions.ensures in
+    let most = c.partitions-partitions.ensures.value in
     let begin = c.requires.begin in
     let at : position b (front_word partition) ≡ c.args.begin + partition * 8 = omega arith in
     rw (add-one partition)

@@ -22,6 +22,7 @@ invariant_of-result c =
       whole = c.dropped-dropped.ensures.whole;
       few = c.len-len.ensures.most;
       partitions = c.requires.partitions;
+      few_partitions = c.requires.few;
       within = (let within = c.requires.within in omega arith);
       kept = c.requires.kept;
       begins = omega arith;

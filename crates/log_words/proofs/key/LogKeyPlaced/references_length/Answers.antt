@@ -4,7 +4,7 @@ use Rattle.log_batch.specs.Supplied.{batch_in}
 use Rattle.log_words.specs.Keys.{Key}
 use Rattle.log_words.proofs.key.LogKeyPlaced.references_length.Goals as goal
 
-pub returns : goal.returns
-returns c =
+pub returns-clause-value : goal.returns-clause-value
+returns-clause-value c =
     subst (λ (k : Key). c.references_length.result ≡ length (reference_words (batch_in k.batch) c.args.index)) c.self.view_is
-    c.references_length.ensures
+    c.references_length.ensures.value
