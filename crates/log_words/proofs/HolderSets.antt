@@ -14,9 +14,9 @@ use Rattle.model_base.specs.declared.deed.Grantee.TheVariants.{User}
 use Rattle.model_base.specs.declared.deed.Kind.{Kind}
 use Rattle.model_base.specs.declared.deed.Kind.TheVariants.{Read, Insert, Update, Delete}
 use Rattle.model_base.specs.Privileges.{same_grantee, same_kind}
-use Rattle.grants_base.specs.Index.{is_by, is_to}
+use Rattle.grants_base.specs.Index.{is_by}
 use Rattle.log_words.specs.declared.holders.Holder.{Holder}
-use Rattle.log_words.specs.Holders.{grantee_holder, grantor_of, holder_cmp, holder_of, same_holder}
+use Rattle.log_words.specs.Holders.{grantor_of, holder_cmp, holder_of, same_holder}
 use Rattle.grants_base.specs.Sides.{holder_code, kind_code}
 use Rattle.grants_base.proofs.SideLaws.{holder_code-same}
 use Rattle.model_base.proofs.Replay.{by_cases}
@@ -33,14 +33,14 @@ is_eq-ordering_then Equal p = refl
 is_eq-ordering_then Greater p = refl
 
 -- two numbers in order are equal exactly if both are
-is_eq-pair : (x y : ℕ) (o : Ordering) (rest : Bool) → is_eq o ≡ rest → is_eq (ordering_then (nat_cmp x y) o) ≡ ((x == y) && rest)
+pub is_eq-pair : (x y : ℕ) (o : Ordering) (rest : Bool) → is_eq o ≡ rest → is_eq (ordering_then (nat_cmp x y) o) ≡ ((x == y) && rest)
 is_eq-pair x y o rest is =
     is_eq-ordering_then (nat_cmp x y) o ∙ ap (λ b. is_eq (nat_cmp x y) && b) is ∙ ap (λ b. b && rest) (is_eq-nat_cmp x y)
 
-at_holder : (a b : Holder) → is_at (holder_cmp a) b ≡ same_holder a b
+pub at_holder : (a b : Holder) → is_at (holder_cmp a) b ≡ same_holder a b
 at_holder a b = is_eq-pair a.holder b.holder _ _ (is_eq-pair a.table b.table _ _ (is_eq-nat_cmp a.kind b.kind))
 
-cond-or : (b rest : Bool) → cond b true rest ≡ (b || rest)
+pub cond-or : (b rest : Bool) → cond b true rest ≡ (b || rest)
 cond-or true rest = refl
 cond-or false rest = refl
 
@@ -63,7 +63,7 @@ same_holder-true a b same =
     ∙ ap (λ t. make b.holder t a.kind) (eqb-true a.table b.table two.0)
     ∙ ap (λ k. make b.holder b.table k) (eqb-true a.kind b.kind two.1)
 
-same_kind-code : (kind other : Kind) → same_kind kind other ≡ (kind_code kind == kind_code other)
+pub same_kind-code : (kind other : Kind) → same_kind kind other ≡ (kind_code kind == kind_code other)
 same_kind-code Read Read = refl
 same_kind-code Read Insert = refl
 same_kind-code Read Update = refl
@@ -81,13 +81,13 @@ same_kind-code Delete Insert = refl
 same_kind-code Delete Update = refl
 same_kind-code Delete Delete = refl
 
-eqb-turned : (a b : ℕ) → (a == b) ≡ (b == a)
+pub eqb-turned : (a b : ℕ) → (a == b) ≡ (b == a)
 eqb-turned a b =
     by_cases (a == b)
     (λ e. let other : (b == a) ≡ true = grind (arith, nat_tests) in e ∙ sym other)
     (λ e. let other : (b == a) ≡ false = grind (arith, nat_tests) in e ∙ sym other)
 
-and-turned : (a b : Bool) → (a && b) ≡ (b && a)
+pub and-turned : (a b : Bool) → (a && b) ≡ (b && a)
 and-turned true true = refl
 and-turned true false = refl
 and-turned false true = refl
@@ -99,11 +99,7 @@ same_party holder other kind kind' table table' =
     ap (λ b. b && (same_kind kind kind' && (table == table'))) (sym (holder_code-same other holder) ∙ eqb-turned (holder_code other) (holder_code holder))
     ∙ ap (λ b. (holder_code holder == holder_code other) && b) (and-turned (same_kind kind kind') (table == table') ∙ ap (λ b. (table == table') && b) (same_kind-code kind kind'))
 
--- a grant is to a grantee, of a kind on a table, if its own is that
-pub to-holder : (holder : Grantee) (kind : Kind) (table : ℕ) (grant : Grant) → is_to holder kind table grant ≡ same_holder (holder_of holder kind table) (grantee_holder grant)
-to-holder holder kind table grant = same_party holder grant.grantee kind grant.kind table grant.table
-
--- and by a user, if its grantor is
+-- a grant is by a user, of a kind on a table, if its grantor with its own is that
 pub by-holder : (user : ℕ) (kind : Kind) (table : ℕ) (grant : Grant) → is_by user kind table grant ≡ same_holder (holder_of (User user) kind table) (grantor_of grant)
 by-holder user kind table grant = same_party (User user) (User grant.grantor) kind grant.kind table grant.table
 

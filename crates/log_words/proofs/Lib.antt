@@ -1,4 +1,6 @@
 pub mod HolderSets
+pub mod RevokedSets
 pub mod Reaching
 pub mod Listed
 pub mod OpenSlots
+pub mod Between

@@ -5,13 +5,11 @@ use Rattle.std.specs.Option.{option_map_or}
 use Rattle.std.proofs.lemmas.Bool.{and_from, and_parts, cases_lt, eq-eqb, eqb-true, or_right, true≢false}
 use Rattle.std.proofs.lemmas.List.{get_or_append_left, get_or_push, length-append, length_push}
 use Rattle.model_base.specs.declared.deed.Deed.{Deed}
-use Rattle.model_base.specs.declared.deed.Revocation.{Revocation}
 use Rattle.model_base.specs.declared.statement.Statement.{Statement}
 use Rattle.model_base.specs.declared.deed.Grant.{Grant}
 use Rattle.model_base.specs.Outcomes.{deed_of}
-use Rattle.model_base.specs.Privileges.{concerns, gives, lends_to, names, option_of, reaches, same_grantee, same_kind}
-use Rattle.grants_base.specs.Index.{is_by, is_to}
-use Rattle.model_base.specs.declared.deed.Grantee.{Grantee}
+use Rattle.model_base.specs.Privileges.{gives, lends_to, option_of, reaches, same_kind}
+use Rattle.grants_base.specs.Index.{is_by}
 use Rattle.bohm_core_base.specs.declared.event.Event.{Event}
 use Rattle.bohm_core_base.specs.Batch.{Batch, IsSoundBatch, batch_slots, words_by}
 use Rattle.bohm_core_base.specs.Cascades.{EndsByCascade}
@@ -22,7 +20,7 @@ use Rattle.words.specs.Layout.{IsListed, listed_slot_at}
 use Rattle.words.specs.Views.{In}
 use Rattle.log_words.specs.Listing.{is_against, is_lent, is_open, is_reached, is_revoked, lends, listed_below, listed_slots}
 use Rattle.model_base.proofs.Covered.{same_kind-true}
-use Rattle.model_base.proofs.Reaching.{gives_option, grantee-same, grantee-true, lends_is}
+use Rattle.model_base.proofs.Reaching.{gives_option, lends_is}
 use Rattle.model_base.proofs.Replay.{by_cases}
 
 in_front : (x : ℕ) (l m : List ℕ) → In x l → In x (l ++ m)
@@ -55,15 +53,7 @@ none-told None false is = absurd (true≢false (sym is))
 none-told (Some q) true is = absurd (true≢false is)
 none-told (Some q) false is = refl
 
--- who is given the option by a revocation's named grant, or by a grant that falls
-against-named : (revocation : Revocation) (grant : Grant) → names revocation grant ≡ true
-    → is_to revocation.grantee revocation.kind revocation.table grant ≡ true
-unfolding names
-against-named revocation grant named =
-    let to = (and_parts (revocation.grantor == grant.grantor) _ named).1 in
-    let parts = and_parts (same_grantee revocation.grantee grant.grantee) (concerns revocation grant) to in
-    rw (ap (λ (g : Grantee). same_grantee g revocation.grantee) (sym (grantee-true revocation.grantee grant.grantee parts.0)) ∙ grantee-same revocation.grantee) parts.1
-
+-- who is given the option by a grant that falls
 lends-given : (giver grant : Grant) → gives giver grant.grantor (option_of grant) ≡ true → lends giver grant ≡ true
 unfolding gives
 lends-given giver grant given =
@@ -202,7 +192,7 @@ module _ (b : Batch) where
         let passes : test grant ≡ true
         = elim by.cause [
           | inl named ↦
-              let against : is_against (b.deed index) grant ≡ true = rw by.deed (against-named by.revocation grant named) in
+              let against : is_against (b.deed index) grant ≡ true = rw by.deed named in
               rw (revokes-below b.size index grant by.within against) refl
           | inr falls ↦
               let earlier = falls.earlier in

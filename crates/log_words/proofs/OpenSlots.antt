@@ -1,17 +1,12 @@
--- The next grant in force before a batch, to one grantee.
-use Rattle.std.proofs.Common.{◌≡◌, ℕ, ◌&&◌, ◌||◌, ◌<◌, Bool, true, false, List, Option, Some, None, get_or, is_none, refl, sym, ◌∙◌, ap, arith}
-use Rattle.std.specs.Prelude.{IfSome, slice_get}
+-- The next grant in force before a batch.
+use Rattle.std.proofs.Common.{◌≡◌, ℕ, ◌&&◌, ◌<◌, Bool, true, false, List, Option, Some, None, get_or, is_none, refl, sym, ◌∙◌, ap, arith}
+use Rattle.std.specs.Prelude.{slice_get}
 use Rattle.std.specs.Option.{option_map_or}
 use Rattle.std.proofs.lemmas.Bool.{and_parts, true≢false}
 use Rattle.model_base.specs.declared.deed.Grant.{Grant}
-use Rattle.model_base.specs.declared.deed.Grantee.{Grantee}
-use Rattle.model_base.specs.declared.deed.Kind.{Kind}
 use Rattle.model_base.specs.declared.deed.Record.{Record}
-use Rattle.grants_base.specs.Force.{gives_to, is_in_force}
-use Rattle.grants_base.specs.InForce.{IsNextInForce}
-use Rattle.grants_base.specs.Index.{IsFirst, is_to, passes_at}
-use Rattle.grants_base.specs.declared.force.NextInForce.{NextInForce}
-use Rattle.grants_base.proofs.Indexing.{first_as}
+use Rattle.grants_base.specs.Force.{is_in_force}
+use Rattle.grants_base.specs.Index.{IsFirst, passes_at}
 use Rattle.bohm_core_base.specs.Batch.{batch_slots}
 use Rattle.bohm_core_base.proofs.Whole.{no_grant}
 use Rattle.log_batch.specs.Earlier.{earlier_count, records_before}
@@ -57,21 +52,3 @@ module _ (range : Range) (passes : Grant → Bool) where
         there = (first.0, passes-earlier (batch_of range) passes i found.0 ∙ found.1);
         passed = λ k low less before open_k. open-out k less open_k (first.2 k low before);
       }
-
--- those to a grantee, with the option or without it
-pub gives-any : (grantee : Grantee) (kind : Kind) (table : ℕ) (slot : Option Record) → is_in_force (gives_to grantee kind table false) slot ≡ is_in_force (is_to grantee kind table) slot
-gives-any grantee kind table None = refl
-gives-any grantee kind table (Some entry) = ap (λ b. is_none entry.end && b) (any (is_to grantee kind table entry.grant) entry.grant.option)
-  where
-    any : (a b : Bool) → (a && (b || true)) ≡ a
-    any true true = refl
-    any true false = refl
-    any false b = refl
-
-pub any-first : (grantee : Grantee) (kind : Kind) (table : ℕ) (entries : List Record) (from : ℕ) (found : Option NextInForce)
-    → IfSome found (λ next. IsNextInForce (gives_to grantee kind table false) entries from next)
-    → IfSome found (λ next. IsFirst (λ k. is_in_force (is_to grantee kind table) (slice_get entries k)) from next.slot)
-any-first grantee kind table entries from None is = tt
-any-first grantee kind table entries from (Some next) is =
-    first_as (λ k. is_in_force (gives_to grantee kind table false) (slice_get entries k)) (λ k. is_in_force (is_to grantee kind table) (slice_get entries k))
-    (λ k. gives-any grantee kind table (slice_get entries k)) from next.slot is.slot

@@ -11,20 +11,23 @@ use Rattle.std.proofs.lemmas.Bool.Decides.{nat_tests}
 use Rattle.std.proofs.lemmas.List.Elements.{All-head, All-tail}
 use Rattle.std.proofs.lemmas.List.Folds.{list_any-append}
 use Rattle.model_base.specs.declared.deed.Grant.{Grant}
-use Rattle.model_base.specs.declared.deed.Grantee.{Grantee}
 use Rattle.model_base.specs.declared.deed.Grantee.TheVariants.{User}
-use Rattle.model_base.specs.declared.deed.Kind.{Kind}
-use Rattle.grants_base.specs.Index.{IsNext, is_by, is_to, passes_at}
-use Rattle.model_base.specs.Privileges.{option_holder}
+use Rattle.model_base.specs.declared.deed.Revocation.{Revocation}
+use Rattle.grants_base.specs.Force.{gives_by}
+use Rattle.grants_base.specs.Index.{IsNext, is_by, passes_at}
+use Rattle.model_base.specs.Privileges.{names, option_holder}
 use Rattle.bohm_core_base.specs.Batch.{Batch, batch_slots}
 use Rattle.log_batch.specs.Earlier.{earlier_count, earlier_grants}
 use Rattle.log_words.specs.declared.holders.Holders.{Holders}
 use Rattle.log_words.specs.declared.reach.Reach.{Reach}
-use Rattle.log_words.specs.Holders.{grantee_holder, grantor_of, has_holder, holder_of, new_holder, same_holder}
+use Rattle.log_words.specs.declared.revoked.Revoked.{Revoked}
+use Rattle.log_words.specs.Holders.{grantor_of, has_holder, holder_of, new_holder}
 use Rattle.log_words.specs.Listing.{is_against, is_lent, is_open, is_reached, is_revoked, lends, listed_below}
 use Rattle.log_words.specs.Reach.{Adds, AreSeeds, IsDue, IsNextOpen, IsReach}
+use Rattle.log_words.specs.Revoked.{has_named, is_named, named_by, named_with}
 use Rattle.grants_base.specs.Index.{is_one_of}
-use Rattle.log_words.proofs.HolderSets.{by-holder, same_holder-true, to-holder}
+use Rattle.log_words.proofs.HolderSets.{by-holder, same_holder-true}
+use Rattle.log_words.proofs.RevokedSets.{named-same, names-between, same_named-true}
 use Rattle.grants_base.proofs.Walks.{nothing}
 use Rattle.model_base.proofs.Replay.{by_cases}
 
@@ -183,11 +186,11 @@ module _ (b : Batch) where
       only = so_far.only;
     }
 
-  -- at first nobody is revoked from and nothing is due
-  pub seeds-none : (revoked : Holders) (due : List ℕ) → ((grant : Grant) → has_holder revoked (grantee_holder grant) ≡ false) → due ≡ []
+  -- at first nothing is named and nothing is due
+  pub seeds-none : (revoked : Revoked) (due : List ℕ) → ((grant : Grant) → is_named revoked grant ≡ false) → due ≡ []
       → AreSeeds b 0 revoked due
-  seeds-none revoked due nobody nothing = record {
-    holders = nobody;
+  seeds-none revoked due none nothing = record {
+    named = none;
     all = λ j less open_j is. absurd (true≢false (sym is ∙ never (slice_get (batch_slots b) j)));
     only = λ j is. absurd (true≢false (sym is ∙ ap (λ l. is_one_of l j) nothing));
   }
@@ -198,10 +201,10 @@ module _ (b : Batch) where
 
   module _ (index : ℕ) where
     -- a place without a revocation
-    pub seeds-same : (revoked : Holders) (due : List ℕ) → ((grant : Grant) → is_against (b.deed index) grant ≡ false) → AreSeeds b index revoked due
+    pub seeds-same : (revoked : Revoked) (due : List ℕ) → ((grant : Grant) → is_against (b.deed index) grant ≡ false) → AreSeeds b index revoked due
         → AreSeeds b (suc index) revoked due
     seeds-same revoked due none seeds = record {
-      holders = λ grant. seeds.holders grant ∙ sym (same grant);
+      named = λ grant. seeds.named grant ∙ sym (same grant);
       all = λ j less open_j is. seeds.all j less open_j (sym (at (slice_get (batch_slots b) j)) ∙ is);
       only = λ j is. (let was = seeds.only j is in (was.0, was.1, at (slice_get (batch_slots b) j) ∙ was.2));
     }
@@ -213,14 +216,24 @@ module _ (b : Batch) where
         at None = refl
         at (Some grant) = same grant
 
-    module _ (user : Grantee) (kind : Kind) (table : ℕ) (against : (grant : Grant) → is_against (b.deed index) grant ≡ is_to user kind table grant) where
-      -- a revocation against one against whom there was one before
-      pub seeds-again : (old new : Holders) (due : List ℕ) → has_holder old (holder_of user kind table) ≡ true
-          → ((grant : Grant) → has_holder new (grantee_holder grant) ≡ (same_holder (holder_of user kind table) (grantee_holder grant) || has_holder old (grantee_holder grant)))
+    module _ (revocation : Revocation) (against : (grant : Grant) → is_against (b.deed index) grant ≡ names revocation grant) where
+      abbrev between : Grant → Bool
+      between = gives_by revocation.grantor revocation.grantee revocation.kind revocation.table
+
+      against-between : (grant : Grant) → is_against (b.deed index) grant ≡ between grant
+      against-between grant = against grant ∙ names-between revocation grant
+
+      put-named : (old new : Revoked) → ((grant : Grant) → is_named new grant ≡ (names revocation grant || is_named old grant))
+          → ((grant : Grant) → is_named old grant ≡ is_revoked b index grant) → (grant : Grant) → is_named new grant ≡ is_revoked b (suc index) grant
+      put-named old new put named grant =
+          put grant ∙ ap (λ x. x || is_named old grant) (sym (against grant)) ∙ ap (λ x. is_against (b.deed index) grant || x) (named grant)
+
+      -- a revocation that names what one before it named
+      pub seeds-again : (old new : Revoked) (due : List ℕ) → has_named old (named_by revocation) ≡ true
+          → ((grant : Grant) → is_named new grant ≡ (names revocation grant || is_named old grant))
           → AreSeeds b index old due → AreSeeds b (suc index) new due
       seeds-again old new due was put seeds = record {
-        holders = λ grant. put grant ∙ ap (λ x. x || has_holder old (grantee_holder grant)) (sym (against grant ∙ to-holder user kind table grant))
-            ∙ ap (λ x. is_against (b.deed index) grant || x) (seeds.holders grant);
+        named = put-named old new put seeds.named;
         all = λ j less open_j is. seeds.all j less open_j (sym (at (slice_get (batch_slots b) j)) ∙ is);
         only = λ j is. (let before = seeds.only j is in (before.0, before.1, at (slice_get (batch_slots b) j) ∙ before.2));
       }
@@ -229,8 +242,8 @@ module _ (b : Batch) where
           same grant =
               by_cases (is_against (b.deed index) grant)
               (λ yes.
-              let here = same_holder-true (holder_of user kind table) (grantee_holder grant) (sym (against grant ∙ to-holder user kind table grant) ∙ yes) in
-              let revoked : is_revoked b index grant ≡ true = sym (seeds.holders grant) ∙ ap (has_holder old) (sym here) ∙ was in
+              let here = same_named-true (named_by revocation) (named_with grant) (named-same revocation grant ∙ sym (against grant) ∙ yes) in
+              let revoked : is_revoked b index grant ≡ true = sym (seeds.named grant) ∙ ap (has_named old) (sym here) ∙ was in
               rw (yes, revoked) refl)
               (λ no. rw no refl)
 
@@ -238,13 +251,12 @@ module _ (b : Batch) where
           at None = refl
           at (Some grant) = same grant
 
-      -- and against one against whom there was none
-      pub seeds-more : (old new : Holders) (due more : List ℕ)
-          → ((grant : Grant) → has_holder new (grantee_holder grant) ≡ (same_holder (holder_of user kind table) (grantee_holder grant) || has_holder old (grantee_holder grant)))
-          → Adds b (is_to user kind table) 0 (earlier_count b) due more → AreSeeds b index old due → AreSeeds b (suc index) new more
+      -- and one that names what none before it named
+      pub seeds-more : (old new : Revoked) (due more : List ℕ)
+          → ((grant : Grant) → is_named new grant ≡ (names revocation grant || is_named old grant))
+          → Adds b between 0 (earlier_count b) due more → AreSeeds b index old due → AreSeeds b (suc index) new more
       seeds-more old new due more put adds seeds = record {
-        holders = λ grant. put grant ∙ ap (λ x. x || has_holder old (grantee_holder grant)) (sym (against grant ∙ to-holder user kind table grant))
-            ∙ ap (λ x. is_against (b.deed index) grant || x) (seeds.holders grant);
+        named = put-named old new put seeds.named;
         all = λ j less open_j is. elim (parts (slice_get (batch_slots b) j) is) [
           | inl now ↦ adds.found j (omega arith) less open_j now
           | inr before ↦ adds.kept j (seeds.all j less open_j before)
@@ -256,17 +268,17 @@ module _ (b : Batch) where
       }
         where
           parts : (found : Option Grant) → option_map_or (is_revoked b (suc index)) found false ≡ true
-              → (option_map_or (is_to user kind table) found false ≡ true) ⊎ (option_map_or (is_revoked b index) found false ≡ true)
+              → (option_map_or between found false ≡ true) ⊎ (option_map_or (is_revoked b index) found false ≡ true)
           parts None is = absurd (true≢false (sym is))
           parts (Some grant) is =
               elim (or_cases (is_against (b.deed index) grant) (is_revoked b index grant) is) [
-                | inl now ↦ inl (sym (against grant) ∙ now)
+                | inl now ↦ inl (sym (against-between grant) ∙ now)
                 | inr before ↦ inr before
               ]
 
-          first : (found : Option Grant) → option_map_or (is_to user kind table) found false ≡ true → option_map_or (is_revoked b (suc index)) found false ≡ true
+          first : (found : Option Grant) → option_map_or between found false ≡ true → option_map_or (is_revoked b (suc index)) found false ≡ true
           first None is = absurd (true≢false (sym is))
-          first (Some grant) is = or_first (is_against (b.deed index) grant) (is_revoked b index grant) (against grant ∙ is)
+          first (Some grant) is = or_first (is_against (b.deed index) grant) (is_revoked b index grant) (against-between grant ∙ is)
 
           later : (found : Option Grant) → option_map_or (is_revoked b index) found false ≡ true → option_map_or (is_revoked b (suc index)) found false ≡ true
           later None is = absurd (true≢false (sym is))
@@ -277,7 +289,7 @@ module _ (b : Batch) where
   why listed grant = is_revoked b b.size grant || is_lent b listed grant
 
   -- the slots that are due by the revocations are those that are reached at first
-  pub due-first : (revoked : Holders) (listed due : List ℕ) → listed ≡ [] → AreSeeds b b.size revoked due → IsDue b 0 listed due
+  pub due-first : (revoked : Revoked) (listed due : List ℕ) → listed ≡ [] → AreSeeds b b.size revoked due → IsDue b 0 listed due
   due-first revoked listed due none seeds = record {
     all = λ j low less is.
         (let parts = and_parts (is_open b j) _ is in seeds.all j less parts.0 (sym (at (slice_get (batch_slots b) j)) ∙ parts.1));
@@ -289,7 +301,7 @@ module _ (b : Batch) where
       at (Some grant) = ap (λ l. is_revoked b b.size grant || is_lent b l grant) none ∙ or_none (is_revoked b b.size grant)
 
   pub reach-first : (reach : Reach) → reach.slots.items ≡ [] → ((grant : Grant) → has_holder reach.lent (grantor_of grant) ≡ false)
-      → ((grant : Grant) → has_holder reach.revoked (grantee_holder grant) ≡ is_revoked b b.size grant) → IsReach b 0 reach
+      → ((grant : Grant) → is_named reach.revoked grant ≡ is_revoked b b.size grant) → IsReach b 0 reach
   reach-first reach none nobody revoked = record {
     slots = none;
     lent = λ grant. nobody grant ∙ sym (ap (λ l. is_lent b l grant) none);
@@ -384,7 +396,7 @@ module _ (b : Batch) where
     pub reach-more : (old new : Reach) → is_reached b old.slots.items slot ≡ true → IsReach b slot old
         → new.slots.items ≡ old.slots.items ++ slot ∷ []
         → ((other : Grant) → has_holder new.lent (grantor_of other) ≡ (lends grant other || has_holder old.lent (grantor_of other)))
-        → ((other : Grant) → has_holder new.revoked (grantee_holder other) ≡ has_holder old.revoked (grantee_holder other))
+        → ((other : Grant) → is_named new.revoked other ≡ is_named old.revoked other)
         → IsReach b (suc slot) new
     reach-more old new reached was slots lent revoked = record {
       slots =
@@ -477,8 +489,8 @@ module _ (b : Batch) where
     -- whether the slot is reached, by who is in the sets
     pub reached-by : (reach : Reach) (is_none revoked lent : Bool) → is_none ≡ is_open b slot
         → ((other : Grant) → has_holder reach.lent (grantor_of other) ≡ is_lent b reach.slots.items other)
-        → ((other : Grant) → has_holder reach.revoked (grantee_holder other) ≡ is_revoked b b.size other)
-        → revoked ≡ has_holder reach.revoked (grantee_holder grant) → lent ≡ has_holder reach.lent (grantor_of grant)
+        → ((other : Grant) → is_named reach.revoked other ≡ is_revoked b b.size other)
+        → revoked ≡ is_named reach.revoked grant → lent ≡ has_holder reach.lent (grantor_of grant)
         → (is_none && (revoked || lent)) ≡ is_reached b reach.slots.items slot
     reached-by reach is_none revoked lent none lents revokes by to =
         rw (at, none) (ap (λ x. is_open b slot && x) (ap (λ x. x || lent) (by ∙ revokes grant) ∙ ap (λ x. is_revoked b b.size grant || x) (to ∙ lents grant)))

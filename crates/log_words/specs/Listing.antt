@@ -1,24 +1,24 @@
 -- Which slots have a word for their record's end: those without an end before the batch that its revocations may reach. They
--- reach the grants to whom they are against, of their kind on their table, and with a grant that they reach the later ones by
--- whom it gives the option: P. P. Griffiths and B. W. Wade, "An Authorization Mechanism for a Relational Database System", ACM
--- TODS 1 (1976). That each such grant has a place for its end before anything runs is as each version has its placeholder:
--- J. M. Faleiro and D. J. Abadi, "Rethinking Serializable Multiversion Concurrency Control", PVLDB 8 (2015), section 3.
+-- reach the grants that they name, and with a grant that they reach the later ones by whom it gives the option: P. P. Griffiths
+-- and B. W. Wade, "An Authorization Mechanism for a Relational Database System", ACM TODS 1 (1976). That each such grant has a
+-- place for its end before anything runs is as each version has its placeholder: J. M. Faleiro and D. J. Abadi, "Rethinking
+-- Serializable Multiversion Concurrency Control", PVLDB 8 (2015), section 3.
 use Rattle.std.specs.Prelude.{◌&&◌, ◌||◌, ◌++◌, ℕ, zero, suc, Bool, false, Option, Some, None, is_none, List, [], ◌∷◌, length, slice_get, if◌then◌else◌}
 use Rattle.std.specs.List.{list_any}
 use Rattle.std.specs.Option.{option_map_or}
 use Rattle.model_base.specs.declared.deed.Deed.{Deed}
 use Rattle.model_base.specs.declared.deed.Deed.TheVariants.{Granting, Revoking}
 use Rattle.model_base.specs.declared.deed.Grant.{Grant}
-use Rattle.grants_base.specs.Index.{is_by, is_to}
-use Rattle.model_base.specs.Privileges.{option_holder}
+use Rattle.grants_base.specs.Index.{is_by}
+use Rattle.model_base.specs.Privileges.{names, option_holder}
 use Rattle.bohm_core_base.specs.Batch.{Batch, batch_slots}
 use Rattle.bohm_core_base.specs.Machine.{end_of, start}
 
--- whether there is a deed, and it is a revocation of the grant's kind on its table against its grantee
+-- whether there is a deed, and it is a revocation that names the grant
 abbrev pub is_against : Option Deed → Grant → Bool
 is_against None grant = false
 is_against (Some (Granting made)) grant = false
-is_against (Some (Revoking revocation)) grant = is_to revocation.grantee revocation.kind revocation.table grant
+is_against (Some (Revoking revocation)) grant = names revocation grant
 
 -- whether one of this many places may make such a revocation
 abbrev pub is_revoked : Batch → ℕ → Grant → Bool

@@ -2,20 +2,22 @@
 use Rattle.std.specs.Prelude.{◌≡◌, ◌<◌, ◌≤◌, ◌⊎◌, ℕ, Bool, true, false, Option, Some, None, List, IfSome}
 use Rattle.model_base.specs.declared.deed.Grant.{Grant}
 use Rattle.model_base.specs.declared.deed.Kind.{Kind}
-use Rattle.grants_base.specs.Index.{is_by, is_one_of, is_to, passes_at}
+use Rattle.grants_base.specs.Force.{gives_by}
+use Rattle.grants_base.specs.Index.{is_by, is_one_of, passes_at}
 use Rattle.grants.specs.Work.{LiesBefore}
 use Rattle.bohm_core_base.specs.Batch.{Batch, batch_slots}
 use Rattle.log_batch.specs.Earlier.{earlier_count, earlier_grants}
-use Rattle.log_words.specs.declared.holders.Holders.{Holders}
 use Rattle.log_words.specs.declared.reach.Party.{Party}
-use Rattle.log_words.specs.declared.reach.Party.TheVariants.{By, To}
+use Rattle.log_words.specs.declared.reach.Party.TheVariants.{Between, By}
 use Rattle.log_words.specs.declared.reach.Reach.{Reach}
-use Rattle.log_words.specs.Holders.{grantee_holder, grantor_of, has_holder}
+use Rattle.log_words.specs.declared.revoked.Revoked.{Revoked}
+use Rattle.log_words.specs.Holders.{grantor_of, has_holder}
 use Rattle.log_words.specs.Listing.{is_lent, is_open, is_reached, is_revoked, listed_below}
+use Rattle.log_words.specs.Revoked.{is_named}
 
--- whether the grant is to the grantee, or by the user, and is of the kind on the table
+-- whether the grant is by the user, to the grantee where one is told, and is of the kind on the table
 abbrev pub has_party : Party → Kind → ℕ → Grant → Bool
-has_party (To grantee) = is_to grantee
+has_party (Between user grantee) = gives_by user grantee
 has_party (By user) = is_by user
 
 -- from one slot on, one of a grant before the batch that passes, and before it, or at all, none that has no end before the batch
@@ -33,19 +35,19 @@ pub record Adds (batch : Batch) (passes : Grant → Bool) (start end : ℕ) (old
       → (is_one_of old j ≡ true) ⊎ ((start ≤ j) × (j < earlier_count batch) × (is_open batch j ≡ true)
       × (passes_at passes (batch_slots batch) j ≡ true))
 
--- against whom this many places may make revocations, and which slots before the batch are due by them
-pub record AreSeeds (batch : Batch) (count : ℕ) (revoked : Holders) (due : List ℕ) : Type 0 where
-  pub holders : (grant : Grant) → has_holder revoked (grantee_holder grant) ≡ is_revoked batch count grant
+-- what the revocations name that this many places may make, and which slots before the batch are due by them
+pub record AreSeeds (batch : Batch) (count : ℕ) (revoked : Revoked) (due : List ℕ) : Type 0 where
+  pub named : (grant : Grant) → is_named revoked grant ≡ is_revoked batch count grant
   pub all : (j : ℕ) → j < earlier_count batch → is_open batch j ≡ true
       → passes_at (is_revoked batch count) (batch_slots batch) j ≡ true → is_one_of due j ≡ true
   pub only : (j : ℕ) → is_one_of due j ≡ true
       → (j < earlier_count batch) × (is_open batch j ≡ true) × (passes_at (is_revoked batch count) (batch_slots batch) j ≡ true)
 
--- all slots below one are found that the batch may reach, to whom they give the option, and against whom it has revocations
+-- all slots below one are found that the batch may reach, to whom they give the option, and what its revocations name
 pub record IsReach (batch : Batch) (low : ℕ) (reach : Reach) : Type 0 where
   pub slots : reach.slots.items ≡ listed_below batch low
   pub lent : (grant : Grant) → has_holder reach.lent (grantor_of grant) ≡ is_lent batch reach.slots.items grant
-  pub revoked : (grant : Grant) → has_holder reach.revoked (grantee_holder grant) ≡ is_revoked batch batch.size grant
+  pub revoked : (grant : Grant) → is_named reach.revoked grant ≡ is_revoked batch batch.size grant
 
 -- from a slot on, those are due that are before the batch and that it may reach by the slots found so far
 pub record IsDue (batch : Batch) (low : ℕ) (listed due : List ℕ) : Type 0 where

@@ -15,6 +15,7 @@ mod holders;
 mod key;
 mod log_words;
 mod reach;
+mod revoked;
 
 pub use ended::ended_slots;
 pub use key::{LogKey, word_of};

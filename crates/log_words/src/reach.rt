@@ -2,37 +2,62 @@
 
 ghost use Rattle.std.specs.Prelude.{◌≡◌, ◌<◌, ◌≤◌, ◌+◌, ◌++◌, ◌∷◌, ◌||◌, ◌&&◌, ◌==◌, [], ℕ, suc, not, true, IfOk, IfSome, OnOk, length, slice_get, Some};
 ghost use Rattle.model_base.specs.declared.deed.Grant.{Grant};
-ghost use Rattle.grants_base.specs.Force.{is_in_force};
+ghost use Rattle.grants_base.specs.Force.{gives_by, is_in_force};
 ghost use Rattle.grants_base.specs.Index.{IsFirst, IsNext, is_by};
 ghost use Rattle.model_base.specs.Privileges.{option_holder};
 ghost use Rattle.bohm_core_base.specs.Batch.{batch_slots};
 ghost use Rattle.log_batch.specs.Earlier.{earlier_count, earlier_grants, records_before};
 ghost use Rattle.log_batch.specs.Supplied.{batch_in};
-ghost use Rattle.log_words.specs.Holders.{grantee_holder, grantor_of, has_holder, new_holder};
+ghost use Rattle.log_words.specs.Holders.{grantor_of, has_holder, new_holder};
 ghost use Rattle.log_words.specs.Listing.{is_open, is_reached, lends};
 ghost use Rattle.log_words.specs.Reach.{Adds, AreSeeds, IsDue, IsNextOpen, IsReach, has_party};
+ghost use Rattle.log_words.specs.Revoked.{is_named};
 ghost use Rattle.grants_base.specs.Index.{is_one_of};
 
 use crate::holders::{Holders, holder_of};
-use grants::NextInForce;
+use crate::revoked::Revoked;
+use grants::NextBy;
 use log_batch::LogBatch;
 use model_base::{Deed, Grant, Grantee, Kind, Table, User};
 use std::alloc::{AllocError, Global};
 use std::collections::BTreeSet;
 
-/// Whose grants are looked for: those to a grantee, or those by a user.
+/// Whose grants are looked for: those by a user to a grantee, or all by a user.
 #[derive(Clone, Copy)]
 enum Party {
-    To(Grantee),
+    Between(User, Grantee),
     By(User),
 }
 
-/// The slots that are found, to whom they give an option, and against whom the batch has revocations.
+/// The slots that are found, to whom they give an option, and what the revocations of the batch name.
 #[derive(Drop)]
 pub(crate) struct Reach {
     slots: Vec<usize>,
     lent: Holders,
-    revoked: Holders,
+    revoked: Revoked,
+}
+
+/// The least slot at or above this one whose grant was made before the batch, by the user to the grantee and of the kind on the
+/// table, in force or not. It goes through those of others to the grantee up to it.
+fn next_between(
+    batch: &LogBatch<'_>,
+    user: User,
+    grantee: &Grantee,
+    kind: Kind,
+    table: Table,
+    start: usize,
+) -> Option<usize>
+    ensures { IsNext (gives_by user grantee.now kind table) (earlier_grants (batch_in batch.now)) start result }
+{
+    let _count = batch.earlier_count();
+    let mut from = start;
+    while let Some(slot) = batch.earlier_to(grantee, kind, table, from) {
+        if batch.grant(slot).grantor == user {
+            return Some(slot);
+        }
+        from = slot + 1;
+    }
+    None
 }
 
 /// The least slot at or above this one whose grant was made before the batch and is one of this party, of the kind on the
@@ -47,32 +72,34 @@ fn next_made(
     ensures { IsNext (has_party party.now kind table) (earlier_grants (batch_in batch.now)) from result }
 {
     match party {
-        Party::To(grantee) => batch.earlier_to(grantee, kind, table, from),
+        Party::Between(user, grantee) => next_between(batch, *user, grantee, kind, table, from),
         Party::By(user) => batch.earlier_by(*user, kind, table, from),
     }
 }
 
 /// The least slot at or above this one of a grant in force before the batch of this party, of the kind on the table. None where
-/// that isn't known, as by whom those in force are.
+/// that isn't known, as of all by a user.
 fn next_in_force(
     batch: &LogBatch<'_>,
     party: &Party,
     kind: Kind,
     table: Table,
     from: usize,
-) -> Option<NextInForce>
+) -> Option<NextBy>
     ensures { IfSome result (λ next.
         IsFirst (λ k. is_in_force (has_party party.now kind table) (slice_get (records_before (batch_in batch.now)) k)) from next.slot) }
 {
     match party {
-        Party::To(grantee) => batch.earlier_in_force(*grantee, kind, table, false, from),
+        Party::Between(user, grantee) => {
+            batch.earlier_in_force_by(*user, *grantee, kind, table, from)
+        }
         Party::By(_) => None,
     }
 }
 
 /// A slot at or above this one of a grant of this party, of the kind on the table, such that none from this one on and before it
-/// is in force before the batch; none where there is no later one. It goes through those that aren't in force only by a
-/// user, or where the book doesn't know which are.
+/// is in force before the batch; none where there is no later one. It goes through those that aren't in force only where all by
+/// a user are looked for, or the book doesn't know which are.
 fn next_of(
     batch: &LogBatch<'_>,
     party: &Party,
@@ -127,13 +154,13 @@ fn add_grants(
     Ok(())
 }
 
-/// The deed of a place, if there is one and it is a revocation: it is against its grantee, whose grants from before the batch
-/// are due.
+/// The deed of a place, if there is one and it is a revocation: the grants from before the batch that it names are due. They are
+/// looked up once for all revocations that name the same.
 fn put_deed(
     batch: &LogBatch<'_>,
     index: usize,
     deed: Option<Deed>,
-    revoked: &mut Holders,
+    revoked: &mut Revoked,
     due: &mut BTreeSet<usize>,
 ) -> Result<(), AllocError>
     requires deed { deed ≡ (batch_in batch.now).deed index }
@@ -143,10 +170,9 @@ fn put_deed(
     let Some(Deed::Revoking(revocation)) = deed else {
         return Ok(());
     };
-    let (kind, table) = (revocation.kind, revocation.table);
-    if revoked.put(holder_of(revocation.grantee, kind, table))? {
-        let party = Party::To(revocation.grantee);
-        add_grants(batch, &party, kind, table, 0, due)?;
+    if revoked.put(&revocation)? {
+        let party = Party::Between(revocation.grantor, revocation.grantee);
+        add_grants(batch, &party, revocation.kind, revocation.table, 0, due)?;
     }
     Ok(())
 }
@@ -154,7 +180,7 @@ fn put_deed(
 /// The revocations that the batch may make.
 fn put_deeds(
     batch: &LogBatch<'_>,
-    revoked: &mut Holders,
+    revoked: &mut Revoked,
     due: &mut BTreeSet<usize>,
 ) -> Result<(), AllocError>
     requires { AreSeeds (batch_in batch.now) 0 revoked.old due.old.keys }
@@ -176,9 +202,7 @@ impl Reach {
         ensures lent { OnOk result ((other : Grant)
             → has_holder self.new.lent (grantor_of other)
             ≡ (is_by user grant.now.kind grant.now.table other || has_holder self.old.lent (grantor_of other))) }
-        ensures revoked { (holder : Grant)
-            → has_holder self.new.revoked (grantee_holder holder)
-            ≡ has_holder self.old.revoked (grantee_holder holder) }
+        ensures revoked { (other : Grant) → is_named self.new.revoked other ≡ is_named self.old.revoked other }
         ensures was { IfOk result (λ found. found ≡ new_holder self.old.lent grant.now (Some user)) }
     {
         let holder = holder_of(Grantee::User(user), grant.kind, grant.table);
@@ -192,9 +216,7 @@ impl Reach {
         ensures lent { OnOk result ((other : Grant)
             → has_holder self.new.lent (grantor_of other)
             ≡ (lends grant.now other || has_holder self.old.lent (grantor_of other))) }
-        ensures revoked { OnOk result ((holder : Grant)
-            → has_holder self.new.revoked (grantee_holder holder)
-            ≡ has_holder self.old.revoked (grantee_holder holder)) }
+        ensures revoked { OnOk result ((other : Grant) → is_named self.new.revoked other ≡ is_named self.old.revoked other) }
         ensures was { IfOk result (λ found. found ≡ new_holder self.old.lent grant.now (option_holder grant.now)) }
     {
         self.slots.push(slot)?;
@@ -257,9 +279,7 @@ impl Reach {
     {
         let grant = batch.grant(slot);
         let is_open = batch.end_at_first(slot).is_none();
-        let is_revoked = self
-            .revoked
-            .has(holder_of(grant.grantee, grant.kind, grant.table));
+        let is_revoked = self.revoked.names(&grant);
         let is_lent = self.lent.has(holder_of(
             Grantee::User(grant.grantor),
             grant.kind,
@@ -275,7 +295,7 @@ impl Reach {
     pub(crate) fn of(alloc: Global, batch: &LogBatch<'_>) -> Result<Reach, AllocError>
         ensures { IfOk result (λ reach. IsReach (batch_in batch.now) (length (batch_slots (batch_in batch.now))) reach) }
     {
-        let mut revoked = Holders::new(alloc);
+        let mut revoked = Revoked::new(alloc);
         let mut due = BTreeSet::new(alloc);
         put_deeds(batch, &mut revoked, &mut due)?;
         let mut reach = Reach {

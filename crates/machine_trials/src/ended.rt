@@ -16,7 +16,7 @@ const LINES: [&str; 8] = [
     "alice GRANT READ t bob OPTION",
     "bob GRANT READ t carol OPTION",
     "alice GRANT READ t dave OPTION",
-    "dave GRANT READ t eve",
+    "dave GRANT READ t bob",
     "alice GRANT INSERT t bob OPTION",
     "alice REVOKE READ t bob",
     "carol GRANT READ t eve",

@@ -6,12 +6,10 @@ use Rattle.log_batch.specs.Earlier.{records_before}
 use Rattle.log_batch.specs.Supplied.{batch_in}
 use Rattle.log_words.specs.Reach.{has_party}
 use Rattle.log_words.specs.declared.reach.Party.{Party}
-use Rattle.log_words.proofs.OpenSlots.{any-first}
 use Rattle.log_words.proofs.reach.next_in_force.Goals as goal
 
-pub returns-in-To : goal.returns-in-To
-returns-in-To c =
+pub returns-in-Between : goal.returns-in-Between
+returns-in-Between c =
     let entries = records_before (batch_in c.args.batch.now) in
-    subst (λ (party : Party). IfSome c.earlier_in_force.result (λ next. IsFirst (λ k. is_in_force (has_party party c.args.kind c.args.table) (slice_get entries k)) c.args.from next.slot))
-    (sym c.in-To.is)
-    (any-first c.in-To.grantee c.args.kind c.args.table entries c.args.from c.earlier_in_force.result c.earlier_in_force.ensures)
+    subst (λ (party : Party). IfSome c.earlier_in_force_by.result (λ next. IsFirst (λ k. is_in_force (has_party party c.args.kind c.args.table) (slice_get entries k)) c.args.from next.slot))
+    (sym c.in-Between.is) c.earlier_in_force_by.ensures
