@@ -139,7 +139,7 @@ fn extend(book: &mut Book) -> Result<(), TrialFault> {
 }
 
 /// A deed, or the question what a revocation would end.
-#[derive(Clone, Copy)]
+#[derive(Drop)]
 enum Deed {
     Table(Place),
     Grant(Grant),
@@ -150,7 +150,7 @@ enum Deed {
 
 impl Deed {
     /// The call that makes it.
-    fn call(self) -> &'static str {
+    fn call(&self) -> &'static str {
         match self {
             Deed::Table(_) => "Book::add_table",
             Deed::Grant(_) => "Book::grant",
@@ -161,12 +161,12 @@ impl Deed {
     }
 
     /// Makes it in a book. A revocation returns the places that end, and the others return none.
-    fn make(self, alloc: Global, book: &mut Book) -> Result<Vec<Place>, TrialFault> {
+    fn make(&self, alloc: Global, book: &mut Book) -> Result<Vec<Place>, TrialFault> {
         match self {
-            Deed::Table(place) => enter(book, place)?,
-            Deed::Grant(grant) => give(book, &grant)?,
-            Deed::Ends(revocation) => return ends(alloc, book, &revocation),
-            Deed::Revocation(revocation) => return take(alloc, book, &revocation),
+            Deed::Table(place) => enter(book, *place)?,
+            Deed::Grant(grant) => give(book, grant)?,
+            Deed::Ends(revocation) => return ends(alloc, book, revocation),
+            Deed::Revocation(revocation) => return take(alloc, book, revocation),
             Deed::Extension => extend(book)?,
         }
         Ok(Vec::new(alloc))
@@ -174,7 +174,12 @@ impl Deed {
 }
 
 /// Makes a deed, and prints what it ended and what the book has then.
-fn try_deed(rt: &impl Print, alloc: Global, book: &mut Book, deed: Deed) -> Result<(), TrialFault> {
+fn try_deed(
+    rt: &impl Print,
+    alloc: Global,
+    book: &mut Book,
+    deed: &Deed,
+) -> Result<(), TrialFault> {
     let (call, before) = (deed.call(), Before::of(alloc, book)?);
     let ended = match deed.make(alloc, book) {
         Ok(ended) => ended,
@@ -196,25 +201,29 @@ fn try_chain(rt: &impl Print, alloc: Global, book: &mut Book) -> Result<(), Tria
         } else {
             Deed::Grant(link(place, place.saturating_sub(TABLES) as u32, 0))
         };
-        try_deed(rt, alloc, book, deed)?;
+        try_deed(rt, alloc, book, &deed)?;
     }
     Ok(())
 }
 
-/// Tries the calls of a book of grants.
-pub fn try_book(rt: &impl Print, alloc: Global) -> Result<(), TrialFault> {
-    let mut book = Book::new(alloc);
-    let revocation = Revocation {
+/// The revocation of a grant in the middle of the chain.
+fn unlink() -> Revocation {
+    Revocation {
         place: REVOKED,
         grantor: User(4),
         grantee: Grantee::User(User(5)),
         kind: Kind::Read,
         table: Table(0),
-    };
+    }
+}
+
+/// Tries the calls of a book of grants.
+pub fn try_book(rt: &impl Print, alloc: Global) -> Result<(), TrialFault> {
+    let mut book = Book::new(alloc);
     try_chain(rt, alloc, &mut book)?;
-    try_deed(rt, alloc, &mut book, Deed::Ends(revocation))?;
-    try_deed(rt, alloc, &mut book, Deed::Revocation(revocation))?;
-    try_deed(rt, alloc, &mut book, Deed::Extension)?;
+    try_deed(rt, alloc, &mut book, &Deed::Ends(unlink()))?;
+    try_deed(rt, alloc, &mut book, &Deed::Revocation(unlink()))?;
+    try_deed(rt, alloc, &mut book, &Deed::Extension)?;
     println!(rt; "Book::extend: {:?}", book.records())?;
     Ok(())
 }
