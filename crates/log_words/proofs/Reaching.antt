@@ -24,7 +24,7 @@ use Rattle.log_words.specs.declared.revoked.Revoked.{Revoked}
 use Rattle.log_words.specs.Holders.{grantor_of, has_holder, holder_of, new_holder}
 use Rattle.log_words.specs.Listing.{is_against, is_lent, is_open, is_reached, is_revoked, lends, listed_below}
 use Rattle.log_words.specs.Reach.{Adds, AreSeeds, IsDue, IsNextOpen, IsReach}
-use Rattle.log_words.specs.Revoked.{has_named, is_named, named_by, named_with}
+use Rattle.log_words.specs.Revoked.{has_named, is_named_by, named_by, named_with}
 use Rattle.grants_base.specs.Index.{is_one_of}
 use Rattle.log_words.proofs.HolderSets.{by-holder, same_holder-true}
 use Rattle.log_words.proofs.RevokedSets.{named-same, names-between, same_named-true}
@@ -187,7 +187,7 @@ module _ (b : Batch) where
     }
 
   -- at first nothing is named and nothing is due
-  pub seeds-none : (revoked : Revoked) (due : List ℕ) → ((grant : Grant) → is_named revoked grant ≡ false) → due ≡ []
+  pub seeds-none : (revoked : Revoked) (due : List ℕ) → ((grant : Grant) → is_named_by revoked grant ≡ false) → due ≡ []
       → AreSeeds b 0 revoked due
   seeds-none revoked due none nothing = record {
     named = none;
@@ -223,14 +223,14 @@ module _ (b : Batch) where
       against-between : (grant : Grant) → is_against (b.deed index) grant ≡ between grant
       against-between grant = against grant ∙ names-between revocation grant
 
-      put-named : (old new : Revoked) → ((grant : Grant) → is_named new grant ≡ (names revocation grant || is_named old grant))
-          → ((grant : Grant) → is_named old grant ≡ is_revoked b index grant) → (grant : Grant) → is_named new grant ≡ is_revoked b (suc index) grant
+      put-named : (old new : Revoked) → ((grant : Grant) → is_named_by new grant ≡ (names revocation grant || is_named_by old grant))
+          → ((grant : Grant) → is_named_by old grant ≡ is_revoked b index grant) → (grant : Grant) → is_named_by new grant ≡ is_revoked b (suc index) grant
       put-named old new put named grant =
-          put grant ∙ ap (λ x. x || is_named old grant) (sym (against grant)) ∙ ap (λ x. is_against (b.deed index) grant || x) (named grant)
+          put grant ∙ ap (λ x. x || is_named_by old grant) (sym (against grant)) ∙ ap (λ x. is_against (b.deed index) grant || x) (named grant)
 
       -- a revocation that names what one before it named
       pub seeds-again : (old new : Revoked) (due : List ℕ) → has_named old (named_by revocation) ≡ true
-          → ((grant : Grant) → is_named new grant ≡ (names revocation grant || is_named old grant))
+          → ((grant : Grant) → is_named_by new grant ≡ (names revocation grant || is_named_by old grant))
           → AreSeeds b index old due → AreSeeds b (suc index) new due
       seeds-again old new due was put seeds = record {
         named = put-named old new put seeds.named;
@@ -253,7 +253,7 @@ module _ (b : Batch) where
 
       -- and one that names what none before it named
       pub seeds-more : (old new : Revoked) (due more : List ℕ)
-          → ((grant : Grant) → is_named new grant ≡ (names revocation grant || is_named old grant))
+          → ((grant : Grant) → is_named_by new grant ≡ (names revocation grant || is_named_by old grant))
           → Adds b between 0 (earlier_count b) due more → AreSeeds b index old due → AreSeeds b (suc index) new more
       seeds-more old new due more put adds seeds = record {
         named = put-named old new put seeds.named;
@@ -301,7 +301,7 @@ module _ (b : Batch) where
       at (Some grant) = ap (λ l. is_revoked b b.size grant || is_lent b l grant) none ∙ or_none (is_revoked b b.size grant)
 
   pub reach-first : (reach : Reach) → reach.slots.items ≡ [] → ((grant : Grant) → has_holder reach.lent (grantor_of grant) ≡ false)
-      → ((grant : Grant) → is_named reach.revoked grant ≡ is_revoked b b.size grant) → IsReach b 0 reach
+      → ((grant : Grant) → is_named_by reach.revoked grant ≡ is_revoked b b.size grant) → IsReach b 0 reach
   reach-first reach none nobody revoked = record {
     slots = none;
     lent = λ grant. nobody grant ∙ sym (ap (λ l. is_lent b l grant) none);
@@ -396,7 +396,7 @@ module _ (b : Batch) where
     pub reach-more : (old new : Reach) → is_reached b old.slots.items slot ≡ true → IsReach b slot old
         → new.slots.items ≡ old.slots.items ++ slot ∷ []
         → ((other : Grant) → has_holder new.lent (grantor_of other) ≡ (lends grant other || has_holder old.lent (grantor_of other)))
-        → ((other : Grant) → is_named new.revoked other ≡ is_named old.revoked other)
+        → ((other : Grant) → is_named_by new.revoked other ≡ is_named_by old.revoked other)
         → IsReach b (suc slot) new
     reach-more old new reached was slots lent revoked = record {
       slots =
@@ -489,8 +489,8 @@ module _ (b : Batch) where
     -- whether the slot is reached, by who is in the sets
     pub reached-by : (reach : Reach) (is_none revoked lent : Bool) → is_none ≡ is_open b slot
         → ((other : Grant) → has_holder reach.lent (grantor_of other) ≡ is_lent b reach.slots.items other)
-        → ((other : Grant) → is_named reach.revoked other ≡ is_revoked b b.size other)
-        → revoked ≡ is_named reach.revoked grant → lent ≡ has_holder reach.lent (grantor_of grant)
+        → ((other : Grant) → is_named_by reach.revoked other ≡ is_revoked b b.size other)
+        → revoked ≡ is_named_by reach.revoked grant → lent ≡ has_holder reach.lent (grantor_of grant)
         → (is_none && (revoked || lent)) ≡ is_reached b reach.slots.items slot
     reached-by reach is_none revoked lent none lents revokes by to =
         rw (at, none) (ap (λ x. is_open b slot && x) (ap (λ x. x || lent) (by ∙ revokes grant) ∙ ap (λ x. is_revoked b b.size grant || x) (to ∙ lents grant)))

@@ -13,7 +13,7 @@ use Rattle.log_words.specs.declared.reach.Reach.{Reach}
 use Rattle.log_words.specs.declared.revoked.Revoked.{Revoked}
 use Rattle.log_words.specs.Holders.{grantor_of, has_holder}
 use Rattle.log_words.specs.Listing.{is_lent, is_open, is_reached, is_revoked, listed_below}
-use Rattle.log_words.specs.Revoked.{is_named}
+use Rattle.log_words.specs.Revoked.{is_named_by}
 
 -- whether the grant is by the user, to the grantee where one is told, and is of the kind on the table
 abbrev pub has_party : Party → Kind → ℕ → Grant → Bool
@@ -37,7 +37,7 @@ pub record Adds (batch : Batch) (passes : Grant → Bool) (start end : ℕ) (old
 
 -- what the revocations name that this many places may make, and which slots before the batch are due by them
 pub record AreSeeds (batch : Batch) (count : ℕ) (revoked : Revoked) (due : List ℕ) : Type 0 where
-  pub named : (grant : Grant) → is_named revoked grant ≡ is_revoked batch count grant
+  pub named : (grant : Grant) → is_named_by revoked grant ≡ is_revoked batch count grant
   pub all : (j : ℕ) → j < earlier_count batch → is_open batch j ≡ true
       → passes_at (is_revoked batch count) (batch_slots batch) j ≡ true → is_one_of due j ≡ true
   pub only : (j : ℕ) → is_one_of due j ≡ true
@@ -47,7 +47,7 @@ pub record AreSeeds (batch : Batch) (count : ℕ) (revoked : Revoked) (due : Lis
 pub record IsReach (batch : Batch) (low : ℕ) (reach : Reach) : Type 0 where
   pub slots : reach.slots.items ≡ listed_below batch low
   pub lent : (grant : Grant) → has_holder reach.lent (grantor_of grant) ≡ is_lent batch reach.slots.items grant
-  pub revoked : (grant : Grant) → is_named reach.revoked grant ≡ is_revoked batch batch.size grant
+  pub revoked : (grant : Grant) → is_named_by reach.revoked grant ≡ is_revoked batch batch.size grant
 
 -- from a slot on, those are due that are before the batch and that it may reach by the slots found so far
 pub record IsDue (batch : Batch) (low : ℕ) (listed due : List ℕ) : Type 0 where

@@ -31,5 +31,5 @@ abbrev pub has_named : Revoked → Named → Bool
 has_named revoked named = contains named_cmp revoked.named named
 
 -- whether the grant is
-abbrev pub is_named : Revoked → Grant → Bool
-is_named revoked grant = has_named revoked (named_with grant)
+abbrev pub is_named_by : Revoked → Grant → Bool
+is_named_by revoked grant = has_named revoked (named_with grant)

@@ -11,7 +11,7 @@ ghost use Rattle.log_batch.specs.Supplied.{batch_in};
 ghost use Rattle.log_words.specs.Holders.{grantor_of, has_holder, new_holder};
 ghost use Rattle.log_words.specs.Listing.{is_open, is_reached, lends};
 ghost use Rattle.log_words.specs.Reach.{Adds, AreSeeds, IsDue, IsNextOpen, IsReach, has_party};
-ghost use Rattle.log_words.specs.Revoked.{is_named};
+ghost use Rattle.log_words.specs.Revoked.{is_named_by};
 ghost use Rattle.grants_base.specs.Index.{is_one_of};
 
 use crate::holders::{Holders, holder_of};
@@ -202,7 +202,7 @@ impl Reach {
         ensures lent { OnOk result ((other : Grant)
             → has_holder self.new.lent (grantor_of other)
             ≡ (is_by user grant.now.kind grant.now.table other || has_holder self.old.lent (grantor_of other))) }
-        ensures revoked { (other : Grant) → is_named self.new.revoked other ≡ is_named self.old.revoked other }
+        ensures revoked { (other : Grant) → is_named_by self.new.revoked other ≡ is_named_by self.old.revoked other }
         ensures was { IfOk result (λ found. found ≡ new_holder self.old.lent grant.now (Some user)) }
     {
         let holder = holder_of(Grantee::User(user), grant.kind, grant.table);
@@ -216,7 +216,7 @@ impl Reach {
         ensures lent { OnOk result ((other : Grant)
             → has_holder self.new.lent (grantor_of other)
             ≡ (lends grant.now other || has_holder self.old.lent (grantor_of other))) }
-        ensures revoked { OnOk result ((other : Grant) → is_named self.new.revoked other ≡ is_named self.old.revoked other) }
+        ensures revoked { OnOk result ((other : Grant) → is_named_by self.new.revoked other ≡ is_named_by self.old.revoked other) }
         ensures was { IfOk result (λ found. found ≡ new_holder self.old.lent grant.now (option_holder grant.now)) }
     {
         self.slots.push(slot)?;

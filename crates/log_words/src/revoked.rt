@@ -3,7 +3,7 @@
 ghost use Rattle.std.specs.Prelude.{◌≡◌, ◌||◌, not, false, IfOk, OnOk};
 ghost use Rattle.model_base.specs.declared.deed.Grant.{Grant};
 ghost use Rattle.model_base.specs.Privileges.{names};
-ghost use Rattle.log_words.specs.Revoked.{has_named, is_named, named_by, named_with};
+ghost use Rattle.log_words.specs.Revoked.{has_named, is_named_by, named_by, named_with};
 
 use crate::holders::{Holder, holder_of};
 use model_base::{Grant, Revocation, User};
@@ -46,7 +46,7 @@ pub(crate) struct Revoked {
 impl Revoked {
     /// What no revocation names.
     pub(crate) fn new(alloc: Global) -> Self
-        ensures { (grant : Grant) → is_named result grant ≡ false }
+        ensures { (grant : Grant) → is_named_by result grant ≡ false }
     {
         Revoked {
             named: BTreeSet::new(alloc),
@@ -55,14 +55,14 @@ impl Revoked {
 
     /// Whether one of them names the grant.
     pub(crate) fn names(&self, grant: &Grant) -> bool
-        ensures { result ≡ is_named self.now grant.now }
+        ensures { result ≡ is_named_by self.now grant.now }
     {
         self.named.contains(&named_with(grant))
     }
 
     /// One more revocation; returns whether none of them named the same. On `Err` memory was refused.
     pub(crate) fn put(&mut self, revocation: &Revocation) -> Result<bool, AllocError>
-        ensures put { OnOk result ((grant : Grant) → is_named self.new grant ≡ (names revocation.now grant || is_named self.old grant)) }
+        ensures put { OnOk result ((grant : Grant) → is_named_by self.new grant ≡ (names revocation.now grant || is_named_by self.old grant)) }
         ensures was { IfOk result (λ is_new. is_new ≡ not (has_named self.old (named_by revocation.now))) }
     {
         let named = named_by(revocation);
