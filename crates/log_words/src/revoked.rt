@@ -62,7 +62,8 @@ impl Revoked {
 
     /// One more revocation; returns whether none of them named the same. On `Err` memory was refused.
     pub(crate) fn put(&mut self, revocation: &Revocation) -> Result<bool, AllocError>
-        ensures put { OnOk result ((grant : Grant) → is_named_by self.new grant ≡ (names revocation.now grant || is_named_by self.old grant)) }
+        ensures put { OnOk result ((grant : Grant)
+            → is_named_by self.new grant ≡ (names revocation.now grant || is_named_by self.old grant)) }
         ensures was { IfOk result (λ is_new. is_new ≡ not (has_named self.old (named_by revocation.now))) }
     {
         let named = named_by(revocation);
