@@ -1,13 +1,14 @@
 -- Lines that are cut out of pieces of the input.
 use Rattle.std.proofs.Common.{◌≡◌, ◌≢◌, ℕ, zero, suc, ◌+◌, ◌-◌, ◌<◌, ◌≤◌, eqb, List, [], ◌∷◌, ◌++◌, length, take, drop, min, Option, Some, None, refl, inl, inr, ap, sym, ◌∙◌, subst, arith, append_assoc, add-one, slice_index, slice_range, IsTrue, is_some, ◌↔◌, take-take, drop-drop, length-drop, length-append}
-use Rattle.std.specs.Io.KnownBytes.{Keeps, IsAtEnd, prepend_known}
+use Rattle.std.specs.Io.KnownBytes.{Consumes, Keeps, IsAtEnd, prepend_known}
+use Rattle.std.proofs.KnownBytes.{Consumes-kept, Consumes-nil, Consumes-trans}
 use borrow.Author.Tests.{eqb-true, eq-eqb}
 use Rattle.std.proofs.lemmas.Bool.{ne_eqb, cond-false, cases_lt}
 use Rattle.std.proofs.lemmas.List.{take_all, append-nil, length-take, drop-take}
 use Rattle.std.proofs.Math.Seq.{take-append-add}
 use Rattle.memchr.specs.Find.{IsFirstByte, is_byte, Nowhere, Passes}
 use Rattle.log_text_base.specs.Lines.{first_line, other_lines, HasLine}
-use Rattle.log_text_base.specs.Known.{TookLine, HadSome}
+use Rattle.log_text_base.specs.Known.{ReadSome, TookLine, HadSome}
 
 -- Front, and then the reader's first line, are kept in line up to 4,097 bytes, but for what is still to come.
 abbrev pub KeepsLine : Option (List ℕ) → Option (List ℕ) → List ℕ → List ℕ → Type 0
@@ -214,3 +215,15 @@ none_ahead bytes now some same free =
 -- with a whole line ahead some byte is
 pub some_ahead : (bytes : List ℕ) → HasLine bytes → 0 < length bytes
 some_ahead bytes some = omega (arith, some.1)
+
+-- where nothing was read, no byte of the reader's is gone
+pub read_none : (a : Option (List ℕ)) → ReadSome a a
+read_none a = ([], Consumes-nil a)
+
+-- so it is where the bytes stay as they were
+pub read_kept : (a b : Option (List ℕ)) → Keeps a b → ReadSome a b
+read_kept a b kept = ([], Consumes-kept a a b [] (Consumes-nil a) kept)
+
+-- what was read by two reads, one after the other
+pub read_more : (a b c : Option (List ℕ)) → ReadSome a b → ReadSome b c → ReadSome a c
+read_more a b c first second = (first.0 ++ second.0, Consumes-trans a b c first.0 second.0 first.1 second.1)

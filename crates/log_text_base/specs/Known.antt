@@ -1,6 +1,6 @@
 -- What a call did to the bytes that a reader has left and a writer holds, where those are known, and to a count of failures.
 use Rattle.std.specs.Prelude.{◌≡◌, ◌<◌, ◌+◌, ◌-◌, ◌^◌, ℕ, List, ◌++◌, length, take, min, ⊤, Option, Some, None}
-use Rattle.std.specs.Io.KnownBytes.{Appends}
+use Rattle.std.specs.Io.KnownBytes.{Appends, Consumes}
 use Rattle.log_text_base.specs.Lines.{first_line, other_lines}
 use Rattle.log_text_base.specs.declared.limits.TheConstants.{KEPT_BYTES}
 
@@ -18,6 +18,10 @@ TookLine (Some xs) (Some ys) front line = (line ≡ take KEPT_BYTES (front ++ fi
 abbrev pub HadSome : Option (List ℕ) → Type 0
 HadSome None = ⊤
 HadSome (Some xs) = 0 < length xs
+
+-- A front of the reader's bytes was read, and it has the others left.
+abbrev pub ReadSome : Option (List ℕ) → Option (List ℕ) → Type 0
+ReadSome old new = (front : List ℕ) × Consumes old new front
 
 -- A front of the bytes was written, and no more.
 abbrev pub AppendsFront : Option (List ℕ) → Option (List ℕ) → List ℕ → Type 0

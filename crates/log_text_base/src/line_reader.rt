@@ -2,7 +2,7 @@
 ghost use Rattle.std.specs.Prelude.{◌≡◌, ◌<◌, ◌≤◌, ◌+◌, ◌^◌, ◌↔◌, [], ◌++◌, IfOk, OnOk, IfErr, IsTrue, MatchBool, drop, length, take, vec_len};
 ghost use Rattle.std.specs.Io.KnownBytes.{Keeps, IsAtEnd, prepend_known};
 ghost use Rattle.memchr.specs.Find.{IsFirstByte, is_byte};
-ghost use Rattle.log_text_base.specs.Known.{raised, TookLine, HadSome};
+ghost use Rattle.log_text_base.specs.Known.{raised, ReadSome, TookLine, HadSome};
 ghost use Rattle.log_text_base.specs.Lines.{HasLine};
 ghost use Rattle.log_text_base.specs.declared.limits.TheConstants.{BUFFER_BYTES, FIRST_BUFFER_BYTES, KEPT_BYTES};
 
@@ -159,6 +159,7 @@ impl LineReader {
         ensures ok { OnOk result (reader.new.errors ≡ reader.old.errors) }
         ensures err { IfErr result (λ f. (f ≡ ReadFault.Read)
             × (reader.new.errors ≡ raised reader.old.errors)) }
+        ensures left { ReadSome (R.remaining reader.old.inner) (R.remaining reader.new.inner) }
         ensures kept { self.new.kept.items ≡ self.old.kept.items }
         ensures is_kept { self.new.is_kept ≡ self.old.is_kept }
     {
@@ -189,6 +190,7 @@ impl LineReader {
         ensures ok { OnOk result (reader.new.errors ≡ reader.old.errors) }
         ensures err { IfErr result (λ f. (f ≡ ReadFault.Read)
             × (reader.new.errors ≡ raised reader.old.errors)) }
+        ensures left { ReadSome (R.remaining reader.old.inner) (R.remaining reader.new.inner) }
         ensures kept { self.new.kept.items ≡ self.old.kept.items }
         ensures is_kept { self.new.is_kept ≡ self.old.is_kept }
         ensures unread { 0 < length (ahead self.old)
@@ -234,6 +236,7 @@ impl LineReader {
             (reader.old.given + length (ahead self.new) < reader.new.given + length (ahead self.old))
             × (reader.new.given ≤ MOST_GIVEN_BYTES + BUFFER_BYTES)) }
         ensures bound { 0 < length (ahead self.new) → reader.new.given ≤ MOST_GIVEN_BYTES + BUFFER_BYTES }
+        ensures left { ReadSome (R.remaining reader.old.inner) (R.remaining reader.new.inner) }
         ensures is_kept { self.new.is_kept ≡ self.old.is_kept }
     {
         'pieces: loop {
@@ -273,6 +276,8 @@ impl LineReader {
             ((reader.old.given + length (ahead self.new) < reader.new.given + length (ahead self.old))
             × (reader.new.given ≤ MOST_GIVEN_BYTES + BUFFER_BYTES))
             (reader.new.given ≡ reader.old.given)) }
+        // What the reader has left is an end of what it had, after an error too.
+        ensures left { ReadSome (R.remaining reader.old.inner) (R.remaining reader.new.inner) }
         // What a further call requires holds after an error too.
         ensures bound { 0 < length (ahead self.new) → reader.new.given ≤ MOST_GIVEN_BYTES + BUFFER_BYTES }
         // Where a whole line was read ahead, the reader isn't asked.

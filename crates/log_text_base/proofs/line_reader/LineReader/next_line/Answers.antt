@@ -2,7 +2,7 @@
 use Rattle.std.proofs.Common.{◌≡◌, ℕ, ◌<◌, ◌≤◌, ◌+◌, ◌-◌, length, drop, min, ap, sym, ◌∙◌, length-drop, arith}
 use Rattle.std.proofs.lemmas.List.{length-take}
 use Rattle.log_text_base.specs.Ahead.{ahead}
-use Rattle.log_text_base.proofs.Pieces.{drop_range, line_whole, took_kept, had_some, none_ahead, some_ahead}
+use Rattle.log_text_base.proofs.Pieces.{drop_range, line_whole, took_kept, had_some, none_ahead, read_more, some_ahead}
 use Rattle.log_text_base.proofs.line_reader.LineReader.next_line.Goals as goal
 
 less_ahead : (given all old new fewer n : ℕ) → new + all ≡ given + old → fewer ≡ old - (n + 1) → n < old → given + fewer < new + all
@@ -81,3 +81,9 @@ returns-clause-given g c =
 
 pub returns-clause-bound : goal.returns-clause-bound
 returns-clause-bound g c = c.rest_of_line.ensures.bound
+
+pub returns-in_err-rest_of_line-clause-left : goal.returns-in_err-rest_of_line-clause-left
+returns-in_err-rest_of_line-clause-left g c = read_more _ _ _ c.look_ahead.ensures.left c.rest_of_line.ensures.left
+
+pub returns-clause-left : goal.returns-clause-left
+returns-clause-left g c = read_more _ _ _ c.look_ahead.ensures.left c.rest_of_line.ensures.left

@@ -3,7 +3,7 @@ use Rattle.std.proofs.Common.{◌≡◌, ℕ, ◌<◌, ◌≤◌, ◌+◌, ◌-�
 use Rattle.std.proofs.lemmas.List.{length-take}
 use Rattle.log_text_base.specs.Ahead.{ahead}
 use Rattle.log_text_base.specs.Known.{raised}
-use Rattle.log_text_base.proofs.Pieces.{line_start, line_cut, line_piece, line_over, drop_range, empty_range, keeps_empty, piece_kept}
+use Rattle.log_text_base.proofs.Pieces.{line_start, line_cut, line_piece, line_over, drop_range, empty_range, keeps_empty, piece_kept, read_more, read_none}
 use Rattle.log_text_base.specs.declared.limits.TheConstants.{BUFFER_BYTES, MOST_GIVEN_BYTES}
 use Rattle.log_text_base.proofs.line_reader.LineReader.rest_of_line.Goals as goal
 
@@ -55,6 +55,7 @@ pieces-preserved g c =
       some = some;
       given = c.look_ahead.ensures.bound some;
       forward = omega (arith, read, nothing, c.pieces.invariant.forward);
+      left = read_more _ _ _ c.pieces.invariant.left c.look_ahead.ensures.left;
       errors = c.in_ok-look_ahead.ensures.ok ∙ c.pieces.invariant.errors;
       is_kept = c.look_ahead.ensures.is_kept ∙ c.keep-in-pieces.ensures.is_kept ∙ c.pieces.invariant.is_kept;
     }
@@ -65,6 +66,7 @@ pieces-init g c = record {
   some = c.requires.some;
   given = c.requires.given;
   forward = as_before c.args.reader.now.given (length (ahead c.args.self.now));
+  left = read_none _;
   errors = refl;
   is_kept = refl;
 }
@@ -114,3 +116,6 @@ returns-in_err-look_ahead-clause-bound g c = c.look_ahead.ensures.bound
 
 pub returns-in_err-look_ahead-clause-read : goal.returns-in_err-look_ahead-clause-read
 returns-in_err-look_ahead-clause-read g c = λ _. c.in_err-look_ahead.ensures.err.1 ∙ ap raised c.pieces.invariant.errors
+
+pub returns-in_err-look_ahead-clause-left : goal.returns-in_err-look_ahead-clause-left
+returns-in_err-look_ahead-clause-left g c = read_more _ _ _ c.pieces.invariant.left c.look_ahead.ensures.left

@@ -3,6 +3,7 @@ use Rattle.std.proofs.Common.{◌≡◌, ◌<◌, ◌≤◌, ◌+◌, ◌-◌, l
 use Rattle.std.specs.Io.KnownBytes.{prepend_known}
 use Rattle.log_text_base.proofs.Pieces.{KeepsLine}
 use Rattle.log_text_base.specs.Ahead.{ahead}
+use Rattle.log_text_base.specs.Known.{ReadSome}
 use Rattle.log_text_base.specs.declared.limits.TheConstants.{BUFFER_BYTES, MOST_GIVEN_BYTES}
 use Rattle.log_text_base.proofs.line_reader.LineReader.rest_of_line.Given as goal
 
@@ -12,6 +13,7 @@ invariant-pieces g l = record {
   some : 0 < length (ahead l.self);
   given : l.reader.given ≤ MOST_GIVEN_BYTES + BUFFER_BYTES;
   forward : l.initial.reader.given + length (ahead l.self) ≤ l.reader.given + length (ahead l.initial.self);
+  left : ReadSome (g.R.Read.remaining l.initial.reader.inner) (g.R.Read.remaining l.reader.inner);
   errors : l.reader.errors ≡ l.initial.reader.errors;
   is_kept : l.self.is_kept ≡ l.initial.self.is_kept;
 }
