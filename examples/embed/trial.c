@@ -1,4 +1,4 @@
-/* trial: calls that are wrong, handles that move, and calls made again after out of memory. It tells what was wrong, with status 1. */
+/* trial: calls that are wrong, handles that move, and calls made again after out of memory. It prints what was wrong, and ends with status 1. */
 #include "bohm.h"
 #include <pthread.h>
 #include <stdio.h>
