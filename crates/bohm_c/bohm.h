@@ -34,7 +34,7 @@ typedef struct bohm {
     bool is_open;
 } bohm;
 
-#define BOHM_CLOSED_HANDLE { 0 }
+#define BOHM_CLOSED_HANDLE { 0, false }
 
 enum {
     BOHM_DONE = 0,

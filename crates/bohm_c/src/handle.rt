@@ -1,4 +1,4 @@
-//! A run behind a pointer that C keeps.
+//! A run that C keeps by its pointer.
 
 ghost use Rattle.std.specs.Prelude.{◌≡◌, true, false, IfSome, IfNone, Option, Some, None};
 ghost use Rattle.fed_run.specs.declared.fed.FedRun.{FedRun};

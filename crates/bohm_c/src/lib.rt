@@ -1,6 +1,6 @@
 //! The run of a text in order for C: see bohm.h.
 //!
-//! A handle is a pointer and a flag that C keeps. Each call takes the run out of the handle, and puts it back.
+//! A handle is a pointer and a flag that C keeps. Each call takes the run out of the handle, and gives it back.
 #![tactic(auto)]
 
 ghost use Rattle.std.specs.Prelude.{◌≡◌, ◌≤◌, ◌<◌, ◌++◌, ◌↔◌, [], false, ℕ, List, None, Some, IfSome, IfNone, IsSome, drop, length, pos, take, true};

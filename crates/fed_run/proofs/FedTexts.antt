@@ -30,7 +30,7 @@ became-append : (names : Names) (xs ys : List Reading) → all_became names (xs 
 became-append names [] ys = refl
 became-append names (x ∷ xs) ys = ap (λ (lines : List Became). became names x ∷ lines) (became-append (names_with names x) xs ys)
 
--- the lines that were reported are told the same by a longer log
+-- a longer log reports these lines the same
 told-longer : (log : Accepted) (more : List Reading) (reported : List Became) → IsWhole log → places_taken reported ≤ length log.statements
     → report_text (log.statements ++ log_of log.names more) (names_after log.names more).tables 1 0 reported ≡ texts_of_lines log 1 0 reported
 told-longer log more reported whole less =
@@ -87,7 +87,7 @@ begins i j pending log done waiting next is =
     let starts : log_text whole_log (all_became no_names all) ≡ texts_of_lines log 1 0 is.reported ++ rest = report-begins log is.earlier later.0 is.reported waiting is.whole is.made few in
     (rest, subst (IsReport i) (starts ∙ ap (λ (w : List ℕ). w ++ rest) (sym is.text)) report)
 
--- the same, told otherwise
+-- the same by equal parts
 module _ (i j : List ℕ) where
   same_reported : (p q : List ℕ) (log more : Accepted) (done than : ℕ) (waiting lines : List Became) (next number : ℕ)
       → p ≡ q → log ≡ more → done ≡ than → waiting ≡ lines → next ≡ number → IsReported i j p log done waiting next → IsReported i j q more than lines number
@@ -326,7 +326,7 @@ given_begins run input written future stands may =
     begins (input ++ future) (stands.tail ++ future) (written ++ unsent run) run.order.log run.order.reported run.order.waiting (run.lines + 1 + length run.order.waiting)
     (stands.reached future may)
 
--- the end of the text was told
+-- the text was ended
 pub stands_told : (old new : FedRun) → new.begun.items ≡ old.begun.items → new.is_ended ≡ true → new.order ≡ old.order → unsent new ≡ unsent old → new.lines ≡ old.lines
     → (input written : List ℕ) → IsFed old input written → IsFed new input written
 stands_told old new begun ended order unsent_is lines input written stands = record {

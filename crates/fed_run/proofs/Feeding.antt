@@ -71,7 +71,7 @@ feeds_taken input out bytes old mid new used made count feeds is less all stands
   ended = ended ∙ feeds.ended;
 }
 
--- nothing was, and it stands as before
+-- none was taken, and the run is as far as before
 pub feeds_same : (input out : List ℕ) (old mid new : FedRun) (used made : ℕ) → Feeds input out old mid used made
     → ((text written : List ℕ) → IsFed mid text written → IsFed new text written) → new.is_ended ≡ mid.is_ended → Feeds input out old new used made
 feeds_same input out old mid new used made feeds stands ended = record {
@@ -176,7 +176,7 @@ pub feeds_last : (input out_old out_new : List ℕ) (old mid next new : FedRun) 
 feeds_last input out_old out_new old mid next new used made_old made_new feeds stands ended gives =
     feeds_gives input out_old out_new old next new used made_old made_new (feeds_same input out_old old mid next used made_old feeds stands ended) gives
 
--- the end was told first
+-- the text was ended first
 module _ (out : List ℕ) (old mid new : FedRun) (used made : ℕ) (feeds : Feeds [] out mid new used made) (begun : mid.begun.items ≡ old.begun.items)
     (ended : mid.is_ended ≡ true) (order : mid.order ≡ old.order) (unsent_is : unsent mid ≡ unsent old) (lines : mid.lines ≡ old.lines) where
   pub told_stands : (text written : List ℕ) → IsFed old text written → IsFed new text (written ++ take made out)

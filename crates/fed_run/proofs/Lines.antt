@@ -11,7 +11,7 @@ first_more b bs ne = cond-false (eqb b 10) [] (b ∷ first_line bs) (ne_eqb b 10
 other_more : (b : ℕ) (bs : List ℕ) → b ≢ 10 → other_lines (b ∷ bs) ≡ other_lines bs
 other_more b bs ne = cond-false (eqb b 10) bs (other_lines bs) (ne_eqb b 10 ne)
 
--- without an LF in the front the first line goes on behind it
+-- without an LF in the front the first line goes on after it
 module _ (ys : List ℕ) where
   pub first_through : (xs : List ℕ) → (HasLine xs → ⊥) → first_line (xs ++ ys) ≡ xs ++ first_line ys
   first_through [] none = refl
@@ -43,7 +43,7 @@ fewer_one : (x : ℕ) (xs : List ℕ) → length (other_lines (x ∷ xs)) ≤ le
 fewer_one x xs =
     elim (eqb x 10) as (λ (b : Bool). length (if b then xs else other_lines xs) ≤ length xs) [ true ↦ omega arith | false ↦ fewer xs ]
 
--- the bytes up to and with the first LF, whatever comes behind them
+-- the bytes up to and with the first LF, whatever follows them
 pub cut_at : (f : List ℕ) (bytes : List ℕ) (count : ℕ) → count ≤ length bytes → other_lines (bytes ++ 10 ∷ []) ≡ drop count bytes ++ 10 ∷ []
     → (first_line (take count bytes ++ f) ≡ first_line (bytes ++ 10 ∷ [])) × (other_lines (take count bytes ++ f) ≡ f)
 cut_at f [] count less is = absurd (omega (arith, ap length is, length-append {A = ℕ} (drop count []) (10 ∷ [])))

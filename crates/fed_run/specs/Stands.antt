@@ -1,4 +1,4 @@
--- Where a run stands that is fed piece by piece.
+-- How far a run is that is fed piece by piece.
 use Rattle.std.specs.Prelude.{◌≡◌, ◌≤◌, ◌<◌, ◌+◌, ◌++◌, [], ℕ, true, List, drop, length, take}
 use Rattle.log_text_base.specs.Lines.{HasLine}
 use Rattle.log_text_base.specs.declared.limits.TheConstants.{KEPT_BYTES}
@@ -10,7 +10,7 @@ use Rattle.fed_run.specs.declared.fed.FedRun.{FedRun}
 abbrev pub unsent : FedRun → List ℕ
 unsent run = drop run.sent run.text.items
 
--- what may still come: where the end of the text was told, nothing
+-- what may still come: nothing once the text was ended
 abbrev pub MayCome : FedRun → List ℕ → Type 0
 MayCome run future = run.is_ended ≡ true → future ≡ []
 

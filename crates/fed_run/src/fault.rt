@@ -15,7 +15,7 @@ pub enum FeedFault {
     NoMemory,
     /// There are as many lines as can be counted.
     Full,
-    /// The end of the text was told before.
+    /// The text was ended before.
     Ended,
 }
 

@@ -36,7 +36,7 @@ pub struct FedRun {
     text: Vec<u8>,
     /// How many bytes of it were given.
     sent: usize,
-    /// Whether the end of the text was told.
+    /// Whether the text was ended.
     is_ended: bool,
     ghost within: { sent ≤ length text.items },
 }
@@ -266,8 +266,8 @@ impl FedRun {
     /// is dealt with once its LF is taken, and its line of the report is given before more is taken.
     ///
     /// However a text is cut into calls, and however little room there is, what is given is a beginning of its report. On `NoMemory` a
-    /// growth was refused: what was taken and given is told, it is whole lines, nothing is lost, and the call may be made again with the
-    /// rest. `Full` is returned where there are as many lines as can be counted. After `finish` nothing is done, and `Ended` is returned.
+    /// growth was refused: `Step` has what was taken and given, which is whole lines, nothing is lost, and the call may be made again with
+    /// the rest. `Full` is returned where there are as many lines as can be counted. After `finish` nothing is done, and `Ended` is returned.
     pub fn step(
         &mut self,
         alloc: Global,
@@ -277,10 +277,10 @@ impl FedRun {
         ensures used { result.0.used ≤ length input.now }
         ensures made { result.0.made ≤ length out.old }
         ensures full { OnOk result.1 (result.0.used < length input.now → result.0.made ≡ length out.old) }
-        // Where the run stood by a text and what was written, it stands by both with what was taken and given.
+        // A run that was given a text and gave what is written was now given what was taken too, and gave what was given.
         ensures stands { (text written : List ℕ) → IsFed self.old text written
             → IsFed self.new (text ++ take result.0.used input.now) (written ++ take result.0.made out.new) }
-        // After want of memory what was given is whole lines.
+        // When out of memory, and where no more lines can be counted, what was given is whole lines.
         ensures lines { IfErr result.1 (λ fault. (fault ≡ FeedFault.Ended → ⊥) → unsent self.new ≡ []) }
         ensures ended { (result.1 ≡ Err FeedFault.Ended) ↔ (self.old.is_ended ≡ true) }
         ensures still { result.1 ≡ Err FeedFault.Ended
@@ -295,7 +295,7 @@ impl FedRun {
         (step, done)
     }
 
-    /// Takes the line that has begun, once the end of the text was told, and gives bytes, as `finish`.
+    /// Takes the line that has begun, once the text was ended, and gives bytes, as `finish`.
     fn end(&mut self, alloc: Global, out: &mut [u8], step: &mut Step) -> Result<(), FeedFault>
         requires ended { self.old.is_ended ≡ true }
         requires used { step.old.used ≡ 0 }
@@ -319,9 +319,9 @@ impl FedRun {
         Ok(())
     }
 
-    /// Tells that the text ends here, so that bytes after its last LF are a line too, and gives bytes of the report into `out`. Where it
-    /// fills less than `out`, that was all, and the report is whole; else it is to be called again. It returns how many bytes it gave, and
-    /// the same faults as `step` but `Ended`.
+    /// Ends the text, so that bytes after its last LF are a line too, and gives bytes of the report into `out`. Where it fills less than `out`,
+    /// that was all, and the report is whole; else call it again. It returns how many bytes it gave, and the same faults as `step` but
+    /// `Ended`.
     pub fn finish(&mut self, alloc: Global, out: &mut [u8]) -> (usize, Result<(), FeedFault>)
         ensures made { result.0 ≤ length out.old }
         ensures stands { (text written : List ℕ) → IsFed self.old text written → IsFed self.new text (written ++ take result.0 out.new) }

@@ -209,7 +209,7 @@ impl InOrder {
         self.log.forget_all();
     }
 
-    /// Drops the versions of rows that no later place can read. Nothing that is told changes.
+    /// Drops the versions of rows that no later place can read. What clauses say of the log doesn't change.
     fn trim(&mut self)
         ensures { self.new ≡ self.old }
     {

@@ -7,7 +7,7 @@ use log_text_base::KEPT_BYTES;
 use std::alloc::AllocError;
 
 /// Appends the further bytes of a line to those that are kept of it, which are its first `KEPT_BYTES`. On `Err` memory was refused, and
-/// those that were kept are.
+/// none was appended.
 pub(crate) fn keep_more(kept: &mut Vec<u8>, bytes: &[u8]) -> Result<(), AllocError>
     ensures ok { OnOk result ((line : List ℕ) → kept.old.items ≡ take KEPT_BYTES line
         → kept.new.items ≡ take KEPT_BYTES (line ++ bytes.now)) }
