@@ -12,13 +12,13 @@ pub grant-requires : goal.grant-requires
 grant-requires c =
     let next = c.in-Some.ensures in
     let less = found-earlier (batch_in c.args.batch.now) (is_to c.args.grantee.now c.args.kind c.args.table) c.in-Some.slot next.1 in
-    omega (arith, less, c.earlier_count-_count.ensures.value, c.earlier_count-_count.ensures.within)
+    omega (arith, less, c.earlier_count-count.ensures.value, c.earlier_count-count.ensures.within)
 
 pub overflow_add-from : goal.overflow_add-from
 overflow_add-from c =
     let next = c.in-Some.ensures in
     let less = found-earlier (batch_in c.args.batch.now) (is_to c.args.grantee.now c.args.kind c.args.table) c.in-Some.slot next.1 in
-    omega (arith, less, c.earlier_count-_count.ensures.value, c.earlier_count-_count.type_inv)
+    omega (arith, less, c.earlier_count-count.ensures.value, c.earlier_count-count.type_inv)
 
 pub loop-slot-smaller : goal.loop-slot-smaller
 loop-slot-smaller c =
