@@ -19,7 +19,7 @@ none-front : (more end : List ℕ) → [] ≡ more ++ end → more ≡ []
 none-front [] end is = refl
 none-front (b ∷ more) end is = absurd (cc)
 
--- the first line was cut off the bytes, with its LF: whatever is then left of what follows it, it is the first line
+-- these bytes are the first line, with its LF if it has one, also where fewer bytes follow it
 record CutsLine (bytes line : List ℕ) : Type 0 where
   whole : bytes ≡ line ++ other_lines bytes
   some : 0 < length bytes → 0 < length line

@@ -1,4 +1,4 @@
--- What was written when a reader has some bytes left: of the report of those that were read.
+-- What was written, as a beginning of the report of the bytes that were read.
 use Rattle.std.proofs.Common.{◌≡◌, ◌++◌, ℕ, List, [], ◌∷◌, Option, Some, None, refl, ap, sym, ◌∙◌, subst, append_assoc}
 use Rattle.std.specs.Io.KnownBytes.{IsAtEnd, Keeps, prepend_known}
 use Rattle.std.proofs.lemmas.List.{append-nil}
@@ -57,7 +57,7 @@ module _ (o n : Option (List ℕ)) (pending : List ℕ) (log : Accepted) (done :
       if_read i j k bytes (λ given. HasBegunReport (Some given) o n pending) so some
       (λ given more less. begun_batched total (Some given) (Some (bytes ++ more)) o n pending log done waiting next less)
 
--- so it is after a run of lines at hand
+-- so it is after a run of the lines that are available
 pub run_begun : (i j o n : Option (List ℕ)) (bytes : List ℕ) (old new : Batching) → BeginsFrom bytes 0 old new → BatchedUpTo i (prepend_known bytes j) o n old
     → HasBegunReportOfRead i j o n new.pending.items
 run_begun i j o n bytes old new begins so =
