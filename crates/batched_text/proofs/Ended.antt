@@ -1,6 +1,6 @@
 -- The report at its end, and what was written when a fault comes.
 use Rattle.std.proofs.Common.{◌≡◌, ◌≤◌, ◌+◌, ◌-◌, ◌++◌, ℕ, List, [], ◌∷◌, Option, Some, None, length, refl, ap, sym, ◌∙◌, subst, arith, append_assoc}
-use Rattle.std.specs.Io.KnownBytes.{Appends, IsAtEnd, prepend_known}
+use Rattle.std.specs.Io.KnownBytes.{Appends, prepend_known}
 use Rattle.std.proofs.lemmas.List.{append-nil, length-append}
 use Rattle.log_text_base.specs.Known.{AppendsFront, MovesOut}
 use Rattle.log_text_base.proofs.Written.{appends_then}
@@ -11,16 +11,17 @@ use Rattle.sequencer.specs.Refusal.{refusal}
 use Rattle.sequencer.specs.declared.refused.Refused.{Refused}
 use Rattle.report.specs.Report.{Reading, accepted, faulty, read, statement_if}
 use Rattle.bohm_base.specs.declared.collecting.Became.{Became}
-use Rattle.bohm_base.specs.Collecting.{Collects, IsLogOf, AreReadBefore, became, became_if, log_text, places_of}
+use Rattle.bohm_base.specs.Collecting.{Collects, IsLogOf, became, became_if, log_text, places_of}
 use Rattle.bohm_base.proofs.Beginnings.{rest_lost}
 use Rattle.bohm_base.proofs.Reached.{report_begun, appends_nothing}
 use Rattle.bohm_base.specs.Pending.{HasBegunReport, HasReport}
 use Rattle.bohm_base.proofs.LinesRead.{collect_end}
 use Rattle.bohm_base.proofs.Logs.{report_is}
 use Rattle.engine.specs.Engine.{Run, finished}
-use Rattle.batched_text.specs.Batching.{Batched, BatchedUpTo, Gathers, IsBatched, IsCounted, IsFresh, IsLogOfText, Takes, lines_text}
+use Rattle.batched_text.specs.Batching.{AreReadFirst, Batched, BatchedUpTo, Gathers, IsBatched, IsCounted, IsFresh, IsLogOfText, Takes, lines_text}
 use Rattle.batched_text.specs.declared.batching.Batching.{Batching}
 use Rattle.batched_text.specs.Places.{places_in}
+use Rattle.batched_text.proofs.Ends.{read_before, read_start}
 use Rattle.batched_text.proofs.Reports.{parts}
 use Rattle.batched_text.proofs.Sofar.{places-append}
 
@@ -61,7 +62,7 @@ batched_start (Some xs) o bytes batching b first = (
     appends_nothing o,
     record {
       earlier = [];
-      leads = subst (λ (w : List ℕ). AreReadBefore xs (w ++ xs) []) (sym b) (λ later reads. reads);
+      leads = subst (λ (w : List ℕ). AreReadFirst xs (w ++ xs) []) (sym b) (read_start xs);
       reported = [];
       made = subst (λ (ls : List Became). IsLogOf [] batching.engine.log ls) (sym first.nobody)
           (subst (λ (log : Accepted). IsLogOf [] log []) (sym first.log) (record { names = refl; statements = refl; each = refl }));
@@ -99,15 +100,13 @@ begun_cut i o n m pending less begun front none = report_begun i o n m pending l
 -- at the end of the input, the waiting lines reported, the report is whole
 module _ (o n : Option (List ℕ)) (batching : Batching) (text : List ℕ)
     (told : text ≡ batching.pending.items ++ lines_text batching.engine.log (batching.number - length batching.waiting.items) (finished batching.engine) batching.waiting.items) where
-  ended : (i j : Option (List ℕ)) → IsAtEnd j → BatchedUpTo i j o n batching → HasReport i o n text
-  ended None j end so = tt
-  ended (Some xs) None end so = absurd so
-  ended (Some xs) (Some ys) end so =
+  ended : (xs : List ℕ) → BatchedUpTo (Some xs) (Some []) o n batching → HasReport (Some xs) o n text
+  ended xs so =
       let was = so.1.1 in
       let log : Accepted = batching.engine.log in
       let waiting : List Became = batching.waiting.items in
       let all : List Became = was.reported ++ waiting in
-      let collects : Collects xs log all = collect_end (Some xs) (Some ys) log all (was.earlier, (was.leads, was.made)) end in
+      let collects : Collects xs log all = collect_end (Some xs) (Some []) log all (was.earlier, (read_before xs [] was.earlier was.leads, was.made)) refl in
       let number : batching.number - length waiting ≡ 1 + length was.reported = omega (arith, was.number) in
       let place : finished batching.engine ≡ 0 + places_in was.reported = omega (arith, was.places) in (
         log_text log all,
@@ -126,20 +125,17 @@ module _ (o n : Option (List ℕ)) (batching : Batching) (text : List ℕ)
         ),
       )
 
-  pub ended_batched : (i : Option (List ℕ)) → Gathers i o n batching → HasReport i o n text
-  ended_batched i gathers = ended i gathers.0 gathers.1.0 gathers.1.1
+  pub ended_batched : (i left : Option (List ℕ)) → Gathers i left o n batching → HasReport i o n text
+  ended_batched None left gathers = tt
+  ended_batched (Some xs) left gathers = ended xs gathers.1
 
 -- and the log is that of the text
-log_if_ended : (i j o n : Option (List ℕ)) (batching : Batching) → IsAtEnd j → BatchedUpTo i j o n batching → IsLogOfText i batching.engine.log
-log_if_ended None j o n batching end so = tt
-log_if_ended (Some xs) None o n batching end so = absurd so
-log_if_ended (Some xs) (Some ys) o n batching end so =
-    let was = so.1.1 in
+pub log_ended : (i left o n : Option (List ℕ)) (batching : Batching) → Gathers i left o n batching → IsLogOfText i batching.engine.log
+log_ended None left o n batching gathers = tt
+log_ended (Some xs) left o n batching gathers =
+    let was = gathers.1.1.1 in
     let all : List Became = was.reported ++ batching.waiting.items in
-    (all, collect_end (Some xs) (Some ys) batching.engine.log all (was.earlier, (was.leads, was.made)) end)
-
-pub log_ended : (i o n : Option (List ℕ)) (batching : Batching) → Gathers i o n batching → IsLogOfText i batching.engine.log
-log_ended i o n batching gathers = log_if_ended i gathers.0 o n batching gathers.1.0 gathers.1.1
+    (all, collect_end (Some xs) (Some []) batching.engine.log all (was.earlier, (read_before xs [] was.earlier was.leads, was.made)) refl)
 
 -- what is whole has begun
 pub begun_whole : (i o n : Option (List ℕ)) (pending : List ℕ) → HasReport i o n pending → HasBegunReport i o n pending

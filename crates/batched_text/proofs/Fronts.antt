@@ -1,20 +1,20 @@
 -- The log of the first lines of a text, up to a place.
-use Rattle.std.proofs.Common.{◌≡◌, ◌<◌, ◌≤◌, ◌⊎◌, ℕ, List, [], ◌∷◌, ◌++◌, length, None, Option, Some, refl, ap, sym, subst, arith, append_assoc, inl, inr}
+use Rattle.std.proofs.Common.{◌≡◌, ◌<◌, ◌≤◌, ◌⊎◌, ℕ, List, [], ◌∷◌, ◌++◌, length, None, Option, Some, refl, ap, sym, subst, arith, inl, inr}
 use Rattle.std.specs.Prelude.{◌&&◌, Bool, IfSome, MatchBool, false, nat_le, true, unwrap_or}
 use Rattle.std.proofs.lemmas.Bool.{leb-false}
 use Rattle.std.specs.Io.KnownBytes.{IsAtEnd, prepend_known}
 use Rattle.model_base.specs.declared.limits.TheConstants.{MOST_PLACES}
 use Rattle.log_text.proofs.Total.{total}
 use Rattle.log_text_base.specs.Known.{HadSome, TookLine}
-use Rattle.log_text_base.specs.Lines.{first_line, lines_of, other_lines}
-use Rattle.log_text_base.proofs.LinesLaws.{lines_first}
+use Rattle.log_text_base.specs.Lines.{first_line, lines_of}
 use Rattle.sequencer.specs.Catalog.{no_names}
 use Rattle.sequencer.specs.Log.{Accepted, empty_log}
-use Rattle.report.specs.Report.{AreReadings, IsReading, Reading, log_of}
+use Rattle.report.specs.Report.{AreReadings, Reading, log_of}
 use Rattle.report.proofs.Readings.{readings}
-use Rattle.bohm_base.specs.Collecting.{AreReadBefore, ReadsAs, became, with_reading}
+use Rattle.bohm_base.specs.Collecting.{ReadsAs, became, with_reading}
 use Rattle.bohm_base.specs.declared.collecting.Became.{Became}
 use Rattle.bohm_base.proofs.Logs.{log_step}
+use Rattle.batched_text.proofs.Ends.{leads_more}
 use Rattle.batched_text.specs.Reaching.{AreFewest, EndsTaking, HasTaken, IsFrontTaken, IsLogOfFront, IsLogUpTo}
 
 -- the last of some items, and those before it
@@ -45,14 +45,6 @@ fewest-more place earlier reading few = λ front last same has.
     let count : length (log_of no_names earlier) ≡ length (log_of no_names front) = ap (λ (rs : List Reading). length (log_of no_names rs)) is in
     omega (arith, has, few, count)
 
-leads-more : (input ys zs : List ℕ) (earlier : List Reading) (reading : Reading) → 0 < length ys → zs ≡ other_lines ys → IsReading (first_line ys) reading
-    → AreReadBefore input ys earlier → AreReadBefore input zs (earlier ++ reading ∷ [])
-leads-more input [] zs earlier reading some others reads leads = absurd (omega arith)
-leads-more input (b ∷ bs) zs earlier reading some others reads leads = λ later rest.
-    let first : AreReadings (lines_of (b ∷ bs)) (reading ∷ later) =
-    subst (λ (ls : List (List ℕ)). AreReadings ls (reading ∷ later)) (sym (lines_first b bs)) (reads, subst (λ (l : List ℕ). AreReadings (lines_of l) later) others rest) in
-    subst (AreReadings (lines_of input)) (sym (append_assoc earlier (reading ∷ []) later)) (leads (reading ∷ later) first)
-
 -- at first no line is taken
 pub front_start : (i : Option (List ℕ)) (bytes : List ℕ) (place : ℕ) (log : Accepted) → bytes ≡ [] → log ≡ empty_log → HasTaken i (prepend_known bytes i) place log
 front_start None bytes place log none empty = tt
@@ -72,7 +64,7 @@ front_step (Some input) (Some ys) (Some zs) place log new known so took few read
     let count : length log.statements ≡ length (log_of no_names so.earlier) = ap length so.made.statements in
     record {
       earlier = so.earlier ++ reading ∷ [];
-      leads = leads-more input ys zs so.earlier reading took.1 took.0.1 (reads (first_line ys) took.0.0) so.leads;
+      leads = leads_more input ys zs so.earlier reading took.1 took.0.1 (reads (first_line ys) took.0.0) so.leads;
       lines = so.lines ++ line ∷ [];
       made = log_step so.earlier reading log new so.lines (so.lines ++ line ∷ []) line so.made refl is refl;
       fewest = fewest-more place so.earlier reading (omega (arith, few, count));

@@ -1,7 +1,9 @@
 pub mod Histories
 pub mod Reports
+pub mod Ends
 pub mod Sofar
 pub mod Ended
+pub mod ReadSofar
 pub mod Faults
 pub mod Cutting
 pub mod TakenLines

@@ -3,7 +3,7 @@ use Rattle.std.proofs.Common.{◌≡◌, ◌≤◌, ◌+◌, ◌++◌, ℕ, List
 use Rattle.std.proofs.lemmas.List.{append-nil, length-append}
 use Rattle.model_base.specs.declared.statement.Statement.{Statement}
 use Rattle.log_text_base.specs.Known.{HadSome, TookLine}
-use Rattle.log_text_base.specs.Lines.{lines_of}
+use Rattle.log_text_base.specs.Lines.{first_line, lines_of}
 use Rattle.sequencer.specs.Catalog.{Names, no_names}
 use Rattle.sequencer.specs.Log.{Accepted}
 use Rattle.sequencer.specs.Taken.{IsWhole}
@@ -12,14 +12,14 @@ use Rattle.report.proofs.ReportLemmas.{log_of-append, names_after-append}
 use Rattle.report.proofs.Readings.{IsTotal, readings}
 use Rattle.bohm_base.specs.declared.collecting.Became.{Became}
 use Rattle.bohm_base.specs.Collecting.{IsLogOf, ReadsAs, all_became, became, log_text, report_text, with_reading}
-use Rattle.bohm_base.proofs.LinesRead.{collect_step}
-use Rattle.bohm_base.proofs.Logs.{report_is}
+use Rattle.bohm_base.proofs.Logs.{log_step, report_is}
 use Rattle.bohm_base.proofs.WholeLogs.{tables_after}
 use Rattle.bohm_base.specs.Pending.{HasBegunReport}
 use Rattle.engine.specs.Engine.{finished}
 use Rattle.batched_text.specs.Batching.{Batched, BatchedUpTo, Deals, ReportsLines, lines_text}
 use Rattle.batched_text.specs.declared.batching.Batching.{Batching}
 use Rattle.batched_text.specs.Places.{places_in}
+use Rattle.batched_text.proofs.Ends.{read_before, read_step}
 use Rattle.batched_text.proofs.Reports.{longer, parts}
 
 -- the log is one that was taken, and what is finished lies in it
@@ -91,7 +91,7 @@ begun_batched total (Some xs) (Some ys) o n pending log done waiting next so =
     let few : places_in is.reported ≤ length log.statements = omega (arith, is.places, is.within) in
     let after : Accepted = record { names = names_after no_names all; statements = log_of no_names all } in
     let text : List ℕ = log_text after (all_became no_names all) in
-    let report : IsReport xs text = report_is xs after (all_became no_names all) (all, (is.leads later.0 later.1, record { names = refl; statements = refl; each = refl })) in
+    let report : IsReport xs text = report_is xs after (all_became no_names all) (all, (read_before xs ys is.earlier is.leads later.0 later.1, record { names = refl; statements = refl; each = refl })) in
     let rest : List ℕ = report_text after.statements after.names.tables (1 + length is.reported) (0 + places_in is.reported) (waiting ++ all_became (names_after no_names is.earlier) later.0) in
     let begins : text ≡ lines_text log 1 0 is.reported ++ rest = report-begins log is.earlier later.0 is.reported waiting is.whole is.made few in
     (text, (report, (rest, (so.0, so.1.0, sym (append_assoc so.0 pending rest) ∙ ap (λ (w : List ℕ). w ++ rest) is.text ∙ sym begins))))
@@ -106,8 +106,9 @@ batched_taken (Some xs) (Some ys) None o n pending line reading log new done wai
 batched_taken (Some xs) (Some ys) (Some zs) o n pending line reading log new done waiting next so took reads is whole within =
     let was = so.1.1 in
     let one : Became = became log.names reading in
-    let step = collect_step (Some xs) (Some ys) (Some zs) log new (was.reported ++ waiting) ((was.reported ++ waiting) ++ one ∷ []) line one
-    (was.earlier, (was.leads, was.made)) took (reading, (reads, (refl, is))) refl in
+    let lines : List Became = was.reported ++ waiting in
+    let made : IsLogOf (was.earlier ++ reading ∷ []) new (lines ++ one ∷ []) =
+    log_step was.earlier reading log new lines (lines ++ one ∷ []) one was.made refl is refl in
     let few : places_in was.reported ≤ length log.statements = omega (arith, was.places, was.within) in
     let stays : lines_text new 1 0 was.reported ≡ lines_text log 1 0 was.reported =
     ap (λ (l : Accepted). lines_text l 1 0 was.reported) is
@@ -117,10 +118,10 @@ batched_taken (Some xs) (Some ys) (Some zs) o n pending line reading log new don
       (
         so.1.0,
         record {
-          earlier = step.0;
-          leads = step.1.0;
+          earlier = was.earlier ++ reading ∷ [];
+          leads = read_step xs ys zs was.earlier reading took.1 took.0.1 (reads (first_line ys) took.0.0) was.leads;
           reported = was.reported;
-          made = subst (λ (ls : List Became). IsLogOf step.0 new ls) (append_assoc was.reported waiting (one ∷ [])) step.1.1;
+          made = subst (λ (ls : List Became). IsLogOf (was.earlier ++ reading ∷ []) new ls) (append_assoc was.reported waiting (one ∷ [])) made;
           number = omega (arith, was.number, length-append waiting (one ∷ []));
           places = was.places;
           text = was.text ∙ sym stays;

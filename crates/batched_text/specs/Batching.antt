@@ -1,6 +1,6 @@
 -- A text that is read, run and reported in batches.
-use Rattle.std.specs.Prelude.{◌≡◌, ◌≤◌, ◌<◌, ◌+◌, ◌++◌, ◌∷◌, [], ⊤, ℕ, Bool, true, false, Result, Ok, List, Option, Some, None, length}
-use Rattle.std.specs.Io.KnownBytes.{Appends, IsAtEnd, prepend_known}
+use Rattle.std.specs.Prelude.{◌≡◌, ◌≤◌, ◌<◌, ◌+◌, ◌++◌, ◌∷◌, [], ⊤, ℕ, Bool, true, false, IfSome, Result, Ok, List, Option, Some, None, length}
+use Rattle.std.specs.Io.KnownBytes.{Appends, Consumes, prepend_known}
 use Rattle.log_text_base.specs.declared.limits.TheConstants.{BUFFER_BYTES, MOST_GIVEN_BYTES}
 use Rattle.report.specs.Report.{Reading}
 use Rattle.sequencer.specs.Log.{Accepted, empty_log}
@@ -12,6 +12,7 @@ use Rattle.bohm_base.specs.declared.fault.EngineFault.{EngineFault}
 use Rattle.engine.specs.Engine.{Run, finished}
 use Rattle.batched_text.specs.Places.{places_in}
 use Rattle.batched_text.specs.History.{IsCutBy, dropped_by}
+use Rattle.batched_text.specs.ReadBytes.{IfRead}
 use Rattle.batched_text.specs.Settings.{are_within_limits}
 use Rattle.batched_text.specs.declared.batching.Batching.{Batching}
 use Rattle.batched_text.specs.declared.history.Plan.{Plan}
@@ -83,10 +84,16 @@ pub record IsBatchReady (plan : Plan) (batching : Batching) (ahead given : ℕ) 
   pub bounded : 0 < ahead → given ≤ MOST_GIVEN_BYTES + BUFFER_BYTES
   pub numbered : batching.number + ahead ≤ given + 1
 
+-- the lines of the input before what is still to come are read so, wherever after them it ends
+pub record AreReadFirst (input rest : List ℕ) (earlier : List Reading) : Type 0 where
+  pub taken : List ℕ
+  pub all : input ≡ taken ++ rest
+  pub reads : (more end : List ℕ) → rest ≡ more ++ end → AreReadBefore (taken ++ more) more earlier
+
 -- the lines so far: those that were reported and those that are waiting
 pub record IsBatched (input rest written : List ℕ) (log : Accepted) (done : ℕ) (waiting : List Became) (next : ℕ) : Type 0 where
   pub earlier : List Reading
-  pub leads : AreReadBefore input rest earlier
+  pub leads : AreReadFirst input rest earlier
   pub reported : List Became
   pub made : IsLogOf earlier log (reported ++ waiting)
   pub number : 1 + length reported + length waiting ≡ next
@@ -103,10 +110,11 @@ Batched (Some input) None out_old out_now pending log done waiting next = ⊥
 Batched (Some input) (Some rest) out_old out_now pending log done waiting next =
     (front : List ℕ) × (Appends out_old out_now front × IsBatched input rest (front ++ pending) log done waiting next)
 
--- where a run stands between two lines: what is still to come, how many bytes of it are ahead and how many the reader gave; what
--- the writer holds; and the lines that were dealt with
+-- where a run stands between two lines: what is still to come, what of it the reader has left, how many bytes of it are ahead and how
+-- many the reader gave; what the writer holds; and the lines that were dealt with
 pub record BatchedStanding : Type 0 where
   pub rest : Option (List ℕ)
+  pub left : Option (List ℕ)
   pub ahead : ℕ
   pub given : ℕ
   pub out : Option (List ℕ)
@@ -116,6 +124,7 @@ pub record BatchedStanding : Type 0 where
 abbrev pub standing_at : List ℕ → Option (List ℕ) → ℕ → Option (List ℕ) → Batching → BatchedStanding
 standing_at ahead remaining given out batching = record {
   rest = prepend_known ahead remaining;
+  left = remaining;
   ahead = length ahead;
   given = given;
   out = out;
@@ -139,26 +148,34 @@ pub record TakesBatchedLine (plan : Plan) (old new : BatchedStanding) : Type 0 w
   pub most : new.given ≤ MOST_GIVEN_BYTES + BUFFER_BYTES
   pub batched : (input out : Option (List ℕ)) → BatchedTo input out old → BatchedTo input out new
 
--- all lines of the input are reported or wait
-abbrev pub Gathers : Option (List ℕ) → Option (List ℕ) → Option (List ℕ) → Batching → Type 0
-Gathers input out_old out_now batching =
-    (rest : Option (List ℕ)) × (IsAtEnd rest × BatchedUpTo input rest out_old out_now batching)
+-- all of the input was read, and all lines of it are reported or wait
+abbrev pub Gathers : Option (List ℕ) → Option (List ℕ) → Option (List ℕ) → Option (List ℕ) → Batching → Type 0
+Gathers input left out_old out_now batching =
+    IfSome input (λ bytes. Consumes input left bytes × BatchedUpTo input (Some []) out_old out_now batching)
+
+-- after what the writer held comes a beginning of the report of what was read, the end of it still pending
+abbrev pub HasBegunReportOfRead : Option (List ℕ) → Option (List ℕ) → Option (List ℕ) → Option (List ℕ) → List ℕ → Type 0
+HasBegunReportOfRead input left old now pending = IfRead input left (λ given. HasBegunReport (Some given) old now pending)
 
 -- what a turn resulted in by its answer, whatever input is batched: one more line was taken, or there was none; and in any case a beginning
--- of the report is written
+-- of the report is written, also of the report of what was read
 pub record BatchedTurn (plan : Plan) (result : Result Bool EngineFault)
     (old new : BatchedStanding) : Type 0 where
   pub taken : result ≡ Ok true → TakesBatchedLine plan old new
   pub room : result ≡ Ok false → IsOpen plan new.batching
-  pub ended : result ≡ Ok false → (input out : Option (List ℕ)) → BatchedTo input out old → Gathers input out new.out new.batching
+  pub ended : result ≡ Ok false → (input out : Option (List ℕ)) → BatchedTo input out old → Gathers input new.left out new.out new.batching
   pub begun : (input out : Option (List ℕ)) → BatchedTo input out old → HasBegunReport input out new.out new.batching.pending.items
+  pub begun_read : (input out : Option (List ℕ)) → BatchedTo input out old
+      → HasBegunReportOfRead input new.left out new.out new.batching.pending.items
 
 -- what the turns to the end of the input resulted in, whatever input is batched
 pub record EndsBatching (plan : Plan) (result : Result (Unit {0}) EngineFault)
-    (old : BatchedStanding) (out_now : Option (List ℕ)) (batching : Batching) : Type 0 where
+    (old : BatchedStanding) (left out_now : Option (List ℕ)) (batching : Batching) : Type 0 where
   pub room : result ≡ Ok tt → IsOpen plan batching
-  pub done : result ≡ Ok tt → (input out : Option (List ℕ)) → BatchedTo input out old → Gathers input out out_now batching
+  pub done : result ≡ Ok tt → (input out : Option (List ℕ)) → BatchedTo input out old → Gathers input left out out_now batching
   pub begun : (input out : Option (List ℕ)) → BatchedTo input out old → HasBegunReport input out out_now batching.pending.items
+  pub begun_read : (input out : Option (List ℕ)) → BatchedTo input out old
+      → HasBegunReportOfRead input left out out_now batching.pending.items
 
 -- the log is that of the input
 abbrev pub IsLogOfText : Option (List ℕ) → Accepted → Type 0

@@ -1,6 +1,7 @@
 pub mod Settings
 pub mod History
 pub mod Places
+pub mod ReadBytes
 pub mod Batching
 pub mod Reaching
 pub mod Faults

@@ -3,16 +3,17 @@
 ghost use Rattle.std.specs.Prelude.{◌≡◌, ◌≢◌, ◌<◌, ◌≤◌, ◌+◌, ◌-◌, ◌^◌, ◌↔◌, ℕ, [], false, true, List, Option, IfErr, IfOk, IfSome, MatchBool, OnErr, OnOk, Err, Ok, length};
 ghost use Rattle.std.specs.Io.KnownBytes.{Appends, IsAtEnd, Keeps, prepend_known};
 ghost use Rattle.log_text_base.specs.Ahead.{ahead, found_line};
-ghost use Rattle.log_text_base.specs.Known.{AppendsFront, HadSome, TookLine, raised};
+ghost use Rattle.log_text_base.specs.Known.{AppendsFront, HadSome, ReadSome, TookLine, raised};
 ghost use Rattle.report.specs.Report.{IsReport};
 ghost use Rattle.bohm_base.specs.Faults.{read_errors, write_errors};
 ghost use Rattle.bohm_base.specs.Pending.{HasBegunReport, HasReport};
 ghost use Rattle.sequencer.specs.Foretelling.{Begins};
 ghost use Rattle.engine.specs.Engine.{finished};
-ghost use Rattle.batched_text.specs.Batching.{BatchedTurn, EndsBatching, Gathers, IsBatchReady, IsFresh, IsLogOfText, IsOpen, standing_at};
+ghost use Rattle.batched_text.specs.Batching.{BatchedTurn, EndsBatching, Gathers, HasBegunReportOfRead, IsBatchReady, IsFresh, IsLogOfText, IsOpen, standing_at};
 ghost use Rattle.batched_text.specs.Faults.{of_text};
 ghost use Rattle.batched_text.specs.Foretold.{Runs, log_names};
 ghost use Rattle.batched_text.specs.History.{IsTrimmedBy, NoneWait, dropped_by};
+ghost use Rattle.batched_text.specs.ReadBytes.{IfRead};
 ghost use Rattle.batched_text.specs.Settings.{IsTrimmed, are_within_limits};
 
 use crate::batching::{Batching, report_batch, report_early};
@@ -67,6 +68,7 @@ fn next_line<R: Read>(
         [] (found_line lines.new)
         × HadSome (prepend_known (ahead lines.old) (R.remaining reader.old.inner)))
         (IsAtEnd (prepend_known (ahead lines.old) (R.remaining reader.old.inner)))) }
+    ensures left { ReadSome (R.remaining reader.old.inner) (R.remaining reader.new.inner) }
     ensures read { result ≡ Err ReadFault.Read → reader.new.errors ≡ raised reader.old.errors }
     ensures other { (result ≡ Err ReadFault.Read → ⊥) → reader.new.errors ≡ reader.old.errors }
     ensures given { IfOk result (λ found. MatchBool found
@@ -207,7 +209,7 @@ fn report_rest<T: Threads + Wait + Sync, R: Read, W: Write>(
     requires begins { Begins lookahead.old.names (log_names batching.old) }
     ensures ends { EndsBatching plan.now result
         (standing_at (ahead lines.old) (R.remaining reader.old.inner) reader.old.given (W.contents writer.old.inner) batching.old)
-        (W.contents writer.new.inner) batching.new }
+        (R.remaining reader.new.inner) (W.contents writer.new.inner) batching.new }
     ensures reads { reader.new.errors ≡ read_errors result reader.old.errors }
     ensures writes { writer.new.errors ≡ write_errors result writer.old.errors }
     ensures flushes { writer.new.flushes ≡ writer.old.flushes }
@@ -239,10 +241,12 @@ fn report_lines<T: Threads + Wait + Sync, R: Read, W: Write>(
     requires within { are_within_limits plan.now.settings ≡ true }
     requires first { IsFresh batching.old }
     ensures room { OnOk result (IsOpen plan.now batching.new) }
-    ensures done { OnOk result (Gathers (R.remaining reader.old.inner) (W.contents writer.old.inner)
+    ensures done { OnOk result (Gathers (R.remaining reader.old.inner) (R.remaining reader.new.inner) (W.contents writer.old.inner)
         (W.contents writer.new.inner) batching.new) }
     ensures begun { HasBegunReport (R.remaining reader.old.inner) (W.contents writer.old.inner) (W.contents writer.new.inner)
         batching.new.pending.items }
+    ensures begun_read { HasBegunReportOfRead (R.remaining reader.old.inner) (R.remaining reader.new.inner)
+        (W.contents writer.old.inner) (W.contents writer.new.inner) batching.new.pending.items }
     ensures reads { reader.new.errors ≡ read_errors result reader.old.errors }
     ensures writes { writer.new.errors ≡ write_errors result writer.old.errors }
     ensures flushes { writer.new.flushes ≡ writer.old.flushes }
@@ -282,6 +286,8 @@ fn report_all<T: Threads + Wait + Sync, R: Read, W: Write>(
         batching.new.pending.items) }
     ensures begun { HasBegunReport (R.remaining reader.old.inner) (W.contents writer.old.inner) (W.contents writer.new.inner)
         batching.new.pending.items }
+    ensures begun_read { HasBegunReportOfRead (R.remaining reader.old.inner) (R.remaining reader.new.inner)
+        (W.contents writer.old.inner) (W.contents writer.new.inner) batching.new.pending.items }
     ensures reads { reader.new.errors ≡ read_errors result reader.old.errors }
     ensures writes { writer.new.errors ≡ write_errors result writer.old.errors }
     ensures flushes { writer.new.flushes ≡ writer.old.flushes }
@@ -324,6 +330,8 @@ fn run_batches<T: Threads + Wait + Sync, R: Read, W: Write>(
         × (IsReport input text × Appends (W.contents writer.old.inner) (W.contents writer.new.inner) text))) }
     ensures begun { IfSome (R.remaining reader.old.inner) (λ input. (text : List ℕ)
         × (IsReport input text × AppendsFront (W.contents writer.old.inner) (W.contents writer.new.inner) text)) }
+    ensures begun_read { IfRead (R.remaining reader.old.inner) (R.remaining reader.new.inner) (λ given. (text : List ℕ)
+        × (IsReport given text × AppendsFront (W.contents writer.old.inner) (W.contents writer.new.inner) text)) }
     ensures read { result ≡ Err TextFault.Read → reader.old.errors < 2 ^ 64 - 1 → reader.old.errors < reader.new.errors }
     ensures write { result ≡ Err TextFault.Write → writer.old.errors < 2 ^ 64 - 1 → writer.old.errors < writer.new.errors }
     ensures whole { OnOk result ((reader.new.errors ≡ reader.old.errors) × (writer.new.errors ≡ writer.old.errors)) }
@@ -354,6 +362,8 @@ fn report_batches<T: Threads + Wait + Sync, R: Read, W: Write>(
         × (IsReport input text × Appends (W.contents writer.old.inner) (W.contents writer.new.inner) text))) }
     ensures begun { IfSome (R.remaining reader.old.inner) (λ input. (text : List ℕ)
         × (IsReport input text × AppendsFront (W.contents writer.old.inner) (W.contents writer.new.inner) text)) }
+    ensures begun_read { IfRead (R.remaining reader.old.inner) (R.remaining reader.new.inner) (λ given. (text : List ℕ)
+        × (IsReport given text × AppendsFront (W.contents writer.old.inner) (W.contents writer.new.inner) text)) }
     ensures read { result ≡ Err TextFault.Read → reader.old.errors < 2 ^ 64 - 1 → reader.old.errors < reader.new.errors }
     ensures write { result ≡ Err TextFault.Write → writer.old.errors < 2 ^ 64 - 1 → writer.old.errors < writer.new.errors }
     ensures whole { OnOk result ((reader.new.errors ≡ reader.old.errors) × (writer.new.errors ≡ writer.old.errors)) }
@@ -403,6 +413,9 @@ pub fn run_text<T: Threads + Wait + Sync, R: Read, W: Write>(
     // After a fault it is a beginning of it.
     ensures begun { IfSome (R.remaining reader.old.inner) (λ input. (text : List ℕ)
         × (IsReport input text × AppendsFront (W.contents writer.old.inner) (W.contents writer.new.inner) text)) }
+    // It is also a beginning of the report of what was read by then: it tells nothing of what the reader has left.
+    ensures begun_read { IfRead (R.remaining reader.old.inner) (R.remaining reader.new.inner) (λ given. (text : List ℕ)
+        × (IsReport given text × AppendsFront (W.contents writer.old.inner) (W.contents writer.new.inner) text)) }
     // Read and Write come only where the reader or the writer failed.
     ensures read { result ≡ Err EngineFault.Read → reader.old.errors < 2 ^ 64 - 1 → reader.old.errors < reader.new.errors }
     ensures write { result ≡ Err EngineFault.Write → writer.old.errors < 2 ^ 64 - 1 → writer.old.errors < writer.new.errors }
@@ -437,6 +450,8 @@ pub fn run_text_seeded<T: Threads + Wait + Sync, R: Read, W: Write>(
         × (IsReport input text × Appends (W.contents writer.old.inner) (W.contents writer.new.inner) text))) }
     ensures begun { IfSome (R.remaining reader.old.inner) (λ input. (text : List ℕ)
         × (IsReport input text × AppendsFront (W.contents writer.old.inner) (W.contents writer.new.inner) text)) }
+    ensures begun_read { IfRead (R.remaining reader.old.inner) (R.remaining reader.new.inner) (λ given. (text : List ℕ)
+        × (IsReport given text × AppendsFront (W.contents writer.old.inner) (W.contents writer.new.inner) text)) }
     ensures read { result ≡ Err EngineFault.Read → reader.old.errors < 2 ^ 64 - 1 → reader.old.errors < reader.new.errors }
     ensures write { result ≡ Err EngineFault.Write → writer.old.errors < 2 ^ 64 - 1 → writer.old.errors < writer.new.errors }
     ensures whole { OnOk result ((reader.new.errors ≡ reader.old.errors) × (writer.new.errors ≡ writer.old.errors)) }
@@ -482,6 +497,9 @@ pub fn report_text<T: Threads + Wait + Sync, R: Read, W: Write>(
     // After a fault it is a beginning of it.
     ensures begun { IfSome (R.remaining reader.old.inner) (λ input. (text : List ℕ)
         × (IsReport input text × AppendsFront (W.contents writer.old.inner) (W.contents writer.new.inner) text)) }
+    // It is also a beginning of the report of what was read by then: it tells nothing of what the reader has left.
+    ensures begun_read { IfRead (R.remaining reader.old.inner) (R.remaining reader.new.inner) (λ given. (text : List ℕ)
+        × (IsReport given text × AppendsFront (W.contents writer.old.inner) (W.contents writer.new.inner) text)) }
     // Read and Write come only where the reader or the writer failed.
     ensures read { result ≡ Err EngineFault.Read → reader.old.errors < 2 ^ 64 - 1 → reader.old.errors < reader.new.errors }
     ensures write { result ≡ Err EngineFault.Write → writer.old.errors < 2 ^ 64 - 1 → writer.old.errors < writer.new.errors }
@@ -510,6 +528,8 @@ pub fn report_text_seeded<T: Threads + Wait + Sync, R: Read, W: Write>(
         × (IsReport input text × Appends (W.contents writer.old.inner) (W.contents writer.new.inner) text))) }
     ensures begun { IfSome (R.remaining reader.old.inner) (λ input. (text : List ℕ)
         × (IsReport input text × AppendsFront (W.contents writer.old.inner) (W.contents writer.new.inner) text)) }
+    ensures begun_read { IfRead (R.remaining reader.old.inner) (R.remaining reader.new.inner) (λ given. (text : List ℕ)
+        × (IsReport given text × AppendsFront (W.contents writer.old.inner) (W.contents writer.new.inner) text)) }
     ensures read { result ≡ Err EngineFault.Read → reader.old.errors < 2 ^ 64 - 1 → reader.old.errors < reader.new.errors }
     ensures write { result ≡ Err EngineFault.Write → writer.old.errors < 2 ^ 64 - 1 → writer.old.errors < writer.new.errors }
     ensures whole { OnOk result ((reader.new.errors ≡ reader.old.errors) × (writer.new.errors ≡ writer.old.errors)) }
@@ -558,6 +578,9 @@ pub fn report_in_order<T: Threads + Wait + Sync, R: Read, W: Write>(
     // After a fault it is a beginning of it.
     ensures begun { IfSome (R.remaining reader.old.inner) (λ input. (text : List ℕ)
         × (IsReport input text × AppendsFront (W.contents writer.old.inner) (W.contents writer.new.inner) text)) }
+    // It is also a beginning of the report of what was read by then: it tells nothing of what the reader has left.
+    ensures begun_read { IfRead (R.remaining reader.old.inner) (R.remaining reader.new.inner) (λ given. (text : List ℕ)
+        × (IsReport given text × AppendsFront (W.contents writer.old.inner) (W.contents writer.new.inner) text)) }
     // Read and Write come only where the reader or the writer failed.
     ensures read { result ≡ Err TextFault.Read → reader.old.errors < 2 ^ 64 - 1 → reader.old.errors < reader.new.errors }
     ensures write { result ≡ Err TextFault.Write → writer.old.errors < 2 ^ 64 - 1 → writer.old.errors < writer.new.errors }
@@ -582,6 +605,8 @@ pub fn report_in_order_seeded<T: Threads + Wait + Sync, R: Read, W: Write>(
         × (IsReport input text × Appends (W.contents writer.old.inner) (W.contents writer.new.inner) text))) }
     ensures begun { IfSome (R.remaining reader.old.inner) (λ input. (text : List ℕ)
         × (IsReport input text × AppendsFront (W.contents writer.old.inner) (W.contents writer.new.inner) text)) }
+    ensures begun_read { IfRead (R.remaining reader.old.inner) (R.remaining reader.new.inner) (λ given. (text : List ℕ)
+        × (IsReport given text × AppendsFront (W.contents writer.old.inner) (W.contents writer.new.inner) text)) }
     ensures read { result ≡ Err TextFault.Read → reader.old.errors < 2 ^ 64 - 1 → reader.old.errors < reader.new.errors }
     ensures write { result ≡ Err TextFault.Write → writer.old.errors < 2 ^ 64 - 1 → writer.old.errors < writer.new.errors }
     ensures whole { OnOk result ((reader.new.errors ≡ reader.old.errors) × (writer.new.errors ≡ writer.old.errors)) }

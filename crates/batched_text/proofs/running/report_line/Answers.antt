@@ -1,8 +1,10 @@
 use Rattle.std.proofs.Common.{◌∙◌, arith, rules}
-use Rattle.log_text_base.specs.Ahead.{found_line}
+use Rattle.log_text_base.specs.Ahead.{ahead, found_line}
+use Rattle.log_text_base.proofs.Pieces.{read_none}
 use Rattle.log_text.proofs.Total.{total}
 use Rattle.batched_text.proofs.Faults.{reads_told, writes_never}
 use Rattle.batched_text.proofs.ForetoldLines.{begins_dealt}
+use Rattle.batched_text.proofs.ReadSofar.{gathers_end, read_begun}
 use Rattle.batched_text.proofs.Sofar.{batched_step, begun_batched}
 use Rattle.batched_text.proofs.running.report_line.Goals as goal
 
@@ -12,14 +14,17 @@ returns-in_err-next_line-clause-turn g c = λ held. record {
   room = search rules;
   ended = search rules;
   begun = λ input out so. begun_batched total input _ out _ _ _ _ _ _ so;
+  begun_read = λ input out so. read_begun _ _ _ _ _ _ _ total input _ _ (ahead c.args.lines.now) so c.in_err-next_line.ensures.left;
 }
 
 pub returns-then-not-branch-clause-turn : goal.returns-then-not-branch-clause-turn
 returns-then-not-branch-clause-turn g c = λ held. record {
   taken = search rules;
   room = λ _. c.requires.ready.room;
-  ended = λ _ input out so. (_, (rw c.if-not-branch.true at c.in_ok-next_line.ensures.line, so));
+  ended = λ _ input out so. gathers_end input _ _ out _ (ahead c.args.lines.now) c.args.batching.now so c.in_ok-next_line.ensures.left
+      (rw c.if-not-branch.true at c.in_ok-next_line.ensures.line);
   begun = λ input out so. begun_batched total input _ out _ _ _ _ _ _ so;
+  begun_read = λ input out so. read_begun _ _ _ _ _ _ _ total input _ _ (ahead c.args.lines.now) so c.in_ok-next_line.ensures.left;
 }
 
 pub returns-in_err-deal-clause-turn : goal.returns-in_err-deal-clause-turn
@@ -28,6 +33,8 @@ returns-in_err-deal-clause-turn g c = λ held. record {
   room = search rules;
   ended = search rules;
   begun = λ input out so. rw c.in_err-deal.ensures.pending (begun_batched total input _ out _ _ _ _ _ _ so);
+  begun_read = λ input out so. rw c.in_err-deal.ensures.pending
+      (read_begun _ _ _ _ _ _ _ total input _ _ (ahead c.args.lines.now) so c.in_ok-next_line.ensures.left);
 }
 
 pub returns-clause-turn : goal.returns-clause-turn
@@ -55,6 +62,10 @@ returns-clause-turn g c = λ held.
           (batched_step input _ _ out _ (found_line c.next_line.new.lines) dealt.0 c.args.batching.now c.deal.new.batching so
           (rw c.if-not-branch.false at c.in_ok-next_line.ensures.line) dealt.1.0 dealt.1.1 (omega (arith, before.counted))
           (record { whole = room.whole; within = omega (arith, room.counted) }));
+      begun_read = λ input out so. read_begun _ _ _ _ _ _ _ total input _ _ (ahead c.next_line.new.lines)
+          (batched_step input _ _ out _ (found_line c.next_line.new.lines) dealt.0 c.args.batching.now c.deal.new.batching so
+          (rw c.if-not-branch.false at c.in_ok-next_line.ensures.line) dealt.1.0 dealt.1.1 (omega (arith, before.counted))
+          (record { whole = room.whole; within = omega (arith, room.counted) })) (read_none _);
     }
 
 pub returns-clause-begins : goal.returns-clause-begins

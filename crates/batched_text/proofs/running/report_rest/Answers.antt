@@ -9,6 +9,7 @@ returns-in_err-report_turn-clause-ends g c = record {
   room = search rules;
   done = search rules;
   begun = λ input out so. c.report_turn.ensures.turn.begun input out (c.lines.invariant.batched input out so);
+  begun_read = λ input out so. c.report_turn.ensures.turn.begun_read input out (c.lines.invariant.batched input out so);
 }
 
 pub lines-preserved : goal.lines-preserved
@@ -37,4 +38,5 @@ returns-clause-ends g c = record {
   room = λ _. (rw c.if-branch.false at c.in_ok-report_turn.ensures.turn.room) refl;
   done = λ _ input out so. (rw c.if-branch.false at c.in_ok-report_turn.ensures.turn.ended) refl input out (c.lines.invariant.batched input out so);
   begun = λ input out so. c.report_turn.ensures.turn.begun input out (c.lines.invariant.batched input out so);
+  begun_read = λ input out so. c.report_turn.ensures.turn.begun_read input out (c.lines.invariant.batched input out so);
 }

@@ -3,6 +3,7 @@ use Rattle.log_text_base.specs.Ahead.{ahead}
 use Rattle.log_text.proofs.Total.{total}
 use Rattle.batched_text.proofs.Ended.{batched_written, begun_cut}
 use Rattle.batched_text.proofs.Faults.{reads_told, writes_told}
+use Rattle.batched_text.proofs.ReadSofar.{read_begun_cut, run_begun}
 use Rattle.batched_text.proofs.Sofar.{begun_batched}
 use Rattle.batched_text.proofs.running.report_turn.Goals as goal
 
@@ -12,6 +13,7 @@ returns-in_err-report_line-clause-turn g c = record {
   room = search rules;
   ended = search rules;
   begun = (c.report_line.ensures.turn _).begun;
+  begun_read = (c.report_line.ensures.turn _).begun_read;
 }
 
 pub returns-then-not-branch-clause-turn : goal.returns-then-not-branch-clause-turn
@@ -22,6 +24,7 @@ returns-then-not-branch-clause-turn g c =
       room = λ _. (rw c.if-not-branch.true at turn.room) refl;
       ended = λ _. (rw c.if-not-branch.true at turn.ended) refl;
       begun = turn.begun;
+      begun_read = turn.begun_read;
     }
 
 pub returns-in_err-taken-clause-turn : goal.returns-in_err-taken-clause-turn
@@ -33,6 +36,7 @@ returns-in_err-taken-clause-turn g c =
       room = search rules;
       ended = search rules;
       begun = λ input out so. begun _ input out _ (took.batched input out so);
+      begun_read = λ input out so. run_begun input _ out _ (ahead c.report_line.new.lines) c.report_line.new.batching c.report_at_hand.new.batching begun (took.batched input out so);
     }
 
 pub returns-in_err-write_pending-clause-turn : goal.returns-in_err-write_pending-clause-turn
@@ -45,6 +49,9 @@ returns-in_err-write_pending-clause-turn g c =
       ended = search rules;
       begun = λ input out so. begun_cut input out _ _ c.report_at_hand.new.batching.pending.items c.write_pending.new.pending.items
           (begun _ input out _ (took.batched input out so)) c.write_pending.ensures.front c.write_pending.ensures.empty;
+      begun_read = λ input out so. read_begun_cut input _ out _ _ c.report_at_hand.new.batching.pending.items c.write_pending.new.pending.items
+          (run_begun input _ out _ (ahead c.report_line.new.lines) c.report_line.new.batching c.report_at_hand.new.batching begun (took.batched input out so))
+          c.write_pending.ensures.front c.write_pending.ensures.empty;
     }
 
 pub returns-clause-turn : goal.returns-clause-turn
@@ -75,6 +82,9 @@ returns-clause-turn g c =
       begun = λ input out so. begun_batched total input _ out _ _ _ _ _ _
           (batched_written input _ out _ _ c.report_at_hand.new.batching.pending.items c.write_pending.new.pending.items _ _ _ _
           (runs.taken _ input out _ (took.batched input out so)) c.in_ok-write_pending.ensures.ok c.write_pending.ensures.empty);
+      begun_read = λ input out so. read_begun_cut input _ out _ _ c.report_at_hand.new.batching.pending.items c.write_pending.new.pending.items
+          (run_begun input _ out _ (ahead c.report_line.new.lines) c.report_line.new.batching c.report_at_hand.new.batching runs.begun (took.batched input out so))
+          c.write_pending.ensures.front c.write_pending.ensures.empty;
     }
 
 pub report_at_hand-requires-clause-ready : goal.report_at_hand-requires-clause-ready
