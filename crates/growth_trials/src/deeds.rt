@@ -1,6 +1,6 @@
 //! Deeds in a book of grants: tables, grants in a chain, what the revocation of one would end, that revocation, and an extension.
 
-ghost use Rattle.std.specs.Prelude.{◌≡◌, ◌<◌, OnErr, length};
+ghost use Rattle.std.specs.Prelude.{◌≡◌, ◌<◌, Decides, OnErr, length};
 ghost use Rattle.grants_base.specs.Book.{IsLater};
 
 use crate::fault::TrialFault;
@@ -45,6 +45,13 @@ impl Before {
     }
 }
 
+/// Whether a table is one of these.
+fn has_table(tables: &[Creation], table: Table) -> bool
+    ensures { Decides result (table < length tables.now) }
+{
+    (table.0 as usize) < tables.len()
+}
+
 /// Adds a table of the owner.
 fn enter(book: &mut Book, place: Place) -> Result<(), TrialFault> {
     if !book.is_later(place) || book.tables().len() >= 65_536 {
@@ -57,7 +64,7 @@ fn enter(book: &mut Book, place: Place) -> Result<(), TrialFault> {
 /// Makes a grant, whose grantor holds the option.
 fn give(book: &mut Book, grant: &Grant) -> Result<(), TrialFault> {
     let (place, table) = (grant.place, grant.table);
-    if !book.is_later(place) || table.0 as usize >= book.tables().len() {
+    if !book.is_later(place) || !has_table(book.tables(), table) {
         return Err(TrialFault::Call);
     }
     if !book.at(place).covers(table) {
@@ -81,7 +88,7 @@ fn ends(alloc: Global, book: &Book, revocation: &Revocation) -> Result<Vec<Place
 /// Makes a revocation, and returns the places that end.
 fn take(alloc: Global, book: &mut Book, revocation: &Revocation) -> Result<Vec<Place>, TrialFault> {
     let (place, table) = (revocation.place, revocation.table);
-    if !book.is_later(place) || table.0 as usize >= book.tables().len() {
+    if !book.is_later(place) || !has_table(book.tables(), table) {
         return Err(TrialFault::Call);
     }
     Ok(book.revoke(alloc, revocation)?)

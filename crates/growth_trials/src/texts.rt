@@ -33,7 +33,7 @@ fn settings(workers: usize, batch: u64) -> Settings {
 }
 
 /// What makes a text of a log.
-#[derive(Clone, Copy)]
+#[derive(Drop)]
 enum Text {
     Slow,
     Batches(Settings),
@@ -45,7 +45,7 @@ enum Text {
 impl Text {
     /// Writes the text of a log.
     fn write<R: Threads + Wait + Sync>(
-        self,
+        &self,
         rt: &R,
         alloc: Global,
         log: &[u8],
@@ -54,13 +54,13 @@ impl Text {
         let mut log = Counted::new(log);
         match self {
             Text::Slow => serial_text(alloc, &mut log, text)?,
-            Text::Batches(settings) => report_text(rt, alloc, &mut log, text, &settings)?,
+            Text::Batches(settings) => report_text(rt, alloc, &mut log, text, settings)?,
             Text::Kept(settings) => {
-                let _engine = run_text(rt, alloc, &mut log, text, &settings)?;
+                let _engine = run_text(rt, alloc, &mut log, text, settings)?;
             }
             Text::Explanation(place) => {
                 let question = Question {
-                    place,
+                    place: *place,
                     is_checked: true,
                 };
                 explain_text(rt, alloc, &mut log, text, question)?
@@ -76,7 +76,7 @@ fn try_text<R: Threads + Wait + Print + Sync>(
     rt: &R,
     alloc: Global,
     call: &str,
-    text: Text,
+    text: &Text,
     log: &[u8],
 ) -> Result<(), TrialFault> {
     let mut first = Counted::new(Vec::with_capacity(alloc, ROOM)?);
@@ -109,7 +109,7 @@ fn try_log<R: Threads + Wait + Print + Sync>(
         ("run_text, batch 3, 1 worker", Text::Kept(settings(1, 3))),
         ("run_text, batch 3, 2 workers", Text::Kept(settings(2, 3))),
     ] {
-        try_text(rt, alloc, call, text, log)?;
+        try_text(rt, alloc, call, &text, log)?;
     }
     Ok(())
 }
