@@ -30,7 +30,7 @@ use std::process::ExitCode;
 use std::rt::Env;
 use std::sync::Wait;
 use std::thread::Threads;
-use texts::try_texts;
+use texts::{DEED_BY_DATA, TWO_WAYS, try_texts, try_workers};
 use versions::try_store;
 
 /// Makes the calls that a word names.
@@ -48,6 +48,8 @@ fn try_word<R: Threads + Wait + Print + Sync>(
         "chain" => try_chain(rt, alloc),
         "engine" => try_engine(rt, alloc),
         "texts" => try_texts(rt, alloc),
+        "two-ways" => try_workers(rt, alloc, TWO_WAYS),
+        "deed-by-data" => try_workers(rt, alloc, DEED_BY_DATA),
         "words" => try_options(rt, alloc),
         _ => Err(TrialFault::Words),
     }

@@ -12,11 +12,11 @@ use std::sync::Wait;
 use std::thread::Threads;
 
 /// Who was granted in two ways loses one of them.
-const TWO_WAYS: &[u8] =
+pub const TWO_WAYS: &[u8] =
     b"alice CREATE t 1\nalice GRANT READ t bob OPTION\nalice GRANT READ t dave OPTION\nbob GRANT READ t carol\ndave GRANT READ t bob OPTION\nbob GRANT READ t eve\nalice REVOKE READ t bob\nbob RUN t:1:R\ncarol RUN t:1:R\neve RUN t:1:R\n";
 
 /// Whether a grant is made, and revoked, depends on a row.
-const DEED_BY_DATA: &[u8] =
+pub const DEED_BY_DATA: &[u8] =
     b"alice CREATE t 1\nalice RUN t:1:I | CONST 0 1 | INSERT t 1 0\nalice RUN t:1:R | LOAD 0 t 1 0 | CHECK 0 | OUT 0 | GRANT READ t bob\nbob RUN t:1:R | HAS 0 t 1 | OUT 0\nalice RUN t:1:D | DELETE t 1 | REVOKE READ t bob\nbob RUN t:1:R\nalice RUN t:1:R | LOAD 0 t 1 0\n";
 
 /// For how many bytes a writer has room, so that it doesn't fail.
@@ -92,7 +92,7 @@ fn try_text<R: Threads + Wait + Print + Sync>(
     Ok(())
 }
 
-/// Tries the calls from bytes to bytes on a log, of which one place is explained.
+/// Tries the calls from bytes to bytes on a log, of which one place is explained, by one worker.
 fn try_log<R: Threads + Wait + Print + Sync>(
     rt: &R,
     alloc: Global,
@@ -101,24 +101,37 @@ fn try_log<R: Threads + Wait + Print + Sync>(
 ) -> Result<(), TrialFault> {
     for (call, text) in [
         ("serial_text", Text::Slow),
-        ("report_text", Text::Batches(settings(2, 3))),
+        ("report_text", Text::Batches(settings(1, 3))),
         ("explain_text", Text::Explanation(place)),
         ("grants_text", Text::Picture),
         ("run_text, batch 1, 1 worker", Text::Kept(settings(1, 1))),
-        ("run_text, batch 1, 2 workers", Text::Kept(settings(2, 1))),
         ("run_text, batch 3, 1 worker", Text::Kept(settings(1, 3))),
-        ("run_text, batch 3, 2 workers", Text::Kept(settings(2, 3))),
     ] {
         try_text(rt, alloc, call, &text, log)?;
     }
     Ok(())
 }
 
-/// Tries the calls from bytes to bytes.
+/// Tries the calls from bytes to bytes, by one worker.
 pub fn try_texts<R: Threads + Wait + Print + Sync>(
     rt: &R,
     alloc: Global,
 ) -> Result<(), TrialFault> {
     try_log(rt, alloc, TWO_WAYS, 8)?;
     try_log(rt, alloc, DEED_BY_DATA, 5)
+}
+
+/// Tries the run of a log by two workers.
+pub fn try_workers<R: Threads + Wait + Print + Sync>(
+    rt: &R,
+    alloc: Global,
+    log: &[u8],
+) -> Result<(), TrialFault> {
+    for (call, batch) in [
+        ("run_text, batch 1, 2 workers", 1),
+        ("run_text, batch 3, 2 workers", 3),
+    ] {
+        try_text(rt, alloc, call, &Text::Kept(settings(2, batch)), log)?;
+    }
+    Ok(())
 }
