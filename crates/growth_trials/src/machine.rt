@@ -11,6 +11,7 @@ use crate::refusal::{print_begun, print_refused};
 use bohm_core::{Machine, State};
 use bohm_core_base::Event;
 use finishing::{Finished, finish};
+use log_batch::LogBatch;
 use log_machine::OfLog;
 use log_words::{LogKey, ended_slots};
 use sequencer::LogTail;
@@ -197,7 +198,30 @@ fn words_of<'a>(
     }
 }
 
-/// Finishes all of a log as a batch, after words of which nothing is stored.
+/// The key of a batch that has a place.
+fn key_of<'a>(alloc: Global, batch: LogBatch<'a>) -> Result<LogKey<'a>, AllocError>
+    requires { 0 < batch.size }
+    ensures { IfOk result (λ key. key.batch ≡ batch.entry) }
+{
+    let slots = ended_slots(alloc, &batch)?;
+    Ok(LogKey::new(batch, slots))
+}
+
+/// Finishes a batch after words of which nothing is stored.
+fn finish_unstored<'a>(
+    rt: &impl Print,
+    alloc: Global,
+    key: LogKey<'a>,
+) -> Result<Result<Finished<'a>, AllocError>, TrialFault>
+    requires { key.batch.placed ≡ true }
+    ensures { IfOk result (λ found. IfOk found (λ done. done.size ≡ key.entry.batch.size)) }
+{
+    let (words, pass) = words_of(rt, alloc, &key)?;
+    let closed = words.close(pass);
+    Ok(finish(alloc, key, &closed))
+}
+
+/// Finishes all of a log as a batch.
 fn finish_log<'a>(
     rt: &impl Print,
     alloc: Global,
@@ -210,11 +234,8 @@ fn finish_log<'a>(
     ensures { IfOk result (λ found. IfOk found (λ done. done.size ≡ length log.now.log.statements)) }
 {
     let batch = batch_of(rt, alloc, log, before, 1)?;
-    let slots = ended_slots(alloc, &batch)?;
-    let key = LogKey::new(batch, slots);
-    let (words, pass) = words_of(rt, alloc, &key)?;
-    let closed = words.close(pass);
-    Ok(finish(alloc, key, &closed))
+    let key = key_of(alloc, batch)?;
+    finish_unstored(rt, alloc, key)
 }
 
 /// Prints the own words of each place of a log that is finished, and the grants that it ended.

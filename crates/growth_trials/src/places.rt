@@ -54,6 +54,58 @@ enum Found {
     Ran(Ran),
 }
 
+/// Asks for a place. An error means out of memory.
+fn call_try_run(
+    batch: &Batch<RangeKey<'_>>,
+    pass: Pass,
+    index: usize,
+) -> (Pass, Result<Option<Found>, AllocError>)
+    requires ours { IsPassOf batch.now pass }
+    requires within { index < batch.now.key.batch.size }
+    ensures { IsPassOf batch.now result.0 }
+{
+    let (pass, tried) = batch.try_run(pass, index);
+    match tried {
+        Tried::NoMemory => (pass, Err(AllocError)),
+        tried => (pass, Ok(Some(Found::Tried(tried)))),
+    }
+}
+
+/// Asks for the outcome of a place. An error means out of memory.
+fn call_outcome(
+    batch: &Batch<RangeKey<'_>>,
+    pass: Pass,
+    index: usize,
+) -> (Pass, Result<Option<Found>, AllocError>)
+    requires ours { IsPassOf batch.now pass }
+    requires within { index < batch.now.key.batch.size }
+    ensures { IsPassOf batch.now result.0 }
+{
+    let (pass, outcome) = outcome(batch, pass, index);
+    match outcome {
+        Ok(outcome) => (pass, Ok(Some(Found::Outcome(outcome)))),
+        Err(error) => (pass, Err(error)),
+    }
+}
+
+/// Runs a place. An error means out of memory.
+fn call_run_place(
+    batch: &Batch<RangeKey<'_>>,
+    pass: Pass,
+    index: usize,
+) -> (Pass, Result<Option<Found>, AllocError>)
+    requires ours { IsPassOf batch.now pass }
+    requires within { index < batch.now.key.batch.size }
+    ensures { IsPassOf batch.now result.0 }
+{
+    let place = batch.key().batch().first_place() + index as u64;
+    let (pass, ran) = run_place(batch, pass, place);
+    match ran {
+        Ran::NoMemory => (pass, Err(AllocError)),
+        ran => (pass, Ok(Some(Found::Ran(ran)))),
+    }
+}
+
 /// Calls for a place, if the batch has it. An error means out of memory.
 fn call_for(
     batch: &Batch<RangeKey<'_>>,
@@ -68,21 +120,9 @@ fn call_for(
         return (pass, Ok(None));
     }
     match call {
-        Call::TryRun => match batch.try_run(pass, index) {
-            (pass, Tried::NoMemory) => (pass, Err(AllocError)),
-            (pass, tried) => (pass, Ok(Some(Found::Tried(tried)))),
-        },
-        Call::Outcome => match outcome(batch, pass, index) {
-            (pass, Ok(found)) => (pass, Ok(Some(Found::Outcome(found)))),
-            (pass, Err(error)) => (pass, Err(error)),
-        },
-        Call::RunPlace => {
-            let place = batch.key().batch().first_place() + index as u64;
-            match run_place(batch, pass, place) {
-                (pass, Ran::NoMemory) => (pass, Err(AllocError)),
-                (pass, ran) => (pass, Ok(Some(Found::Ran(ran)))),
-            }
-        }
+        Call::TryRun => call_try_run(batch, pass, index),
+        Call::Outcome => call_outcome(batch, pass, index),
+        Call::RunPlace => call_run_place(batch, pass, index),
     }
 }
 

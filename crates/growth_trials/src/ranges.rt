@@ -14,7 +14,7 @@ use filling::RangeKey;
 use grants::Book;
 use log_batch::LogBatch;
 use log_text::parse_line;
-use model_base::Place;
+use model_base::{MOST_PARTITIONS, Place};
 use placing::{Part, Refs, merge, place};
 use sequencer::LogTail;
 use std::alloc::Global;
@@ -144,6 +144,7 @@ pub fn batch_of<'a>(
     partitions: usize,
 ) -> Result<LogBatch<'a>, TrialFault>
     requires partitions { 0 < partitions }
+    requires few { partitions ≤ MOST_PARTITIONS }
     requires kept { log.now.dropped ≡ 0 }
     requires before { HasNothing before.now log.now.log.statements }
     ensures { IfOk result (λ batch. batch ≡ record {

@@ -71,6 +71,27 @@ impl Text {
     }
 }
 
+/// The text of a log, written again where that failed: what was written before is a beginning of it.
+fn text_of<R: Threads + Wait + Print + Sync>(
+    rt: &R,
+    alloc: Global,
+    call: &str,
+    text: &Text,
+    log: &[u8],
+) -> Result<Counted<Vec<u8>>, TrialFault> {
+    let mut first = Counted::new(Vec::with_capacity(alloc, ROOM)?);
+    let mut other = Counted::new(Vec::with_capacity(alloc, ROOM)?);
+    match text.write(rt, alloc, log, &mut first) {
+        Ok(()) => Ok(first),
+        Err(fault) => {
+            text.write(rt, alloc, log, &mut other)?;
+            let begun = other.inner.starts_with(first.inner.as_slice());
+            print_begun(rt, call, fault, begun)?;
+            Ok(other)
+        }
+    }
+}
+
 /// Writes a text of a log.
 fn try_text<R: Threads + Wait + Print + Sync>(
     rt: &R,
@@ -79,15 +100,8 @@ fn try_text<R: Threads + Wait + Print + Sync>(
     text: &Text,
     log: &[u8],
 ) -> Result<(), TrialFault> {
-    let mut first = Counted::new(Vec::with_capacity(alloc, ROOM)?);
-    let mut other = Counted::new(Vec::with_capacity(alloc, ROOM)?);
-    if let Err(fault) = text.write(rt, alloc, log, &mut first) {
-        text.write(rt, alloc, log, &mut other)?;
-        let begun = other.inner.starts_with(first.inner.as_slice());
-        print_begun(rt, call, fault, begun)?;
-        first = other;
-    }
-    let written = str::from_utf8(first.inner.as_slice()).unwrap_or("no text");
+    let text = text_of(rt, alloc, call, text, log)?;
+    let written = str::from_utf8(text.inner.as_slice()).unwrap_or("no text");
     println!(rt; "{call}: {written:?}")?;
     Ok(())
 }
