@@ -1,0 +1,96 @@
+//! Versions of two rows, which a store of versions takes place by place.
+
+ghost use Rattle.std.specs.Prelude.{◌≡◌, ◌+◌, IfOk};
+ghost use Rattle.chains.specs.Store.{AreBetween};
+
+use crate::fault::TrialFault;
+use crate::refusal::print_refused;
+use chains::{Chains, Trimmed, Version};
+use model_base::{Key, Place, Row, Table};
+use std::alloc::{AllocError, Global};
+
+/// How many places make versions.
+const PLACES: u32 = 12;
+
+/// A version of a row at a place, which holds the place.
+fn version(place: u32, row: u32) -> Version
+    ensures { result.place ≡ place }
+{
+    let mut values = Row::new();
+    values.push(i64::from(place));
+    Version {
+        place: Place::from(place),
+        key: Key {
+            table: Table(0),
+            row,
+        },
+        row: Some(values),
+    }
+}
+
+/// The versions at a place: of the row that each changes, and of one that it inserts.
+fn pair(alloc: Global, place: u32) -> Result<Vec<Version>, AllocError>
+    ensures { IfOk result (λ versions. AreBetween place (place + 1) versions.items) }
+{
+    let other = place.saturating_add(2);
+    Ok(vec![in alloc; version(place, 1), version(place, other)]?)
+}
+
+/// Appends these versions to a store that ends at the place.
+fn append(chains: &mut Chains, versions: Vec<Version>, place: u32) -> Result<(), TrialFault>
+    requires { AreBetween place (place + 1) versions.items }
+{
+    if chains.end() != Place::from(place) {
+        return Err(TrialFault::Call);
+    }
+    Ok(chains.append(versions, Place::from(place) + 1)?)
+}
+
+/// What a store has at its end: the row that each place changes, and those that the places insert.
+fn rows_of(
+    alloc: Global,
+    chains: &Chains,
+) -> Result<Vec<Result<Option<Row>, Trimmed>>, AllocError> {
+    let mut rows = Vec::new(alloc);
+    for row in 0..PLACES.saturating_add(3) {
+        let key = Key {
+            table: Table(0),
+            row,
+        };
+        rows.push(chains.row_before(chains.end(), key))?;
+    }
+    Ok(rows)
+}
+
+/// The versions of a place are appended.
+fn try_append(
+    rt: &impl Print,
+    alloc: Global,
+    chains: &mut Chains,
+    place: u32,
+) -> Result<(), TrialFault> {
+    let before = rows_of(alloc, chains)?;
+    let (versions, again) = (pair(alloc, place)?, pair(alloc, place)?);
+    if let Err(fault) = append(chains, versions, place) {
+        print_refused(
+            rt,
+            "Chains::append",
+            fault,
+            before == rows_of(alloc, chains)?,
+        )?;
+        append(chains, again, place)?;
+    }
+    println!(rt; "Chains::append: the store ends at {}", chains.end())?;
+    Ok(())
+}
+
+/// Tries the call of a store of versions.
+pub fn try_store(rt: &impl Print, alloc: Global) -> Result<(), TrialFault> {
+    let mut chains = Chains::new(alloc);
+    for place in 0..PLACES {
+        try_append(rt, alloc, &mut chains, place)?;
+    }
+    let rows = rows_of(alloc, &chains)?;
+    println!(rt; "Chains::append: {rows:?}")?;
+    Ok(())
+}
