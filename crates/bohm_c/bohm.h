@@ -14,9 +14,9 @@
  * Threads. A handle takes one call at a time, from any thread, if calls are ordered by a lock or a join. Two handles share nothing. No
  * call starts a thread, waits, prints, or reads a clock or a file. Don't call from a signal handler, nor in the child of a fork of a
  * process that has threads.
- * Errors. A call returns BOHM_DONE or says what was wrong. A misuse (BOHM_CLOSED, BOHM_OPENED, BOHM_ENDED) changes nothing. After
- * BOHM_MEMORY *used and *made are set, the report so far ends in a whole line, and nothing is lost: call again with the rest, or close
- * the handle.
+ * Errors. A call returns BOHM_DONE or says what was wrong. A misuse (BOHM_CLOSED, BOHM_OPENED, BOHM_ENDED,
+ * BOHM_BEGUN, BOHM_OPTION, BOHM_NO_PLACE, BOHM_FORGOTTEN, BOHM_ROOM) changes nothing. After BOHM_MEMORY *used and *made are set, the
+ * report so far ends in a whole line, and nothing is lost: call again with the rest, or close the handle.
  */
 #ifndef BOHM_H
 #define BOHM_H
@@ -42,8 +42,15 @@ enum {
     BOHM_FULL = 2,   /* there are as many lines as can be counted */
     BOHM_CLOSED = 3, /* the handle is closed */
     BOHM_OPENED = 4, /* bohm_open: it is open already */
-    BOHM_ENDED = 5   /* bohm_step: bohm_finish was called before */
+    BOHM_ENDED = 5,  /* bohm_step: bohm_finish was called before */
+    BOHM_BEGUN = 6,  /* bohm_set: bytes were given before, or the log was ended */
+    BOHM_OPTION = 7, /* bohm_set: there is no such option */
+    BOHM_NO_PLACE = 8,  /* bohm_explain: no such place was reported yet */
+    BOHM_FORGOTTEN = 9, /* bohm_explain: the statement of the place isn't kept */
+    BOHM_ROOM = 10      /* bohm_explain: there is too little room; *made says how many bytes are needed */
 };
+
+enum { BOHM_KEEP = 1 }; /* of how many of the last places bohm_explain can tell at least; 0 where it isn't set */
 
 /* The version of the library, as BOHM_VERSION is that of the header. They fit where all but the last two digits are the same. */
 uint32_t bohm_version(void);
@@ -51,9 +58,12 @@ uint32_t bohm_version(void);
 /* Opens a closed handle, with no row, no table and no grant. DONE, MEMORY (it stays closed), OPENED. */
 int32_t bohm_open(bohm *handle);
 
+/* Sets an option, before the first byte is given. DONE, CLOSED, BEGUN, OPTION. */
+int32_t bohm_set(bohm *handle, uint32_t option, uint64_t value);
+
 /* Takes bytes of the log from input, *used of them, and writes bytes of the report to out, *made of them. It returns once all of input is
- * used or out is full, so where *used < input_len, *made is out_len: call again with the rest. A line is dealt with when its LF is used,
- * and its line of the report is made before more is used. DONE, MEMORY, FULL, CLOSED, ENDED. */
+ * used or out is full, so where *used < input_len, *made is out_len: call again with the rest. Lines are run up to 64 at once,
+ * and their lines of the report are made before more is used. DONE, MEMORY, FULL, CLOSED, ENDED. */
 int32_t bohm_step(bohm *handle, const uint8_t *input, size_t input_len, uint8_t *out, size_t out_len, size_t *used, size_t *made);
 
 /* Ends the log: bytes after its last LF are a line too. Writes the rest of the report to out; where *made is below
@@ -63,6 +73,10 @@ int32_t bohm_finish(bohm *handle, uint8_t *out, size_t out_len, size_t *made);
 /* How many lines were reported, and how many statements were accepted, which is the next place. 0 where the handle is closed. */
 uint64_t bohm_lines(bohm *handle);
 uint64_t bohm_places(bohm *handle);
+
+/* Writes to out why the statement of a place was admitted or denied, as `bohm explain` does. DONE, MEMORY (the run goes on), CLOSED,
+ * NO_PLACE, FORGOTTEN, ROOM. */
+int32_t bohm_explain(bohm *handle, uint64_t place, uint8_t *out, size_t out_len, size_t *made);
 
 /* Writes the English of a status to out, at most out_len bytes and no NUL, and returns how many bytes it has in all. */
 size_t bohm_status_text(int32_t status, uint8_t *out, size_t out_len);

@@ -35,10 +35,19 @@ static int gave(size_t count, const char *text) {
     return used == count && made == strlen(text) && memcmp(out, text, made) == 0;
 }
 
+static int32_t explain(bohm *b, uint64_t place, size_t room) {
+    memset(out, '#', sizeof out);
+    used = 0;
+    made = 99;
+    return bohm_explain(b, place, out, room, &made);
+}
+
 static void try_closed(bohm *b, const char *what) {
     expect(step(b, "a CREATE t 1\n", sizeof out) == BOHM_CLOSED && gave(0, ""), what);
     expect(finish(b) == BOHM_CLOSED && gave(0, ""), what);
     expect(bohm_lines(b) == 0 && bohm_places(b) == 0, what);
+    expect(bohm_set(b, BOHM_KEEP, 1) == BOHM_CLOSED, what);
+    expect(explain(b, 0, sizeof out) == BOHM_CLOSED && gave(0, ""), what);
     bohm_close(b);
     expect(!b->is_open, what);
 }
@@ -60,9 +69,9 @@ static void try_misuse(void) {
     if (pthread_create(&thread, NULL, feed_elsewhere, &b) == 0) pthread_join(thread, NULL);
     expect(step(&other, "a CREATE v 1\n", sizeof out) == BOHM_DONE && gave(13, "0 created\n"), "a second run beside it");
     expect(step(&b, "", 0) == BOHM_DONE && gave(0, ""), "no input and no room");
-    expect(step(&b, "\n\n", 0) == BOHM_DONE && gave(1, ""), "no room");
+    expect(step(&b, "\n\n", 0) == BOHM_DONE && gave(2, ""), "no room");
     expect(step(&b, "\n", 4) == BOHM_DONE && gave(0, "line"), "little room");
-    expect(bohm_lines(&b) == 3 && bohm_places(&b) == 2, "lines and places");
+    expect(bohm_lines(&b) == 4 && bohm_places(&b) == 2, "lines and places");
     expect(finish(&b) == BOHM_DONE && used == 0 && made > 0 && out[made - 1] == '\n', "finish");
     expect(step(&b, "a CREATE w 1\n", sizeof out) == BOHM_ENDED && gave(0, ""), "step after finish");
     expect(finish(&b) == BOHM_DONE && gave(0, ""), "finish after finish");
@@ -74,11 +83,51 @@ static void try_misuse(void) {
     bohm_close(&other);
 }
 
+/* Of so many places, and with so many to be kept, the last are explained, and how many of the others are isn't told. */
+static void try_kept(uint64_t keep, uint64_t places) {
+    bohm b = BOHM_CLOSED_HANDLE;
+    char text[64];
+    expect(bohm_open(&b) == BOHM_DONE && bohm_set(&b, BOHM_KEEP, keep) == BOHM_DONE, "keep");
+    expect(step(&b, "a CREATE t 1\n", sizeof out) == BOHM_DONE, "keep");
+    for (uint64_t place = 1; place < places; place++) expect(step(&b, "a RUN t:1:R\n", sizeof out) == BOHM_DONE, "keep");
+    for (uint64_t place = 1; place < places; place++) {
+        int32_t status = explain(&b, place, sizeof out);
+        snprintf(text, sizeof text, "%llu done\nneed READ t owner\n", (unsigned long long)place);
+        expect((status == BOHM_DONE && gave(0, text)) || (status == BOHM_FORGOTTEN && gave(0, "") && place + keep < places), "what is kept");
+        if (keep == 0 && places > 128 && place == 1) expect(status == BOHM_FORGOTTEN, "what isn't kept");
+    }
+    bohm_close(&b);
+}
+
+static void try_explanations(void) {
+    bohm b = BOHM_CLOSED_HANDLE;
+    expect(bohm_open(&b) == BOHM_DONE, "open");
+    expect(bohm_set(&b, 0, 1) == BOHM_OPTION && bohm_set(&b, 77, 1) == BOHM_OPTION, "no such option");
+    expect(bohm_set(&b, BOHM_KEEP, UINT64_MAX) == BOHM_DONE && bohm_set(&b, BOHM_KEEP, 100) == BOHM_DONE, "an option");
+    expect(explain(&b, 0, sizeof out) == BOHM_NO_PLACE && gave(0, ""), "a place of no line");
+    expect(step(&b, "a", sizeof out) == BOHM_DONE, "a byte");
+    expect(bohm_set(&b, BOHM_KEEP, 1) == BOHM_BEGUN && bohm_set(&b, 77, 1) == BOHM_OPTION, "an option once the log has begun");
+    expect(step(&b, " CREATE t 1\nb RUN t:0:R\n", sizeof out) == BOHM_DONE && used == 24, "step");
+    expect(explain(&b, 1, sizeof out) == BOHM_DONE && gave(0, "1 denied READ t never\nneed READ t never\n"), "an explanation");
+    size_t whole = made;
+    expect(explain(&b, 1, whole) == BOHM_DONE && made == whole, "as much room as is needed");
+    expect(explain(&b, 1, whole - 1) == BOHM_ROOM && made == whole && out[0] == '#', "too little room");
+    expect(explain(&b, 1, 0) == BOHM_ROOM && made == whole && out[0] == '#', "no room");
+    expect(explain(&b, 2, sizeof out) == BOHM_NO_PLACE && explain(&b, UINT64_MAX, sizeof out) == BOHM_NO_PLACE, "the next place");
+    expect(finish(&b) == BOHM_DONE && bohm_set(&b, BOHM_KEEP, 1) == BOHM_BEGUN, "an option once the log has ended");
+    expect(explain(&b, 1, sizeof out) == BOHM_DONE, "an explanation after the end");
+    bohm_close(&b);
+    try_kept(0, 300);
+    try_kept(1, 300);
+    try_kept(100, 1000);
+    try_kept(UINT64_MAX, 1000);
+}
+
 static void try_texts(void) {
     uint8_t none[64], text[64];
     size_t length = bohm_status_text(77, none, sizeof none);
     expect(bohm_status_text(-1, text, sizeof text) == length && memcmp(text, none, length) == 0, "the text of no status");
-    for (int32_t status = BOHM_DONE; status <= BOHM_ENDED; status++) {
+    for (int32_t status = BOHM_DONE; status <= BOHM_ROOM; status++) {
         size_t whole = bohm_status_text(status, text, sizeof text);
         expect(whole > 3 && (whole != length || memcmp(text, none, length) != 0), "the text of a status");
         memset(none + 32, '#', 32);
@@ -110,13 +159,35 @@ static void report_again(void) {
     bohm_close(&b);
 }
 
-/* trial again: a log on standard input to its report. trial: the rest. */
+/* Writes the explanation of each place of a log. */
+static void explain_all(void) {
+    static uint8_t input[1 << 16], room[1 << 16];
+    size_t count;
+    bohm b = BOHM_CLOSED_HANDLE;
+    expect(bohm_open(&b) == BOHM_DONE && bohm_set(&b, BOHM_KEEP, UINT64_MAX) == BOHM_DONE, "open");
+    while ((count = fread(input, 1, sizeof input, stdin)) > 0)
+        for (size_t at = 0; at < count; at += used)
+            expect(bohm_step(&b, input + at, count - at, room, sizeof room, &used, &made) == BOHM_DONE, "step");
+    expect(bohm_finish(&b, room, sizeof room, &made) == BOHM_DONE, "finish");
+    for (uint64_t place = 0; place < bohm_places(&b); place++) {
+        expect(bohm_explain(&b, place, room, sizeof room, &made) == BOHM_DONE, "an explanation");
+        fwrite(room, 1, made, stdout);
+    }
+    bohm_close(&b);
+}
+
+/* trial again: a log on standard input to its report; trial explain: to the explanations of its places. trial: the rest. */
 int main(int argc, char **argv) {
+    if (argc > 1 && strcmp(argv[1], "explain") == 0) {
+        explain_all();
+        return fflush(stdout) != 0 || wrong;
+    }
     if (argc > 1 && strcmp(argv[1], "again") == 0) {
         report_again();
         return fflush(stdout) != 0 || wrong;
     }
     try_misuse();
+    try_explanations();
     try_texts();
     return wrong;
 }

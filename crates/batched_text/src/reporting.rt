@@ -96,8 +96,9 @@ fn put_line(
     }
 }
 
-/// Appends the report's lines for some lines to the text, from a line of this number and this place on.
-pub(crate) fn put_lines(
+/// Appends the report's lines for some lines to the text, from a line of this number and this place on. Their places are finished, and
+/// statements and outcomes of these are kept. An error means out of memory: some lines may be after the text then.
+pub fn put_lines(
     text: &mut Vec<u8>,
     engine: &Engine,
     number: u64,

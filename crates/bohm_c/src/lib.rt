@@ -3,14 +3,15 @@
 //! A handle is a pointer and a flag that C keeps. Each call takes the run out of the handle, and gives it back.
 #![tactic(auto)]
 
-ghost use Rattle.std.specs.Prelude.{◌≡◌, ◌≤◌, ◌<◌, ◌++◌, ◌↔◌, [], false, ℕ, List, None, Some, IfSome, IfNone, IsSome, drop, length, pos, take, true};
+ghost use Rattle.std.specs.Prelude.{◌≡◌, ◌≤◌, ◌<◌, ◌+◌, ◌++◌, ◌↔◌, [], false, ℕ, List, None, Some, IfSome, IfNone, IsSome, drop, length, pos, take, true};
 ghost use Rattle.report.specs.Report.{IsReport};
-ghost use Rattle.fed_run.specs.Stands.{IsFed, unsent};
-ghost use Rattle.bohm_c.specs.Statuses.{IsStatus, status_number, status_text};
+ghost use Rattle.fed_run.specs.Stands.{TextExplains, IsFed, IsGivenOut, IsUnfed, unsent};
+ghost use Rattle.bohm_c.specs.Statuses.{IsExplainStatus, IsSetStatus, IsStatus, explain_status, status_number, status_text};
 
 mod handle;
 mod parts;
 
+use explain::ExplainFault;
 use fed_run::{FedRun, FeedFault};
 pub use handle::Handle;
 use std::alloc::Global;
@@ -29,6 +30,19 @@ const CLOSED: i32 = 3;
 const OPENED: i32 = 4;
 /// The text was ended before.
 const ENDED: i32 = 5;
+/// Bytes of the text were given before.
+const BEGUN: i32 = 6;
+/// There is no such option.
+const OPTION: i32 = 7;
+/// No such place was reported yet.
+const NO_PLACE: i32 = 8;
+/// The statement of the place isn't kept.
+const FORGOTTEN: i32 = 9;
+/// There is too little room.
+const ROOM: i32 = 10;
+
+/// The option that tells of how many of the last places `bohm_explain` can tell.
+const KEEP: u32 = 1;
 
 /// The version of the library: major * 10000 + minor * 100 + patch.
 const VERSION: u32 = 100;
@@ -103,6 +117,8 @@ pub extern "C" fn bohm_step(
     ensures used { used.new ≤ length input.now }
     ensures made { made.new ≤ length out.old }
     ensures full { result ≡ DONE → used.new < length input.now → made.new ≡ length out.old }
+    // While there is room, no line waits that was taken.
+    ensures prompt { result ≡ DONE → IfSome handle.new.run (λ new. IsGivenOut new out.new made.new) }
     // However a text is cut into calls, what was given and is to be given begins its report.
     ensures stands { IfSome handle.old.run (λ old. IfSome handle.new.run (λ new. (text written : List ℕ) → IsFed old text written
         → IsFed new (text ++ take used.new input.now) (written ++ take made.new out.new))) }
@@ -161,6 +177,125 @@ pub extern "C" fn bohm_finish(
     status_number(done)
 }
 
+/// Sets an option of a run.
+fn set(run: &mut FedRun, option: u32, value: u64) -> i32
+    ensures done { result ≡ DONE → (option ≡ KEEP) × (run.new ≡ record run.old { order = record run.old.order { keep = value } }) }
+    ensures still { (result ≡ DONE → ⊥) → run.new ≡ run.old }
+    ensures fresh { option ≡ KEEP → (result ≡ DONE) ↔ IsUnfed run.old }
+    ensures status { IsSetStatus option result }
+{
+    if option != KEEP {
+        return OPTION;
+    }
+    if run.set_keep(value) { DONE } else { BEGUN }
+}
+
+/// Sets an option, before the first byte is given.
+#[unsafe(no_mangle)]
+pub extern "C" fn bohm_set(alloc: Global, handle: &mut Handle, option: u32, value: u64) -> i32
+    ensures done { result ≡ DONE → IfSome handle.old.run (λ old. (option ≡ KEEP)
+        × (handle.new.run ≡ Some (record old { order = record old.order { keep = value } }))) }
+    // The option can be set exactly where no byte was given and the text wasn't ended.
+    ensures fresh { IfSome handle.old.run (λ old. option ≡ KEEP → (result ≡ DONE) ↔ IsUnfed old) }
+    ensures status { IfSome handle.old.run (λ _. IsSetStatus option result) }
+    // A misuse changes nothing.
+    ensures still { (result ≡ DONE → ⊥) → handle.new.run ≡ handle.old.run }
+    ensures closed { handle.old.run ≡ None → result ≡ CLOSED }
+{
+    let Some(mut run) = take(alloc, handle) else {
+        return CLOSED;
+    };
+    let status = set(&mut run, option, value);
+    put(handle, run);
+    status
+}
+
+/// Why there is no explanation, as a status.
+fn explain_status(fault: ExplainFault) -> i32
+    ensures { result ≡ explain_status fault }
+{
+    match fault {
+        ExplainFault::NoMemory => MEMORY,
+        ExplainFault::NoSuchPlace | ExplainFault::NotFinished => NO_PLACE,
+        ExplainFault::Forgotten => FORGOTTEN,
+    }
+}
+
+/// Writes a text to the front of `out` where there is room for all of it, and tells how many bytes it has.
+fn write_whole(text: &[u8], out: &mut [u8], made: &mut usize) -> i32
+    ensures made { made.new ≡ length text.now }
+    ensures whole { result ≡ DONE → take made.new out.new ≡ text.now }
+    ensures room { (result ≡ DONE) ↔ (length text.now ≤ length out.old) }
+    ensures still { (result ≡ DONE → ⊥) → (result ≡ ROOM) × (out.new ≡ out.old) }
+    ensures len { length out.new ≡ length out.old }
+{
+    let whole = text.len();
+    *made = whole;
+    if whole > out.len() {
+        return ROOM;
+    }
+    out[..whole].copy_from_slice(text);
+    DONE
+}
+
+/// Writes why the statement of a place was admitted or denied, as `bohm_explain`.
+fn write_explanation(
+    alloc: Global,
+    run: &FedRun,
+    place: u64,
+    out: &mut [u8],
+    made: &mut usize,
+) -> i32
+    requires { made.old ≡ 0 }
+    ensures told { result ≡ DONE → TextExplains run.now place (take made.new out.new) × (made.new ≤ length out.old) }
+    ensures room { result ≡ ROOM → (length out.old < made.new)
+        × ((text : List ℕ) × (TextExplains run.now place text × (length text ≡ made.new))) }
+    ensures none { (result ≡ NO_PLACE) ↔ (run.now.order.reported ≤ place) }
+    ensures forgotten { result ≡ FORGOTTEN → place + run.now.order.keep < run.now.order.reported }
+    ensures status { IsExplainStatus result }
+    ensures still { (result ≡ DONE → ⊥) → out.new ≡ out.old }
+    ensures made { (result ≡ DONE → ⊥) → (result ≡ ROOM → ⊥) → made.new ≡ 0 }
+{
+    let mut text = Vec::new(alloc);
+    match run.explain(alloc, place, &mut text) {
+        Ok(()) => write_whole(&text, out, made),
+        Err(fault) => explain_status(fault),
+    }
+}
+
+/// Writes to `out` why the statement of a reported place was admitted or denied, as `FedRun::explain`.
+#[unsafe(no_mangle)]
+pub extern "C" fn bohm_explain(
+    alloc: Global,
+    handle: &mut Handle,
+    place: u64,
+    out: &mut [u8],
+    made: &mut usize,
+) -> i32
+    // It is the explanation of the place of each text that begins with what was taken.
+    ensures told { result ≡ DONE → IfSome handle.old.run (λ run. TextExplains run place (take made.new out.new)
+        × (made.new ≤ length out.old)) }
+    // Where there is too little room, it is told how much is needed.
+    ensures room { result ≡ ROOM → IfSome handle.old.run (λ run. (length out.old < made.new)
+        × ((text : List ℕ) × (TextExplains run place text × (length text ≡ made.new)))) }
+    ensures none { IfSome handle.old.run (λ run. (result ≡ NO_PLACE) ↔ (run.order.reported ≤ place)) }
+    // The last places, as many as are to be kept, can be explained.
+    ensures forgotten { IfSome handle.old.run (λ run. result ≡ FORGOTTEN → place + run.order.keep < run.order.reported) }
+    ensures status { IfSome handle.old.run (λ _. IsExplainStatus result) }
+    ensures same { handle.new.run ≡ handle.old.run }
+    ensures still { (result ≡ DONE → ⊥) → out.new ≡ out.old }
+    ensures made { (result ≡ DONE → ⊥) → (result ≡ ROOM → ⊥) → made.new ≡ 0 }
+    ensures closed { handle.old.run ≡ None → result ≡ CLOSED }
+{
+    *made = 0;
+    let Some(run) = take(alloc, handle) else {
+        return CLOSED;
+    };
+    let status = write_explanation(alloc, &run, place, out, made);
+    put(handle, run);
+    status
+}
+
 /// How many lines were reported. 0 where the handle is closed.
 #[unsafe(no_mangle)]
 pub extern "C" fn bohm_lines(alloc: Global, handle: &mut Handle) -> u64
@@ -180,7 +315,7 @@ pub extern "C" fn bohm_lines(alloc: Global, handle: &mut Handle) -> u64
 #[unsafe(no_mangle)]
 pub extern "C" fn bohm_places(alloc: Global, handle: &mut Handle) -> u64
     ensures same { handle.new.run ≡ handle.old.run }
-    ensures places { IfSome handle.old.run (λ run. result ≡ length run.order.log.statements) }
+    ensures places { IfSome handle.old.run (λ run. result ≡ length run.order.run.log.statements) }
     ensures closed { handle.old.run ≡ None → result ≡ 0 }
 {
     let Some(run) = take(alloc, handle) else {
@@ -202,6 +337,11 @@ fn text_of(status: i32) -> &'static str
         CLOSED => "the handle is closed",
         OPENED => "the handle is open already",
         ENDED => "the log has ended",
+        BEGUN => "the log has begun",
+        OPTION => "no such option",
+        NO_PLACE => "no such place",
+        FORGOTTEN => "the statement is not kept",
+        ROOM => "too little room",
         _ => "no such status",
     }
 }

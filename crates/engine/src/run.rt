@@ -27,7 +27,7 @@ use std::ops::Range;
 use std::sync::Wait;
 use std::thread::Threads;
 use taking::{Taken, take};
-use workers::{Gate, RunFault};
+use workers::{Gate, NoGate, RunFault};
 
 /// A log, the outcomes of its finished places, and what comes after these: the versions of rows and the book of grants. What was finished
 /// may be forgotten, statements and outcomes both; rows and book stay.
@@ -350,6 +350,33 @@ impl Engine {
         Ok(())
     }
 
+    /// Runs the next places of the log, up to this one, in order and on this thread: as `run_to` by one worker, which needs no thread. On
+    /// `Err` memory was refused; the engine is as it was.
+    pub fn run_alone(&mut self, alloc: Global, end: Place) -> Result<(), AllocError>
+        requires order { finished self.old ≤ end }
+        requires within { end ≤ length self.old.log.statements }
+        ensures ends { OnOk result (finished self.new ≡ end) }
+        ensures stands { OnOk result (Stands self.new.log.statements end self.new.store self.new.book) }
+        ensures came { OnOk result (AreOutcomes self.new.log.statements 0 end self.new.outcomes) }
+        ensures mark { OnOk result (self.new.store.mark ≡ self.old.store.mark) }
+        ensures log { self.new.log ≡ self.old.log }
+        ensures dropped { self.new.dropped ≡ self.old.dropped }
+        ensures err { OnErr result (self.new ≡ self.old) }
+    {
+        let start = self.finished();
+        let _len = self.log.len();
+        run_in_order(
+            alloc,
+            &mut self.chains,
+            &mut self.book,
+            &self.log,
+            start..end,
+            &NoGate,
+            &mut self.outcomes,
+        )?;
+        Ok(())
+    }
+
     /// Whether the range may be run as the next batch, by this many workers and placers: it begins at `finished`, lies in the log and has 1
     /// to `MOST_BATCH_STATEMENTS` places, and there are 1 to `MOST_WORKERS` workers and 1 to `MOST_PARTITIONS` partitions.
     pub fn may_run(&self, range: &Range<Place>, crew: Crew) -> bool
@@ -404,6 +431,18 @@ impl Engine {
         } else {
             self.log.forget(end);
         }
+        forget_first(&mut self.past, &mut self.outcomes, count);
+    }
+
+    /// Drops the statements and the outcomes of the places below this one. It doesn't allocate, and costs what there is to drop and to move.
+    pub fn forget_to(&mut self, place: Place)
+        requires order { self.old.dropped ≤ place }
+        requires within { place ≤ finished self.old }
+        ensures { self.new ≡ record self.old { dropped = place } }
+    {
+        let _finished = self.finished();
+        let count = (place - self.log.dropped()) as usize;
+        self.log.forget(place);
         forget_first(&mut self.past, &mut self.outcomes, count);
     }
 

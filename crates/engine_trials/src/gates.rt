@@ -14,124 +14,83 @@ use workers::Gate;
 /// How often a gate looks whether a place is done, before it gives up.
 const LOOKS: u32 = 100_000_000;
 
-/// A place that a gate waits for.
-#[derive(Drop)]
-struct Awaited {
-    place: Place,
-    done: AtomicBool,
-    vain: AtomicUsize,
+/// Who is held back until a place is done.
+#[derive(Clone, Copy, PartialEq, Eq)]
+enum Held {
+    Nobody,
+    /// Who is the first to ask for a place.
+    Asker(Place),
+    /// The placer of a partition, once it has placed the place that it waits for.
+    Placer(usize),
 }
 
-impl Awaited {
-    /// A place that isn't done yet.
-    fn new(place: Place) -> Self {
-        Awaited {
-            place,
-            done: AtomicBool::new(false),
-            vain: AtomicUsize::new(0),
-        }
-    }
-
-    /// Whether the place is done at last.
-    fn sees_done(&self) -> bool {
-        for _ in 0..LOOKS {
-            if self.done.load(Ordering::SeqCst) {
-                return true;
-            }
-            thread::yield_now();
-        }
-        false
-    }
-
-    /// Waits until the place is done, and counts where that doesn't come.
-    fn wait(&self) {
-        if !self.sees_done() {
-            self.vain.fetch_add(1, Ordering::SeqCst);
-        }
-    }
-
-    /// Notes that a place is done.
-    fn note(&self, place: Place) {
-        if place == self.place {
-            self.done.store(true, Ordering::SeqCst);
-        }
-    }
-
-    /// How often it was waited for in vain.
-    fn vain(&self) -> usize {
-        self.vain.load(Ordering::SeqCst)
-    }
-}
-
-/// Holds back who is the first to ask for one place until another place is done.
+/// Holds back one until a place is done, and counts how often it is known of places that they are done.
 #[derive(Drop)]
-struct Waiting {
-    held: Place,
+struct Watch {
+    held: Held,
+    awaited: Place,
     asked: AtomicUsize,
-    awaited: Awaited,
-}
-
-impl Gate for Waiting {
-    fn before(&self, place: Place) {
-        if place == self.held && self.asked.fetch_add(1, Ordering::SeqCst) == 0 {
-            self.awaited.wait();
-        }
-    }
-
-    fn after(&self, place: Place) {
-        self.awaited.note(place);
-    }
-}
-
-/// Holds back the placer of a partition, once it has placed a place, until that place is done.
-#[derive(Drop)]
-struct Holding {
-    partition: usize,
-    awaited: Awaited,
-}
-
-impl Gate for Holding {
-    fn before(&self, _place: Place) {}
-
-    fn after(&self, place: Place) {
-        self.awaited.note(place);
-    }
-
-    fn placed(&self, partition: usize, place: Place) {
-        if partition == self.partition && place == self.awaited.place {
-            self.awaited.wait();
-        }
-    }
-}
-
-/// Notes how often it is known that a place is done, and holds back nobody.
-#[derive(Drop)]
-struct Noting {
+    done: AtomicBool,
+    /// How often the place was waited for in vain.
+    vain: AtomicUsize,
     second: AtomicUsize,
     third: AtomicUsize,
     others: AtomicUsize,
 }
 
-impl Noting {
-    /// How often it was known of a place.
-    fn count_of(&self, place: Place) -> &AtomicUsize {
-        match place {
-            2 => &self.second,
-            3 => &self.third,
-            _ => &self.others,
+impl Watch {
+    /// Holds back this one until this place is done, which it isn't yet.
+    fn new(held: Held, awaited: Place) -> Self {
+        Watch {
+            held,
+            awaited,
+            asked: AtomicUsize::new(0),
+            done: AtomicBool::new(false),
+            vain: AtomicUsize::new(0),
+            second: AtomicUsize::new(0),
+            third: AtomicUsize::new(0),
+            others: AtomicUsize::new(0),
         }
+    }
+
+    /// Waits until the place is done, and counts where that doesn't come.
+    fn wait(&self) {
+        for _ in 0..LOOKS {
+            if self.done.load(Ordering::SeqCst) {
+                return;
+            }
+            thread::yield_now();
+        }
+        self.vain.fetch_add(1, Ordering::SeqCst);
     }
 }
 
-impl Gate for Noting {
+impl Gate for Watch {
     fn before(&self, place: Place) {
         if place < 2 || place > 3 {
             self.others.fetch_add(1, Ordering::SeqCst);
         }
+        if self.held == Held::Asker(place) && self.asked.fetch_add(1, Ordering::SeqCst) == 0 {
+            self.wait();
+        }
     }
 
     fn after(&self, place: Place) {
-        self.count_of(place).fetch_add(1, Ordering::SeqCst);
+        let count = match place {
+            2 => &self.second,
+            3 => &self.third,
+            _ => &self.others,
+        };
+        count.fetch_add(1, Ordering::SeqCst);
+        if place == self.awaited {
+            self.done.store(true, Ordering::SeqCst);
+        }
+    }
+
+    fn placed(&self, partition: usize, place: Place) {
+        if self.held == Held::Placer(partition) && place == self.awaited {
+            self.wait();
+        }
     }
 }
 
@@ -151,48 +110,22 @@ fn begin<R: Threads + Wait + Sync>(
     run_up_to(rt, alloc, engine, 2, crew_of(1, 1))
 }
 
-/// Tells what comes of the two statements by two workers, where who is the first to ask for one waits for the other.
+/// Tells what comes of the two statements by two workers, where one is held back.
 fn tell_held<R: Threads + Wait + Print + Sync>(
     rt: &R,
     alloc: Global,
     engine: &mut Engine,
-    held: Place,
+    who: &str,
+    held: Held,
     awaited: Place,
 ) -> Result<(), TrialFault> {
     begin(rt, alloc, engine)?;
-    let gate = Waiting {
-        held,
-        asked: AtomicUsize::new(0),
-        awaited: Awaited::new(awaited),
-    };
+    let gate = Watch::new(held, awaited);
     let answer = engine.run_batch(rt, alloc, 2..4, crew_of(2, 2), &gate);
-    let vain = gate.awaited.vain();
-    let finished = engine.finished();
-    println!(rt;
-        "place {held} waits for place {awaited}: {answer:?}, {vain} in vain, {finished} finished"
-    )?;
-    Ok(())
-}
-
-/// Tells what comes of the two statements by two workers, where the placer of a partition that has placed the first of them goes on
-/// only once that one is done.
-fn tell_placed<R: Threads + Wait + Print + Sync>(
-    rt: &R,
-    alloc: Global,
-    engine: &mut Engine,
-    partition: usize,
-) -> Result<(), TrialFault> {
-    begin(rt, alloc, engine)?;
-    let gate = Holding {
-        partition,
-        awaited: Awaited::new(2),
-    };
-    let answer = engine.run_batch(rt, alloc, 2..4, crew_of(2, 2), &gate);
-    let vain = gate.awaited.vain();
-    let finished = engine.finished();
-    println!(rt;
-        "the placer of partition {partition} waits for place 2: {answer:?}, {vain} in vain, {finished} finished"
-    )?;
+    let (vain, finished) = (gate.vain.load(Ordering::SeqCst), engine.finished());
+    let _ = println!(rt;
+        "{who} waits for place {awaited}: {answer:?}, {vain} in vain, {finished} finished"
+    );
     Ok(())
 }
 
@@ -204,44 +137,31 @@ fn tell_counted<R: Threads + Wait + Print + Sync>(
     workers: usize,
 ) -> Result<(), TrialFault> {
     begin(rt, alloc, engine)?;
-    let gate = Noting {
-        second: AtomicUsize::new(0),
-        third: AtomicUsize::new(0),
-        others: AtomicUsize::new(0),
-    };
+    let gate = Watch::new(Held::Nobody, 2);
     let answer = engine.run_batch(rt, alloc, 2..4, crew_of(workers, 1), &gate);
     let second = gate.second.load(Ordering::SeqCst);
     let third = gate.third.load(Ordering::SeqCst);
     let others = gate.others.load(Ordering::SeqCst);
     let all = second == workers && third == workers;
-    println!(rt;
+    let _ = println!(rt;
         "{workers} workers: {answer:?}, each told of both places: {all}, of others: {others}"
-    )?;
+    );
     Ok(())
 }
 
-/// Tells of a batch whose one place waits for the other.
+/// Tells of a new engine's batch in which one is held back.
 fn tell_waiting<R: Threads + Wait + Print + Sync>(
     rt: &R,
     alloc: Global,
-    held: Place,
+    who: &str,
+    held: Held,
     awaited: Place,
 ) -> Result<(), TrialFault> {
     let mut engine = Engine::new(alloc);
-    tell_held(rt, alloc, &mut engine, held, awaited)
+    tell_held(rt, alloc, &mut engine, who, held, awaited)
 }
 
-/// Tells of a batch of which one place is done before the other one is placed.
-fn tell_placing<R: Threads + Wait + Print + Sync>(
-    rt: &R,
-    alloc: Global,
-    partition: usize,
-) -> Result<(), TrialFault> {
-    let mut engine = Engine::new(alloc);
-    tell_placed(rt, alloc, &mut engine, partition)
-}
-
-/// Reports of a batch run by this many workers.
+/// Tells of a new engine's batch that is run by this many workers.
 fn tell_counting<R: Threads + Wait + Print + Sync>(
     rt: &R,
     alloc: Global,
@@ -251,15 +171,15 @@ fn tell_counting<R: Threads + Wait + Print + Sync>(
     tell_counted(rt, alloc, &mut engine, workers)
 }
 
-/// Tells of gates that hold a worker back, and of one that doesn't.
+/// Tells of gates that hold one back, and of one that doesn't.
 pub fn tell_gates<R: Threads + Wait + Print + Sync>(
     rt: &R,
     alloc: Global,
 ) -> Result<(), TrialFault> {
-    tell_waiting(rt, alloc, 2, 3)?;
-    tell_waiting(rt, alloc, 3, 2)?;
-    tell_placing(rt, alloc, 0)?;
-    tell_placing(rt, alloc, 1)?;
+    tell_waiting(rt, alloc, "place 2", Held::Asker(2), 3)?;
+    tell_waiting(rt, alloc, "place 3", Held::Asker(3), 2)?;
+    tell_waiting(rt, alloc, "the placer of partition 0", Held::Placer(0), 2)?;
+    tell_waiting(rt, alloc, "the placer of partition 1", Held::Placer(1), 2)?;
     for workers in [1, 2, 4, 64] {
         tell_counting(rt, alloc, workers)?;
     }

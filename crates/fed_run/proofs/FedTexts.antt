@@ -5,164 +5,97 @@ use Rattle.log_text.proofs.Total.{total}
 use Rattle.log_text_base.specs.Lines.{HasLine, first_line, lines_of, other_lines}
 use Rattle.sequencer.specs.Log.{Accepted, empty_log}
 use Rattle.sequencer.specs.Taken.{IsWhole}
-use Rattle.model_base.specs.declared.statement.Statement.{Statement}
-use Rattle.sequencer.specs.Catalog.{Names, no_names}
-use Rattle.report.specs.Report.{AreReadings, IsReport, Reading, accepted, log_of, names_after, names_with}
-use Rattle.report.proofs.ReportLemmas.{log_of-append, names_after-append}
-use Rattle.report.proofs.Readings.{readings}
-use Rattle.bohm_base.specs.Collecting.{IsLogOf, ReadsAs, all_became, became, log_text, report_text}
+use Rattle.report.specs.Report.{AreReadings, IsReport, Reading, accepted}
+use Rattle.bohm_base.specs.Collecting.{IsLogOf, ReadsAs, became}
 use Rattle.bohm_base.specs.declared.collecting.Became.{Became}
-use Rattle.bohm_base.proofs.LinesRead.{collect_step}
 use Rattle.bohm_base.proofs.Logs.{report_is}
-use Rattle.bohm_base.proofs.WholeLogs.{tables_after}
-use Rattle.fed_run.specs.Reported.{IsReported, texts_of_lines, places_taken}
+use Rattle.batched_text.specs.Batching.{Batched, IsBatched, ReportsLines, lines_text}
+use Rattle.batched_text.specs.Places.{places_in}
+use Rattle.batched_text.proofs.Ends.{read_before, read_start}
+use Rattle.batched_text.proofs.Sofar.{batched_reported, batched_taken, begun_batched}
 use Rattle.fed_run.specs.Progress.{Progress, TakesLine}
 use Rattle.fed_run.specs.Stands.{BeginsReport, MayCome, IsFed, unsent}
 use Rattle.fed_run.specs.declared.fed.FedRun.{FedRun}
-use Rattle.fed_run.proofs.Reports.{longer, parts}
 use Rattle.fed_run.proofs.Lines.{cut_at, first_through, kept_line, no_line, no_line-append, nothing_begun, other_through}
 
-pub places-append : (xs ys : List Became) → places_taken (xs ++ ys) ≡ places_taken xs + places_taken ys
-places-append [] ys = omega arith
-places-append (x ∷ xs) ys = omega (arith, places-append xs ys)
+-- what was written is known, as there is no writer
+from_batched : (i j pending : List ℕ) (log : Accepted) (done : ℕ) (waiting : List Became) (next : ℕ)
+    → Batched (Some i) (Some j) (Some []) (Some []) pending log done waiting next → IsBatched i j pending log done waiting next
+from_batched i j pending log done waiting next so =
+    subst (λ (front : List ℕ). IsBatched i j (front ++ pending) log done waiting next) (sym so.1.0) so.1.1
 
-became-append : (names : Names) (xs ys : List Reading) → all_became names (xs ++ ys) ≡ all_became names xs ++ all_became (names_after names xs) ys
-became-append names [] ys = refl
-became-append names (x ∷ xs) ys = ap (λ (lines : List Became). became names x ∷ lines) (became-append (names_with names x) xs ys)
-
--- a longer log reports these lines the same
-told-longer : (log : Accepted) (more : List Reading) (reported : List Became) → IsWhole log → places_taken reported ≤ length log.statements
-    → report_text (log.statements ++ log_of log.names more) (names_after log.names more).tables 1 0 reported ≡ texts_of_lines log 1 0 reported
-told-longer log more reported whole less =
-    let tables = tables_after log.names more in
-    ap (λ (ts : List (List ℕ)). report_text (log.statements ++ log_of log.names more) ts 1 0 reported) tables.1
-    ∙ longer log (log_of log.names more) tables.0 1 0 reported whole (omega (arith, less))
-
--- the whole report begins with that of the reported lines
-module _ (log : Accepted) (earlier later : List Reading) (reported waiting : List Became) (whole : IsWhole log) (so : IsLogOf earlier log (reported ++ waiting))
-    (less : places_taken reported ≤ length log.statements) where
-  abbrev after : Accepted
-  after = record { names = names_after no_names (earlier ++ later); statements = log_of no_names (earlier ++ later) }
-
-  abbrev rest : List Became
-  rest = waiting ++ all_became (names_after no_names earlier) later
-
-  all-lines : all_became no_names (earlier ++ later) ≡ reported ++ rest
-  all-lines =
-      became-append no_names earlier later
-      ∙ ap (λ (ls : List Became). ls ++ all_became (names_after no_names earlier) later) (sym so.each)
-      ∙ append_assoc reported waiting (all_became (names_after no_names earlier) later)
-
-  statements-are : after.statements ≡ log.statements ++ log_of log.names later
-  statements-are =
-      log_of-append no_names earlier later
-      ∙ ap (λ (n : Names). log_of no_names earlier ++ log_of n later) (sym so.names)
-      ∙ ap (λ (xs : List Statement). xs ++ log_of log.names later) (sym so.statements)
-
-  names-are : after.names ≡ names_after log.names later
-  names-are = names_after-append no_names earlier later ∙ ap (λ (n : Names). names_after n later) (sym so.names)
-
-  abbrev behind : List ℕ
-  behind = report_text after.statements after.names.tables (1 + length reported) (0 + places_taken reported) rest
-
-  pub report-begins : log_text after (all_became no_names (earlier ++ later)) ≡ texts_of_lines log 1 0 reported ++ behind
-  report-begins =
-      ap (λ (ls : List Became). report_text after.statements after.names.tables 1 0 ls) all-lines
-      ∙ parts after.statements after.names.tables 1 0 reported rest
-      ∙ ap (λ t. t ++ behind)
-      (ap (λ (xs : List Statement). report_text xs after.names.tables 1 0 reported) statements-are
-      ∙ ap (λ (n : Names). report_text (log.statements ++ log_of log.names later) n.tables 1 0 reported) names-are
-      ∙ told-longer log later reported whole less)
+to_batched : (i j pending : List ℕ) (log : Accepted) (done : ℕ) (waiting : List Became) (next : ℕ)
+    → IsBatched i j pending log done waiting next → Batched (Some i) (Some j) (Some []) (Some []) pending log done waiting next
+to_batched i j pending log done waiting next is = ([], (refl, is))
 
 -- what was reported begins the report of the whole
-pub begins : (i j pending : List ℕ) (log : Accepted) (done : ℕ) (waiting : List Became) (next : ℕ) → IsReported i j pending log done waiting next → BeginsReport i pending
+pub begins : (i j pending : List ℕ) (log : Accepted) (done : ℕ) (waiting : List Became) (next : ℕ) → IsBatched i j pending log done waiting next → BeginsReport i pending
 begins i j pending log done waiting next is =
-    let later = readings total (lines_of j) in
-    let all : List Reading = is.earlier ++ later.0 in
-    let few : places_taken is.reported ≤ length log.statements = omega (arith, is.places, is.within) in
-    let whole_log : Accepted = record { names = names_after no_names all; statements = log_of no_names all } in
-    let rest : List ℕ = report_text whole_log.statements whole_log.names.tables (1 + length is.reported) (0 + places_taken is.reported) (waiting ++ all_became (names_after no_names is.earlier) later.0) in
-    let report : IsReport i (log_text whole_log (all_became no_names all)) =
-    report_is i whole_log (all_became no_names all) (all, (is.leads later.0 later.1, record { names = refl; statements = refl; each = refl })) in
-    let starts : log_text whole_log (all_became no_names all) ≡ texts_of_lines log 1 0 is.reported ++ rest = report-begins log is.earlier later.0 is.reported waiting is.whole is.made few in
-    (rest, subst (IsReport i) (starts ∙ ap (λ (w : List ℕ). w ++ rest) (sym is.text)) report)
+    let begun = begun_batched total (Some i) (Some j) (Some []) (Some []) pending log done waiting next (to_batched i j pending log done waiting next is) in
+    let moved = begun.1.1.1 in
+    let rest : List ℕ = begun.1.1.0 in
+    let whole : pending ++ rest ≡ begun.0 = ap (λ (front : List ℕ). front ++ (pending ++ rest)) moved.1 ∙ moved.2 in
+    (rest, subst (IsReport i) (sym whole) begun.1.0)
 
 -- the same by equal parts
 module _ (i j : List ℕ) where
   same_reported : (p q : List ℕ) (log more : Accepted) (done than : ℕ) (waiting lines : List Became) (next number : ℕ)
-      → p ≡ q → log ≡ more → done ≡ than → waiting ≡ lines → next ≡ number → IsReported i j p log done waiting next → IsReported i j q more than lines number
+      → p ≡ q → log ≡ more → done ≡ than → waiting ≡ lines → next ≡ number → IsBatched i j p log done waiting next → IsBatched i j q more than lines number
   same_reported p q log more done than waiting lines next number a b c d e is =
-      subst (λ (x : List ℕ). IsReported i j x more than lines number) a
-      (subst (λ (x : Accepted). IsReported i j p x than lines number) b
-      (subst (λ (x : ℕ). IsReported i j p log x lines number) c
-      (subst (λ (x : List Became). IsReported i j p log done x number) d
-      (subst (λ (x : ℕ). IsReported i j p log done waiting x) e is))))
+      subst (λ (x : List ℕ). IsBatched i j x more than lines number) a
+      (subst (λ (x : Accepted). IsBatched i j p x than lines number) b
+      (subst (λ (x : ℕ). IsBatched i j p log x lines number) c
+      (subst (λ (x : List Became). IsBatched i j p log done x number) d
+      (subst (λ (x : ℕ). IsBatched i j p log done waiting x) e is))))
 
 -- a line was taken, and waits
-line_taken : (i j k pending line : List ℕ) (reading : Reading) (old new : Progress) (next : ℕ) → old.waiting ≡ []
-    → line ≡ take 4097 (first_line j) → k ≡ other_lines j → 0 < length j → ReadsAs line reading → TakesLine reading old new → IsWhole new.log
-    → IsReported i j pending old.log old.reported old.waiting next → IsReported i k pending new.log new.reported new.waiting (next + 1)
-line_taken i j k pending line reading old new next none first others some reads takes whole is =
-    let one : Became = became old.log.names reading in
-    let log : Accepted = old.log in
-    let step = collect_step (Some i) (Some j) (Some k) log new.log (is.reported ++ old.waiting) ((is.reported ++ old.waiting) ++ one ∷ []) line one
-    (is.earlier, (is.leads, is.made)) ((first, others), some) (reading, (reads, (refl, takes.log))) refl in
-    let few : places_taken is.reported ≤ length log.statements = omega (arith, is.places, is.within) in
-    let stays : texts_of_lines new.log 1 0 is.reported ≡ texts_of_lines log 1 0 is.reported =
-    ap (λ (l : Accepted). texts_of_lines l 1 0 is.reported) takes.log
-    ∙ ap (λ (ss : List Statement). report_text (log.statements ++ ss) (names_with log.names reading).tables 1 0 is.reported) (sym (append-nil (accepted log.names reading)))
-    ∙ told-longer log (reading ∷ []) is.reported is.whole few in
-    let lines : (is.reported ++ old.waiting) ++ one ∷ [] ≡ is.reported ++ new.waiting =
-    append_assoc is.reported old.waiting (one ∷ []) ∙ ap (λ (w : List Became). is.reported ++ (w ++ one ∷ [])) none ∙ ap (λ (w : List Became). is.reported ++ w) (sym takes.waiting) in
-    record {
-      earlier = step.0;
-      leads = step.1.0;
-      reported = is.reported;
-      made = subst (IsLogOf step.0 new.log) lines step.1.1;
-      number = omega (arith, is.number, ap length none, ap length takes.waiting);
-      places = is.places ∙ sym takes.reported;
-      text = is.text ∙ sym stays;
-      whole = whole;
-      within = omega (arith, is.within, takes.reported, ap (λ (l : Accepted). length l.statements) takes.log, length-append log.statements (accepted log.names reading));
-    }
+line_taken : (i j k pending line : List ℕ) (reading : Reading) (old new : Progress) (next : ℕ)
+    → line ≡ take 4097 (first_line j) → k ≡ other_lines j → 0 < length j → ReadsAs line reading → TakesLine reading old new → IsWhole new.run.log
+    → IsBatched i j pending old.run.log old.reported old.waiting next → IsBatched i k pending new.run.log new.reported new.waiting (next + 1)
+line_taken i j k pending line reading old new next first others some reads takes whole is =
+    let log : Accepted = old.run.log in
+    let after : Accepted = new.run.log in
+    let lines : List Became = old.waiting ++ became log.names reading ∷ [] in
+    let longer : length after.statements ≡ length log.statements + length (accepted log.names reading) =
+    ap (λ (l : Accepted). length l.statements) takes.log ∙ length-append log.statements (accepted log.names reading) in
+    let so : IsBatched i k pending after old.reported lines (next + 1) =
+    from_batched i k pending after old.reported lines (next + 1)
+    (batched_taken (Some i) (Some j) (Some k) (Some []) (Some []) pending line reading log after old.reported old.waiting next
+    (to_batched i j pending log old.reported old.waiting next is) ((first, others), some) reads takes.log whole (omega (arith, is.within, longer))) in
+    same_reported i k pending pending after after old.reported new.reported lines new.waiting (next + 1) (next + 1) refl refl (sym takes.reported) (sym takes.waiting) refl so
 
--- the line that waited was reported
-line_reported : (i j pending told : List ℕ) (old new : Progress) (number : ℕ) → told ≡ texts_of_lines old.log number old.reported old.waiting → new.log ≡ old.log
-    → new.reported ≡ old.reported + places_taken old.waiting → new.reported ≤ length new.log.statements → new.waiting ≡ []
-    → IsReported i j pending old.log old.reported old.waiting (number + length old.waiting)
-    → IsReported i j (pending ++ told) new.log new.reported new.waiting (number + length old.waiting)
-line_reported i j pending told old new number is log reported within none so =
+-- the lines that waited were reported
+line_reported : (i j pending told : List ℕ) (old new : Progress) (number : ℕ) → told ≡ lines_text old.run.log number old.reported old.waiting → new.run.log ≡ old.run.log
+    → new.reported ≡ old.reported + places_in old.waiting → new.reported ≤ length new.run.log.statements → new.waiting ≡ []
+    → IsBatched i j pending old.run.log old.reported old.waiting (number + length old.waiting)
+    → IsBatched i j (pending ++ told) new.run.log new.reported new.waiting (number + length old.waiting)
+line_reported i j pending told old new number is same reported within none so =
+    let log : Accepted = old.run.log in
     let next : ℕ = number + length old.waiting in
-    let here : number ≡ 1 + length so.reported = omega (arith, so.number) in
-    let place : old.reported ≡ 0 + places_taken so.reported = omega (arith, so.places) in
-    let spelled : pending ++ told ≡ texts_of_lines old.log 1 0 (so.reported ++ old.waiting) =
-    ap (λ (w : List ℕ). w ++ told) so.text
-    ∙ ap (λ (w : List ℕ). texts_of_lines old.log 1 0 so.reported ++ w) is
-    ∙ ap (λ (n : ℕ). texts_of_lines old.log 1 0 so.reported ++ texts_of_lines old.log n old.reported old.waiting) here
-    ∙ ap (λ (p : ℕ). texts_of_lines old.log 1 0 so.reported ++ texts_of_lines old.log (1 + length so.reported) p old.waiting) place
-    ∙ sym (parts old.log.statements old.log.names.tables 1 0 so.reported old.waiting) in
-    let now : IsReported i j (pending ++ told) old.log new.reported [] next = record {
-      earlier = so.earlier;
-      leads = so.leads;
-      reported = so.reported ++ old.waiting;
-      made = subst (IsLogOf so.earlier old.log) (sym (append-nil (so.reported ++ old.waiting))) so.made;
-      number = omega (arith, so.number, length-append so.reported old.waiting);
-      places = omega (arith, places-append so.reported old.waiting, so.places, reported);
-      text = spelled;
-      whole = so.whole;
-      within = omega (arith, within, ap (λ (l : Accepted). length l.statements) log);
+    let put : ReportsLines log old.reported new.reported old.waiting [] next pending (pending ++ told) = record {
+      out = old.waiting;
+      all = sym (append-nil old.waiting);
+      first = number;
+      number = refl;
+      told = ap (λ (w : List ℕ). pending ++ w) is;
+      places = reported;
     } in
-    same_reported i j (pending ++ told) (pending ++ told) old.log new.log new.reported new.reported [] new.waiting next next refl (sym log) refl (sym none) refl now
+    let now : IsBatched i j (pending ++ told) log new.reported [] next =
+    from_batched i j (pending ++ told) log new.reported [] next
+    (batched_reported (Some i) (Some j) (Some []) (Some []) log old.reported new.reported old.waiting [] next pending (pending ++ told)
+    (to_batched i j pending log old.reported old.waiting next so) put (omega (arith, within, ap (λ (l : Accepted). length l.statements) same))) in
+    same_reported i j (pending ++ told) (pending ++ told) log new.run.log new.reported new.reported [] new.waiting next next refl (sym same) refl (sym none) refl now
 
 -- all lines of the text were reported
-pub report_ended : (input written : List ℕ) (log : Accepted) (done next : ℕ) → IsReported input [] written log done [] next → IsReport input written
+pub report_ended : (input written : List ℕ) (log : Accepted) (done next : ℕ) → IsBatched input [] written log done [] next → IsReport input written
 report_ended input written log done next is =
-    let reads : AreReadings (lines_of input) is.earlier = subst (AreReadings (lines_of input)) (append-nil is.earlier) (is.leads [] tt) in
+    let reads : AreReadings (lines_of input) is.earlier =
+    subst (AreReadings (lines_of input)) (append-nil is.earlier) (read_before input [] is.earlier is.leads [] tt) in
     let made : IsLogOf is.earlier log is.reported = subst (IsLogOf is.earlier log) (append-nil is.reported) is.made in
     subst (IsReport input) (sym is.text) (report_is input log is.reported (is.earlier, (reads, made)))
 
 -- at first
-pub stands_start : (run : FedRun) → run.begun.items ≡ [] → unsent run ≡ [] → run.order.log ≡ empty_log → IsWhole run.order.log → run.order.reported ≡ 0
+pub stands_start : (run : FedRun) → run.begun.items ≡ [] → unsent run ≡ [] → run.order.run.log ≡ empty_log → IsWhole run.order.run.log → run.order.reported ≡ 0
     → run.order.waiting ≡ [] → run.lines ≡ 0 → IsFed run [] []
 stands_start run begun nothing log whole reported none lines = record {
   tail = [];
@@ -172,9 +105,9 @@ stands_start run begun nothing log whole reported none lines = record {
       let empty : IsLogOf [] empty_log [] = record { names = refl; statements = refl; each = refl } in
       record {
         earlier = [];
-        leads = λ later reads. reads;
+        leads = read_start future;
         reported = [];
-        made = subst (λ (ls : List Became). IsLogOf [] run.order.log ls) (sym none) (subst (λ (l : Accepted). IsLogOf [] l []) (sym log) empty);
+        made = subst (λ (ls : List Became). IsLogOf [] run.order.run.log ls) (sym none) (subst (λ (l : Accepted). IsLogOf [] l []) (sym log) empty);
         number = omega (arith, lines);
         places = sym reported;
         text = nothing;
@@ -184,7 +117,7 @@ stands_start run begun nothing log whole reported none lines = record {
 }
 
 -- where nothing of it has changed but what is given
-module _ (old new : FedRun) (begun : new.begun.items ≡ old.begun.items) (ended : new.is_ended ≡ old.is_ended) (log : new.order.log ≡ old.order.log)
+module _ (old new : FedRun) (begun : new.begun.items ≡ old.begun.items) (ended : new.is_ended ≡ old.is_ended) (log : new.order.run.log ≡ old.order.run.log)
     (reported : new.order.reported ≡ old.order.reported) (waiting : new.order.waiting ≡ old.order.waiting) (lines : new.lines ≡ old.lines) where
   pub stands_given : (given : List ℕ) → given ++ unsent new ≡ unsent old → (input written : List ℕ) → IsFed old input written → IsFed new input (written ++ given)
   stands_given given is input written stands = record {
@@ -192,7 +125,7 @@ module _ (old new : FedRun) (begun : new.begun.items ≡ old.begun.items) (ended
     kept = begun ∙ stands.kept;
     unended = stands.unended;
     reached = λ future may.
-        same_reported (input ++ future) (stands.tail ++ future) (written ++ unsent old) ((written ++ given) ++ unsent new) old.order.log new.order.log old.order.reported
+        same_reported (input ++ future) (stands.tail ++ future) (written ++ unsent old) ((written ++ given) ++ unsent new) old.order.run.log new.order.run.log old.order.reported
         new.order.reported old.order.waiting new.order.waiting (old.lines + 1 + length old.order.waiting) (new.lines + 1 + length new.order.waiting)
         (ap (λ (w : List ℕ). written ++ w) (sym is) ∙ sym (append_assoc written given (unsent new)))
         (sym log) (sym reported) (sym waiting) (omega (arith, lines, ap length waiting))
@@ -202,27 +135,27 @@ module _ (old new : FedRun) (begun : new.begun.items ≡ old.begun.items) (ended
   pub stands_same : unsent new ≡ unsent old → (input written : List ℕ) → IsFed old input written → IsFed new input written
   stands_same is input written stands = subst (IsFed new input) (append-nil written) (stands_given [] is input written stands)
 
--- the line that waited was reported
-pub stands_reported : (old new : FedRun) → unsent old ≡ [] → new.begun.items ≡ old.begun.items → new.is_ended ≡ old.is_ended → new.order.log ≡ old.order.log
-    → new.order.reported ≡ old.order.reported + places_taken old.order.waiting → new.order.reported ≤ length new.order.log.statements → new.order.waiting ≡ []
-    → unsent new ≡ texts_of_lines old.order.log (old.lines + 1) old.order.reported old.order.waiting → new.lines ≡ old.lines + 1 → length old.order.waiting ≡ 1
+-- the lines that waited were reported
+pub stands_reported : (old new : FedRun) → unsent old ≡ [] → new.begun.items ≡ old.begun.items → new.is_ended ≡ old.is_ended → new.order.run.log ≡ old.order.run.log
+    → new.order.reported ≡ old.order.reported + places_in old.order.waiting → new.order.reported ≤ length new.order.run.log.statements → new.order.waiting ≡ []
+    → unsent new ≡ lines_text old.order.run.log (old.lines + 1) old.order.reported old.order.waiting → new.lines ≡ old.lines + length old.order.waiting
     → (input written : List ℕ) → IsFed old input written → IsFed new input written
-stands_reported old new nothing begun ended log reported within none told lines one input written stands = record {
+stands_reported old new nothing begun ended log reported within none told lines input written stands = record {
   tail = stands.tail;
   kept = begun ∙ stands.kept;
   unended = stands.unended;
   reached = λ future may.
-      same_reported (input ++ future) (stands.tail ++ future) ((written ++ unsent old) ++ unsent new) (written ++ unsent new) new.order.log new.order.log
+      same_reported (input ++ future) (stands.tail ++ future) ((written ++ unsent old) ++ unsent new) (written ++ unsent new) new.order.run.log new.order.run.log
       new.order.reported new.order.reported new.order.waiting new.order.waiting (old.lines + 1 + length old.order.waiting) (new.lines + 1 + length new.order.waiting)
       (ap (λ (w : List ℕ). (written ++ w) ++ unsent new) nothing ∙ ap (λ (w : List ℕ). w ++ unsent new) (append-nil written))
-      refl refl refl (omega (arith, lines, one, ap length none))
+      refl refl refl (omega (arith, lines, ap length none))
       (line_reported (input ++ future) (stands.tail ++ future) (written ++ unsent old) (unsent new) old.order new.order (old.lines + 1) told log reported within none
       (stands.reached future (λ is. may (ended ∙ is))));
 }
 
 -- a line was taken: the tail, and what ends it
-module _ (old new : FedRun) (none : old.order.waiting ≡ []) (begun : new.begun.items ≡ []) (ended : new.is_ended ≡ old.is_ended) (unsent_is : unsent new ≡ unsent old)
-    (lines : new.lines ≡ old.lines) (whole : IsWhole new.order.log) where
+module _ (old new : FedRun) (begun : new.begun.items ≡ []) (ended : new.is_ended ≡ old.is_ended) (unsent_is : unsent new ≡ unsent old)
+    (lines : new.lines ≡ old.lines) (whole : IsWhole new.order.run.log) where
   stands_after : (input written piece line : List ℕ) (stands : IsFed old input written)
       → ((future : List ℕ) → MayCome new future → MayCome old (piece ++ future))
       → ((future : List ℕ) → MayCome new future → (line ≡ take 4097 (first_line (stands.tail ++ (piece ++ future)))) × (other_lines (stands.tail ++ (piece ++ future)) ≡ future)
@@ -234,14 +167,15 @@ module _ (old new : FedRun) (none : old.order.waiting ≡ []) (begun : new.begun
     unended = no_line;
     reached = λ future may.
         let at = cut future may in
-        let count : old.lines + 1 + length old.order.waiting + 1 ≡ new.lines + 1 + length new.order.waiting = omega (arith, lines, ap length none, ap length takes.waiting) in
-        subst (λ (w : List ℕ). IsReported w future (written ++ unsent new) new.order.log new.order.reported new.order.waiting (new.lines + 1 + length new.order.waiting))
+        let count : old.lines + 1 + length old.order.waiting + 1 ≡ new.lines + 1 + length new.order.waiting =
+        omega (arith, lines, ap length takes.waiting, length-append old.order.waiting (became old.order.run.log.names reading ∷ [])) in
+        subst (λ (w : List ℕ). IsBatched w future (written ++ unsent new) new.order.run.log new.order.reported new.order.waiting (new.lines + 1 + length new.order.waiting))
         (sym (append_assoc input piece future))
-        (same_reported (input ++ (piece ++ future)) future (written ++ unsent old) (written ++ unsent new) new.order.log new.order.log new.order.reported new.order.reported
+        (same_reported (input ++ (piece ++ future)) future (written ++ unsent old) (written ++ unsent new) new.order.run.log new.order.run.log new.order.reported new.order.reported
         new.order.waiting new.order.waiting (old.lines + 1 + length old.order.waiting + 1) (new.lines + 1 + length new.order.waiting)
         (ap (λ (w : List ℕ). written ++ w) (sym unsent_is)) refl refl refl count
         (line_taken (input ++ (piece ++ future)) (stands.tail ++ (piece ++ future)) future (written ++ unsent old) line reading old.order new.order
-        (old.lines + 1 + length old.order.waiting) none at.0 (sym at.1) at.2 reads takes whole (stands.reached (piece ++ future) (come future may))));
+        (old.lines + 1 + length old.order.waiting) at.0 (sym at.1) at.2 reads takes whole (stands.reached (piece ++ future) (come future may))));
   }
 
   -- an LF among the bytes ends it
@@ -297,13 +231,13 @@ stands_begun old new bytes none keeps ended going order unsent_is lines input wr
   kept = keeps stands.tail stands.kept;
   unended = no_line-append stands.tail bytes stands.unended none;
   reached = λ future may.
-      subst (λ (w : List ℕ). IsReported w ((stands.tail ++ bytes) ++ future) (written ++ unsent new) new.order.log new.order.reported new.order.waiting (new.lines + 1 + length new.order.waiting))
+      subst (λ (w : List ℕ). IsBatched w ((stands.tail ++ bytes) ++ future) (written ++ unsent new) new.order.run.log new.order.reported new.order.waiting (new.lines + 1 + length new.order.waiting))
       (sym (append_assoc input bytes future))
-      (subst (λ (w : List ℕ). IsReported (input ++ (bytes ++ future)) w (written ++ unsent new) new.order.log new.order.reported new.order.waiting (new.lines + 1 + length new.order.waiting))
+      (subst (λ (w : List ℕ). IsBatched (input ++ (bytes ++ future)) w (written ++ unsent new) new.order.run.log new.order.reported new.order.waiting (new.lines + 1 + length new.order.waiting))
       (sym (append_assoc stands.tail bytes future))
-      (same_reported (input ++ (bytes ++ future)) (stands.tail ++ (bytes ++ future)) (written ++ unsent old) (written ++ unsent new) old.order.log new.order.log
+      (same_reported (input ++ (bytes ++ future)) (stands.tail ++ (bytes ++ future)) (written ++ unsent old) (written ++ unsent new) old.order.run.log new.order.run.log
       old.order.reported new.order.reported old.order.waiting new.order.waiting (old.lines + 1 + length old.order.waiting) (new.lines + 1 + length new.order.waiting)
-      (ap (λ (w : List ℕ). written ++ w) (sym unsent_is)) (ap (λ (p : Progress). p.log) (sym order)) (ap (λ (p : Progress). p.reported) (sym order))
+      (ap (λ (w : List ℕ). written ++ w) (sym unsent_is)) (ap (λ (p : Progress). p.run.log) (sym order)) (ap (λ (p : Progress). p.reported) (sym order))
       (ap (λ (p : Progress). p.waiting) (sym order)) (omega (arith, lines, ap (λ (p : Progress). length p.waiting) order))
       (stands.reached (bytes ++ future) (λ told. absurd (cc (sym going ∙ told))))));
 }
@@ -314,16 +248,16 @@ report_given run begun nothing none input written stands =
     let empty : stands.tail ≡ [] = nothing_begun stands.tail (sym begun ∙ stands.kept) in
     let is = stands.reached [] (λ _. refl) in
     let next : ℕ = run.lines + 1 + length run.order.waiting in
-    report_ended input written run.order.log run.order.reported next
-    (subst (λ (w : List ℕ). IsReported w [] written run.order.log run.order.reported [] next) (append-nil input)
-    (subst (λ (w : List ℕ). IsReported (input ++ []) w written run.order.log run.order.reported [] next) (append-nil stands.tail ∙ empty)
-    (same_reported (input ++ []) (stands.tail ++ []) (written ++ unsent run) written run.order.log run.order.log run.order.reported run.order.reported run.order.waiting [] next next
+    report_ended input written run.order.run.log run.order.reported next
+    (subst (λ (w : List ℕ). IsBatched w [] written run.order.run.log run.order.reported [] next) (append-nil input)
+    (subst (λ (w : List ℕ). IsBatched (input ++ []) w written run.order.run.log run.order.reported [] next) (append-nil stands.tail ∙ empty)
+    (same_reported (input ++ []) (stands.tail ++ []) (written ++ unsent run) written run.order.run.log run.order.run.log run.order.reported run.order.reported run.order.waiting [] next next
     (ap (λ (w : List ℕ). written ++ w) nothing ∙ append-nil written) refl refl none refl is)))
 
 -- what was given, and what is to be given, begins the report
 pub given_begins : (run : FedRun) (input written future : List ℕ) → IsFed run input written → MayCome run future → BeginsReport (input ++ future) (written ++ unsent run)
 given_begins run input written future stands may =
-    begins (input ++ future) (stands.tail ++ future) (written ++ unsent run) run.order.log run.order.reported run.order.waiting (run.lines + 1 + length run.order.waiting)
+    begins (input ++ future) (stands.tail ++ future) (written ++ unsent run) run.order.run.log run.order.reported run.order.waiting (run.lines + 1 + length run.order.waiting)
     (stands.reached future may)
 
 -- the text was ended
@@ -334,9 +268,9 @@ stands_told old new begun ended order unsent_is lines input written stands = rec
   kept = begun ∙ stands.kept;
   unended = stands.unended;
   reached = λ future may.
-      same_reported (input ++ future) (stands.tail ++ future) (written ++ unsent old) (written ++ unsent new) old.order.log new.order.log old.order.reported
+      same_reported (input ++ future) (stands.tail ++ future) (written ++ unsent old) (written ++ unsent new) old.order.run.log new.order.run.log old.order.reported
       new.order.reported old.order.waiting new.order.waiting (old.lines + 1 + length old.order.waiting) (new.lines + 1 + length new.order.waiting)
-      (ap (λ (w : List ℕ). written ++ w) (sym unsent_is)) (ap (λ (p : Progress). p.log) (sym order)) (ap (λ (p : Progress). p.reported) (sym order))
+      (ap (λ (w : List ℕ). written ++ w) (sym unsent_is)) (ap (λ (p : Progress). p.run.log) (sym order)) (ap (λ (p : Progress). p.reported) (sym order))
       (ap (λ (p : Progress). p.waiting) (sym order)) (omega (arith, lines, ap (λ (p : Progress). length p.waiting) order))
       (stands.reached future (λ told. may ended));
 }

@@ -7,13 +7,9 @@ use Rattle.std.proofs.lemmas.List.{append-nil, length-append, length-drop, lengt
 use Rattle.std.proofs.lemmas.Slice.{take-put_mid}
 use borrow.Rule.Slice.PartMut.{put_mid}
 use Rattle.fed_run.specs.Progress.{Progress}
-use Rattle.fed_run.specs.Stands.{Feeds, Gives, IsGivenOut, IsFed, unsent}
+use Rattle.fed_run.specs.Stands.{Feeds, Gives, IsGivenOut, IsFed, TakesBytes, unsent}
 use Rattle.fed_run.specs.declared.fed.FedRun.{FedRun}
 use Rattle.fed_run.proofs.FedTexts.{report_given, stands_given, stands_told}
-
-pub nothing_left : (bytes : List ℕ) → length bytes ≡ 0 → bytes ≡ []
-nothing_left [] none = refl
-nothing_left (b ∷ bs) none = absurd (omega (arith, none))
 
 -- nothing was given
 pub gives_none : (old new : FedRun) (out : List ℕ) (made : ℕ) → made ≤ length out → ((input written : List ℕ) → IsFed old input written → IsFed new input written)
@@ -56,21 +52,6 @@ feeds_gives input out_old out_new old mid new used made_old made_new feeds gives
   ended = gives.ended ∙ feeds.ended;
 }
 
--- bytes were taken
-pub feeds_taken : (input out bytes : List ℕ) (old mid new : FedRun) (used made count : ℕ) → Feeds input out old mid used made → bytes ≡ drop used input → count ≤ length bytes
-    → used + length bytes ≡ length input → ((text written : List ℕ) → IsFed mid text written → IsFed new (text ++ take count bytes) written) → new.is_ended ≡ mid.is_ended
-    → Feeds input out old new (used + count) made
-feeds_taken input out bytes old mid new used made count feeds is less all stands ended = record {
-  in_input = omega (arith, all, less);
-  in_out = feeds.in_out;
-  stands = λ text written so.
-      let piece : take used input ++ take count bytes ≡ take (used + count) input =
-      ap (λ (w : List ℕ). take used input ++ take count w) is ∙ sym (take-add used count input) in
-      subst (λ (w : List ℕ). IsFed new w (written ++ take made out)) (append_assoc text (take used input) (take count bytes) ∙ ap (λ (w : List ℕ). text ++ w) piece)
-      (stands (text ++ take used input) (written ++ take made out) (feeds.stands text written so));
-  ended = ended ∙ feeds.ended;
-}
-
 -- none was taken, and the run is as far as before
 pub feeds_same : (input out : List ℕ) (old mid new : FedRun) (used made : ℕ) → Feeds input out old mid used made
     → ((text written : List ℕ) → IsFed mid text written → IsFed new text written) → new.is_ended ≡ mid.is_ended → Feeds input out old new used made
@@ -85,6 +66,11 @@ feeds_same input out old mid new used made feeds stands ended = record {
 pub on_err : {T E : Type 0} (P : Type 0) (r : Result T E) → P → OnErr r P
 on_err P (Ok x) p = tt
 on_err P (Err e) p = p
+
+-- what follows holds where the call was done
+pub on_ok : {T E : Type 0} {P Q : Type 0} (r : Result T E) → OnOk r P → (P → Q) → OnOk r Q
+on_ok (Ok x) p then = then p
+on_ok (Err e) p then = tt
 
 -- waiting bytes were given
 pub gives_more : (old new : FedRun) (out copied : List ℕ) (made count : ℕ) → made ≤ length out → made + count ≤ length out → count ≤ length (unsent old)
@@ -116,25 +102,10 @@ gives_more old new out copied made count before within few is left begun ended o
       len = whole;
       stands = λ input written so.
           subst (IsFed new input) (append_assoc written (take made out) copied ∙ ap (λ (w : List ℕ). written ++ w) (sym front))
-          (stands_given old new begun ended (ap (λ (p : Progress). p.log) order) (ap (λ (p : Progress). p.reported) order) (ap (λ (p : Progress). p.waiting) order) lines
+          (stands_given old new begun ended (ap (λ (p : Progress). p.run.log) order) (ap (λ (p : Progress). p.reported) order) (ap (λ (p : Progress). p.waiting) order) lines
           copied all input (written ++ take made out) so);
       ended = ended;
     }
-
--- where something was taken in no full room, all was
-pub fills : {T E : Type 0} (r : Result T E) (run : FedRun) (out : List ℕ) (size used made all : ℕ) → OnOk r (IsGivenOut run out made) → OnOk r (unsent run ≡ [] → used ≡ all)
-    → length out ≡ size → made ≤ length out → OnOk r (used < all → made ≡ size)
-fills (Err e) run out size used made all settled whole same within = tt
-fills (Ok x) run out size used made all settled whole same within = λ less.
-    elim (cases_lt made (length out)) [
-      | inl room ↦ absurd (omega (arith, less, whole (settled.full room)))
-      | inr full ↦ omega (arith, full, within, same)
-    ]
-
--- whatever the error is
-pub any_err : {T E : Type 0} (P : Type 0) (r : Result T E) (Q : E → Type 0) → OnErr r P → IfErr r (λ fault. Q fault → P)
-any_err P (Ok x) Q p = tt
-any_err P (Err e) Q p = λ _. p
 
 -- no input was taken, as there is none
 pub feeds_nothing : (out : List ℕ) (old new : FedRun) (used made : ℕ) → Feeds [] out old new used made → (text written : List ℕ) → IsFed old text written
@@ -160,14 +131,39 @@ pub feeds_started : (input out_old out_new : List ℕ) (old new : FedRun) (used 
 feeds_started input out_old out_new old new used made none gives =
     subst (λ (n : ℕ). Feeds input out_new old new n made) (sym none) (feeds_given input out_old out_new old new made gives)
 
--- bytes of a line were taken, and others given
-pub feeds_line : (input out_old out_new bytes : List ℕ) (old mid next new : FedRun) (used made_old made_new count : ℕ) → Feeds input out_old old mid used made_old
-    → bytes ≡ drop used input → count ≤ length bytes → ((text written : List ℕ) → IsFed mid text written → IsFed next (text ++ take count bytes) written)
-    → next.is_ended ≡ mid.is_ended → Gives next new out_old out_new made_old made_new → Feeds input out_new old new (used + count) made_new
-feeds_line input out_old out_new bytes old mid next new used made_old made_new count feeds is less stands ended gives =
-    let all : used + length bytes ≡ length input = omega (arith, ap length is, length-drop used input, feeds.in_input) in
-    feeds_gives input out_old out_new old next new (used + count) made_old made_new
-    (feeds_taken input out_old bytes old mid next used made_old count feeds is less all stands ended) gives
+-- no byte was taken yet
+pub takes_none : (input : List ℕ) (run : FedRun) (used : ℕ) → used ≤ length input → TakesBytes input run run used used
+takes_none input run used within = record { forward = omega arith; within = within; stands = λ text written so. so }
+
+-- and further ones
+pub takes_more : (input bytes : List ℕ) (old mid new : FedRun) (used now count : ℕ) → TakesBytes input old mid used now → bytes ≡ drop now input → count ≤ length bytes
+    → ((text written : List ℕ) → IsFed mid text written → IsFed new (text ++ take count bytes) written) → TakesBytes input old new used (now + count)
+takes_more input bytes old mid new used now count takes is less stands = record {
+  forward = omega (arith, takes.forward);
+  within = omega (arith, takes.within, less, ap length is, length-drop now input);
+  stands = λ text written so.
+      let piece : take now input ++ take count bytes ≡ take (now + count) input =
+      ap (λ (w : List ℕ). take now input ++ take count w) is ∙ sym (take-add now count input) in
+      subst (λ (w : List ℕ). IsFed new w written) (append_assoc text (take now input) (take count bytes) ∙ ap (λ (w : List ℕ). text ++ w) piece)
+      (stands (text ++ take now input) written (takes.stands text written so));
+}
+
+-- lines were taken
+pub feeds_takes : (input out : List ℕ) (old mid new : FedRun) (used now made told : ℕ) → Feeds input out old mid used made → TakesBytes input mid new used now
+    → new.is_ended ≡ mid.is_ended → told ≡ made → Feeds input out old new now told
+feeds_takes input out old mid new used now made told feeds takes ended same = subst (Feeds input out old new now) (sym same) (record {
+  in_input = takes.within;
+  in_out = feeds.in_out;
+  stands = λ text written so. takes.stands text (written ++ take made out) (feeds.stands text written so);
+  ended = ended ∙ feeds.ended;
+})
+
+-- and bytes given
+pub feeds_lines : (input out_old out_new : List ℕ) (old mid next new : FedRun) (used now made_old made_mid made_new : ℕ) → Feeds input out_old old mid used made_old
+    → TakesBytes input mid next used now → next.is_ended ≡ mid.is_ended → made_mid ≡ made_old → Gives next new out_old out_new made_mid made_new
+    → Feeds input out_new old new now made_new
+feeds_lines input out_old out_new old mid next new used now made_old made_mid made_new feeds takes ended same gives =
+    feeds_gives input out_old out_new old next new now made_mid made_new (feeds_takes input out_old old mid next used now made_old made_mid feeds takes ended same) gives
 
 -- the last line was taken, and bytes were given
 pub feeds_last : (input out_old out_new : List ℕ) (old mid next new : FedRun) (used made_old made_new : ℕ) → Feeds input out_old old mid used made_old

@@ -1,6 +1,5 @@
 pub mod Lines
-pub mod Reached
-pub mod Reports
-pub mod LineReadings
+pub mod InOrders
 pub mod FedTexts
+pub mod FedExplained
 pub mod Feeding

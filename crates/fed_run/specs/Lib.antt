@@ -1,4 +1,3 @@
 pub mod Faults
-pub mod Reported
 pub mod Progress
 pub mod Stands

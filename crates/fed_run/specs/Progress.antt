@@ -1,38 +1,28 @@
--- How far a log is that is run line by line.
-use Rattle.std.specs.Prelude.{◌≡◌, ◌≤◌, ◌+◌, ◌∷◌, [], ℕ, List, Option, None, Some, length}
-use Rattle.model_base.specs.declared.outcome.Outcome.{Outcome}
-use Rattle.sequencer.specs.Log.{Accepted}
+-- How far a log is that is run in order.
+use Rattle.std.specs.Prelude.{◌≡◌, ◌≤◌, ◌+◌, ◌-◌, ◌++◌, ◌∷◌, [], ℕ, List, length}
 use Rattle.report.specs.Report.{Reading}
 use Rattle.bohm_base.specs.Collecting.{became, with_reading}
 use Rattle.bohm_base.specs.declared.collecting.Became.{Became}
-use Rattle.fed_run.specs.Reported.{places_taken}
-use Rattle.engine.specs.Engine.{IsRun, Run}
+use Rattle.batched_text.specs.Places.{places_in}
+use Rattle.engine.specs.Engine.{Run, finished}
 
--- the log, how many of its places are finished and how many were reported, what the lines became that wait to be reported, and of how
--- many of the first places the statement was dropped
+-- the engine, what the lines became that wait to be reported, how many places were reported, and of how many of the last of them statements
+-- and outcomes are to be kept
 pub record Progress : Type 0 where
-  pub log : Accepted
-  pub finished : ℕ
-  pub reported : ℕ
+  pub run : Run
   pub waiting : List Became
-  pub dropped : ℕ
+  pub reported : ℕ
+  pub keep : ℕ
 
--- the line that waits, if one does
-abbrev pub lines_waiting : Option Became → List Became
-lines_waiting None = []
-lines_waiting (Some line) = line ∷ []
-
--- rows and grants are those before the first place that isn't finished, each place was reported or is of a line that waits, and only of
--- reported places the statement was dropped
-pub record HasReached (run : Run) (past : List Outcome) (waiting : List Became) : Type 0 where
-  pub is : IsRun run
-  pub counted : length past + places_taken waiting ≡ length run.log.statements
-  pub dropped : run.dropped ≤ length past
+-- each place was reported or is of a line that waits, what was reported is finished, and only of reported places that needn't be kept
+-- statement and outcome were dropped
+pub record HasReached (now : Progress) : Type 0 where
+  pub counted : now.reported + places_in now.waiting ≡ length now.run.log.statements
+  pub finished : now.reported ≤ finished now.run
+  pub dropped : now.run.dropped ≤ now.reported - now.keep
 
 -- a line that was read so was taken, and waits
 pub record TakesLine (reading : Reading) (old new : Progress) : Type 0 where
-  pub log : new.log ≡ with_reading old.log reading
-  pub waiting : new.waiting ≡ became old.log.names reading ∷ []
-  pub finished : new.finished ≡ old.finished
+  pub log : new.run.log ≡ with_reading old.run.log reading
+  pub waiting : new.waiting ≡ old.waiting ++ became old.run.log.names reading ∷ []
   pub reported : new.reported ≡ old.reported
-  pub dropped : new.dropped ≡ old.dropped

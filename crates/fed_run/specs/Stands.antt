@@ -1,9 +1,10 @@
 -- How far a run is that is fed piece by piece.
-use Rattle.std.specs.Prelude.{◌≡◌, ◌≤◌, ◌<◌, ◌+◌, ◌++◌, [], ℕ, true, List, drop, length, take}
+use Rattle.std.specs.Prelude.{◌≡◌, ◌≤◌, ◌<◌, ◌+◌, ◌++◌, [], ℕ, false, true, List, drop, length, take}
 use Rattle.log_text_base.specs.Lines.{HasLine}
 use Rattle.log_text_base.specs.declared.limits.TheConstants.{KEPT_BYTES}
 use Rattle.report.specs.Report.{IsReport}
-use Rattle.fed_run.specs.Reported.{IsReported}
+use Rattle.audit_text.specs.Answer.{IsExplanation}
+use Rattle.batched_text.specs.Batching.{IsBatched}
 use Rattle.fed_run.specs.declared.fed.FedRun.{FedRun}
 
 -- the bytes of the report that weren't given yet
@@ -16,13 +17,13 @@ MayCome run future = run.is_ended ≡ true → future ≡ []
 
 -- the run was given the input, and gave what is written. The input ends in a tail without LF, whose first bytes are kept. Whatever
 -- comes, the lines before the tail were dealt with, and what was written and what is to be given are the report's lines for them, but
--- for a line that waits
+-- for lines that wait
 pub record IsFed (run : FedRun) (input written : List ℕ) : Type 0 where
   pub tail : List ℕ
   pub kept : run.begun.items ≡ take KEPT_BYTES tail
   pub unended : HasLine tail → ⊥
   pub reached : (future : List ℕ) → MayCome run future
-      → IsReported (input ++ future) (tail ++ future) (written ++ unsent run) run.order.log run.order.reported run.order.waiting
+      → IsBatched (input ++ future) (tail ++ future) (written ++ unsent run) run.order.run.log run.order.reported run.order.waiting
       (run.lines + 1 + length run.order.waiting)
 
 -- bytes of the report were given: those of the room that are made are now so many
@@ -44,6 +45,25 @@ pub record Feeds (input out : List ℕ) (old new : FedRun) (used made : ℕ) : T
 pub record IsGivenOut (run : FedRun) (out : List ℕ) (made : ℕ) : Type 0 where
   pub settled : unsent run ≡ [] → run.order.waiting ≡ []
   pub full : made < length out → unsent run ≡ []
+
+-- of the input the bytes from one count to another were taken
+pub record TakesBytes (input : List ℕ) (old new : FedRun) (used_old used_new : ℕ) : Type 0 where
+  pub forward : used_old ≤ used_new
+  pub within : used_new ≤ length input
+  pub stands : (text written : List ℕ) → IsFed old (text ++ take used_old input) written → IsFed new (text ++ take used_new input) written
+
+-- the text explains the place, whatever comes: it is the explanation of the place of each text that begins with what was taken
+abbrev pub TextExplains : FedRun → ℕ → List ℕ → Type 0
+TextExplains run place text = (input written future : List ℕ) → IsFed run input written → MayCome run future
+    → IsExplanation (input ++ future) (record { place = place; is_checked = false }) text
+
+-- no line was reported or waits, none has begun, no statement was accepted, and the text wasn't ended
+pub record IsUnfed (run : FedRun) : Type 0 where
+  pub lines : run.lines ≡ 0
+  pub places : length run.order.run.log.statements ≡ 0
+  pub waiting : run.order.waiting ≡ []
+  pub begun : run.begun.items ≡ []
+  pub going : run.is_ended ≡ false
 
 -- the bytes are a beginning of the text's report
 abbrev pub BeginsReport : List ℕ → List ℕ → Type 0

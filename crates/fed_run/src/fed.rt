@@ -9,6 +9,7 @@ ghost use Rattle.bohm_base.specs.Collecting.{ReadsAs};
 use crate::fault::FeedFault;
 use crate::in_order::InOrder;
 use crate::keeping::keep_more;
+use explain::ExplainFault;
 use log_text::RawRoom;
 use log_text_base::{KEPT_BYTES, cut_line};
 use model_base::Place;
@@ -24,7 +25,8 @@ pub struct Step {
 }
 
 /// The run of a text that its caller feeds: bytes of the log go in and bytes of the report come out, in whatever pieces the caller has.
-/// It keeps the rows and the grants before the next place, one line of the report at most, and the first `KEPT_BYTES` of a line.
+/// It keeps the rows and the grants before the next place, the report's lines for 64 lines at most, and the first `KEPT_BYTES` of a line; and
+/// statements and outcomes of the last places.
 #[derive(Drop)]
 pub struct FedRun {
     order: InOrder,
@@ -32,7 +34,7 @@ pub struct FedRun {
     lines: u64,
     /// Of the line that has begun its first `KEPT_BYTES`.
     begun: Vec<u8>,
-    /// The report's line for the last line.
+    /// The report's lines for the last lines.
     text: Vec<u8>,
     /// How many bytes of it were given.
     sent: usize,
@@ -43,7 +45,7 @@ pub struct FedRun {
 
 impl FedRun {
     ghost use Rattle.fed_run.specs.Progress.{TakesLine};
-    ghost use Rattle.fed_run.specs.Stands.{Feeds, Gives, IsGivenOut, IsFed, unsent};
+    ghost use Rattle.fed_run.specs.Stands.{TextExplains, Feeds, Gives, IsUnfed, IsGivenOut, IsFed, TakesBytes, unsent};
 
     /// Before the first byte. It takes no memory.
     pub fn new(alloc: Global) -> FedRun
@@ -60,6 +62,43 @@ impl FedRun {
         }
     }
 
+    /// Keeps statements and outcomes of so many of the last places, for `explain`. It returns `false`, and changes nothing, once a byte was
+    /// taken or the end of the text was told.
+    pub fn set_keep(&mut self, keep: u64) -> bool
+        ensures fresh { (result ≡ true) ↔ IsUnfed self.old }
+        ensures set { result ≡ true → self.new ≡ record self.old { order = record self.old.order { keep = keep } } }
+        ensures stands { (input written : List ℕ) → IsFed self.old input written → IsFed self.new input written }
+        ensures still { result ≡ false → self.new ≡ self.old }
+    {
+        if self.lines > 0 || self.order.places() > 0 || self.order.waiting() > 0 {
+            return false;
+        }
+        if !self.begun.is_empty() || self.is_ended {
+            return false;
+        }
+        self.order.set_keep(keep);
+        true
+    }
+
+    /// Why the statement of a place was admitted or denied, as `audit_text::explain_text` writes it, appended to an empty text. `NoSuchPlace`
+    /// is returned exactly where no such place was reported yet. At least the last places can be explained, as many as are to be kept: of
+    /// others `Forgotten` may be returned. `NoMemory` means out of memory; some of it may be in the text then.
+    pub fn explain(
+        &self,
+        alloc: Global,
+        place: Place,
+        text: &mut Vec<u8>,
+    ) -> Result<(), ExplainFault>
+        requires { text.old.items ≡ [] }
+        // It is the explanation of the place of each text that begins with what was taken.
+        ensures told { OnOk result (TextExplains self.now place text.new.items) }
+        ensures none { (result ≡ Err ExplainFault.NoSuchPlace) ↔ (self.now.order.reported ≤ place) }
+        ensures forgotten { result ≡ Err ExplainFault.Forgotten → place + self.now.order.keep < self.now.order.reported }
+        ensures finished { result ≡ Err ExplainFault.NotFinished → ⊥ }
+    {
+        self.order.put_explained(alloc, place, text)
+    }
+
     /// How many lines were reported.
     pub fn lines(&self) -> u64
         ensures { result ≡ self.now.lines }
@@ -69,7 +108,7 @@ impl FedRun {
 
     /// How many statements were accepted: the next place.
     pub fn places(&self) -> Place
-        ensures { result ≡ length self.now.order.log.statements }
+        ensures { result ≡ length self.now.order.run.log.statements }
     {
         self.order.places()
     }
@@ -104,8 +143,7 @@ impl FedRun {
         made + count
     }
 
-    /// Runs the line that waits, if one does, and makes the report's line for it. All of the one before it was given. On `Err` the line
-    /// waits still.
+    /// Runs the lines that wait, and makes the report's lines for them. All of those before were given. On `Err` the lines wait still.
     fn settle(&mut self, alloc: Global) -> Result<(), FeedFault>
         requires { unsent self.old ≡ [] }
         ensures stands { (input written : List ℕ) → IsFed self.old input written → IsFed self.new input written }
@@ -115,17 +153,18 @@ impl FedRun {
         ensures begun { self.new.begun.items ≡ self.old.begun.items }
         ensures ended { self.new.is_ended ≡ self.old.is_ended }
     {
-        if !self.order.is_waiting() {
+        let count = self.order.waiting();
+        if count == 0 {
             return Ok(());
         }
-        let Some(number) = self.lines.checked_add(1) else {
+        let Some(next) = self.lines.checked_add(count as u64 + 1) else {
             return Err(FeedFault::Full);
         };
         self.sent = 0;
         self.text.clear();
-        match self.order.report(alloc, number, &mut self.text) {
+        match self.order.report(alloc, self.lines + 1, &mut self.text) {
             Ok(()) => {
-                self.lines = number;
+                self.lines = next - 1;
                 Ok(())
             }
             Err(_refused) => {
@@ -135,7 +174,7 @@ impl FedRun {
         }
     }
 
-    /// Runs the line that waits, as `settle`, and gives bytes of the report's line for it, as `give`. On `Err` it gives none.
+    /// Runs the lines that wait, as `settle`, and gives bytes of the report's lines for them, as `give`. On `Err` it gives none.
     fn make(&mut self, alloc: Global, out: &mut [u8], made: usize) -> Result<usize, FeedFault>
         requires none { unsent self.old ≡ [] }
         requires made { made ≤ length out.old }
@@ -150,7 +189,7 @@ impl FedRun {
         Ok(self.give(out, made))
     }
 
-    /// Gives what waits, and once all of that was given makes the line that waits, as `make`.
+    /// Gives what waits, and once all of that was given makes the lines that wait, as `make`.
     fn start(&mut self, alloc: Global, out: &mut [u8], step: &mut Step) -> Result<(), FeedFault>
         ensures gives { Gives self.old self.new out.old out.new 0 step.new.made }
         ensures used { step.new.used ≡ step.old.used }
@@ -174,12 +213,11 @@ impl FedRun {
         end: &'a [u8],
         raw: &mut RawRoom<'a>,
     ) -> Result<(), FeedFault>
-        requires none { self.old.order.waiting ≡ [] }
         requires short { length end.now ≤ KEPT_BYTES }
         ensures ok { OnOk result ((line : List ℕ) → self.old.begun.items ≡ take KEPT_BYTES line
             → (reading : Reading) × (ReadsAs (take KEPT_BYTES (line ++ end.now)) reading
             × TakesLine reading self.old.order self.new.order)) }
-        ensures whole { OnOk result (IsWhole self.new.order.log) }
+        ensures whole { OnOk result (IsWhole self.new.order.run.log) }
         ensures begun { OnOk result (self.new.begun.items ≡ []) }
         ensures order { OnErr result (self.new.order ≡ self.old.order) }
         ensures kept { OnErr result (self.new.begun.items ≡ self.old.begun.items) }
@@ -215,7 +253,6 @@ impl FedRun {
     ) -> Result<usize, FeedFault>
         requires some { 0 < length bytes.now }
         requires open { self.old.is_ended ≡ false }
-        requires none { self.old.order.waiting ≡ [] }
         ensures count { IfOk result (λ n. (0 < n) × (n ≤ length bytes.now)) }
         ensures stands { IfOk result (λ n. (input written : List ℕ) → IsFed self.old input written
             → IsFed self.new (input ++ take n bytes.now) written) }
@@ -234,6 +271,29 @@ impl FedRun {
                 Ok(count)
             }
         }
+    }
+
+    /// Takes lines of the input from the bytes that were used on, until enough wait to be run at once or no byte is left, and counts the bytes.
+    fn take_lines<'a>(
+        &mut self,
+        alloc: Global,
+        input: &'a [u8],
+        raw: &mut RawRoom<'a>,
+        step: &mut Step,
+    ) -> Result<(), FeedFault>
+        requires open { self.old.is_ended ≡ false }
+        requires within { step.old.used ≤ length input.now }
+        ensures takes { TakesBytes input.now self.old self.new step.old.used step.new.used }
+        ensures some { OnOk result (self.old.order.waiting ≡ [] → step.old.used < length input.now → step.old.used < step.new.used) }
+        ensures made { step.new.made ≡ step.old.made }
+        ensures open { result ≡ Err FeedFault.Ended → ⊥ }
+        ensures unsent { unsent self.new ≡ unsent self.old }
+        ensures ended { self.new.is_ended ≡ self.old.is_ended }
+    {
+        'lines: while step.used < input.len() && !self.order.is_full() {
+            step.used += self.take(alloc, &input[step.used..], raw)?;
+        }
+        Ok(())
     }
 
     /// Takes bytes and gives bytes, as `step`, and counts both. Nothing is counted before.
@@ -256,14 +316,14 @@ impl FedRun {
         self.start(alloc, out, step)?;
         let mut raw = RawRoom::new(alloc);
         'lines: while step.used < input.len() && self.waiting() == 0 {
-            step.used += self.take(alloc, &input[step.used..], &mut raw)?;
+            self.take_lines(alloc, input, &mut raw, step)?;
             step.made = self.make(alloc, out, step.made)?;
         }
         Ok(())
     }
 
-    /// Takes bytes of the log from `input` and gives bytes of its report into `out`, until all of `input` is taken or `out` is full. A line
-    /// is dealt with once its LF is taken, and its line of the report is given before more is taken.
+    /// Takes bytes of the log from `input` and gives bytes of its report into `out`, until all of `input` is taken or `out` is full. Lines
+    /// are run up to 64 at once, and their lines of the report are given before more is taken.
     ///
     /// However a text is cut into calls, and however little room there is, what is given is a beginning of its report. On `NoMemory` a
     /// growth was refused: `Step` has what was taken and given, which is whole lines, nothing is lost, and the call may be made again with
@@ -280,7 +340,9 @@ impl FedRun {
         // A run that was given a text and gave what is written was now given what was taken too, and gave what was given.
         ensures stands { (text written : List ℕ) → IsFed self.old text written
             → IsFed self.new (text ++ take result.0.used input.now) (written ++ take result.0.made out.new) }
-        // When out of memory, and where no more lines can be counted, what was given is whole lines.
+        // While there is room, no line waits that was taken.
+        ensures prompt { OnOk result.1 (IsGivenOut self.new out.new result.0.made) }
+        // When out of memory, what was given is whole lines.
         ensures lines { IfErr result.1 (λ fault. (fault ≡ FeedFault.Ended → ⊥) → unsent self.new ≡ []) }
         ensures ended { (result.1 ≡ Err FeedFault.Ended) ↔ (self.old.is_ended ≡ true) }
         ensures still { result.1 ≡ Err FeedFault.Ended

@@ -3,7 +3,7 @@
 use crate::deeds::{ends_in, enter, give, has_table, take};
 use crate::fault::{TrialFault, expect};
 use grants::{Book, Records, denial, holds, holds_option, last_loss};
-use model_base::{Cause, Grant, Kind, Need, Place, Revocation, Table, User};
+use model_base::{Cause, Grant, Need, Place, Revocation, Table, User};
 use plain_book::PlainBook;
 use std::alloc::Global;
 
@@ -30,18 +30,6 @@ impl Told {
             Told::Lost(place) => Some(Cause::Taken(place)),
             Told::Never => Some(Cause::Never),
         }
-    }
-}
-
-/// Whether a view holds the need.
-fn is_held<V: Records>(view: &mut V, user: User, need: &Need) -> Result<bool, TrialFault> {
-    if !view.covers(need.table) {
-        return Err(TrialFault::Deed);
-    }
-    if need.option {
-        Ok(holds_option(view, user, need.kind, need.table))
-    } else {
-        Ok(holds(view, user, need.kind, need.table))
     }
 }
 
@@ -136,25 +124,6 @@ impl Both {
         let other = find_out(&mut self.plain.at(place), user, need)?;
         expect(found == other)?;
         Ok(found)
-    }
-
-    /// Whether the books at a place hold a kind for the user, without the option.
-    pub fn reads(
-        &self,
-        place: Place,
-        user: User,
-        kind: Kind,
-        table: Table,
-    ) -> Result<bool, TrialFault> {
-        let need = Need {
-            table,
-            kind,
-            option: false,
-        };
-        let held = is_held(&mut self.book.at(place), user, &need)?;
-        let other = is_held(&mut self.plain.at(place), user, &need)?;
-        expect(held == other)?;
-        Ok(held)
     }
 
     /// Forgets a place and all later ones.

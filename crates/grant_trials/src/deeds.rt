@@ -38,15 +38,6 @@ pub fn give(book: &mut Book, grant: &Grant) -> Result<bool, TrialFault> {
     Ok(held)
 }
 
-/// Makes a grant, whose grantor holds the option.
-pub fn give_held(book: &mut Book, grant: &Grant) -> Result<(), TrialFault> {
-    if give(book, grant)? {
-        Ok(())
-    } else {
-        Err(TrialFault::Deed)
-    }
-}
-
 /// The places that a revocation would end, as a view says.
 pub fn ends_in<V: Records>(
     alloc: Global,

@@ -16,8 +16,6 @@ pub enum Act {
     Lets(Place, u32, u32),
     /// A revocation at a place, by the first user from the second.
     Takes(Place, u32, u32),
-    /// Grants with the option along a chain, from each user between these two to the next, at the user's number and so much more.
-    Grows(u32, u32, Place),
 }
 
 /// A question: at which place, of whom and of which need.
@@ -72,15 +70,6 @@ fn tell_taken(
     Ok(())
 }
 
-/// Grants the option along a chain: from each of these users to the next, at its number and so much more.
-fn grow(both: &mut Both, first: u32, last: u32, more: Place) -> Result<(), TrialFault> {
-    for user in first..last {
-        let place = Place::from(user).saturating_add(more);
-        give(both, place, (user, user.saturating_add(1)), true)?;
-    }
-    Ok(())
-}
-
 /// Does one thing.
 fn do_act(rt: &impl Print, alloc: Global, both: &mut Both, act: Act) -> Result<(), TrialFault> {
     match act {
@@ -90,7 +79,6 @@ fn do_act(rt: &impl Print, alloc: Global, both: &mut Both, act: Act) -> Result<(
         Act::Takes(place, grantor, grantee) => {
             tell_taken(rt, alloc, both, place, (grantor, grantee))
         }
-        Act::Grows(first, last, more) => grow(both, first, last, more),
     }
 }
 

@@ -1,15 +1,11 @@
 //! Why the program ends without success.
 
 use std::alloc::{AllocError, AllocFailed};
-use std::io;
 use thiserror::Error;
 
 /// Why the program ends without success.
 #[derive(Clone, Copy, Debug, PartialEq, Eq, Error)]
 pub enum TrialFault {
-    /// The words of the command line can't be read, or say nothing to do.
-    #[error("no such trial")]
-    Words,
     /// A book doesn't take a deed that it should, or doesn't cover a table.
     #[error("a deed isn't taken")]
     Deed,
@@ -30,16 +26,6 @@ impl From<AllocError> for TrialFault {
 impl<T: Drop> From<AllocFailed<T>> for TrialFault {
     fn from(_e: AllocFailed<T>) -> TrialFault {
         TrialFault::NoMemory
-    }
-}
-
-impl From<io::Error> for TrialFault {
-    fn from(error: io::Error) -> TrialFault {
-        if error.kind() == io::ErrorKind::OutOfMemory {
-            TrialFault::NoMemory
-        } else {
-            TrialFault::Words
-        }
     }
 }
 

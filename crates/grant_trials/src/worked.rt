@@ -1,6 +1,6 @@
 //! Worked examples of grants and revocations.
 
-use crate::examples::Act::{Creates, Gives, Grows, Lets, Takes};
+use crate::examples::Act::{Creates, Gives, Lets, Takes};
 use crate::examples::{OPTION, READ, tell_example};
 use crate::fault::{TrialFault, first_fault};
 use model_base::{Kind, Need};
@@ -133,30 +133,6 @@ fn tell_an_own_grant(rt: &impl Print, alloc: Global) -> Result<(), TrialFault> {
     )
 }
 
-/// A chain falls whole with its first grant. A second way to a user of the chain bears what was granted after it; one that comes
-/// after the chain bears only what it grants itself.
-fn tell_chains(rt: &impl Print, alloc: Global) -> Result<(), TrialFault> {
-    let whole = [Creates(0, 0), Grows(0, 200, 1), Takes(201, 0, 1)];
-    tell_example(rt, alloc, "a chain falls", &whole, &[])?;
-    let borne = [
-        Creates(0, 0),
-        Grows(0, 150, 1),
-        Lets(151, 0, 150),
-        Grows(150, 200, 2),
-        Takes(202, 0, 1),
-    ];
-    let asked = [(203, 200, READ)];
-    tell_example(rt, alloc, "a second way bears a chain", &borne, &asked)?;
-    let late = [
-        Creates(0, 0),
-        Grows(0, 200, 1),
-        Lets(201, 0, 150),
-        Takes(202, 0, 1),
-    ];
-    let asked = [(203, 150, READ), (203, 151, READ)];
-    tell_example(rt, alloc, "a second way comes late", &late, &asked)
-}
-
 /// Tells the examples.
 pub fn tell_worked(rt: &impl Print, alloc: Global) -> Result<(), TrialFault> {
     first_fault(&[
@@ -166,6 +142,5 @@ pub fn tell_worked(rt: &impl Print, alloc: Global) -> Result<(), TrialFault> {
         tell_a_second_way(rt, alloc),
         tell_a_repeated_grant(rt, alloc),
         tell_an_own_grant(rt, alloc),
-        tell_chains(rt, alloc),
     ])
 }

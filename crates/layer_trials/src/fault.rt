@@ -1,5 +1,6 @@
 //! Why the program ends without success.
 
+use sequencer::Refused;
 use std::alloc::{AllocError, AllocFailed};
 use thiserror::Error;
 
@@ -12,9 +13,18 @@ pub enum TrialFault {
     /// A book of grants doesn't take a deed that it should.
     #[error("a deed isn't taken")]
     Deed,
+    /// A store of versions has another end than the versions before, or takes no mark there.
+    #[error("the store has another end")]
+    Store,
     /// A growth was refused.
     #[error("out of memory")]
     NoMemory,
+}
+
+impl From<Refused> for TrialFault {
+    fn from(_e: Refused) -> TrialFault {
+        TrialFault::Line
+    }
 }
 
 impl From<AllocError> for TrialFault {

@@ -1,4 +1,1 @@
-pub mod Beginning
 pub mod Placed
-pub mod Sharing
-pub mod Standing

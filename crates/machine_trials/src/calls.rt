@@ -1,24 +1,12 @@
 //! What a batch says of itself, each call once.
 
 ghost use Rattle.std.specs.Prelude.{◌≡◌, true};
-ghost use Rattle.machine_trials.specs.Before.{IsBefore};
 
-use crate::batches::{batch_of, log_of, nothing};
-use crate::fault::TrialFault;
 use log_batch::LogBatch;
+use log_trials_base::TrialFault;
 use model_base::{Form, Key, Table};
-use sequencer::LogTail;
-use std::alloc::Global;
 
-/// A log whose reader grants further what it reads by.
-const LINES: [&str; 4] = [
-    "alice CREATE t 1",
-    "alice RUN t:1:I | CONST 0 9 | INSERT t 1 0",
-    "alice GRANT READ t bob OPTION",
-    "bob RUN t:1:R | LOAD 1 t 1 0 | OUT 1 | GRANT READ t eve",
-];
-
-/// The row that the second statement inserts.
+/// The row that the second statement of either log inserts.
 const KEY: Key = Key {
     table: Table(0),
     row: 1,
@@ -81,20 +69,4 @@ pub fn tell_batch(rt: &impl Print, batch: &LogBatch<'_>) -> Result<(), TrialFaul
         None => println!(rt; "no row before")?,
     }
     tell_grants(rt, batch)
-}
-
-/// Tells the calls of a whole log as a batch that three partitions place.
-fn tell_whole_batch(rt: &impl Print, alloc: Global, log: &LogTail) -> Result<(), TrialFault>
-    requires { log.now.dropped ≡ 0 }
-{
-    let before = nothing(alloc);
-    let batch = batch_of(alloc, log, &before, 0..log.len(), 3)?;
-    tell_batch(rt, &batch)
-}
-
-/// Tells the calls of a whole log.
-pub fn tell_calls(rt: &impl Print, alloc: Global) -> Result<(), TrialFault> {
-    println!(rt; "the calls of a batch")?;
-    let log = log_of(alloc, &LINES)?;
-    tell_whole_batch(rt, alloc, &log)
 }

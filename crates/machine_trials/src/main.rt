@@ -1,47 +1,78 @@
 //! Trials of the machine over logs.
 //!
-//! Events on a whole log and on a batch in the middle of it, each with what it changed, and the calls of a batch; calls
-//! of two passes on the shared words of two places, which grants a batch may end, and a log completed on one thread;
-//! and drawn lists of events against the slow run. What is printed is compared with `stdout`.
+//! Events on a whole log and on a batch in the middle of it, each with what it changed, and the calls of a batch; which
+//! grants a batch may end, and a log finished after words of which nothing is stored. What is printed is compared with
+//! `stdout`.
 #![tactic(auto)]
 
 mod batches;
 mod calls;
-mod completed;
-mod drawn;
-mod drawn_events;
-mod ended;
-mod fault;
-mod middle;
-mod outcome;
-mod shared;
+mod rows;
 mod telling;
-mod two_words;
-mod whole;
-mod worked;
+mod trials;
 
-use calls::tell_calls;
-use completed::tell_completed;
-use drawn::tell_drawn;
-use ended::tell_ended;
-use fault::TrialFault;
-use middle::tell_middle;
-use shared::tell_shared;
+use log_trials_base::TrialFault;
+use rows::{ONE, THREE};
 use std::alloc::Global;
 use std::process::ExitCode;
-use two_words::tell_two_words;
-use whole::tell_whole;
+use trials::{Trial, try_lines};
+
+/// The worked log: a reader, and after it the revocation of the grant by which it reads.
+const WORKED: [&str; 5] = [
+    "alice CREATE t 1",
+    "alice RUN t:1:I | CONST 0 9 | INSERT t 1 0",
+    "alice GRANT READ t bob",
+    "bob RUN t:1:R | LOAD 1 t 1 0 | OUT 1",
+    "alice REVOKE READ t bob",
+];
+
+/// A log whose reader grants further what it reads by.
+const GRANTING: [&str; 4] = [
+    "alice CREATE t 1",
+    "alice RUN t:1:I | CONST 0 9 | INSERT t 1 0",
+    "alice GRANT READ t bob OPTION",
+    "bob RUN t:1:R | LOAD 1 t 1 0 | OUT 1 | GRANT READ t eve",
+];
+
+/// A log in which a revocation reaches what it names, what that bore, and what that bears after it; others grant what it leaves.
+const REACHED: [&str; 8] = [
+    "alice CREATE t 1",
+    "alice GRANT READ t bob OPTION",
+    "bob GRANT READ t carol OPTION",
+    "alice GRANT READ t dave OPTION",
+    "dave GRANT READ t bob",
+    "alice GRANT INSERT t bob OPTION",
+    "alice REVOKE READ t bob",
+    "carol GRANT READ t eve",
+];
+
+/// A log whose last but one place ends what it names and what that bore, though an earlier reader read by it; who reads after
+/// it is denied.
+const BORNE: [&str; 9] = [
+    "alice CREATE t 1",
+    "alice RUN t:1:I | CONST 0 9 | INSERT t 1 0",
+    "alice GRANT READ t bob OPTION",
+    "bob GRANT READ t carol OPTION",
+    "alice GRANT READ t dave",
+    "carol RUN t:1:R | LOAD 1 t 1 0 | OUT 1 | GRANT READ t eve",
+    "eve RUN t:1:R | LOAD 1 t 1 0 | OUT 1",
+    "alice REVOKE READ t bob",
+    "eve RUN t:1:R | LOAD 1 t 1 0 | OUT 1",
+];
 
 /// Tells the trials one after another.
 fn run(rt: &impl Print, alloc: Global) -> Result<(), TrialFault> {
-    tell_whole(rt, alloc)?;
-    tell_middle(rt, alloc)?;
-    tell_calls(rt, alloc)?;
-    tell_shared(rt, alloc)?;
-    tell_two_words(rt, alloc)?;
-    tell_ended(rt, alloc)?;
-    tell_completed(rt, alloc)?;
-    tell_drawn(rt, alloc)
+    let one = "the whole log, partitions: 1\n";
+    try_lines(rt, alloc, one, &WORKED, 0, 1, Trial::Whole(&ONE))?;
+    let three = "the whole log, partitions: 3\n";
+    try_lines(rt, alloc, three, &WORKED, 0, 3, Trial::Whole(&THREE))?;
+    let middle = "the middle of the log\n";
+    try_lines(rt, alloc, middle, &WORKED, 3, 1, Trial::Middle)?;
+    let calls = "the calls of a batch\n";
+    try_lines(rt, alloc, calls, &GRANTING, 0, 3, Trial::Calls)?;
+    try_lines(rt, alloc, "", &REACHED, 0, 1, Trial::Ended)?;
+    let finished = "finished behind words of which nothing is stored\n";
+    try_lines(rt, alloc, finished, &BORNE, 0, 1, Trial::Finished)
 }
 
 fn main(rt: HostRuntime) -> ExitCode {

@@ -1,51 +1,11 @@
 //! Events as they are made, and what places and records resulted in, a line for each.
 
-use crate::batches::make;
-use crate::fault::TrialFault;
-use crate::outcome::outcome_at;
 use bohm_core::{Machine, State};
 use bohm_core_base::Event;
-use log_machine::OfLog;
+use log_machine::{OfLog, done_outcome, done_words};
+use log_trials_base::TrialFault;
 use model_base::{DeedDone, Outcome};
 use std::alloc::{AllocError, Global};
-use std::fmt::Write;
-
-/// Writes how far the partitions are.
-fn put_fronts(text: &mut String, state: &State, partitions: usize) -> Result<(), AllocError> {
-    for partition in 0..partitions {
-        let front = state.front(partition);
-        write!(text, "{front} ")?;
-    }
-    Ok(())
-}
-
-/// Writes what is stored of each place.
-fn put_places(text: &mut String, state: &State) -> Result<(), AllocError> {
-    for index in 0..state.places() {
-        let (references, own) = (state.references(index), state.own(index));
-        let hold = state.hold(index);
-        write!(text, "{references:?} {hold:?} {own:?} ")?;
-    }
-    Ok(())
-}
-
-/// Writes the end of each slot's record.
-fn put_ends(text: &mut String, state: &State) -> Result<(), AllocError> {
-    for slot in 0..state.slots() {
-        let end = state.end(slot);
-        write!(text, "{end:?} ")?;
-    }
-    Ok(())
-}
-
-/// All that is stored, as one text.
-fn picture(alloc: Global, state: &State, partitions: usize) -> Result<String, AllocError> {
-    let mut text = String::new(alloc);
-    put_fronts(&mut text, state, partitions)?;
-    put_places(&mut text, state)?;
-    put_ends(&mut text, state)?;
-    Ok(text)
-}
 
 /// What the event is about, as it is stored now.
 fn concerned(alloc: Global, state: &State, event: Event) -> Result<String, AllocError> {
@@ -70,21 +30,19 @@ fn concerned(alloc: Global, state: &State, event: Event) -> Result<String, Alloc
     }
 }
 
-/// Makes the event, and says what it asked for, and what is stored of that now if anything changed at all.
-pub fn tell_event(
+/// Makes the event, and says what it asked for, and what is stored of that now if it is something else.
+fn tell_event(
     rt: &impl Print,
     alloc: Global,
     machine: &mut Machine<OfLog<'_>>,
     event: Event,
 ) -> Result<(), TrialFault> {
-    let partitions = machine.statements().batch().partition_count();
-    let before = picture(alloc, machine.state(), partitions)?;
-    make(machine, &event)?;
-    let after = picture(alloc, machine.state(), partitions)?;
-    if before == after {
+    let before = concerned(alloc, machine.state(), event)?;
+    machine.apply(&event)?;
+    let now = concerned(alloc, machine.state(), event)?;
+    if before == now {
         println!(rt; "{event:?}: nothing changes")?;
     } else {
-        let now = concerned(alloc, machine.state(), event)?;
         println!(rt; "{event:?}: {now}")?;
     }
     Ok(())
@@ -118,39 +76,25 @@ fn tell_outcome(rt: &impl Print, outcome: &Outcome) -> Result<(), TrialFault> {
                 }
             }
         }
-        Outcome::Denied { need, cause } => println!(rt; "denied {need:?} {cause:?}")?,
-        Outcome::Aborted { step, reason } => println!(rt; "aborted {step} {reason:?}")?,
-        Outcome::Undeclared { step } => println!(rt; "undeclared {step}")?,
+        other => println!(rt; "{other:?}")?,
     }
     Ok(())
 }
 
-/// Tells the outcome of a place, if it is done.
-fn tell_outcome_at(
-    rt: &impl Print,
-    alloc: Global,
-    machine: &Machine<OfLog<'_>>,
-    index: usize,
-) -> Result<(), TrialFault> {
-    match outcome_at(alloc, machine, index)? {
-        Some(outcome) => tell_outcome(rt, &outcome),
-        None => Ok(println!(rt; "not done")?),
-    }
-}
-
-/// Reports what a place resulted in.
+/// Reports what a place resulted in, if it is done.
 fn tell_place(
     rt: &impl Print,
     alloc: Global,
     machine: &Machine<OfLog<'_>>,
     index: usize,
 ) -> Result<(), TrialFault> {
-    let (references, own) = (
-        machine.state().references(index),
-        machine.state().own(index),
-    );
+    let Some(outcome) = done_outcome(alloc, machine, index)? else {
+        return Ok(println!(rt; "index {index} is not done")?);
+    };
+    let references = machine.state().references(index);
+    let own = done_words(machine, index).unwrap_or(&[]);
     print!(rt; "index {index} refers to {references:?} and has {own:?}: ")?;
-    tell_outcome_at(rt, alloc, machine, index)
+    tell_outcome(rt, &outcome)
 }
 
 /// Tells where the record of each slot ended.

@@ -5,4 +5,4 @@ use Rattle.machine_trials.proofs.batches.parts_of.Given as goal
 
 abbrev pub invariant-loop-partition : goal.invariant-loop-partition
 invariant-loop-partition l =
-    l.parts.items ≡ map (part_of l.partitions l.log.log.statements l.range.start (l.range.end - l.range.start)) (range_with_len 0 l.partition)
+    l.parts.items ≡ map (part_of l.partitions l.log.statements l.range.start (l.range.end - l.range.start)) (range_with_len 0 l.partition)

@@ -1,7 +1,6 @@
-use Rattle.std.proofs.Common.{◌≡◌, ◌∙◌, [], ℕ, List, ap, arith}
+use Rattle.std.proofs.Common.{◌∙◌, [], ℕ, List, ap}
 use Rattle.fed_run.specs.Progress.{Progress}
-use Rattle.fed_run.specs.Stands.{unsent}
-use Rattle.fed_run.proofs.Feeding.{feeds_last, feeds_same, nothing_left}
+use Rattle.fed_run.proofs.Feeding.{feeds_last, feeds_same}
 use Rattle.fed_run.proofs.FedTexts.{stands_last, stands_same}
 use Rattle.fed_run.proofs.Lines.{something_in}
 use Rattle.fed_run.proofs.fed.FedRun.end.Goals as goal
@@ -14,7 +13,7 @@ returns-in_err-take_line-clause-feeds c =
     let all = c.take_line.ensures in
     let same = c.in_err-take_line.ensures.order in
     feeds_same nothing c.feed.new.out c.args.self.now mid next c.feed.new.step.used c.feed.new.step.made c.feed.ensures.feeds
-    (stands_same mid next c.in_err-take_line.ensures.kept all.ended (ap (λ (p : Progress). p.log) same) (ap (λ (p : Progress). p.reported) same)
+    (stands_same mid next c.in_err-take_line.ensures.kept all.ended (ap (λ (p : Progress). p.run.log) same) (ap (λ (p : Progress). p.reported) same)
     (ap (λ (p : Progress). p.waiting) same) all.lines all.unsent) all.ended
 
 pub returns-in_err-step-clause-feeds : goal.returns-in_err-step-clause-feeds
@@ -24,10 +23,8 @@ returns-in_err-step-clause-feeds c =
     let next = c.take_line.new.self in
     let all = c.take_line.ensures in
     let took = c.in_ok-take_line.ensures in
-    let none : unsent mid ≡ [] = nothing_left (unsent mid) (omega (arith, c.waiting.ensures, c.if-waiting-gt0.false)) in
-    let idle : mid.order.waiting ≡ [] = c.in_ok-feed.ensures.settled.settled none in
     feeds_last nothing c.feed.new.out c.make.new.out c.args.self.now mid next c.make.new.self c.feed.new.step.used c.feed.new.step.made c.feed.new.step.made c.feed.ensures.feeds
-    (stands_last mid next idle took.begun all.ended all.unsent all.lines took.whole (c.feed.ensures.feeds.ended ∙ c.requires.ended)
+    (stands_last mid next took.begun all.ended all.unsent all.lines took.whole (c.feed.ensures.feeds.ended ∙ c.requires.ended)
     (something_in mid.begun.items mid.begun.len c.is_empty.result mid.begun.ok.0 c.is_empty.ensures c.if-is_empty.false) took.ok) all.ended
     c.in_err-step.ensures.stands
 
@@ -38,9 +35,7 @@ returns-clause-feeds c =
     let next = c.take_line.new.self in
     let all = c.take_line.ensures in
     let took = c.in_ok-take_line.ensures in
-    let none : unsent mid ≡ [] = nothing_left (unsent mid) (omega (arith, c.waiting.ensures, c.if-waiting-gt0.false)) in
-    let idle : mid.order.waiting ≡ [] = c.in_ok-feed.ensures.settled.settled none in
     feeds_last nothing c.feed.new.out c.make.new.out c.args.self.now mid next c.make.new.self c.feed.new.step.used c.feed.new.step.made c.in_ok-step.field-0 c.feed.ensures.feeds
-    (stands_last mid next idle took.begun all.ended all.unsent all.lines took.whole (c.feed.ensures.feeds.ended ∙ c.requires.ended)
+    (stands_last mid next took.begun all.ended all.unsent all.lines took.whole (c.feed.ensures.feeds.ended ∙ c.requires.ended)
     (something_in mid.begun.items mid.begun.len c.is_empty.result mid.begun.ok.0 c.is_empty.ensures c.if-is_empty.false) took.ok) all.ended
     c.in_ok-step.ensures.gives

@@ -1,6 +1,5 @@
-use Rattle.std.proofs.Common.{◌-◌, ◌∙◌, drop, length, refl, take}
-use Rattle.std.proofs.lemmas.List.{take_rest}
-use Rattle.fed_run.proofs.Feeding.{feeds_line, feeds_started}
+use Rattle.std.proofs.Common.{◌∙◌, refl}
+use Rattle.fed_run.proofs.Feeding.{feeds_lines, feeds_started, feeds_takes}
 use Rattle.fed_run.proofs.fed.FedRun.feed.Goals as goal
 
 pub returns-in_err-start-clause-feeds : goal.returns-in_err-start-clause-feeds
@@ -16,25 +15,24 @@ lines-init c = record {
   settled = c.in_ok-start.ensures.settled;
 }
 
-pub returns-in_err-step-2-clause-feeds : goal.returns-in_err-step-2-clause-feeds
-returns-in_err-step-2-clause-feeds c =
-    let input = c.args.input.now in
-    let used = c.lines.step.used in
-    let took = c.in_ok-step.ensures in
-    feeds_line input c.lines.out c.make.new.out (take (length input - used) (drop used input)) c.args.self.now c.lines.self c.take.new.self c.make.new.self
-    used c.lines.step.made c.lines.step.made c.in_ok-step.field-0 c.lines.invariant.feeds (take_rest input used) took.count.1 took.stands c.take.ensures.ended
-    c.in_err-step-2.ensures.stands
+pub returns-in_err-take_lines-clause-feeds : goal.returns-in_err-take_lines-clause-feeds
+returns-in_err-take_lines-clause-feeds c =
+    feeds_takes c.args.input.now c.lines.out c.args.self.now c.lines.self c.take_lines.new.self c.lines.step.used c.take_lines.new.step.used c.lines.step.made c.take_lines.new.step.made
+    c.lines.invariant.feeds c.take_lines.ensures.takes c.take_lines.ensures.ended c.take_lines.ensures.made
+
+pub returns-in_err-step-clause-feeds : goal.returns-in_err-step-clause-feeds
+returns-in_err-step-clause-feeds c =
+    feeds_lines c.args.input.now c.lines.out c.make.new.out c.args.self.now c.lines.self c.take_lines.new.self c.make.new.self
+    c.lines.step.used c.take_lines.new.step.used c.lines.step.made c.take_lines.new.step.made c.take_lines.new.step.made c.lines.invariant.feeds
+    c.take_lines.ensures.takes c.take_lines.ensures.ended c.take_lines.ensures.made c.in_err-step.ensures.stands
 
 pub lines-preserved : goal.lines-preserved
 lines-preserved c =
-    let input = c.args.input.now in
-    let used = c.lines.step.used in
-    let took = c.in_ok-step.ensures in
-    let made = c.in_ok-step-2.ensures in
+    let made = c.in_ok-step.ensures in
     record {
       len = made.gives.len ∙ c.lines.invariant.len;
-      feeds = feeds_line input c.lines.out c.make.new.out (take (length input - used) (drop used input)) c.args.self.now c.lines.self c.take.new.self c.make.new.self
-          used c.lines.step.made c.in_ok-step-2.field-0 c.in_ok-step.field-0 c.lines.invariant.feeds (take_rest input used) took.count.1 took.stands c.take.ensures.ended
-          made.gives;
+      feeds = feeds_lines c.args.input.now c.lines.out c.make.new.out c.args.self.now c.lines.self c.take_lines.new.self c.make.new.self
+          c.lines.step.used c.take_lines.new.step.used c.lines.step.made c.take_lines.new.step.made c.in_ok-step.field-0 c.lines.invariant.feeds
+          c.take_lines.ensures.takes c.take_lines.ensures.ended c.take_lines.ensures.made made.gives;
       settled = made.settled;
     }

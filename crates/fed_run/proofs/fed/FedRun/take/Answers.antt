@@ -6,10 +6,10 @@ use Rattle.fed_run.proofs.FedTexts.{stands_all, stands_line, stands_same}
 use Rattle.fed_run.proofs.Lines.{short_line}
 use Rattle.fed_run.proofs.fed.FedRun.take.Goals as goal
 
-pub take_line-requires-clause-short : goal.take_line-requires-clause-short
-take_line-requires-clause-short c =
+pub take_line-requires : goal.take_line-requires
+take_line-requires c =
     let cut = c.in-Some.ensures.line (Some (10 ∷ [])) in
-    short_line c.in-Some.line.now (first_line (c.args.bytes.now ++ 10 ∷ [])) cut.0.0
+    record { short = short_line c.in-Some.line.now (first_line (c.args.bytes.now ++ 10 ∷ [])) cut.0.0 }
 
 pub returns-in_err-keep_more-in-None-clause-err : goal.returns-in_err-keep_more-in-None-clause-err
 returns-in_err-keep_more-in-None-clause-err c =
@@ -24,7 +24,7 @@ returns-in_err-take_line-in-Some-clause-err c =
     let took = c.in_err-take_line-in-Some.ensures in
     let all = c.take_line.ensures in
     on_err _ c.from_residual-in_err-take_line-in-Some.result
-    (stands_same c.args.self.now c.take_line.new.self took.kept all.ended (ap (λ (p : Progress). p.log) took.order) (ap (λ (p : Progress). p.reported) took.order)
+    (stands_same c.args.self.now c.take_line.new.self took.kept all.ended (ap (λ (p : Progress). p.run.log) took.order) (ap (λ (p : Progress). p.reported) took.order)
     (ap (λ (p : Progress). p.waiting) took.order) all.lines all.unsent)
 
 pub returns-in_ok-take_line-in-Some-clause-stands : goal.returns-in_ok-take_line-in-Some-clause-stands
@@ -32,5 +32,5 @@ returns-in_ok-take_line-in-Some-clause-stands c =
     let cut = c.in-Some.ensures.line (Some (10 ∷ [])) in
     let took = c.in_ok-take_line-in-Some.ensures in
     let all = c.take_line.ensures in
-    stands_line c.args.self.now c.take_line.new.self c.requires.none took.begun all.ended all.unsent all.lines took.whole
+    stands_line c.args.self.now c.take_line.new.self took.begun all.ended all.unsent all.lines took.whole
     c.args.bytes.now c.in-Some.line.now c.in-Some.count c.requires.open c.in-Some.ensures.within.0 c.in-Some.ensures.within.1 (sym cut.0.1) cut.0.0 took.ok

@@ -1,18 +1,20 @@
-use Rattle.std.proofs.Common.{◌++◌, ap, length, ◌∙◌}
+use Rattle.std.proofs.Common.{◌++◌, ◌∷◌, [], List, ap, subst, ◌∙◌}
 use Rattle.log_text.specs.Room.{sentence_of}
-use Rattle.fed_run.specs.Progress.{Progress, lines_waiting}
-use Rattle.fed_run.specs.Reported.{reading_of_line}
-use Rattle.fed_run.proofs.LineReadings.{reads_by}
-use Rattle.fed_run.proofs.Reached.{taken, takes_line}
+use Rattle.bohm_base.specs.declared.collecting.Became.{Became}
+use Rattle.batched_text.specs.LineRead.{reading_by}
+use Rattle.batched_text.proofs.LineReadings.{reads_by}
+use Rattle.fed_run.specs.Progress.{Progress, TakesLine}
+use Rattle.fed_run.proofs.InOrders.{line_taken, progress_with}
 use Rattle.fed_run.proofs.in_order.InOrder.take.Goals as goal
 
 pub invariant_of-self-2 : goal.invariant_of-self-2
 invariant_of-self-2 c =
     let e = c.self.inside in
     let took = c.in_ok-taken.ensures in
-    taken e.log c.take_read-taken.new.log e.chains e.book e.past.items e.outcomes.items (lines_waiting e.waiting) c.self.invariant
-    (ap (λ (p : Progress). p.waiting) c.self.view_is ∙ c.requires) c.dropped-before.ensures.whole c.dropped-before.ensures.own_tables
-    (reading_of_line c.read_into-found.result (sentence_of c.read_into-found.new.room)) c.in_ok-taken.field-0 took.line took.log
+    let now : Progress = record { run = e.engine; waiting = e.waiting.items; reported = e.reported; keep = e.keep } in
+    let lines = c.push_reserved.ensures.items ∙ ap (λ (ls : List Became). ls ++ c.in_ok-taken.field-0 ∷ []) c.reserve.ensures.items in
+    (line_taken now c.take_read-taken.new.engine
+    (reading_by c.read_into-found.result (sentence_of c.read_into-found.new.room)) c.in_ok-taken.field-0 c.push_reserved.new.self.items c.self.invariant took.line took.engine lines).0
 
 pub returns-clause-ok : goal.returns-clause-ok
 returns-clause-ok c =
@@ -20,11 +22,13 @@ returns-clause-ok c =
     let took = c.in_ok-taken.ensures in
     let parsed = c.read_into-found.ensures in
     let sentence = sentence_of c.read_into-found.new.room in
-    let reading = reading_of_line c.read_into-found.result sentence in (
+    let reading = reading_by c.read_into-found.result sentence in
+    let now : Progress = record { run = e.engine; waiting = e.waiting.items; reported = e.reported; keep = e.keep } in
+    let lines = c.push_reserved.ensures.items ∙ ap (λ (ls : List Became). ls ++ c.in_ok-taken.field-0 ∷ []) c.reserve.ensures.items in (
       reading,
       (
         reads_by c.args.line.now c.read_into-found.result sentence parsed.read parsed.sound parsed.fault took.told,
-        takes_line e.log c.take_read-taken.new.log (length (e.past.items ++ e.outcomes.items)) (length e.past.items) (lines_waiting e.waiting)
-            c.args.self.now reading c.in_ok-taken.field-0 c.self.view_is took.line took.log,
+        subst (λ (p : Progress). TakesLine reading p (progress_with now c.take_read-taken.new.engine c.push_reserved.new.self.items)) c.self.view_is
+            (line_taken now c.take_read-taken.new.engine reading c.in_ok-taken.field-0 c.push_reserved.new.self.items c.self.invariant took.line took.engine lines).1,
       ),
     )

@@ -1,0 +1,71 @@
+//! What is before a place of a log once the places before it are run.
+
+ghost use Rattle.std.specs.Prelude.{◌≡◌, ◌≤◌, IfOk, OnOk, length};
+ghost use Rattle.standing.specs.Stands.{Stands};
+
+use crate::fault::TrialFault;
+use crate::known::are_known;
+use crate::logs::WholeLog;
+use chains::Chains;
+use model_base::Place;
+use standing::{RememberingBook, run_in_order};
+use std::alloc::Global;
+use workers::NoGate;
+
+/// The versions of rows and the book of grants before a place of a log.
+#[derive(Drop)]
+pub struct Before {
+    pub chains: Chains,
+    pub book: RememberingBook,
+}
+
+/// Nothing is before a log.
+fn nothing(alloc: Global, log: &WholeLog) -> Before
+    ensures { Stands log.now.statements 0 result.chains result.book }
+{
+    let _log = log;
+    Before {
+        chains: Chains::new(alloc),
+        book: RememberingBook::new(alloc),
+    }
+}
+
+/// Runs the first places of a log in order, after nothing.
+fn run_first(
+    alloc: Global,
+    log: &WholeLog,
+    before: &mut Before,
+    place: Place,
+) -> Result<(), TrialFault>
+    requires before { Stands log.now.statements 0 before.old.chains before.old.book }
+    requires within { place ≤ length log.now.statements }
+    ensures { OnOk result (Stands log.now.statements place before.new.chains before.new.book) }
+{
+    if !are_known(log.statements()) {
+        return Err(TrialFault::Unknown);
+    }
+    let mut outcomes = Vec::new(alloc);
+    run_in_order(
+        alloc,
+        &mut before.chains,
+        &mut before.book,
+        log.tail(),
+        0..place,
+        &NoGate,
+        &mut outcomes,
+    )?;
+    Ok(())
+}
+
+/// What is before a place of a log: the places before it are run in order. An error says that memory ran out, or that a statement names a
+/// table that no earlier one creates.
+pub fn before_place(alloc: Global, log: &WholeLog, place: Place) -> Result<Before, TrialFault>
+    requires within { place ≤ length log.now.statements }
+    ensures { IfOk result (λ before. Stands log.now.statements place before.chains before.book) }
+{
+    let mut before = nothing(alloc, log);
+    match run_first(alloc, log, &mut before, place) {
+        Ok(()) => Ok(before),
+        Err(fault) => Err(fault),
+    }
+}

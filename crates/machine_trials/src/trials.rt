@@ -1,0 +1,198 @@
+//! Trials of a range of a log as a batch of which all is placed.
+
+ghost use Rattle.std.specs.Prelude.{◌≡◌, ◌<◌, ◌≤◌, ◌-◌, IfOk, length, true};
+ghost use Rattle.standing.specs.Stands.{Stands};
+
+use crate::batches::batch_of;
+use crate::calls::tell_batch;
+use crate::rows::{FIRST, LAST, MIDDLE};
+use crate::telling::{tell_events, tell_found};
+use bohm_core::Machine;
+use bohm_core_base::Event;
+use finishing::{Finished, finish};
+use log_batch::LogBatch;
+use log_machine::OfLog;
+use log_trials_base::{Before, TrialFault, WholeLog, before_place, log_of};
+use log_words::{LogKey, LogWords, ended_slots};
+use model_base::{MOST_PARTITIONS, Place};
+use std::alloc::{AllocError, Global};
+use taking::take;
+
+/// What is tried on a batch.
+#[derive(Clone, Copy)]
+pub enum Trial {
+    /// The events of the whole log, where each of these places a place for a partition.
+    Whole(&'static [Event]),
+    /// The calls of the batch, and the events of the last two places.
+    Middle,
+    /// The calls of the batch.
+    Calls,
+    /// Which grants the batch may end.
+    Ended,
+    /// The batch finished after words of which nothing is stored.
+    Finished,
+}
+
+/// Tells the events of the whole log.
+fn tell_whole(
+    rt: &impl Print,
+    alloc: Global,
+    machine: &mut Machine<OfLog<'_>>,
+    placing: &[Event],
+) -> Result<(), TrialFault> {
+    for _ in 0..4 {
+        tell_events(rt, alloc, machine, placing)?;
+    }
+    tell_events(rt, alloc, machine, &FIRST)?;
+    tell_events(rt, alloc, machine, placing)?;
+    tell_events(rt, alloc, machine, &LAST)?;
+    tell_found(rt, alloc, machine)
+}
+
+/// Tells the calls of the batch in the middle of the log, and its events.
+fn tell_middle(
+    rt: &impl Print,
+    alloc: Global,
+    machine: &mut Machine<OfLog<'_>>,
+) -> Result<(), TrialFault> {
+    tell_batch(rt, machine.statements().batch())?;
+    tell_events(rt, alloc, machine, &MIDDLE)?;
+    tell_found(rt, alloc, machine)
+}
+
+/// Finishes a batch after words of which nothing is stored.
+fn finish_unstored<'a>(alloc: Global, batch: LogBatch<'a>) -> Result<Finished<'a>, AllocError>
+    requires some { 0 < batch.size }
+    requires placed { batch.placed ≡ true }
+    ensures { IfOk result (λ done. done
+        ≡ record { log = batch.entry.log; first = batch.entry.first; size = batch.entry.size }) }
+{
+    let slots = ended_slots(alloc, &batch)?;
+    let key = LogKey::new(batch, slots);
+    let (words, pass) = LogWords::new(alloc, key)?;
+    let (key, closed) = words.close(pass);
+    finish(alloc, key, &closed)
+}
+
+/// Tells the outcomes of a log that is finished after words of which nothing is stored.
+fn tell_finished(
+    rt: &impl Print,
+    alloc: Global,
+    log: &WholeLog,
+    batch: LogBatch<'_>,
+) -> Result<(), TrialFault>
+    requires some { 0 < batch.size }
+    requires placed { batch.placed ≡ true }
+    requires log { batch.log ≡ log.now }
+    requires first { batch.first ≡ 0 }
+    requires all { batch.size ≡ length log.now.statements }
+{
+    let done = finish_unstored(alloc, batch)?;
+    let taken = take(alloc, log.tail(), &done, 0..log.len())?;
+    for (index, outcome) in taken.outcomes.iter().enumerate() {
+        println!(rt; "{index}: {outcome:?}")?;
+    }
+    Ok(())
+}
+
+/// Tells the slots of the grants that the batch may end.
+fn tell_ended(rt: &impl Print, alloc: Global, batch: &LogBatch<'_>) -> Result<(), TrialFault> {
+    let slots = ended_slots(alloc, batch)?;
+    let slots = slots.as_slice();
+    println!(rt; "of six grants the batch may end those of the slots {slots:?}")?;
+    Ok(())
+}
+
+/// Makes a trial on a machine over the batch that no event has reached.
+fn try_machine(
+    rt: &impl Print,
+    alloc: Global,
+    batch: LogBatch<'_>,
+    trial: Trial,
+) -> Result<(), TrialFault>
+    requires { batch.placed ≡ true }
+{
+    let mut machine = Machine::new(alloc, OfLog::new(batch))?;
+    match trial {
+        Trial::Whole(placing) => tell_whole(rt, alloc, &mut machine, placing),
+        _ => tell_middle(rt, alloc, &mut machine),
+    }
+}
+
+/// Makes a trial on a batch.
+fn try_batch(
+    rt: &impl Print,
+    alloc: Global,
+    log: &WholeLog,
+    batch: LogBatch<'_>,
+    trial: Trial,
+) -> Result<(), TrialFault>
+    requires placed { batch.placed ≡ true }
+    requires log { batch.log ≡ log.now }
+    requires all { batch.size ≡ length log.now.statements - batch.first }
+{
+    match trial {
+        Trial::Calls => tell_batch(rt, &batch),
+        Trial::Ended => tell_ended(rt, alloc, &batch),
+        Trial::Finished if batch.first_place() == 0 && batch.size() > 0 => {
+            tell_finished(rt, alloc, log, batch)
+        }
+        other => try_machine(rt, alloc, batch, other),
+    }
+}
+
+/// Makes a trial on the places of a log from one on, with what is before them.
+fn try_range(
+    rt: &impl Print,
+    alloc: Global,
+    log: &WholeLog,
+    before: &Before,
+    first: Place,
+    partitions: usize,
+    trial: Trial,
+) -> Result<(), TrialFault>
+    requires partitions { 0 < partitions }
+    requires few { partitions ≤ MOST_PARTITIONS }
+    requires within { first ≤ length log.now.statements }
+    requires before { Stands log.now.statements first before.now.chains before.now.book }
+{
+    let batch = batch_of(alloc, log, before, first..log.len(), partitions)?;
+    try_batch(rt, alloc, log, batch, trial)
+}
+
+/// Makes a trial on the places of a log from one on.
+fn try_log(
+    rt: &impl Print,
+    alloc: Global,
+    log: &WholeLog,
+    first: Place,
+    partitions: usize,
+    trial: Trial,
+) -> Result<(), TrialFault>
+    requires partitions { 0 < partitions }
+    requires few { partitions ≤ MOST_PARTITIONS }
+{
+    if first > log.len() {
+        return Err(TrialFault::Short);
+    }
+    let before = before_place(alloc, log, first)?;
+    try_range(rt, alloc, log, &before, first, partitions, trial)
+}
+
+/// Makes a trial on the places of the log of these lines from one on, which this many partitions place, after a heading.
+pub fn try_lines(
+    rt: &impl Print,
+    alloc: Global,
+    heading: &str,
+    lines: &[&str],
+    first: Place,
+    partitions: usize,
+    trial: Trial,
+) -> Result<(), TrialFault>
+    requires partitions { 0 < partitions }
+    requires few { partitions ≤ MOST_PARTITIONS }
+{
+    print!(rt; "{heading}")?;
+    let log = log_of(alloc, lines)?;
+    try_log(rt, alloc, &log, first, partitions, trial)
+}
