@@ -1,4 +1,4 @@
--- Tables that are created later explain nothing: with their owners behind the others the same lines explain some needs.
+-- Tables that are created later explain nothing: with their owners after the others the same lines explain some needs.
 use Rattle.std.proofs.Common.{◌≡◌, ◌<◌, ◌++◌, ◌∷◌, [], ℕ, List, length, refl, sym, ◌∙◌, ap, subst}
 use Rattle.std.specs.Prelude.{◌||◌, All, nat_lt, reverse}
 use Rattle.std.specs.List.{list_any}
@@ -18,11 +18,11 @@ use Rattle.model_base.proofs.Parts.{part-all}
 use Rattle.model_base.proofs.Paths.{reverse-cons}
 use Rattle.model_base.proofs.Recorded.{part-kept_grants}
 use Rattle.model_base.proofs.Replay.{by_cases}
-use Rattle.grant_paths.specs.declared.line.Line.{Line}
-use Rattle.grant_paths.specs.declared.line.Shown.{Shown}
-use Rattle.grant_paths.specs.Lines.{cause_before, holds_before, made_places, path_before, shown_lost, shown_of}
-use Rattle.explain_base.specs.Explained.{explaining_lines, line_of}
-use Rattle.explain_base.proofs.Asked.{lines-held, lines-missing}
+use Rattle.explain.specs.declared.line.Line.{Line}
+use Rattle.explain.specs.declared.line.Shown.{Shown}
+use Rattle.explain.specs.Lines.{cause_before, holds_before, made_places, path_before, shown_lost, shown_of}
+use Rattle.explain.specs.ExplainedNeeds.{explaining_lines, line_of}
+use Rattle.explain.proofs.Asked.{lines-held, lines-missing}
 
 all-reverse : (P : Grant → Type 0) (grants : List Grant) → All P grants → All P (reverse grants)
 all-reverse P [] all = all

@@ -2,3 +2,6 @@ pub mod Explained
 pub mod LaterTables
 pub mod Longer
 pub mod Pictured
+pub mod Below
+pub mod Fallen
+pub mod Lines

@@ -10,8 +10,8 @@ use Rattle.model_base.specs.declared.statement.Statement.{Statement}
 use Rattle.model_base.specs.Outcomes.{World, deeds_before, needs, owners}
 use Rattle.model_base.proofs.Growing.{get-front, owners-append, world-stands}
 use Rattle.model_base.proofs.Growth.{deeds_before-stands}
-use Rattle.grant_paths.specs.declared.line.Line.{Line}
-use Rattle.explain_base.specs.Explained.{explaining_lines}
+use Rattle.explain.specs.declared.line.Line.{Line}
+use Rattle.explain.specs.ExplainedNeeds.{explaining_lines}
 use Rattle.sequencer.specs.Log.{Accepted}
 use Rattle.sequencer.specs.Taken.{IsWhole}
 use Rattle.report.specs.Report.{place_text}
@@ -19,7 +19,7 @@ use Rattle.bohm_base.proofs.Reporting.{name-longer}
 use Rattle.batched_text.proofs.Reports.{needs-own, place-same}
 use Rattle.explain.specs.Explained.{LinesAreNamed, explained, lines_for}
 use Rattle.explain.proofs.Lines.{lines-named, needs_named}
-use Rattle.explained_text.specs.Text.{explanation_text, need_line_text, shown_text}
+use Rattle.audit_text.specs.Explanation.{explanation_text, need_line_text, shown_text}
 use Rattle.log_text.specs.Statement.{kind_word}
 use Rattle.audit_text.specs.Answer.{Answers, AnswersAccepted, answer_text}
 use Rattle.audit_text.specs.declared.question.Question.{Question}
@@ -38,7 +38,7 @@ explained-there log place lines is = by_statement (slice_get log place) refl is
 pub explained-within : (log : List Statement) (place : ℕ) (lines : List Line) → explained log place ≡ Some lines → place < length log
 explained-within log place lines is = let found = explained-there log place lines is in slice_get_within log place found.0 found.1.0
 
--- a line names the same table where others come behind it
+-- a line names the same table where others come after it
 line-longer : (tables extra : List (List ℕ)) (line : Line) → line.need.table < length tables → need_line_text (tables ++ extra) line ≡ need_line_text tables line
 line-longer tables extra line low =
     ap (λ (name : List ℕ). codes "need "

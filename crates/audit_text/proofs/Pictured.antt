@@ -2,7 +2,7 @@
 use Rattle.std.proofs.Common.{◌≡◌, ◌<◌, ◌⊎◌, ℕ, List, Option, Some, None, arith, length, subst, inl, inr}
 use Rattle.std.specs.Prelude.{Err, IfSome, Ok, OnOk, Result}
 use Rattle.std.specs.Io.KnownBytes.{Appends}
-use Rattle.log_text_base.specs.Known.{AppendsFront}
+use Rattle.line_io.specs.Known.{AppendsFront}
 use Rattle.model_base.specs.declared.statement.Statement.{Statement}
 use Rattle.sequencer.specs.Log.{Accepted}
 use Rattle.batched_text.specs.Reaching.{IsLogOfFront, IsLogUpTo}

@@ -1,13 +1,13 @@
 -- What is answered about a place of the text of a log: the report's line for the place, and why its statement was admitted or denied.
 use Rattle.std.specs.Prelude.{◌≡◌, ◌≤◌, ◌++◌, ℕ, List, [], Some, codes, if◌then◌else◌, length}
 use Rattle.model_base.specs.declared.statement.Statement.{Statement}
-use Rattle.log_text_base.specs.Lines.{lines_of}
-use Rattle.grant_paths.specs.declared.line.Line.{Line}
+use Rattle.line_io.specs.Lines.{lines_of}
+use Rattle.explain.specs.declared.line.Line.{Line}
 use Rattle.sequencer.specs.Catalog.{no_names}
 use Rattle.sequencer.specs.Log.{Accepted}
 use Rattle.report.specs.Report.{AreReadings, Reading, log_of, names_after, place_text}
 use Rattle.explain.specs.Explained.{explained}
-use Rattle.explained_text.specs.Text.{explanation_text}
+use Rattle.audit_text.specs.Explanation.{explanation_text}
 use Rattle.audit_text.specs.declared.question.Question.{Question}
 
 -- the report's line for the place, then the lines that explain it, and then `checked` where that is asked; `tables` has the names

@@ -1,6 +1,6 @@
 -- A fault of reading, as one of an answer.
 use Rattle.std.specs.Prelude.{ℕ, List, codes}
-use Rattle.log_text_base.specs.declared.fault.ReadFault.{ReadFault}
+use Rattle.line_io.specs.declared.fault.ReadFault.{ReadFault}
 use Rattle.audit_text.specs.declared.fault.AuditFault.{AuditFault}
 
 abbrev pub audit_fault_of : ReadFault → AuditFault

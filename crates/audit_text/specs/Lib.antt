@@ -1,3 +1,6 @@
 pub mod Answer
 pub mod Faults
 pub mod Picture
+pub mod Explanation
+pub mod Drawn
+pub mod Graph

@@ -2,9 +2,9 @@
 use Rattle.std.specs.Prelude.{◌≡◌, ◌<◌, ℕ, List, Option, length, unwrap_or}
 use Rattle.model_base.specs.declared.statement.Statement.{Statement}
 use Rattle.model_base.specs.Outcomes.{deeds_before, owners}
-use Rattle.log_text_base.specs.Lines.{lines_of}
+use Rattle.line_io.specs.Lines.{lines_of}
 use Rattle.grants_base.specs.Book.{Entries, ShowsBook}
-use Rattle.grants_graph.specs.Graph.{graph_text}
+use Rattle.audit_text.specs.Graph.{graph_text}
 use Rattle.sequencer.specs.Catalog.{Names, no_names}
 use Rattle.sequencer.specs.Log.{Accepted}
 use Rattle.report.specs.Report.{AreReadings, Reading, log_of}

@@ -2,7 +2,7 @@
 
 ghost use Rattle.std.specs.Prelude.{◌≡◌, ◌<◌, ◌≤◌, ◌-◌, ◌^◌, ◌⊎◌, ℕ, List, Err, IfSome, OnOk, length, true};
 ghost use Rattle.std.specs.Io.KnownBytes.{Appends};
-ghost use Rattle.log_text_base.specs.Known.{AppendsFront, raised};
+ghost use Rattle.line_io.specs.Known.{AppendsFront, raised};
 ghost use Rattle.engine.specs.Engine.{finished};
 ghost use Rattle.audit_text.specs.Answer.{HasNoPlace, AnswersAccepted, IsExplanation};
 
@@ -12,7 +12,7 @@ use crate::question::Question;
 use crate::writing::write_text;
 use batched_text::run_quietly_to_seeded;
 use engine::Engine;
-use log_text_base::Counted;
+use line_io::Counted;
 use model_base::HashSeed;
 use std::alloc::Global;
 use std::io::{Read, Write};
@@ -47,7 +47,7 @@ fn write_answer<W: Write>(
 
 /// Reads a log up to the line of a place, or to its end where it hasn't the place, and runs what it read; then it writes why the place
 /// was admitted or denied: the report's line for the place, then a line for each need of its statement up to the first that isn't held,
-/// as `explained_text` spells it, and `checked` where that is asked. Then the writer is flushed. The log's report isn't made.
+/// as `audit_text` spells it, and `checked` where that is asked. Then the writer is flushed. The log's report isn't made.
 ///
 /// What comes after the place's line changes nothing of its explanation. It isn't taken, and the reader isn't asked for more once that line
 /// is available: a reader that fails later is never met. Names, rows and grants are kept, and of statements and outcomes those of one

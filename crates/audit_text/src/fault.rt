@@ -4,7 +4,7 @@ ghost use Rattle.std.specs.Prelude.{◌≡◌};
 ghost use Rattle.audit_text.specs.Faults.{audit_fault_of, audit_fault_text};
 ghost use Rattle.audit_text.specs.declared.fault.AuditFault.TheVariants.{NoMemory, Write};
 
-use log_text_base::{ReadFault, WriteFault};
+use line_io::{ReadFault, WriteFault};
 use std::alloc::{AllocError, AllocFailed};
 use std::fmt;
 use thiserror::Error;

@@ -1,22 +1,28 @@
 //! Answers to an auditor's questions about the text of a log.
 //!
-//! `explain_text` reads a log up to a place and writes why that was admitted or denied, with `checked` if the
-//! `Question` asks for the check; `grants_text` writes the picture of the grants in force before it. Both cost the run
-//! of the log up to the place. The answer is made before any of it is written, so only a failing writer leaves a part.
-//! After the place's line nothing more is read.
+//! `explain_text` reads a log up to a place and writes why that was admitted or denied, with `checked` if the `Question`
+//! asks for the check; `grants_text` writes the grants in force before it as a digraph for Graphviz, whose edges are just
+//! these (`edges_are_grants_in_force`). Both cost the run of the log up to the place. The answer is made before any of it
+//! is written, so only a failing writer leaves a part. After the place's line nothing more is read.
 //!
 //! After P. P. Griffiths and B. W. Wade, "An Authorization Mechanism for a Relational Database System", ACM TODS 1
 //! (1976).
 #![tactic(auto)]
 
 mod explaining;
+mod explanation;
 mod fault;
+mod graph;
+mod graph_laws;
 mod picturing;
 mod putting;
 mod question;
 mod writing;
 
 pub use explaining::{explain_text, explain_text_seeded};
+pub use explanation::put_explanation;
 pub use fault::AuditFault;
+pub use graph::put_graph;
+pub use graph_laws::edges_are_grants_in_force;
 pub use picturing::{grants_text, grants_text_seeded};
 pub use question::Question;

@@ -2,16 +2,16 @@
 
 ghost use Rattle.std.specs.Prelude.{◌≡◌, ◌<◌, ◌-◌, ◌^◌, ◌⊎◌, [], ℕ, List, Err, IfErr, IfSome, OnOk, length, true};
 ghost use Rattle.std.specs.Io.KnownBytes.{Appends};
-ghost use Rattle.log_text_base.specs.Known.{AppendsFront, raised};
+ghost use Rattle.line_io.specs.Known.{AppendsFront, raised};
 ghost use Rattle.engine.specs.Engine.{finished};
 ghost use Rattle.audit_text.specs.Picture.{EndsBefore, IsPicture, IsPictureOf, place_before};
 
 use crate::fault::AuditFault;
+use crate::graph::put_graph;
 use crate::writing::write_text;
 use batched_text::run_quietly_to_seeded;
 use engine::Engine;
-use grants_graph::put_graph;
-use log_text_base::Counted;
+use line_io::Counted;
 use model_base::{HashSeed, Place};
 use std::alloc::Global;
 use std::io::{Read, Write};
@@ -61,7 +61,7 @@ fn write_picture<W: Write>(
 }
 
 /// Reads a log up to the line of a place, or to its end where none is named or it hasn't the place, and runs what it read; then it
-/// writes the grants in force before the place, or at the end where none is named, as a digraph of Graphviz, as `grants_graph` spells
+/// writes the grants in force before the place, or at the end where none is named, as a digraph of Graphviz, as `audit_text` spells
 /// it. Then the writer is flushed. The log's report isn't made. What comes after the place's line isn't taken, as in `explain_text`.
 ///
 /// `NoSuchPlace` comes only where the log ends before the place, `NoMemory` where a growth was refused, `Read` where the reader failed,

@@ -4,15 +4,15 @@ ghost use Rattle.std.specs.Prelude.{◌≡◌, ◌<◌, ◌≤◌, ◌++◌, ◌
 ghost use Rattle.engine.specs.Engine.{finished};
 ghost use Rattle.report.specs.Report.{place_text};
 ghost use Rattle.explain.specs.Explained.{LinesAreNamed, IsExplainedBy, explained};
-ghost use Rattle.explained_text.specs.Text.{explanation_text};
+ghost use Rattle.audit_text.specs.Explanation.{explanation_text};
 ghost use Rattle.audit_text.specs.Answer.{AnswersAccepted};
 
+use crate::explanation::put_explanation;
 use crate::fault::AuditFault;
 use crate::question::Question;
 use batched_text::put_place;
 use engine::Engine;
 use explain::{ExplainFault, Explanation, check, explain, explanations_are_sound};
-use explained_text::put_explanation;
 use model_base::Place;
 use std::alloc::{AllocError, Global};
 

@@ -2,9 +2,9 @@
 
 ghost use Rattle.std.specs.Prelude.{◌≡◌, OnErr, OnOk, true};
 ghost use Rattle.std.specs.Io.KnownBytes.{Appends};
-ghost use Rattle.log_text_base.specs.Known.{AppendsFront, raised};
+ghost use Rattle.line_io.specs.Known.{AppendsFront, raised};
 
-use log_text_base::{Counted, WriteFault, flush, write_out, writing_laws};
+use line_io::{Counted, WriteFault, flush, write_out, writing_laws};
 use std::io::Write;
 
 /// Writes a text, and flushes the writer. After an error a front of the text was written.

@@ -42,7 +42,7 @@ mark_longer : (keep batch start end : ℕ) → start ≤ end → mark_by keep ba
 mark_longer zero batch start end less = omega arith
 mark_longer (suc keep) batch start end less = omega (arith, some-kept keep batch start start, some-kept keep batch start end)
 
--- the mark behind a batch isn't later than that of none after it
+-- the mark after a batch isn't later than that of none after it
 mark_after : (keep batch start end : ℕ) → start ≤ end → mark_by keep batch start end ≤ mark_by keep batch end end
 mark_after zero batch start end less = omega arith
 mark_after (suc keep) batch start end less = omega (arith, some-kept keep batch start end, some-kept keep batch end end)
@@ -146,7 +146,7 @@ module _ (plan : Plan) (old new : Batching) (reported : IsReported plan.settings
       reported.mark
       ∙ ap (λ (b : Bool). if b then mark_behind plan.settings (finished old.engine) count else old.engine.store.mark) (le-ltb (finished old.engine) count none)
 
-  -- the cut behind one more batch
+  -- the cut after one more batch
   cut_next : (history : History) → IsCutBy history plan.settings old.engine → finished old.engine ≤ count → count ≤ finished old.engine + plan.settings.batch
       → 0 < plan.settings.batch → IsDue history plan.settings old.engine → IsCutBy history plan.settings new.engine
   cut_next History.Kept cut within most some full =
@@ -168,7 +168,7 @@ module _ (plan : Plan) (old new : Batching) (reported : IsReported plan.settings
             omega (arith, unmarked none, cut, there, here)
       ]
 
-  -- the next batch, behind one that is due
+  -- the next batch, after one that is due
   pub open_next : IsFilling plan old → IsDue plan.history plan.settings old.engine → new.engine.dropped ≡ dropped_by plan.history new.engine
       → IsOpen plan new
   open_next filling due kept =

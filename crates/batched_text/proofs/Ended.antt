@@ -2,8 +2,8 @@
 use Rattle.std.proofs.Common.{◌≡◌, ◌≤◌, ◌+◌, ◌-◌, ◌++◌, ℕ, List, [], ◌∷◌, Option, Some, None, length, refl, ap, sym, ◌∙◌, subst, arith, append_assoc}
 use Rattle.std.specs.Io.KnownBytes.{Appends, prepend_known}
 use Rattle.std.proofs.lemmas.List.{append-nil, length-append}
-use Rattle.log_text_base.specs.Known.{AppendsFront, MovesOut}
-use Rattle.log_text_base.proofs.Written.{appends_then}
+use Rattle.line_io.specs.Known.{AppendsFront, MovesOut}
+use Rattle.line_io.proofs.Written.{appends_then}
 use Rattle.log_text.specs.Statement.{Sentence}
 use Rattle.sequencer.specs.Catalog.{Names}
 use Rattle.sequencer.specs.Log.{Accepted, empty_log}

@@ -2,8 +2,8 @@
 use Rattle.std.proofs.Common.{◌≡◌, ◌≢◌, ◌<◌, ℕ, List, [], ◌∷◌, ◌++◌, eqb, length, refl, ap, sym, ◌∙◌, subst, arith, append_assoc, inl, inr}
 use Rattle.std.proofs.lemmas.Bool.{cases_eq, cond-false, ne_eqb}
 use Rattle.std.proofs.lemmas.List.{append-nil, length-append}
-use Rattle.log_text_base.specs.Lines.{first_line, lines_of, other_lines}
-use Rattle.log_text_base.proofs.LinesLaws.{lines_first}
+use Rattle.line_io.specs.Lines.{first_line, lines_of, other_lines}
+use Rattle.line_io.proofs.LinesLaws.{lines_first}
 use Rattle.report.specs.Report.{AreReadings, IsReading, Reading}
 use Rattle.bohm_base.specs.Collecting.{AreReadBefore}
 use Rattle.batched_text.specs.Batching.{AreReadFirst}

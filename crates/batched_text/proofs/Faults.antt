@@ -1,8 +1,8 @@
--- A fault that is told on tells the same failures.
+-- A fault that is passed on tells the same failures.
 use Rattle.std.proofs.Common.{◌≡◌, ◌<◌, ◌≤◌, ◌+◌, ℕ, Result, Ok, Err, refl, sym, ap, ◌∙◌, arith, inl, inr, subst}
 use Rattle.std.specs.Prelude.{IfErr, IsErrAnd, OnErr, OnOk}
-use Rattle.log_text_base.specs.Known.{raised}
-use Rattle.log_text_base.specs.declared.fault.ReadFault.{ReadFault}
+use Rattle.line_io.specs.Known.{raised}
+use Rattle.line_io.specs.declared.fault.ReadFault.{ReadFault}
 use Rattle.bohm_base.specs.Faults.{read_errors, write_errors}
 use Rattle.bohm_base.specs.declared.fault.EngineFault.{EngineFault}
 use Rattle.engine.specs.declared.fault.EngineFault.{EngineFault as RunFault}
@@ -31,12 +31,12 @@ write_counted A EngineFault.Write result written old mid new told is counted sam
 write_counted A EngineFault.Spawn result written old mid new told is counted same more small =
     absurd (cc (sym (told_on EngineFault.Spawn result told) ∙ is))
 
--- a failure of the reader is told as one
+-- a failure of the reader is given as one
 pub read_on : {A B : Type 0} (fault : ReadFault) (result : Result B ReadFault) → IsErrAnd result (λ other. other ≡ fault) → (first : Result A ReadFault) → first ≡ Err fault
     → first ≡ Err ReadFault.Read → result ≡ Err ReadFault.Read
 read_on fault result same first comes is = told_on fault result same ∙ ap Err (cc)
 
--- what an engine's fault tells of a run
+-- what an engine's fault says of a run
 pub read_told : {A : Type 0} (fault : EngineFault) (told : RunFault) (result : Result A RunFault) → told ≡ of_text fault → result ≡ Err told
     → result ≡ Err RunFault.Read → fault ≡ EngineFault.Read
 read_told EngineFault.Read told result same comes is = refl
@@ -58,7 +58,7 @@ never_bad EngineFault.Read told result same comes is = cc (ap Err (sym same) ∙
 never_bad EngineFault.Write told result same comes is = cc (ap Err (sym same) ∙ sym comes ∙ is)
 never_bad EngineFault.Spawn told result same comes is = cc (ap Err (sym same) ∙ sym comes ∙ is)
 
--- a fault of a batch that is told on is one of a batch, and neither the reader's nor the writer's
+-- a fault of a batch that is passed on is one of a batch, and neither the reader's nor the writer's
 pub stops_told : {A : Type 0} (fault : EngineFault) (result : Result A EngineFault) → IsErrAnd result (λ other. other ≡ fault) → IsOfBatch fault
     → IfErr result IsOfBatch
 stops_told fault (Ok value) same stops = absurd same

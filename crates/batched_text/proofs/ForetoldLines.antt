@@ -1,4 +1,4 @@
--- What a line that was read before its turn comes to in its turn.
+-- What a line that was read before its turn results in in its turn.
 use Rattle.std.proofs.Common.{◌≡◌, ◌≢◌, ℕ, ◌<◌, ◌≤◌, ◌+◌, List, ◌++◌, ap, arith, get_or-set_other, length, length-set, sym, ◌∙◌, subst}
 use Rattle.std.proofs.Math.Seq.{drop-append_seam, take-append_seam}
 use Rattle.std.proofs.lemmas.List.Elements.{All-drop, All-take}
@@ -53,7 +53,7 @@ faulty_at now bytes ahead fault was is =
     reads_as (line_from bytes ahead.from) (Err fault) tt tt (λ told. was.ahead.found.faulty fault is)
     (λ same. was.ahead.found.told (is ∙ ap (λ (f : LineFault). Found.Faulty f) (let own : fault ≡ LineFault.NoMemory = cc in own)))
 
--- a line that was dealt with only names behind
+-- a line that was dealt with only names after it
 begins_if : (names : Names) (sentence : Sentence) (refused : Option Refused) → Begins names (names_if names sentence refused)
 begins_if names sentence None = begins_with names names sentence (begins_same names)
 begins_if names sentence (Some refused) = begins_same names
@@ -79,7 +79,7 @@ all_ahead now bytes lines were = record {
   ahead = λ k other least within. were.ahead k other within;
 }
 
--- those behind a line stay so, whatever is taken out of it and whatever names come
+-- those after a line stay so, whatever is taken out of it and whatever names come
 pub still_ahead : (now later : Names) (bytes : List ℕ) (from : ℕ) (lines : List Ahead) (line : Ahead) → AreStillAhead now bytes from lines → Begins now later
     → AreStillAhead later bytes (from + 1) (slice_set lines from line)
 still_ahead now later bytes from lines line were further = record {

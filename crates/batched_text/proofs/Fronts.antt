@@ -5,8 +5,8 @@ use Rattle.std.proofs.lemmas.Bool.{leb-false}
 use Rattle.std.specs.Io.KnownBytes.{IsAtEnd, prepend_known}
 use Rattle.model_base.specs.declared.limits.TheConstants.{MOST_PLACES}
 use Rattle.log_text.proofs.Total.{total}
-use Rattle.log_text_base.specs.Known.{HadSome, TookLine}
-use Rattle.log_text_base.specs.Lines.{first_line, lines_of}
+use Rattle.line_io.specs.Known.{HadSome, TookLine}
+use Rattle.line_io.specs.Lines.{first_line, lines_of}
 use Rattle.sequencer.specs.Catalog.{no_names}
 use Rattle.sequencer.specs.Log.{Accepted, empty_log}
 use Rattle.report.specs.Report.{AreReadings, Reading, log_of}

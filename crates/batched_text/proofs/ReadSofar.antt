@@ -2,9 +2,9 @@
 use Rattle.std.proofs.Common.{◌≡◌, ◌++◌, ℕ, List, [], ◌∷◌, Option, Some, None, refl, ap, sym, ◌∙◌, subst, append_assoc}
 use Rattle.std.specs.Io.KnownBytes.{IsAtEnd, Keeps, prepend_known}
 use Rattle.std.proofs.lemmas.List.{append-nil}
-use Rattle.log_text_base.specs.Known.{AppendsFront, ReadSome}
-use Rattle.log_text_base.proofs.Pieces.{read_none}
-use Rattle.log_text_base.proofs.Written.{front_kept}
+use Rattle.line_io.specs.Known.{AppendsFront, ReadSome}
+use Rattle.line_io.proofs.Pieces.{read_none}
+use Rattle.line_io.proofs.Written.{front_kept}
 use Rattle.report.specs.Report.{IsReport}
 use Rattle.report.proofs.Readings.{IsTotal}
 use Rattle.sequencer.specs.Log.{Accepted}

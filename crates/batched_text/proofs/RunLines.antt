@@ -1,4 +1,4 @@
--- Runs of lines, one behind the other.
+-- Runs of lines, one after the other.
 use Rattle.std.proofs.Common.{◌≡◌, ◌≤◌, ◌+◌, ◌-◌, ℕ, List, length, sym, subst, arith}
 use Rattle.std.specs.Prelude.{Err, IsErrAnd, Ok, Result, drop}
 use Rattle.std.specs.Io.KnownBytes.{prepend_known}
@@ -110,7 +110,7 @@ module _ (plan : Plan) (bytes : List ℕ) (given : ℕ) where
     err = second.err;
   }
 
-  -- a fault that is told on
+  -- a fault that is passed on
   pub runs_told : (from : ℕ) (old new : Batching) (fault : EngineFault) (result : Result ℕ EngineFault) → Runs plan bytes given from old new (Err fault)
       → IsErrAnd result (λ other. other ≡ fault) → Runs plan bytes given from old new result
   runs_told from old new fault (Ok to) runs is = absurd is
@@ -150,7 +150,7 @@ module _ (plan : Plan) (bytes : List ℕ) (given : ℕ) where
     err = is;
   }
 
-  -- and that fault is told on
+  -- and that fault is passed on
   pub runs_early_told : (from to : ℕ) (old mid new : Batching) (fault : EngineFault) (result : Result ℕ EngineFault) → Runs plan bytes given from old mid (Ok to)
       → new.pending.items ≡ mid.pending.items → IsOfBatch fault → IsErrAnd result (λ other. other ≡ fault) → Runs plan bytes given from old new result
   runs_early_told from to old mid new fault result runs same stops is =

@@ -2,8 +2,8 @@
 use Rattle.std.proofs.Common.{◌≡◌, ◌≤◌, ◌+◌, ◌++◌, ℕ, List, [], ◌∷◌, Option, Some, None, length, refl, ap, sym, ◌∙◌, subst, arith, append_assoc}
 use Rattle.std.proofs.lemmas.List.{append-nil, length-append}
 use Rattle.model_base.specs.declared.statement.Statement.{Statement}
-use Rattle.log_text_base.specs.Known.{HadSome, TookLine}
-use Rattle.log_text_base.specs.Lines.{first_line, lines_of}
+use Rattle.line_io.specs.Known.{HadSome, TookLine}
+use Rattle.line_io.specs.Lines.{first_line, lines_of}
 use Rattle.sequencer.specs.Catalog.{Names, no_names}
 use Rattle.sequencer.specs.Log.{Accepted}
 use Rattle.sequencer.specs.Taken.{IsWhole}
@@ -35,7 +35,7 @@ became-append : (names : Names) (xs ys : List Reading) → all_became names (xs 
 became-append names [] ys = refl
 became-append names (x ∷ xs) ys = ap (λ (lines : List Became). became names x ∷ lines) (became-append (names_with names x) xs ys)
 
--- the lines that were reported are told the same by a longer log
+-- the lines that were reported are given the same by a longer log
 told-longer : (log : Accepted) (more : List Reading) (reported : List Became) → IsWhole log → places_in reported ≤ length log.statements
     → report_text (log.statements ++ log_of log.names more) (names_after log.names more).tables 1 0 reported ≡ lines_text log 1 0 reported
 told-longer log more reported whole less =
@@ -131,7 +131,7 @@ batched_taken (Some xs) (Some ys) (Some zs) o n pending line reading log new don
       ),
     )
 
--- the first of the lines that waited are reported behind what was pending
+-- the first of the lines that waited are reported after what was pending
 pub batched_reported : (i j o n : Option (List ℕ)) (log : Accepted) (done_old done_new : ℕ) (lines waiting : List Became) (next : ℕ) (pending_old pending_new : List ℕ)
     → Batched i j o n pending_old log done_old lines next → ReportsLines log done_old done_new lines waiting next pending_old pending_new
     → done_new ≤ length log.statements → Batched i j o n pending_new log done_new waiting next

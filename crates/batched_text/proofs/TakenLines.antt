@@ -1,7 +1,7 @@
 -- The log of the lines that were read, whatever these became.
 use Rattle.std.proofs.Common.{◌≡◌, ℕ, List, [], ◌∷◌, ◌++◌, Option, Some, None, refl, sym, subst}
 use Rattle.std.specs.Io.KnownBytes.{IsAtEnd, prepend_known}
-use Rattle.log_text_base.specs.Known.{HadSome, TookLine}
+use Rattle.line_io.specs.Known.{HadSome, TookLine}
 use Rattle.sequencer.specs.Log.{Accepted, empty_log}
 use Rattle.report.specs.Report.{Reading}
 use Rattle.bohm_base.specs.declared.collecting.Became.{Became}

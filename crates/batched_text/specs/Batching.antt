@@ -1,7 +1,7 @@
 -- A text that is read, run and reported in batches.
 use Rattle.std.specs.Prelude.{◌≡◌, ◌≤◌, ◌<◌, ◌+◌, ◌++◌, ◌∷◌, [], ⊤, ℕ, Bool, true, false, IfSome, Result, Ok, List, Option, Some, None, length}
 use Rattle.std.specs.Io.KnownBytes.{Appends, Consumes, prepend_known}
-use Rattle.log_text_base.specs.declared.limits.TheConstants.{BUFFER_BYTES, MOST_GIVEN_BYTES}
+use Rattle.line_io.specs.declared.limits.TheConstants.{BUFFER_BYTES, MOST_GIVEN_BYTES}
 use Rattle.report.specs.Report.{Reading}
 use Rattle.sequencer.specs.Log.{Accepted, empty_log}
 use Rattle.sequencer.specs.Taken.{IsWhole}
@@ -110,7 +110,7 @@ Batched (Some input) None out_old out_now pending log done waiting next = ⊥
 Batched (Some input) (Some rest) out_old out_now pending log done waiting next =
     (front : List ℕ) × (Appends out_old out_now front × IsBatched input rest (front ++ pending) log done waiting next)
 
--- where a run stands between two lines: what is still to come, what of it the reader has left, how many bytes of it are ahead and how
+-- where a run is between two lines: what is still to come, what of it the reader has left, how many bytes of it are ahead and how
 -- many the reader gave; what the writer holds; and the lines that were dealt with
 pub record BatchedStanding : Type 0 where
   pub rest : Option (List ℕ)

@@ -3,7 +3,7 @@
 use Rattle.std.specs.Prelude.{◌≡◌, ◌<◌, ◌++◌, ◌∷◌, ◌⊎◌, [], ⊤, ℕ, List, None, Option, Some, length}
 use Rattle.std.specs.Io.KnownBytes.{IsAtEnd}
 use Rattle.model_base.specs.declared.statement.Statement.{Statement}
-use Rattle.log_text_base.specs.Lines.{lines_of}
+use Rattle.line_io.specs.Lines.{lines_of}
 use Rattle.sequencer.specs.Catalog.{no_names}
 use Rattle.sequencer.specs.Log.{Accepted}
 use Rattle.report.specs.Report.{AreReadings, Reading, log_of}

@@ -1,7 +1,7 @@
 //! A log that is read and run, and of which no report is made.
 
 ghost use Rattle.std.specs.Prelude.{◌≡◌, ◌<◌, ◌≤◌, Err, IfOk, OnOk, length};
-ghost use Rattle.log_text_base.specs.Known.{raised};
+ghost use Rattle.line_io.specs.Known.{raised};
 ghost use Rattle.report.specs.Report.{Reading};
 ghost use Rattle.sequencer.specs.Log.{empty_log};
 ghost use Rattle.bohm_base.specs.Collecting.{ReadsAs, with_reading};
@@ -11,8 +11,8 @@ ghost use Rattle.batched_text.specs.Batching.{IsLogOfText};
 use crate::batching::trim_to;
 use crate::lines::take_read;
 use engine::{Crew, Engine, RunFault};
+use line_io::{Counted, LineReader, ReadFault};
 use log_text::{RawRoom, read_into};
-use log_text_base::{Counted, LineReader, ReadFault};
 use model_base::HashSeed;
 use std::alloc::{AllocError, Global};
 use std::io::Read;

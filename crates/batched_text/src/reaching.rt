@@ -2,8 +2,8 @@
 
 ghost use Rattle.std.specs.Prelude.{◌≡◌, ◌<◌, ◌≤◌, ◌+◌, ℕ, Err, IfOk, IfSome, List, MatchBool, Ok, OnOk, Option, length, true};
 ghost use Rattle.std.specs.Io.KnownBytes.{prepend_known};
-ghost use Rattle.log_text_base.specs.Ahead.{ahead};
-ghost use Rattle.log_text_base.specs.Known.{raised};
+ghost use Rattle.line_io.specs.Ahead.{ahead};
+ghost use Rattle.line_io.specs.Known.{raised};
 ghost use Rattle.sequencer.specs.Log.{empty_log};
 ghost use Rattle.sequencer.specs.Taken.{IsWhole};
 ghost use Rattle.engine.specs.Engine.{finished};
@@ -11,7 +11,7 @@ ghost use Rattle.batched_text.specs.Reaching.{EndsTaking, HasTaken, IsLogUpTo};
 
 use crate::quiet::{BATCH, run_rest, take_quietly};
 use engine::Engine;
-use log_text_base::{BUFFER_BYTES, Counted, LineReader, MOST_GIVEN_BYTES, ReadFault};
+use line_io::{BUFFER_BYTES, Counted, LineReader, MOST_GIVEN_BYTES, ReadFault};
 use model_base::{HashSeed, MOST_PLACES, Place};
 use std::alloc::Global;
 use std::io::Read;

@@ -2,8 +2,8 @@
 
 ghost use Rattle.std.specs.Prelude.{◌≡◌, ◌≢◌, ◌<◌, ◌≤◌, ◌+◌, ◌-◌, ◌^◌, ◌↔◌, ℕ, [], false, true, List, Option, IfErr, IfOk, IfSome, MatchBool, OnErr, OnOk, Err, Ok, length};
 ghost use Rattle.std.specs.Io.KnownBytes.{Appends, IsAtEnd, Keeps, prepend_known};
-ghost use Rattle.log_text_base.specs.Ahead.{ahead, found_line};
-ghost use Rattle.log_text_base.specs.Known.{AppendsFront, HadSome, ReadSome, TookLine, raised};
+ghost use Rattle.line_io.specs.Ahead.{ahead, found_line};
+ghost use Rattle.line_io.specs.Known.{AppendsFront, HadSome, ReadSome, TookLine, raised};
 ghost use Rattle.report.specs.Report.{IsReport};
 ghost use Rattle.bohm_base.specs.Faults.{read_errors, write_errors};
 ghost use Rattle.bohm_base.specs.Pending.{HasBegunReport, HasReport};
@@ -24,10 +24,10 @@ use crate::lookahead::{Lookahead, ReadingAhead, report_stretch};
 use crate::settings::{Settings, are_within_limits};
 use bohm_base::{Became, EngineFault as TextFault};
 use engine::{Engine, EngineFault};
-use log_text::RawRoom;
-use log_text_base::{
+use line_io::{
     BUFFER_BYTES, Counted, LineReader, MOST_GIVEN_BYTES, ReadFault, flush, write_out, write_pending,
 };
+use log_text::RawRoom;
 use model_base::HashSeed;
 use std::alloc::{AllocError, Global};
 use std::io::{Read, Write};
@@ -413,7 +413,7 @@ pub fn run_text<T: Threads + Wait + Sync, R: Read, W: Write>(
     // After a fault it is a beginning of it.
     ensures begun { IfSome (R.remaining reader.old.inner) (λ input. (text : List ℕ)
         × (IsReport input text × AppendsFront (W.contents writer.old.inner) (W.contents writer.new.inner) text)) }
-    // It is also a beginning of the report of what was read by then: it tells nothing of what the reader has left.
+    // It is also a beginning of the report of what was read by then: it says nothing of what the reader has left.
     ensures begun_read { IfRead (R.remaining reader.old.inner) (R.remaining reader.new.inner) (λ given. (text : List ℕ)
         × (IsReport given text × AppendsFront (W.contents writer.old.inner) (W.contents writer.new.inner) text)) }
     // Read and Write come only where the reader or the writer failed.
@@ -497,7 +497,7 @@ pub fn report_text<T: Threads + Wait + Sync, R: Read, W: Write>(
     // After a fault it is a beginning of it.
     ensures begun { IfSome (R.remaining reader.old.inner) (λ input. (text : List ℕ)
         × (IsReport input text × AppendsFront (W.contents writer.old.inner) (W.contents writer.new.inner) text)) }
-    // It is also a beginning of the report of what was read by then: it tells nothing of what the reader has left.
+    // It is also a beginning of the report of what was read by then: it says nothing of what the reader has left.
     ensures begun_read { IfRead (R.remaining reader.old.inner) (R.remaining reader.new.inner) (λ given. (text : List ℕ)
         × (IsReport given text × AppendsFront (W.contents writer.old.inner) (W.contents writer.new.inner) text)) }
     // Read and Write come only where the reader or the writer failed.
@@ -578,7 +578,7 @@ pub fn report_in_order<T: Threads + Wait + Sync, R: Read, W: Write>(
     // After a fault it is a beginning of it.
     ensures begun { IfSome (R.remaining reader.old.inner) (λ input. (text : List ℕ)
         × (IsReport input text × AppendsFront (W.contents writer.old.inner) (W.contents writer.new.inner) text)) }
-    // It is also a beginning of the report of what was read by then: it tells nothing of what the reader has left.
+    // It is also a beginning of the report of what was read by then: it says nothing of what the reader has left.
     ensures begun_read { IfRead (R.remaining reader.old.inner) (R.remaining reader.new.inner) (λ given. (text : List ℕ)
         × (IsReport given text × AppendsFront (W.contents writer.old.inner) (W.contents writer.new.inner) text)) }
     // Read and Write come only where the reader or the writer failed.

@@ -1,4 +1,4 @@
--- What a body comes to depends on no row but those that its statement declares.
+-- What a body results in depends on no row but those that its statement declares.
 use Rattle.std.proofs.Common.{◌≡◌, ℕ, zero, suc, ◌+◌, ℤ, pos, Bool, true, false, Option, Some, None, List, [], ◌∷◌, refl, sym, ◌∙◌, ap, cond, subst}
 use Rattle.std.specs.List.{find}
 use Rattle.std.specs.Option.{is_some}

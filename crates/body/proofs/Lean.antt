@@ -16,7 +16,7 @@ use Rattle.body.proofs.Rows.{is_of-true, with_rows-at, IsFirst-passes}
 use Rattle.body.proofs.Frame.{apart, head_misses, keeps_others}
 use Rattle.model_base.proofs.Replay.{by_cases}
 
--- an access that a search finds stands at some place, and is the first there that passes
+-- an access that a search finds is at some place, and is the first there that passes
 first_found : (test : Access → Bool) (accesses : List Access) (access : Access) → find test accesses ≡ Some access → (place : ℕ) × (place < length accesses) × (access ≡ get_or accesses place access) × IsFirstAccess test accesses place access
 first_found test [] access some = cc
 first_found test (first ∷ accesses) access some =
@@ -33,7 +33,7 @@ elsewhere (first ∷ accesses) t r other zero access below is =
 elsewhere (first ∷ accesses) t r other (suc place) access below is =
     elsewhere accesses t r (head_misses (is_of t (pos r)) first accesses other).1 place access (omega arith) is
 
--- a row that a list has stands at a place of the list
+-- a row that a list has is at a place of the list
 inside : (contents : List (Option (List ℤ))) (place : ℕ) (content : List ℤ) → get_or contents place None ≡ Some content → place < length contents
 inside [] place content some = absurd (none-some content (sym (get_or_past [] place None (omega arith)) ∙ some))
 inside (first ∷ contents) zero content some = omega arith

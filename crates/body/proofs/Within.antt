@@ -15,7 +15,7 @@ use Rattle.body.specs.Premises.{outputs_of_step}
 use Rattle.body.specs.Steps.{EndsWithin, steps_of}
 use Rattle.model_base.proofs.Replay.{by_cases}
 
--- behind a step that goes on there are at most so many outputs
+-- after a step that goes on there are at most this many outputs
 abbrev HasAtMost : ℕ → Effect → Type 0
 HasAtMost most (goes_on m passed) = length m.outputs ≤ most
 HasAtMost most (aborts reason) = Unit {0}
@@ -70,7 +70,7 @@ performed_few accesses (Check of) m most few = by_cases (is_zero (read_register 
 performed_few accesses (Skip of steps) m most few = omega (arith, few)
 performed_few accesses (Out of) m most few = let more = length-append m.outputs (read_register m of ∷ []) in omega (arith, few, more)
 
--- the end has at most so many outputs, or stands at a step below
+-- the end has at most this many outputs, or is at a step below
 abbrev IsWithin : ℕ → ℕ → Ending → Type 0
 IsWithin most end (completed rows outputs) = length outputs ≤ most
 IsWithin most end (aborted step reason) = step < end

@@ -3,8 +3,8 @@ use Rattle.std.proofs.Common.{◌≡◌, ℕ, ◌+◌, ◌<◌, List, [], ◌∷
 use Rattle.std.specs.Prelude.{IfSome, OnOk, Result, Ok, Err}
 use Rattle.std.specs.Io.KnownBytes.{Appends, Keeps}
 use Rattle.std.proofs.lemmas.List.{append-nil, take-append-drop}
-use Rattle.log_text_base.specs.Known.{AppendsFront, HasBegun, MovesOut}
-use Rattle.log_text_base.proofs.Written.{appends_none, appends_then, appends_kept, appends_front, moved_none}
+use Rattle.line_io.specs.Known.{AppendsFront, HasBegun, MovesOut}
+use Rattle.line_io.proofs.Written.{appends_none, appends_then, appends_kept, appends_front, moved_none}
 use Rattle.sequencer.specs.Log.{Accepted}
 use Rattle.report.specs.Report.{IsReport}
 use Rattle.report.proofs.Readings.{IsTotal, some_report}

@@ -4,10 +4,10 @@ use Rattle.std.specs.Prelude.{Result, Ok, Err, IfErr, IsErrAnd, IfOk, IfSome, On
 use Rattle.std.specs.Io.KnownBytes.{IsAtEnd, prepend_known}
 use Rattle.std.proofs.lemmas.List.{append-nil, take_all, length-take-le}
 use Rattle.std.proofs.lemmas.Bool.{cases_lt, cond-true, lt-ltb}
-use Rattle.log_text_base.specs.Known.{HadSome, TookLine, raised}
-use Rattle.log_text_base.specs.declared.fault.ReadFault.{ReadFault}
-use Rattle.log_text_base.specs.Lines.{lines_of, first_line, other_lines}
-use Rattle.log_text_base.proofs.LinesLaws.{lines_first}
+use Rattle.line_io.specs.Known.{HadSome, TookLine, raised}
+use Rattle.line_io.specs.declared.fault.ReadFault.{ReadFault}
+use Rattle.line_io.specs.Lines.{lines_of, first_line, other_lines}
+use Rattle.line_io.proofs.LinesLaws.{lines_first}
 use Rattle.log_text.specs.Statement.{Sentence, Reads}
 use Rattle.log_text.specs.Fault.{line_fault}
 use Rattle.line_words.specs.declared.fault.LineFault.{LineFault}
@@ -89,7 +89,7 @@ collect_end (Some xs) (Some ys) log lines so end =
     let none : AreReadings (lines_of ys) [] = subst (λ (l : List ℕ). AreReadings (lines_of l) []) (sym end) tt in
     (so.0, (subst (AreReadings (lines_of xs)) (append-nil so.0) (so.1.0 [] none), so.1.1))
 
--- what a fault of reading tells of the reader's failures
+-- what a fault of reading says of the reader's failures
 pub fault_told : {A B : Type 0} (fault : ReadFault) (found : Result A ReadFault) (result : Result B EngineFault) (old now : ℕ) → found ≡ Err fault
     → IsErrAnd result (λ e. e ≡ of_reading fault) → (found ≡ Err ReadFault.Read → now ≡ raised old) → ((found ≡ Err ReadFault.Read → ⊥) → now ≡ old)
     → now ≡ read_errors result old

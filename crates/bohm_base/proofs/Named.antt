@@ -16,11 +16,11 @@ use Rattle.sequencer.specs.Log.{Accepted}
 use Rattle.sequencer.specs.Taken.{IsTaken, IsWhole}
 use Rattle.report.specs.Text.{IsNamed}
 
--- the needs are of no table but the first so many
+-- the needs are of no table but the first this many
 abbrev pub AreWithin : ℕ → List Need → Type 0
 AreWithin tables needed = All (λ (need : Need). need.table < tables) needed
 
--- the statement needs nothing of a table but the first so many
+-- the statement needs nothing of a table but the first this many
 abbrev pub IsWithin : ℕ → Statement → Type 0
 IsWithin tables statement = AreWithin tables (needs statement.form)
 

@@ -3,8 +3,8 @@ use Rattle.std.proofs.Common.{◌≡◌, ℕ, List, [], ◌++◌, take, drop, Op
 use Rattle.std.specs.Prelude.{Result, Ok, Err, IfSome, OnOk}
 use Rattle.std.specs.Io.KnownBytes.{Appends, Keeps}
 use Rattle.std.proofs.lemmas.List.{append-nil, take-append-drop}
-use Rattle.log_text_base.specs.Known.{AppendsFront, HasBegun}
-use Rattle.log_text_base.proofs.Written.{appends_then, appends_kept, appends_front, front_kept}
+use Rattle.line_io.specs.Known.{AppendsFront, HasBegun}
+use Rattle.line_io.proofs.Written.{appends_then, appends_kept, appends_front, front_kept}
 use Rattle.report.specs.Report.{IsReport}
 use Rattle.bohm_base.specs.Pending.{HasBegunReport, HasReport}
 use Rattle.bohm_base.proofs.Beginnings.{begun_then}

@@ -9,7 +9,7 @@ use Rattle.log_text.specs.Statement.{kind_word}
 use Rattle.report.specs.Text.{IsNamed, cause_text, outcome_text, table_name}
 use Rattle.bohm_base.proofs.WholeLogs.{slice_get_longer}
 
--- a table's name is the same where others come behind it
+-- a table's name is the same where others come after it
 pub name-longer : (tables more : List (List ℕ)) (table : ℕ) → table < length tables → table_name (tables ++ more) table ≡ table_name tables table
 name-longer tables more table low =
     let here = slice_get-get_or tables table [] low in

@@ -8,7 +8,7 @@ use Rattle.sequencer.specs.Refusal.{refusal}
 use Rattle.sequencer.specs.declared.refused.Refused.{Refused}
 use Rattle.report.specs.Report.{Reading, read, faulty, names_after, names_if, names_with}
 
--- the tables stay, and others may come behind them
+-- the tables stay, and others may come after them
 abbrev pub Longer : List (List ℕ) → List (List ℕ) → Type 0
 Longer xs ys = (more : List (List ℕ)) × (ys ≡ xs ++ more)
 
@@ -29,7 +29,7 @@ tables_after names (r ∷ rs) =
     let rest = tables_after (names_with names r) rs in
     (first.0 ++ rest.0, rest.1 ∙ ap (λ (ts : List (List ℕ)). ts ++ rest.0) first.1 ∙ append_assoc names.tables first.0 rest.0)
 
--- what is in a list is so with more behind it
+-- what is in a list is so with more after it
 pub slice_get_longer : {X : Type 0} (xs more : List X) (i : ℕ) (x : X) → slice_get xs i ≡ Some x → slice_get (xs ++ more) i ≡ Some x
 slice_get_longer [] more i x is = absurd (cc)
 slice_get_longer (y ∷ xs) more zero x is = is

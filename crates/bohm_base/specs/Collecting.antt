@@ -2,8 +2,8 @@
 use Rattle.std.specs.Prelude.{◌≡◌, ◌≢◌, ℕ, ◌+◌, ⊤, Result, Ok, Err, Option, Some, None, List, [], ◌∷◌, ◌++◌, take, Vec}
 use Rattle.std.specs.declared.alloc.Global.{Global}
 use Rattle.model_base.specs.declared.statement.Statement.{Statement}
-use Rattle.log_text_base.specs.Lines.{lines_of}
-use Rattle.log_text_base.specs.declared.limits.TheConstants.{KEPT_BYTES}
+use Rattle.line_io.specs.Lines.{lines_of}
+use Rattle.line_io.specs.declared.limits.TheConstants.{KEPT_BYTES}
 use Rattle.log_text.specs.Statement.{Sentence}
 use Rattle.line_words.specs.declared.fault.LineFault.{LineFault}
 use Rattle.sequencer.specs.Catalog.{Names, no_names}

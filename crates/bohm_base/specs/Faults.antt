@@ -1,7 +1,7 @@
 -- A fault of reading, as a fault of the run; and what a run's answer says of its reader and its writer.
 use Rattle.std.specs.Prelude.{ℕ, Result, Ok, Err, List, codes}
-use Rattle.log_text_base.specs.Known.{raised}
-use Rattle.log_text_base.specs.declared.fault.ReadFault.{ReadFault}
+use Rattle.line_io.specs.Known.{raised}
+use Rattle.line_io.specs.declared.fault.ReadFault.{ReadFault}
 use Rattle.bohm_base.specs.declared.fault.EngineFault.{EngineFault}
 
 abbrev pub of_reading : ReadFault → EngineFault

@@ -1,6 +1,6 @@
 -- What was written after what a writer held, and what is pending.
 use Rattle.std.specs.Prelude.{ℕ, Option, List, IfSome}
-use Rattle.log_text_base.specs.Known.{HasBegun, MovesOut}
+use Rattle.line_io.specs.Known.{HasBegun, MovesOut}
 use Rattle.report.specs.Report.{IsReport}
 
 -- after what the writer held comes the report of the input, the end of it still pending

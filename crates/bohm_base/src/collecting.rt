@@ -3,15 +3,15 @@
 ghost use Rattle.std.specs.Prelude.{◌≡◌, ◌≢◌, ◌≤◌, [], IfOk, IfErr, IfSome, OnErr, OnOk, Err};
 ghost use Rattle.std.specs.Result.{ForOk};
 ghost use Rattle.log_text.specs.Statement.{IsInGrammar};
-ghost use Rattle.log_text_base.specs.Ahead.{ahead};
+ghost use Rattle.line_io.specs.Ahead.{ahead};
 ghost use Rattle.sequencer.specs.Log.{empty_log};
 ghost use Rattle.report.specs.Report.{Reading, read};
 ghost use Rattle.bohm_base.specs.Faults.{read_errors};
 ghost use Rattle.bohm_base.specs.Collecting.{Collects, LineMayLackMemory, ReadsAs, became, places_of, reading_of, with_reading};
 
 use crate::fault::EngineFault;
+use line_io::{Counted, LineReader};
 use log_text::{LineFault, RawStatement, parse_line};
-use log_text_base::{Counted, LineReader};
 use model_base::HashSeed;
 use sequencer::{Log, Refused};
 use std::alloc::Global;
@@ -62,7 +62,7 @@ impl Collected {
     }
 }
 
-/// What the line of a refused statement became. Want of memory is no refusal, and ends the run.
+/// What the line of a refused statement became. Out of memory is no refusal, and ends the run.
 pub fn refused_line(refused: Refused) -> Result<Became, EngineFault>
     ensures ok { IfOk result (λ line. (line ≡ Became.Refused refused) × (refused ≢ Refused.NoMemory)) }
     ensures err { IfErr result (λ f. (f ≡ EngineFault.NoMemory) × (refused ≡ Refused.NoMemory)) }
@@ -73,7 +73,7 @@ pub fn refused_line(refused: Refused) -> Result<Became, EngineFault>
     }
 }
 
-/// What a line with a fault became. Want of memory is no line's fault, and ends the run.
+/// What a line with a fault became. Out of memory is no line's fault, and ends the run.
 pub fn faulty_line(fault: LineFault) -> Result<Became, EngineFault>
     ensures ok { IfOk result (λ line. (line ≡ Became.Faulty fault) × (fault ≢ LineFault.NoMemory)) }
     ensures err { IfErr result (λ f. (f ≡ EngineFault.NoMemory) × (fault ≡ LineFault.NoMemory)) }

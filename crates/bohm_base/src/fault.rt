@@ -4,7 +4,7 @@ ghost use Rattle.std.specs.Prelude.{◌≡◌};
 ghost use Rattle.bohm_base.specs.declared.fault.EngineFault.TheVariants.{NoMemory, Read, Write};
 ghost use Rattle.bohm_base.specs.Faults.{run_fault_text, of_reading};
 
-use log_text_base::{ReadFault, WriteFault};
+use line_io::{ReadFault, WriteFault};
 use std::alloc::{AllocError, AllocFailed};
 use std::fmt;
 use thiserror::Error;

@@ -1,11 +1,11 @@
 //! Lines of the report that wait to be written.
 
 ghost use Rattle.std.specs.Prelude.{◌≡◌, ◌≢◌, ◌++◌, IfErr, OnOk};
-ghost use Rattle.log_text_base.specs.Known.{HasBegun, MovesOut};
+ghost use Rattle.line_io.specs.Known.{HasBegun, MovesOut};
 ghost use Rattle.bohm_base.specs.Faults.{write_errors};
 
 use crate::fault::EngineFault;
-use log_text_base::{Counted, write_much};
+use line_io::{Counted, write_much};
 use std::io::Write;
 
 /// Appends a line to what is pending, and writes what is pending if that is much. Where there is no room for the line, what was pending

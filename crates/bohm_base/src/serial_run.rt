@@ -2,7 +2,7 @@
 
 ghost use Rattle.std.specs.Prelude.{◌≡◌, ◌≢◌, ◌<◌, ◌++◌, ◌-◌, ◌^◌, ℕ, [], List, IfErr, IfSome, OnErr, OnOk, Err, slice_get, true};
 ghost use Rattle.std.specs.Io.KnownBytes.{Appends};
-ghost use Rattle.log_text_base.specs.Known.{AppendsFront, HasBegun, MovesOut, raised};
+ghost use Rattle.line_io.specs.Known.{AppendsFront, HasBegun, MovesOut, raised};
 ghost use Rattle.model_base.specs.Outcomes.{outcome};
 ghost use Rattle.report.specs.Report.{IsReport, place_text};
 ghost use Rattle.bohm_base.specs.Collecting.{MayLackRoom, became_text, log_text};
@@ -11,7 +11,7 @@ ghost use Rattle.bohm_base.specs.Faults.{write_errors};
 use crate::collecting::{Became, Collected, collect_lines};
 use crate::fault::EngineFault;
 use crate::pending::put_out;
-use log_text_base::{Counted, PENDING_BYTES, flush, write_out};
+use line_io::{Counted, PENDING_BYTES, flush, write_out};
 use model::serial_seeded;
 use model_base::{HashSeed, Outcome, Place};
 use report::{put_fault, put_outcome, put_refused};

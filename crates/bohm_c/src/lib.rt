@@ -41,7 +41,7 @@ const FORGOTTEN: i32 = 9;
 /// There is too little room.
 const ROOM: i32 = 10;
 
-/// The option that tells of how many of the last places `bohm_explain` can tell.
+/// The option that says of how many of the last places `bohm_explain` can tell.
 const KEEP: u32 = 1;
 
 /// The version of the library: major * 10000 + minor * 100 + patch.
@@ -221,7 +221,7 @@ fn explain_status(fault: ExplainFault) -> i32
     }
 }
 
-/// Writes a text to the front of `out` where there is room for all of it, and tells how many bytes it has.
+/// Writes a text to the front of `out` where there is room for all of it, and says how many bytes it has.
 fn write_whole(text: &[u8], out: &mut [u8], made: &mut usize) -> i32
     ensures made { made.new ≡ length text.now }
     ensures whole { result ≡ DONE → take made.new out.new ≡ text.now }

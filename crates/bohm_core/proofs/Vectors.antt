@@ -35,7 +35,7 @@ zeros-each (item ∷ items) = ap (λ (zeros : List ℕ). 0 ∷ zeros) (zeros-eac
 pub lists-length : (vectors : List (Vec ℕ Global)) (lists : List (List ℕ)) → lists_of vectors ≡ lists → length vectors ≡ length lists
 lists-length vectors lists same = sym (length-map vectors (λ (v : Vec ℕ Global). v.items)) ∙ ap (λ (lists : List (List ℕ)). length lists) same
 
--- each of so many places has a list of references
+-- each of this many places has a list of references
 pub empty-length : (batch : Batch) (places : ℕ) → length (empty_references batch places) ≡ places
 empty-length batch zero = refl
 empty-length batch (suc index) =

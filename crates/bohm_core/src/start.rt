@@ -11,14 +11,14 @@ use bohm_core_base::Hold;
 use model_base::Place;
 use std::alloc::{AllocError, Global};
 
-/// So many zeros.
+/// This many zeros.
 pub fn zeros(alloc: Global, length: usize) -> Result<Vec<usize>, AllocError>
     ensures { IfOk result (λ zeros. zeros.items ≡ replicate length 0) }
 {
     vec![in alloc; 0; length]
 }
 
-/// So many places that nobody holds.
+/// This many places that nobody holds.
 pub fn free_holds(alloc: Global, places: usize) -> Result<Vec<Hold>, AllocError>
     ensures { IfOk result (λ holds. holds.items ≡ replicate places Free) }
 {

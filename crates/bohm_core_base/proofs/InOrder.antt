@@ -1,4 +1,4 @@
--- The grants of slots stand in the order of their places.
+-- The grants of slots are in the order of their places.
 use Rattle.std.proofs.Common.{◌≡◌, ◌<◌, ℕ, zero, suc, false, Some, List, [], ◌∷◌, arith}
 use Rattle.std.specs.Prelude.{All, slice_get}
 use Rattle.std.proofs.lemmas.List.Elements.{All-head, All-tail}

@@ -265,7 +265,7 @@ module _ (b : Batch) (sound : IsSoundBatch b) where
       more zero ready = refl
       more (suc m) ready = rw (holds m (done-is (hold_of s m) ready)) refl
 
-  -- what a state stores stands in it
+  -- what a state stores is in it
   stands-same : (s : State) → KeepsStored s s
   stands-same s =
       record {
@@ -277,7 +277,7 @@ module _ (b : Batch) (sound : IsSoundBatch b) where
         ready = λ n past ready. ready;
       }
 
-  -- what stands at one step after another stands at the end
+  -- what is at one step after another is at the end
   stands-then : (first second third : State) → KeepsStored first second → KeepsStored second third → KeepsStored first third
   stands-then first second third before after =
       record {
@@ -308,7 +308,7 @@ module _ (b : Batch) (sound : IsSoundBatch b) where
         ready = λ n past ready. still-ready s (change b s e) n done (change-past s e holds n past).1 ready;
       }
 
-  -- what is stored stands after an event that may happen
+  -- what is stored is after an event that may happen
   change-stands : (s : State) (e : Event) → IsKept b s → guard b s e ≡ true → KeepsStored s (change b s e)
   change-stands s (Place p) kept holds = all-stands s (Place p) kept holds (λ n. ([], append-nil (own_of s n))) (λ j r set. set)
   change-stands s (Claim actor n) kept holds = all-stands s (Claim actor n) kept holds (λ m. ([], append-nil (own_of s m))) (λ j r set. set)

@@ -6,7 +6,7 @@ use crate::printing::put_part;
 use crate::run::Run;
 use batched_text::{Settings, run_text};
 use engine::Engine;
-use log_text_base::Counted;
+use line_io::Counted;
 use model_base::{Key, Place, RowNumber, Table};
 use std::alloc::{AllocError, Global};
 use std::rt::Files;

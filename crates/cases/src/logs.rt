@@ -76,7 +76,7 @@ fn log_of_users(alloc: Global, count: u32) -> Result<Vec<u8>, AllocError> {
     Ok(log)
 }
 
-/// So many creations of tables, and then a line that reads the first.
+/// This many creations of tables, and then a line that reads the first.
 fn log_of_tables(alloc: Global, count: u32) -> Result<Vec<u8>, AllocError> {
     let mut log = Vec::new(alloc);
     for number in 0..count {
@@ -100,7 +100,7 @@ fn put_row(alloc: Global, log: &mut Vec<u8>, number: u32, rows: u32) -> Result<(
     log.extend_from_slice(line.as_bytes())
 }
 
-/// So many lines that insert rows first, and change them in turn then.
+/// This many lines that insert rows first, and change them in turn then.
 fn log_of_rows(alloc: Global, lines: u32, rows: u32) -> Result<Vec<u8>, AllocError> {
     let mut log = Vec::from_slice(alloc, b"alice CREATE t 1\n")?;
     for number in 0..lines {

@@ -4,7 +4,7 @@ use crate::case::Runs;
 use crate::fault::TrialFault;
 use crate::logs::text_of;
 use crate::run::Run;
-use log_text_base::Counted;
+use line_io::Counted;
 use std::alloc::{AllocError, Global};
 use std::rt::Files;
 use std::sync::Wait;

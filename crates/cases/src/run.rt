@@ -7,7 +7,7 @@ use batched_text::{
     report_text_seeded, run_text,
 };
 use bohm_base::{serial_text, serial_text_seeded};
-use log_text_base::Counted;
+use line_io::Counted;
 use model_base::{HashSeed, Place};
 use std::alloc::Global;
 use std::io;

@@ -6,7 +6,7 @@ use crate::case::Runs;
 use crate::fault::TrialFault;
 use crate::printing::put_part;
 use crate::run::Run;
-use log_text_base::Counted;
+use line_io::Counted;
 use std::alloc::Global;
 use std::cell::Cell;
 use std::io;

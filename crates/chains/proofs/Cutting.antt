@@ -60,7 +60,7 @@ pub last-not-low : (first : ℕ) (writes : List Written) (write : Written) → f
     → low_writes first writes ≡ low_writes first (writes ++ write ∷ [])
 last-not-low first writes write least = let miss : ltb write.place first ≡ false = grind (arith, nat_tests) in simp (filter-append, miss, append-nil)
 
--- where the last version of a key stands, behind the others of the key
+-- where the last version of a key stands, after the others of the key
 data Last (key : Key) (version : Version) : List Version → List Version → Type 0 where
   ends : (front back : List Version) → is_version_of key version ≡ true → of_key key back ≡ []
       → Last key version (of_key key front) (front ++ version ∷ back)
@@ -107,7 +107,7 @@ is-out key version init versions (ends front back own none) =
       below = λ first least. let miss : ltb version.place first ≡ false = grind (arith, nat_tests) in simp (filter-append, miss);
     })
 
--- a write that replaced a version stands last: its key's versions, and the last of them
+-- a write that replaced a version is last: its key's versions, and the last of them
 record Newest (held : Held) (writes : List Written) (write : Written) : Type 0 where
   init : List Version
   last : Version

@@ -23,7 +23,7 @@ use Rattle.chains.proofs.Order.{between-at, between-earlier, between-rising, hig
 use Rattle.chains.proofs.Sweeping.{all-filter, all-weaker}
 use Rattle.model_base.proofs.Replay.{by_cases}
 
--- what is left of the versions of a key: all, or those behind some of them, where the first that is left is below the mark
+-- what is left of the versions of a key: all, or those after some of them, where the first that is left is below the mark
 data IsBehind (mark : ℕ) (key : Key) : List Version → List Version → Type 0 where
   all : {own : List Version} → IsBehind mark key own own
   behind : (front : List Version) (first : Version) (more : List Version) → first.place < mark → is_version_of key first ≡ true

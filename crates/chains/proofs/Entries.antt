@@ -31,7 +31,7 @@ Entries = List (Key × Dated)
 abbrev pub AreOthers : Key → Entries → Type 0
 AreOthers key entries = NonePasses (key_eq key) entries
 
--- the replaced versions of a key with one more behind the others
+-- the replaced versions of a key with one more after the others
 pub more-own : (one : Replaced) (older : List Replaced) → replaced_of one.key (older ++ one ∷ []) ≡ replaced_of one.key older ++ one.version ∷ []
 more-own one older = simp (filter-append, same_key-own, map-append)
 
@@ -87,7 +87,7 @@ pub written : (key : Key) (dated other : Dated) (before after : Entries) → Are
 written key dated other [] after others = simp same_key-own
 written key dated other (entry ∷ before) after others = rw others.0 (ap (λ es. entry ∷ es) (written key dated other before after others.1))
 
--- the versions, where the entry of a key stands between others, by a queue that has the same of these
+-- the versions, where the entry of a key is between others, by a queue that has the same of these
 pub around : (older other : List Replaced) (key : Key) (dated : Dated) (before after : Entries) → AreOthers key before → AreOthers key after
     → ((k : Key) → key_eq key k ≡ false → replaced_of k other ≡ replaced_of k older)
     → versions_in other (before ++ (key, dated) ∷ after)
@@ -182,7 +182,7 @@ backed-behind taken rest entries backed = record {
   backed = λ key none. (none-both (replaced_of key taken) (replaced_of key rest) (sym (replaced-behind key taken rest) ∙ backed.backed key none)).1;
 }
 
--- a version was put behind the others of its key: none of an earlier place was touched
+-- a version was put after the others of its key: none of an earlier place was touched
 pub record IsPut (version : Version) (old new : Held) : Type 0 where
   pub added : (key : Key) → of_key key new.versions ≡ of_key key (old.versions ++ version ∷ [])
   pub replacing : new.replacing ≡ replacing_after old version
@@ -191,7 +191,7 @@ pub record IsPut (version : Version) (old new : Held) : Type 0 where
 abbrev pub dated_of : Version → Dated
 dated_of version = record { place = version.place; row = version.row }
 
--- what was replaced goes behind the others that were
+-- what was replaced goes after the others that were
 abbrev pub replaced_by : Version → Dated → Replaced
 replaced_by version old = record { by = version.place; key = version.key; version = old }
 

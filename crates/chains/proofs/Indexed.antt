@@ -62,7 +62,7 @@ none-at P [] index absent none = absent
 none-at P (entry ∷ entries) zero absent none = absurd (cc)
 none-at P (entry ∷ entries) (suc index) absent none = none-at P entries index absent none
 
--- a version written at the index of its key, and the one that it replaced behind the others that were
+-- a version written at the index of its key, and the one that it replaced after the others that were
 module _ (older : List Replaced) (version : Version) (old : Dated) (entries : Entries) (index : ℕ) (backed : AreBacked older entries)
     (at : slice_get entries index ≡ Some (version.key, old)) where
   abbrev key : Key

@@ -103,7 +103,7 @@ keep-below first end older entries backed chained each = record {
         (subst (AreWrittenBelow first) (chained.replacing key ∙ ap replacing_of own)
         (all-filter (λ (write : Written). write.place < first) _ (map replacing_write older) each))
 
--- so many versions go as entries do, where each of these has a single one
+-- this many versions go as entries do, where each of these has a single one
 count-passing : (test : Dated → Bool) (older : List Replaced) (entries : Entries)
     → AllByRecursion (λ (entry : Key × Dated). test entry.1 ≡ false → replaced_of entry.0 older ≡ []) entries
     → length (versions_in older entries) + length (passing test entries) ≡ length (versions_in older (passing test entries)) + length entries

@@ -48,7 +48,7 @@ pub last-out : (key : Key) (front : List Version) (version : Version) (back : Li
 last-out key [] version back is none = grind (arith, none-any key back)
 last-out key (first ∷ front) version back is none = grind (arith, has-any key front version back, last-out key front version back)
 
--- the versions of a key, before and behind those of the other keys
+-- the versions of a key, before and after those of the other keys
 abbrev pub among : Key → List Version → List Version → List Dated → List Version
 among key front back chain = front ++ (map (version_at key) chain ++ back)
 
@@ -85,7 +85,7 @@ module _ (key : Key) (front back : List Version) (none_front : of_key key front 
       let miss : ltb dated.place first ≡ false = grind (arith, nat_tests) in
       simp (longer, filter-append, miss, append_assoc)
 
--- some versions more behind those that each key has
+-- some versions more after those that each key has
 pub more-behind : (key : Key) (old now new done more all : List Version) → of_key key new ≡ of_key key (now ++ more)
     → of_key key now ≡ of_key key (old ++ done) → all ≡ done ++ more → of_key key new ≡ of_key key (old ++ all)
 more-behind key old now new done more all added before is =
@@ -146,7 +146,7 @@ newest-of_key row place key (version ∷ versions) =
     ∙ ap (λ b. newest_or row (cond b (version ∷ of_key key versions) (of_key key versions)) place key) (sym hit))
     (λ miss. rw (miss, and_right (ltb version.place place) false refl) (newest-of_key row place key versions))
 
--- behind all versions the same is seen from each place
+-- after all versions the same is seen from each place
 pub newest-past : (end place : ℕ) (key : Key) (versions : List Version) → AreBetween 0 end (of_key key versions) → end ≤ place
     → newest_or None versions place key ≡ newest_or None versions end key
 newest-past end place key versions ordered past =

@@ -18,7 +18,7 @@ use Rattle.chains.specs.declared.writes.Written.{Written}
 use Rattle.chains.specs.Kept.{AreWrittenInOrder, IsFrom, written_by, written_to}
 use Rattle.chains.specs.Store.{AreBetween, versions_at, versions_between}
 
--- writes in order: the first place isn't behind the end and may be an earlier one, the end may be a later one
+-- writes in order: the first place isn't after the end and may be an earlier one, the end may be a later one
 pub rising-bound : (first end : ℕ) (writes : List Written) → AreWrittenInOrder first end writes → first ≤ end
 rising-bound first end [] rising = rising
 rising-bound first end (write ∷ writes) rising = omega (arith, rising.0, rising.1)
@@ -74,7 +74,7 @@ pub rising-versions : (first end : ℕ) (versions : List Version) → AreBetween
 rising-versions first end [] between = between
 rising-versions first end (version ∷ versions) between = (between.0, between.1, rising-versions version.place end versions between.2)
 
--- versions behind some writes
+-- versions after some writes
 pub rising-append : (first middle end : ℕ) (writes : List Written) (versions : List Version) → AreWrittenInOrder first middle writes
     → AreBetween middle end versions → AreWrittenInOrder first end (writes ++ map written_by versions)
 rising-append first middle end [] versions rising between =
@@ -112,7 +112,7 @@ between-snoc first end versions version least last between =
     between-rising first end (versions ++ version ∷ [])
     (rw map-append (rising-snoc first end (map written_by versions) (written_by version) least last (rising-versions first end versions between)))
 
--- versions that pass a test stand in order too, as those of one key
+-- versions that pass a test are in order too, as those of one key
 pub between-filter : (passes : Version → Bool) (first end : ℕ) (versions : List Version) → AreBetween first end versions
     → AreBetween first end (filter passes versions)
 between-filter passes first end [] between = between

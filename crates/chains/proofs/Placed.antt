@@ -141,7 +141,7 @@ module _ (old new : Held) (absent : List Written) (mark end : ℕ) (version : Ve
       ap (λ (notes : List Written). newest_is_noted notes (of_key key new.versions)) (one-note asked absent version is)
       ∙ noted-put key old.versions (version ∷ []) new.versions absent (parts key) (are key)
 
--- versions behind the end
+-- versions after the end
 pub append-kept : (old new : Held) (absent : List Written) (mark end new_end : ℕ) (cells : List Version)
     → ((key : Key) → of_key key new.versions ≡ of_key key (old.versions ++ cells)) → AreBetween end new_end cells
     → ((key : Key) → written_to key new.replacing ≡ replacing_of (of_key key new.versions)) → AreWrittenInOrder mark new_end new.replacing

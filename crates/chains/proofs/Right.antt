@@ -51,7 +51,7 @@ range-right log first (suc count) place key low high =
           ∙ ap (λ (at : ℕ). rows_before log at key.table key.row) same
     ]
 
--- versions of each key behind its others are what a store gains
+-- versions of each key after its others are what a store gains
 pub append-gains : (store : Store) (new more : List Version) (new_end : ℕ)
     → ((key : Key) → AreBetween 0 store.end (of_key key store.versions)) → AreBetween store.end new_end more
     → ((key : Key) → of_key key new ≡ of_key key (store.versions ++ more))

@@ -34,7 +34,7 @@ module _ (own : List ℕ) (place : ℕ) (world : World) (statement : Statement) 
   kept-at_place : (at_place own place world statement).1.rows table row ≡ world.rows table row
   kept-at_place = kept-form statement.form
 
--- what stands after one place more
+-- what is after one place more
 pub world_before-more : (log : List Statement) (place : ℕ) (statement : Statement) → slice_get log place ≡ Some statement
     → world_before log (place + 1) ≡ (at_place (owners log) place (world_before log place) statement).1
 world_before-more log place statement is =
@@ -47,7 +47,7 @@ world_before-more log place statement is =
     ∙ world_after-snoc (owners log) 0 empty_world (take place log) statement
     ∙ ap (λ (at : ℕ). (at_place (owners log) at (world_before log place) statement).1) long
 
--- a place without a statement is behind the log's end, where nothing changes
+-- a place without a statement is after the log's end, where nothing changes
 pub past-end : (log : List Statement) (place : ℕ) → slice_get log place ≡ None → length log ≤ place
 past-end [] place is = omega arith
 past-end (statement ∷ log) zero is = cc

@@ -95,7 +95,7 @@ impl Chains {
     }
 
     /// Takes the versions of the places from the end to below the new one: one for each write that a place declares, in
-    /// order, whatever its outcome. On `Err` memory was refused, and the store is as it was.
+    /// order, whatever its outcome. On `Err`, out of memory, the store is as it was.
     pub fn append(&mut self, cells: Vec<Version>, new_end: Place) -> Result<(), AllocError>
         requires { AreBetween self.old.end new_end cells.items }
         ensures ok { OnOk result (Gains self.old self.new cells.items new_end) }
@@ -186,7 +186,7 @@ impl Chains {
         }
     }
 
-    /// Adds the version that an access of the place before the end leaves, if it may change its row. On `Err` memory was refused,
+    /// Adds the version that an access of the place before the end leaves, if it may change its row. On `Err`, out of memory,
     /// and the store is as it was.
     fn put(
         &mut self,
@@ -214,7 +214,7 @@ impl Chains {
 
     /// Adds the rows that the next place leaves, a version for each access that may change its row, and moves the end on over
     /// it. The window has the row of each access. Where `fill_window` filled it, no key is hashed that had a version then; where
-    /// it notes another index, the key is. On `Err` memory was refused, and some of the versions may be there: `cut` takes them
+    /// it notes another index, the key is. On `Err`, out of memory, some of the versions may be there: `cut` takes them
     /// out.
     pub fn put_place(&mut self, accesses: &[Access], window: &Window) -> Result<(), AllocError>
         requires places { length accesses.now ≤ MOST_ACCESSES }

@@ -35,7 +35,7 @@ module _ (view : View) where
       (covers_needs accesses (rw here at covered)))
       (λ missing. absurd (true≢false (sym (rw missing at covered))))
 
-  -- the needs of accesses and of the deed behind them
+  -- the needs of accesses and of the deed after them
   pub covers_run : (accesses : List Access) (deed : Option DeedForm)
       → list_all (λ (access : Access). covers view access.key.table) accesses ≡ true
       → Covers view (option_map_or needs_of_deed deed [])

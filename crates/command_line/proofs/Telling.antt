@@ -1,4 +1,4 @@
--- What an error of the words is told as, and what words that are taken name.
+-- What an error of the words is given as, and what words that are taken name.
 use Rattle.std.proofs.Common.{◌≡◌, ◌&&◌, Bool, true, false, not, List, Option, Some, None, refl, ap, sym, ◌∙◌, inl, inr}
 use Rattle.std.specs.Prelude.{Box, option_map}
 use Rattle.std.specs.Box.{box_value}
@@ -13,7 +13,7 @@ use Rattle.clap.specs.declared.error.kind.ErrorKind.{ErrorKind}
 use Rattle.command_line.specs.declared.command_words.Usage.{Usage}
 use Rattle.command_line.specs.Words.{TellsError, TellsOneOf}
 
--- an error is told as one of the kinds that it may have, or as want of memory
+-- an error is given as one of the kinds that it may have, or as out of memory
 pub told : (kinds : Kinds) (error : Error) (usage : Usage) → HasKind kinds error
     → (kind_of error ≡ ErrorKind.OutOfMemory → usage ≡ Usage.NoMemory) → TellsError usage (kind_of error) → TellsOneOf kinds usage
 told kinds error usage has memory tells =

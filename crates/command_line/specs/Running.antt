@@ -1,7 +1,7 @@
 -- How the work on a log ends.
 use Rattle.std.specs.Prelude.{◌≡◌, ◌≤◌, ◌⊎◌, ℕ, Err, IfSome, IsSome, List, None, Ok, Option, Result, Some}
 use Rattle.std.specs.Io.KnownBytes.{Appends}
-use Rattle.log_text_base.specs.Known.{AppendsFront}
+use Rattle.line_io.specs.Known.{AppendsFront}
 use Rattle.report.specs.Report.{IsReport}
 use Rattle.audit_text.specs.Answer.{IsExplanation}
 use Rattle.audit_text.specs.Picture.{IsPicture}

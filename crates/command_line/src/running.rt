@@ -1,7 +1,7 @@
 //! Does what a command asks for with its log, and says how that ended.
 
 ghost use Rattle.std.specs.Prelude.{◌≡◌, ◌≤◌, ◌<◌, ◌-◌, ◌^◌, ℕ, Err, IfNone, IfSome, IsSome, List, OnOk, Option, true};
-ghost use Rattle.log_text_base.specs.Known.{raised};
+ghost use Rattle.line_io.specs.Known.{raised};
 ghost use Rattle.audit_text.specs.Answer.{IsExplanation};
 ghost use Rattle.audit_text.specs.Picture.{IsPicture};
 ghost use Rattle.audit_text.specs.declared.question.Question.{Question};
@@ -16,7 +16,7 @@ use crate::sources::Sources;
 use crate::work::{Work, WorkFault};
 use audit_text::Question;
 use batched_text::Settings;
-use log_text_base::Counted;
+use line_io::Counted;
 use model_base::Place;
 use std::alloc::Global;
 use std::io::{Read, Write};

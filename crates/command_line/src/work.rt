@@ -2,7 +2,7 @@
 
 ghost use Rattle.std.specs.Prelude.{◌≡◌, ◌≢◌, ◌<◌, ◌-◌, ◌^◌, ℕ, Err, List, OnOk, Result, true};
 ghost use Rattle.std.specs.Thread.{IsSync};
-ghost use Rattle.log_text_base.specs.Known.{raised};
+ghost use Rattle.line_io.specs.Known.{raised};
 ghost use Rattle.report.specs.Report.{IsReport};
 ghost use Rattle.audit_text.specs.Answer.{IsExplanation};
 ghost use Rattle.audit_text.specs.Picture.{IsPicture};
@@ -16,7 +16,7 @@ ghost use Rattle.command_line.specs.declared.work.WorkFault.{WorkFault};
 use audit_text::{AuditFault, Question, explain_text_seeded, grants_text_seeded};
 use batched_text::{ReadingAhead, Settings, report_in_order_seeded, report_text_seeded};
 use bohm_base::{EngineFault, serial_text_seeded};
-use log_text_base::Counted;
+use line_io::Counted;
 use model_base::{HashSeed, Place};
 use std::alloc::Global;
 use std::io::{Read, Write};

@@ -14,10 +14,10 @@ use Rattle.grants_base.specs.Book.{Entries, table_of_deed}
 use Rattle.grants_base.specs.declared.entries.Creation.{Creation}
 use Rattle.sequencer.specs.Log.{Accepted, empty_log}
 use Rattle.sequencer.specs.Tail.{Tail}
-use Rattle.standing.specs.Known.{AreKnown, AreNamed}
-use Rattle.standing.specs.Stands.{Stands}
-use Rattle.standing.proofs.Came.{came_at, came_count}
-use Rattle.taking.specs.Span.{AreOutcomes}
+use Rattle.engine.specs.Known.{AreKnown, AreNamed}
+use Rattle.engine.specs.Stands.{Stands}
+use Rattle.engine.proofs.Came.{came_at, came_count}
+use Rattle.filling.specs.Span.{AreOutcomes}
 use Rattle.engine.specs.Engine.{IsRunKept, IsRun, Run, finished}
 
 ranges : (first count more : ℕ) → range_with_len first (count + more) ≡ range_with_len first count ++ range_with_len (first + count) more

@@ -1,4 +1,4 @@
--- What stands before a place of a log stands there when more is appended to the log.
+-- What is before a place of a log is there when more is appended to the log.
 use Rattle.std.proofs.Common.{◌≡◌, ◌≤◌, ◌+◌, ◌++◌, ℕ, zero, suc, List, [], ◌∷◌, length, map, take, refl, ap, sym, ◌∙◌, subst, arith, append_assoc}
 use Rattle.std.specs.List.{range_with_len}
 use Rattle.std.proofs.lemmas.List.{length-append}
@@ -13,9 +13,9 @@ use Rattle.chains.specs.Store.{Store}
 use Rattle.grants_base.specs.Book.{Entries, ShowsBook, owners_of}
 use Rattle.model_base.specs.Growing.{NeedsOwnTables}
 use Rattle.model_base.proofs.Growing.{outcome-stands, world-stands, owners-append}
-use Rattle.standing.specs.Known.{AreKnown, AreKnownFrom, IsKnown}
-use Rattle.standing.specs.Stands.{Stands}
-use Rattle.taking.specs.Span.{AreOutcomes}
+use Rattle.engine.specs.Known.{AreKnown, AreKnownFrom, IsKnown}
+use Rattle.engine.specs.Stands.{Stands}
+use Rattle.filling.specs.Span.{AreOutcomes}
 
 take-front : {X : Type 0} (n : ℕ) (xs ys : List X) → n ≤ length xs → take n (xs ++ ys) ≡ take n xs
 take-front zero xs ys less = refl

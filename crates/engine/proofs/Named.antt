@@ -19,7 +19,7 @@ use Rattle.sequencer.specs.Refusal.{accesses_refusal, create_refusal, deed_refus
 use Rattle.sequencer.specs.declared.refused.Refused.{Refused}
 use Rattle.sequencer.proofs.Passed.{both_none, known-table, passes}
 use Rattle.grants_base.specs.declared.entries.Creation.{Creation}
-use Rattle.standing.specs.Known.{AreNamed, AreNamedFrom, IsKnown}
+use Rattle.engine.specs.Known.{AreNamed, AreNamedFrom, IsKnown}
 use Rattle.engine.specs.Engine.{IsRun, Run, finished}
 
 not_true : (b : Bool) → not b ≡ true → b ≡ false

@@ -15,7 +15,7 @@ use Rattle.sequencer.specs.Refusal.{refusal}
 use Rattle.sequencer.specs.Tail.{Tail}
 use Rattle.sequencer.specs.Taken.{IsWhole}
 use Rattle.sequencer.specs.declared.refused.Refused.{Refused}
-use Rattle.standing.specs.Known.{IsKnown}
+use Rattle.engine.specs.Known.{IsKnown}
 use Rattle.engine.specs.Engine.{IsRunKept, IsRun, Run}
 use Rattle.model_base.specs.Growing.{NeedsOwnTables, NeedsWithin}
 use Rattle.engine.proofs.Grown.{known_grown, outcomes_grown, stands_grown}

@@ -8,9 +8,9 @@ use Rattle.chains.specs.Store.{Store}
 use Rattle.grants_base.specs.Book.{Entries}
 use Rattle.sequencer.specs.Log.{Accepted}
 use Rattle.engine.specs.declared.crew.Crew.{Crew}
-use Rattle.standing.specs.Known.{AreKnown, AreNamed}
-use Rattle.standing.specs.Stands.{Stands}
-use Rattle.taking.specs.Span.{AreOutcomes}
+use Rattle.engine.specs.Known.{AreKnown, AreNamed}
+use Rattle.engine.specs.Stands.{Stands}
+use Rattle.filling.specs.Span.{AreOutcomes}
 
 -- the log, the versions of rows, the book of grants, the outcomes of the places that are finished, and of how many of the first of
 -- these neither statement nor outcome is kept

@@ -1,17 +1,32 @@
 //! A log run batch by batch.
 //!
 //! `Engine` has a log, outcomes, rows and book. `push`, `push_read` and `push_foretold` take statements; `run_to` and
-//! `run_batch` run the next range, by one worker in order or by a `Crew` of several, under one contract: the outcomes
-//! are the log's. `forget` drops finished statements and outcomes, `trim` and `sweep` old rows. On `Err`, out of memory
-//! or a thread that couldn't be started, the engine is unchanged, and the batch can be run again. Log, rows and book
-//! are never copied.
+//! `run_batch` run the next range, in order (`run_in_order`) or by a `Crew` of several workers (`execute`, `advance`),
+//! under one contract: the outcomes are the log's. `forget` drops finished statements and outcomes, `trim` and `sweep`
+//! old rows. On `Err`, out of memory or a thread that couldn't be started, the engine is unchanged, and the batch can be
+//! run again. `RememberingBook` remembers needs that were found held, up to the next revocation.
+//!
+//! A place costs its needs, its steps and the rows that it writes. Log, rows and book are never copied.
 #![tactic(auto)]
 
+mod booking;
+mod changes;
+mod commit;
 mod crew;
+mod executing;
 mod fault;
+mod held;
+mod in_order;
+mod remembering;
 mod run;
+mod slots;
 
+pub use changes::BookChanges;
+pub use commit::advance;
 pub use crew::Crew;
+pub use executing::execute;
 pub use fault::EngineFault;
+pub use in_order::run_in_order;
+pub use remembering::RememberingBook;
 pub use run::Engine;
 pub use workers::RunFault;

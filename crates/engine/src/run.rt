@@ -3,14 +3,18 @@
 ghost use Rattle.std.specs.Prelude.{◌≡◌, ◌≢◌, ◌<◌, ◌≤◌, ◌+◌, ◌-◌, ◌++◌, Err, IfOk, List, OnErr, OnOk, length};
 ghost use Rattle.model_base.specs.declared.outcome.Outcome.{Outcome as Came};
 ghost use Rattle.chains.specs.Store.{versions_between};
-ghost use Rattle.standing.specs.Known.{AreKnown, AreNamed};
-ghost use Rattle.standing.specs.Stands.{Stands};
-ghost use Rattle.taking.specs.Span.{AreOutcomes};
+ghost use Rattle.engine.specs.Known.{AreKnown, AreNamed};
+ghost use Rattle.engine.specs.Stands.{Stands};
+ghost use Rattle.filling.specs.Span.{AreOutcomes};
 
+use crate::commit::advance;
 use crate::crew::Crew;
+use crate::executing::execute;
 use crate::fault::EngineFault;
+use crate::in_order::run_in_order;
+use crate::remembering::RememberingBook;
 use chains::{BadMark, Chains, Trimmed};
-use executing::execute;
+use filling::{Taken, take};
 use grants::Book;
 use log_batch::LogBatch;
 use log_text::{RawRoom, RawStatement};
@@ -18,15 +22,12 @@ use model_base::{
     HashSeed, Key, MOST_BATCH_STATEMENTS, MOST_PARTITIONS, MOST_PLACES, MOST_WORKERS, Outcome,
     Place, Row, Statement,
 };
-use past::{Past, forget_first};
-use sequencer::{LogTail, Refused};
-use standing::{RememberingBook, advance, run_in_order};
+use sequencer::{LogTail, Past, Refused, forget_first};
 use std::alloc::{AllocError, Global};
 use std::marker::Model;
 use std::ops::Range;
 use std::sync::Wait;
 use std::thread::Threads;
-use taking::{Taken, take};
 use workers::{Gate, NoGate, RunFault};
 
 /// A log, the outcomes of its finished places, and what comes after these: the versions of rows and the book of grants. What was finished
@@ -311,7 +312,7 @@ impl Engine {
 
     /// Runs the next places of the log, up to this one, as a batch, by this many workers and placers: by one worker in order, on this
     /// thread. The gate is notified of each place before a worker asks for it, and by each worker once when it is done. Then the places are
-    /// finished: their outcomes are the log's, and rows and book are those before this place. On `Err` memory was refused or a worker's
+    /// finished: their outcomes are the log's, and rows and book are those before this place. On `Err`, out of memory or a worker's
     /// thread could not be started; the engine is as it was, so that the batch can be run again.
     pub fn run_to<T: Threads + Wait + Sync, G: Gate + Sync>(
         &mut self,
@@ -351,7 +352,7 @@ impl Engine {
     }
 
     /// Runs the next places of the log, up to this one, in order and on this thread: as `run_to` by one worker, which needs no thread. On
-    /// `Err` memory was refused; the engine is as it was.
+    /// `Err`, out of memory; the engine is as it was.
     pub fn run_alone(&mut self, alloc: Global, end: Place) -> Result<(), AllocError>
         requires order { finished self.old ≤ end }
         requires within { end ≤ length self.old.log.statements }

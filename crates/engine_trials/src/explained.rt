@@ -4,11 +4,11 @@
 use crate::fault::TrialFault;
 use crate::handed_in::tell_handed_in;
 use crate::stepping::{crew_of, push_lines, run_up_to};
+use audit_text::put_explanation;
 use batched_text::run_quietly;
 use engine::Engine;
 use explain::{ExplainFault, check, explain};
-use explained_text::put_explanation;
-use log_text_base::Counted;
+use line_io::Counted;
 use model_base::Place;
 use std::alloc::Global;
 use std::sync::Wait;
@@ -37,7 +37,7 @@ fn text_of(alloc: Global, engine: &Engine, place: Place) -> Result<(Vec<u8>, boo
     Ok((text, accepted))
 }
 
-/// Tells why a place was admitted or denied.
+/// Prints why a place was admitted or denied.
 fn tell_place(rt: &impl Print, alloc: Global, engine: &Engine, place: Place) {
     let _ = match text_of(alloc, engine, place) {
         Ok((text, accepted)) => {
@@ -70,7 +70,7 @@ fn tell_engine<R: Threads + Wait + Print + Sync>(
     Ok(())
 }
 
-/// Tells how many of two lines a quiet run finishes.
+/// Prints how many of two lines a quiet run finishes.
 fn tell_quiet<R: Threads + Wait + Print + Sync>(rt: &R, alloc: Global) {
     let log = b"alice CREATE t 1\nalice RUN t:1:R\n";
     let _ = match run_quietly(rt, alloc, &mut Counted::new(log.as_slice())) {

@@ -110,7 +110,7 @@ fn begin<R: Threads + Wait + Sync>(
     run_up_to(rt, alloc, engine, 2, crew_of(1, 1))
 }
 
-/// Tells what comes of the two statements by two workers, where one is held back.
+/// Prints the outcome of the two statements by two workers, where one is held back.
 fn tell_held<R: Threads + Wait + Print + Sync>(
     rt: &R,
     alloc: Global,

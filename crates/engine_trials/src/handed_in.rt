@@ -1,8 +1,7 @@
 //! Explanations that are handed in, right ones and wrong ones.
 
 use engine::Engine;
-use explain::{Explanation, check};
-use grant_paths::{Line, Shown};
+use explain::{Explanation, Line, Shown, check};
 use model_base::{Items, Kind, Need, Place, Table};
 use std::alloc::{AllocError, Global};
 
@@ -113,7 +112,7 @@ fn line_of(alloc: Global, need: Need, handed: Handed) -> Result<Line, AllocError
     Ok(Line { need, shown })
 }
 
-/// Tells whether lines are accepted as the explanation of a place.
+/// Prints whether lines are accepted as the explanation of a place.
 fn tell_lines(
     rt: &impl Print,
     alloc: Global,
@@ -132,7 +131,7 @@ fn tell_lines(
     Ok(())
 }
 
-/// Tells which of the first so many are accepted.
+/// Prints which of the first this many are accepted.
 pub fn tell_handed_in(
     rt: &impl Print,
     alloc: Global,

@@ -57,7 +57,7 @@ fn tell_rows(rt: &impl Print, engine: &Engine) {
     }
 }
 
-/// Tells the outcome of each place, as far as there is one.
+/// Prints the outcome of each place, as far as there is one.
 fn tell_outcomes(rt: &impl Print, engine: &Engine) {
     for place in 0..9 {
         let _ = match engine.outcome(place) {
@@ -82,7 +82,7 @@ fn tell_marks(rt: &impl Print, engine: &mut Engine) {
     let _ = println!(rt; "swept: {} versions went", engine.sweep());
 }
 
-/// Tells the engine's rows as it runs on and is trimmed.
+/// Prints the engine's rows as it runs on and is trimmed.
 fn tell_kept<R: Threads + Wait + Print + Sync>(
     rt: &R,
     alloc: Global,
@@ -98,7 +98,7 @@ fn tell_kept<R: Threads + Wait + Print + Sync>(
     Ok(())
 }
 
-/// Tells the rows of an engine that is trimmed.
+/// Prints the rows of an engine that is trimmed.
 pub fn tell_trimmed<R: Threads + Wait + Print + Sync>(
     rt: &R,
     alloc: Global,

@@ -9,7 +9,7 @@ use std::sync::Wait;
 use std::thread::Threads;
 use workers::NoGate;
 
-/// So many workers and partitions.
+/// This many workers and partitions.
 pub fn crew_of(workers: usize, partitions: usize) -> Crew {
     Crew {
         workers,

@@ -45,7 +45,7 @@ fn tell_rows<R: Threads + Wait + Print + Sync>(
     Ok(())
 }
 
-/// Tells how many versions of rows that come and go are trimmed and swept.
+/// Prints how many versions of rows that come and go are trimmed and swept.
 pub fn tell_turns<R: Threads + Wait + Print + Sync>(
     rt: &R,
     alloc: Global,

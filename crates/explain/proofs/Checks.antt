@@ -9,10 +9,10 @@ use Rattle.model_base.specs.declared.deed.Deed.{Deed}
 use Rattle.model_base.specs.declared.deed.Need.{Need}
 use Rattle.model_base.specs.declared.statement.Statement.{Statement}
 use Rattle.model_base.specs.Outcomes.{deeds_before, needs, owners}
-use Rattle.grant_paths.specs.declared.line.Line.{Line}
-use Rattle.grant_paths.specs.Lines.{IsSound}
-use Rattle.explain_base.specs.Explained.{AreSound, needs_asked}
-use Rattle.explain_base.proofs.Passing.{short_fails}
+use Rattle.explain.specs.declared.line.Line.{Line}
+use Rattle.explain.specs.Lines.{IsSound}
+use Rattle.explain.specs.ExplainedNeeds.{AreSound, needs_asked}
+use Rattle.explain.proofs.Passing.{short_fails}
 use Rattle.explain.specs.Explained.{IsExplainedBy}
 use Rattle.explain.proofs.Lines.{sound_later}
 use Rattle.explain.proofs.Indexing.{ends_before}

@@ -27,12 +27,12 @@ ends_before [] index none = omega arith
 ends_before (x ∷ xs) zero none = absurd (cc)
 ends_before (x ∷ xs) (suc index) none = let rest = ends_before xs index none in omega (arith, rest)
 
--- an item, and those behind it
+-- an item, and those after it
 pub from_item : {X : Type 0} (xs : List X) (index : ℕ) (x : X) → slice_get xs index ≡ Some x → drop index xs ≡ x ∷ drop (index + 1) xs
 from_item [] index x is = absurd (cc)
 from_item (first ∷ xs) zero x is = let same : first ≡ x = cc in ap (λ y. y ∷ xs) same
 from_item (first ∷ xs) (suc index) x is = let more : suc index + 1 ≡ suc (index + 1) = omega arith in rw more (from_item xs index x is)
 
--- the item that is read at an index, and those behind it
+-- the item that is read at an index, and those after it
 pub from_read : {X : Type 0} (xs : List X) (i : ℕ) (x : X) → i < length xs → x ≡ get_or xs i x → drop i xs ≡ x ∷ drop (i + 1) xs
 from_read xs i x within is = rw (add-one i) (drop-cons xs i x within ∙ ap (λ first. first ∷ drop (suc i) xs) (sym is))

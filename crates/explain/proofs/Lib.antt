@@ -1,3 +1,10 @@
 pub mod Indexing
 pub mod Lines
 pub mod Checks
+pub mod Searching
+pub mod Standing
+pub mod Leading
+pub mod Showing
+pub mod Asked
+pub mod Passing
+pub mod Below

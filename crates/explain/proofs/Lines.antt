@@ -17,14 +17,14 @@ use Rattle.model_base.proofs.Cuts.{deeds_below-whole}
 use Rattle.model_base.proofs.Growth.{deeds_before-stands}
 use Rattle.model_base.proofs.Logs.{deeds_before-below}
 use Rattle.model_base.proofs.Replay.{by_cases}
-use Rattle.grant_paths.specs.declared.line.Line.{Line}
-use Rattle.grant_paths.specs.Lines.{IsSound, holds_before}
+use Rattle.explain.specs.declared.line.Line.{Line}
+use Rattle.explain.specs.Lines.{IsSound, holds_before}
 use Rattle.sequencer.specs.Log.{Accepted}
 use Rattle.sequencer.specs.Taken.{IsTaken, IsWhole}
-use Rattle.explain_base.specs.Explained.{AreSound, needs_asked, line_of, explaining_lines, tells_held}
-use Rattle.explain_base.proofs.Asked.{lines-sound}
-use Rattle.explain_base.proofs.Passing.{held_sound}
-use Rattle.explain_base.proofs.Below.{are_sound-below, lines-below}
+use Rattle.explain.specs.ExplainedNeeds.{AreSound, needs_asked, line_of, explaining_lines, tells_held}
+use Rattle.explain.proofs.Asked.{lines-sound}
+use Rattle.explain.proofs.Passing.{held_sound}
+use Rattle.explain.proofs.Below.{are_sound-below, lines-below}
 use Rattle.explain.specs.Explained.{LinesAreNamed, IsExplainedBy, explained, lines_for}
 use Rattle.explain.proofs.Indexing.{from_item}
 
@@ -110,7 +110,7 @@ explained-sound log place lines is = by_statement (slice_get log place) refl is
               (lines-sound (owners log) (deeds_before log place) place statement.user (deeds_before-stands log place).proper (needs statement.form));
         }
 
--- what is accepted tells who holds what
+-- what is accepted says who holds what
 module _ (log : List Statement) (place : ℕ) (statement : Statement) (lines : List Line) (there : slice_get log place ≡ Some statement)
     (accepted : IsExplainedBy log place lines) where
   pub accepted-held : All (λ (line : Line). tells_held line.shown ≡ holds (owners log) (deeds_before log place) statement.user line.need) lines

@@ -5,8 +5,8 @@ use Rattle.std.specs.Prelude.{◌≡◌, ◌<◌, ℕ, List, Option, Some, All, 
 use Rattle.std.specs.Option.{option_map}
 use Rattle.model_base.specs.declared.statement.Statement.{Statement}
 use Rattle.model_base.specs.Outcomes.{deeds_before, needs, owners}
-use Rattle.grant_paths.specs.declared.line.Line.{Line}
-use Rattle.explain_base.specs.Explained.{AreSound, explaining_lines}
+use Rattle.explain.specs.declared.line.Line.{Line}
+use Rattle.explain.specs.ExplainedNeeds.{AreSound, explaining_lines}
 
 -- the lines that explain a statement at a place of the log
 abbrev pub lines_for : List Statement → ℕ → Statement → List Line

@@ -5,19 +5,20 @@ ghost use Rattle.model_base.specs.Outcomes.{needs};
 ghost use Rattle.model_base.specs.declared.deed.Deed.{Deed};
 ghost use Rattle.model_base.specs.declared.deed.Need.{Need};
 ghost use Rattle.grants_base.specs.Book.{ShowsBook};
-ghost use Rattle.explain_base.specs.Explained.{AreSound, Explains};
+ghost use Rattle.explain.specs.ExplainedNeeds.{AreSound, Explains};
 ghost use Rattle.engine.specs.Engine.{IsRun, Run, finished};
 ghost use Rattle.explain.specs.Explained.{IsExplainedBy};
 
+use crate::checked::explains;
+use crate::explained::tells_held;
 use crate::explanation::Explanation;
+use crate::line::Line;
 use crate::needs::need_at;
-use explain_base::{explains, tells_held};
-use grant_paths::Line;
 use grants::Book;
 use model_base::{Form, Need, Place, User};
 use sequencer::LogTail;
 
-/// Whether the line is of the need, whose table the book has, and what it shows is so.
+/// Whether the line is of the need, whose table the book has, and what it shows holds.
 fn explains_one(book: &Book, place: Place, user: User, need: &Need, line: &Line) -> bool
     ensures { (owners : List ℕ) (deeds : List Deed) → ShowsBook book.now owners deeds → need.now.table < length book.now.tables
         → Decides result (Explains owners deeds place user need.now line.now) }
@@ -26,7 +27,7 @@ fn explains_one(book: &Book, place: Place, user: User, need: &Need, line: &Line)
 }
 
 /// Whether the lines explain what a statement needs of its user before a place: they are of its needs in order, all if all are held,
-/// else up to and with the first that isn't, and what each shows is so.
+/// else up to and with the first that isn't, and what each shows holds.
 fn explain_all(book: &Book, place: Place, user: User, form: &Form, lines: &[Line]) -> bool
     ensures { (owners : List ℕ) (deeds : List Deed) → ShowsBook book.now owners deeds
         → All (λ (need : Need). need.table < length book.now.tables) (needs form.now)

@@ -5,12 +5,12 @@ ghost use Rattle.model_base.specs.Outcomes.{needs};
 ghost use Rattle.engine.specs.Engine.{finished};
 ghost use Rattle.explain.specs.Explained.{LinesAreNamed, explained};
 
+use crate::explained::explain_needs;
 use crate::explanation::Explanation;
 use crate::fault::ExplainFault;
+use crate::line::Line;
 use crate::needs::need_at;
 use engine::Engine;
-use explain_base::explain_needs;
-use grant_paths::Line;
 use model_base::{Form, Need, Place};
 use std::alloc::{AllocError, Global};
 

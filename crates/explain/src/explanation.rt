@@ -1,6 +1,6 @@
 //! What explains a place.
 
-use grant_paths::Line;
+use crate::line::Line;
 use model_base::Place;
 
 /// Why the statement of a place was admitted or denied: what it needs of its user, in order, up to and with the first need that

@@ -5,8 +5,8 @@ ghost use Rattle.model_base.specs.Admitted.{IsPrivileged};
 ghost use Rattle.model_base.specs.Outcomes.{deeds_before, owners};
 ghost use Rattle.model_base.specs.Privileges.{holds};
 ghost use Rattle.model_base.specs.declared.statement.Statement.{Statement};
-ghost use Rattle.grant_paths.specs.declared.line.Line.{Line};
-ghost use Rattle.explain_base.specs.Explained.{tells_held};
+ghost use Rattle.explain.specs.declared.line.Line.{Line};
+ghost use Rattle.explain.specs.ExplainedNeeds.{tells_held};
 ghost use Rattle.explain.specs.Explained.{IsExplainedBy, explained};
 
 /// The lines that explain a place are sound, so the check accepts them.

@@ -2,9 +2,9 @@
 use Rattle.std.proofs.Common.{◌≡◌, ◌++◌, ◌∙◌, ℕ, List, Some, ap, false, subst, sym}
 use Rattle.std.proofs.lemmas.List.{append-nil}
 use Rattle.log_text.proofs.Total.{total}
-use Rattle.log_text_base.specs.Lines.{lines_of}
+use Rattle.line_io.specs.Lines.{lines_of}
 use Rattle.model_base.specs.declared.statement.Statement.{Statement}
-use Rattle.grant_paths.specs.declared.line.Line.{Line}
+use Rattle.explain.specs.declared.line.Line.{Line}
 use Rattle.sequencer.specs.Catalog.{Names, no_names}
 use Rattle.sequencer.specs.Log.{Accepted}
 use Rattle.sequencer.specs.Taken.{IsWhole}
@@ -15,7 +15,7 @@ use Rattle.bohm_base.specs.Collecting.{IsLogOf}
 use Rattle.bohm_base.specs.declared.collecting.Became.{Became}
 use Rattle.bohm_base.proofs.WholeLogs.{tables_after}
 use Rattle.explain.specs.Explained.{explained}
-use Rattle.explained_text.specs.Text.{explanation_text}
+use Rattle.audit_text.specs.Explanation.{explanation_text}
 use Rattle.batched_text.proofs.Ends.{read_before}
 use Rattle.audit_text.specs.Answer.{Answers, AnswersAccepted, IsExplanation}
 use Rattle.audit_text.specs.declared.question.Question.{Question}

@@ -2,7 +2,7 @@
 use Rattle.std.proofs.Common.{◌≡◌, ◌≤◌, ◌<◌, ◌+◌, ◌++◌, ℕ, true, false, List, [], ◌∷◌, Some, length, take, drop, refl, ap, sym, ◌∙◌, subst, arith, append_assoc}
 use Rattle.std.proofs.lemmas.List.{append-nil, length-append, length-take-le, take_all}
 use Rattle.log_text.proofs.Total.{total}
-use Rattle.log_text_base.specs.Lines.{HasLine, first_line, lines_of, other_lines}
+use Rattle.line_io.specs.Lines.{HasLine, first_line, lines_of, other_lines}
 use Rattle.sequencer.specs.Log.{Accepted, empty_log}
 use Rattle.sequencer.specs.Taken.{IsWhole}
 use Rattle.report.specs.Report.{AreReadings, IsReport, Reading, accepted}

@@ -3,7 +3,7 @@ use Rattle.std.proofs.Common.{◌≡◌, ◌≢◌, ℕ, zero, suc, ◌-◌, ◌
 use Rattle.std.proofs.lemmas.Bool.{cases_eq, ne_eqb, cond-false, cases_lt, eqb-false, eqb-true}
 use Rattle.std.proofs.lemmas.List.{length-append, length-drop, length-take, nil_from_length, take_all, take-take}
 use Rattle.std.specs.Prelude.{Bool, true, false, if◌then◌else◌}
-use Rattle.log_text_base.specs.Lines.{first_line, other_lines, HasLine}
+use Rattle.line_io.specs.Lines.{first_line, other_lines, HasLine}
 
 first_more : (b : ℕ) (bs : List ℕ) → b ≢ 10 → first_line (b ∷ bs) ≡ b ∷ first_line bs
 first_more b bs ne = cond-false (eqb b 10) [] (b ∷ first_line bs) (ne_eqb b 10 ne)

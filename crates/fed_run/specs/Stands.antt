@@ -1,7 +1,7 @@
 -- How far a run is that is fed piece by piece.
 use Rattle.std.specs.Prelude.{◌≡◌, ◌≤◌, ◌<◌, ◌+◌, ◌++◌, [], ℕ, false, true, List, drop, length, take}
-use Rattle.log_text_base.specs.Lines.{HasLine}
-use Rattle.log_text_base.specs.declared.limits.TheConstants.{KEPT_BYTES}
+use Rattle.line_io.specs.Lines.{HasLine}
+use Rattle.line_io.specs.declared.limits.TheConstants.{KEPT_BYTES}
 use Rattle.report.specs.Report.{IsReport}
 use Rattle.audit_text.specs.Answer.{IsExplanation}
 use Rattle.batched_text.specs.Batching.{IsBatched}
@@ -26,7 +26,7 @@ pub record IsFed (run : FedRun) (input written : List ℕ) : Type 0 where
       → IsBatched (input ++ future) (tail ++ future) (written ++ unsent run) run.order.run.log run.order.reported run.order.waiting
       (run.lines + 1 + length run.order.waiting)
 
--- bytes of the report were given: those of the room that are made are now so many
+-- bytes of the report were given: those of the room that are made are now this many
 pub record Gives (old new : FedRun) (out_old out_new : List ℕ) (made_old made_new : ℕ) : Type 0 where
   pub made : made_new ≤ length out_new
   pub len : length out_new ≡ length out_old
@@ -34,7 +34,7 @@ pub record Gives (old new : FedRun) (out_old out_new : List ℕ) (made_old made_
       → IsFed new input (written ++ take made_new out_new)
   pub ended : new.is_ended ≡ old.is_ended
 
--- of the input so many bytes were taken, and so many bytes were given
+-- of the input this many bytes were taken, and this many bytes were given
 pub record Feeds (input out : List ℕ) (old new : FedRun) (used made : ℕ) : Type 0 where
   pub in_input : used ≤ length input
   pub in_out : made ≤ length out

@@ -1,7 +1,7 @@
 //! A run that is fed piece by piece.
 
 ghost use Rattle.std.specs.Prelude.{◌≡◌, ◌≤◌, ◌<◌, ◌+◌, ◌++◌, ◌∷◌, ◌↔◌, ℕ, [], List, Err, IfErr, IfOk, Ok, OnErr, OnOk, false, true, drop, length, take};
-ghost use Rattle.log_text_base.specs.declared.limits.TheConstants.{KEPT_BYTES};
+ghost use Rattle.line_io.specs.declared.limits.TheConstants.{KEPT_BYTES};
 ghost use Rattle.report.specs.Report.{IsReport, Reading};
 ghost use Rattle.sequencer.specs.Taken.{IsWhole};
 ghost use Rattle.bohm_base.specs.Collecting.{ReadsAs};
@@ -10,8 +10,8 @@ use crate::fault::FeedFault;
 use crate::in_order::InOrder;
 use crate::keeping::keep_more;
 use explain::ExplainFault;
+use line_io::{KEPT_BYTES, cut_line};
 use log_text::RawRoom;
-use log_text_base::{KEPT_BYTES, cut_line};
 use model_base::Place;
 use std::alloc::Global;
 
@@ -47,7 +47,7 @@ impl FedRun {
     ghost use Rattle.fed_run.specs.Progress.{TakesLine};
     ghost use Rattle.fed_run.specs.Stands.{TextExplains, Feeds, Gives, IsUnfed, IsGivenOut, IsFed, TakesBytes, unsent};
 
-    /// Before the first byte. It takes no memory.
+    /// Before the first byte. It doesn't allocate.
     pub fn new(alloc: Global) -> FedRun
         ensures stands { IsFed result [] [] }
         ensures open { result.is_ended ≡ false }
@@ -63,7 +63,7 @@ impl FedRun {
     }
 
     /// Keeps statements and outcomes of so many of the last places, for `explain`. It returns `false`, and changes nothing, once a byte was
-    /// taken or the end of the text was told.
+    /// taken or the end of the text was given.
     pub fn set_keep(&mut self, keep: u64) -> bool
         ensures fresh { (result ≡ true) ↔ IsUnfed self.old }
         ensures set { result ≡ true → self.new ≡ record self.old { order = record self.old.order { keep = keep } } }

@@ -4,31 +4,31 @@
 //! order of the log the versions that a transaction reads are the newest.
 
 ghost use Rattle.std.specs.Prelude.{◌≡◌, ◌≤◌, ◌<◌, ◌+◌, ◌-◌, ◌^◌, ◌∷◌, ◌++◌, ◌↔◌, [], Err, IfOk, List, false, true, OnErr, OnOk, length};
-ghost use Rattle.grant_paths.specs.declared.line.Line.{Line as Shows};
+ghost use Rattle.explain.specs.declared.line.Line.{Line as Shows};
 ghost use Rattle.report.specs.Report.{Reading, place_text};
 ghost use Rattle.bohm_base.specs.Collecting.{ReadsAs};
 ghost use Rattle.explain.specs.Explained.{explained};
-ghost use Rattle.explained_text.specs.Text.{explanation_text};
+ghost use Rattle.audit_text.specs.Explanation.{explanation_text};
 ghost use Rattle.batched_text.specs.Batching.{lines_text};
 ghost use Rattle.batched_text.specs.Places.{places_in};
 ghost use Rattle.sequencer.specs.Log.{empty_log};
 ghost use Rattle.sequencer.specs.Taken.{IsWhole};
 
 use crate::taken_lines::take_read;
+use audit_text::put_explanation;
 use batched_text::{put_lines, put_place};
 use bohm_base::Became;
 use engine::Engine;
 use explain::{ExplainFault, explain};
-use explained_text::put_explanation;
 use log_text::{RawRoom, read_into};
 use model_base::Place;
 use std::alloc::{AllocError, Global};
 use std::marker::Model;
 
-/// So many lines are run at once, if they are at hand.
+/// This many lines are run at once, if they are at hand.
 const MOST_WAITING: usize = 64;
 
-/// After so many places the versions of rows are dropped that no later place can read.
+/// After this many places the versions of rows are dropped that no later place can read.
 const SWEPT_PLACES: u64 = 64;
 
 /// The rows and grants before the next place of a log, the lines that wait to be reported, and the statements and outcomes of the last
@@ -62,7 +62,7 @@ impl Model for InOrder {
 impl InOrder {
     ghost use Rattle.fed_run.specs.Progress.{TakesLine};
 
-    /// Before the first line. It takes no memory.
+    /// Before the first line. It doesn't allocate.
     pub(crate) fn new(alloc: Global) -> Self
         ensures log { result.run.log ≡ empty_log }
         ensures whole { IsWhole result.run.log }
@@ -81,7 +81,7 @@ impl InOrder {
         }
     }
 
-    /// Keeps statements and outcomes of so many of the last places from now on. No place was reported yet.
+    /// Keeps statements and outcomes of this many of the last places from now on. No place was reported yet.
     pub(crate) fn set_keep(&mut self, keep: u64)
         requires { self.old.reported ≡ 0 }
         ensures { self.new ≡ record self.old { keep = keep } }
@@ -113,7 +113,7 @@ impl InOrder {
     }
 
     /// Reads a line, and takes its statement into the log if it is one that is not refused. Then the line waits. What the line reads as
-    /// stays in the room that is lent. On `Err` memory was refused, and no line was taken.
+    /// stays in the room that is lent. On `Err`, out of memory, no line was taken.
     pub(crate) fn take<'a>(
         &mut self,
         line: &'a [u8],
@@ -143,7 +143,7 @@ impl InOrder {
     }
 
     /// Runs the places of the lines that wait, and appends the report's lines for them, of which the first has this number. Then no line
-    /// waits. On `Err` memory was refused: the lines wait still, so that the call may be made again, and some of the report may be appended.
+    /// waits. On `Err`, out of memory: the lines wait still, so that the call may be made again, and some of the report may be appended.
     pub(crate) fn report(
         &mut self,
         alloc: Global,

@@ -1,4 +1,4 @@
--- What a placer's step tells of its front.
+-- What a placer's step says of its front.
 use Rattle.std.proofs.Common.{◌≡◌, ◌++◌, ◌∷◌, [], length, ap, arith}
 use Rattle.std.proofs.lemmas.List.{length_push}
 use Rattle.bohm_core_base.specs.declared.event.Event.TheVariants.{Place}

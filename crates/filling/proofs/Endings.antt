@@ -24,7 +24,7 @@ use Rattle.model_base.proofs.Records.{grants-append}
 use Rattle.model_base.proofs.Replay.{by_cases}
 use Rattle.own_words.specs.Places.{own_words}
 use Rattle.own_words.specs.Words.{ended_in, outcome_word}
-use Rattle.answering.specs.Answering.{ended_by_deed}
+use Rattle.evaluation.specs.Answering.{ended_by_deed}
 use Rattle.bohm_core_base.specs.Batch.{Batch, IsSoundBatch, place_at, batch_slots, was_done}
 use Rattle.bohm_core_base.specs.Deeds.{is_made, made_before, named_before}
 use Rattle.bohm_core_base.specs.Serial.{serial_ends, serial_words, batch_world_before}
@@ -34,8 +34,8 @@ use Rattle.log_batch.specs.Laws.{IsOfLog}
 use Rattle.log_batch.specs.Supplied.{Ranged, batch_in, range_of}
 use Rattle.log_batch.proofs.SerialRuns.{serial_runs_agree, serial_words_are}
 use Rattle.log_batch.proofs.Sound.{batches_are_sound}
-use Rattle.reading.proofs.Comes.{ends-told}
-use Rattle.reading.proofs.Rising.{ended-rises}
+use Rattle.evaluation.proofs.Comes.{ends-told}
+use Rattle.evaluation.proofs.Rising.{ended-rises}
 use Rattle.words.specs.Layout.{IsListed}
 use Rattle.words.specs.Views.{In}
 use Rattle.filling.specs.Outcomes.{ended_places_at, outcome_in}

@@ -10,7 +10,7 @@ use Rattle.model_base.proofs.Replay.{by_cases}
 use Rattle.bohm_core_base.specs.Batch.{Batch, batch_slots}
 use Rattle.words.specs.Layout.{listed_slot_at}
 use Rattle.words.specs.Views.{In}
-use Rattle.log_words.specs.Listing.{is_reached, listed_below, listed_slots}
+use Rattle.log_batch.specs.Listing.{is_reached, listed_below, listed_slots}
 use Rattle.filling.proofs.Lists.{in-at, rises-more}
 
 below-more : (n : ℕ) (l : List ℕ) → ((k : ℕ) → k < length l → get_or l k 0 < n) → (k : ℕ) → k < length (l ++ n ∷ []) → get_or (l ++ n ∷ []) k 0 < suc n
@@ -39,7 +39,7 @@ module _ (b : Batch) where
   pub slots-rise : IsStrictlyIncreasing (listed_slots b)
   slots-rise = listed-rise (length (batch_slots b))
 
--- what a search by halving tells
+-- what a search by halving says
 pub found-number : (slots : List ℕ) (slot : ℕ) (found : Result ℕ ℕ)
     → MatchResult found (λ i. (i < length slots) × (get_or slots i 0 ≡ slot))
     (λ i. (i ≤ length slots) × ((k : ℕ) → k < i → get_or slots k 0 < slot) × ((k : ℕ) → i ≤ k → k < length slots → slot < get_or slots k 0))

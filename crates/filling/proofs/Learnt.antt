@@ -24,7 +24,7 @@ done-learnt b index v u w tells learns =
 pub counts-learnt : (runs : ℕ → ℕ) (p q r : Passing) → CountsBodies runs p q → OnlyLearns q.view r.view → r.bodies ≡ q.bodies → CountsBodies runs p r
 counts-learnt runs p q r counts learns bodies = counts-then runs p q r counts (counts-starved runs q r learns bodies)
 
--- what a place that was run came to
+-- what a place that was run resulted in
 pub ran-done : (ranged : Ranged) (index : ℕ) (v u w : View) (answer : Tried) (found : Ran) → answer ≡ Done → TriedTells (batch_in ranged) index v answer u
     → DoneTells ranged index u found w → RanTells ranged index v found w
 ran-done ranged index v u w answer (ran.Done outcome) is tells told =

@@ -8,3 +8,12 @@ pub mod Admitting
 pub mod Learnt
 pub mod Placing
 pub mod Advancing
+pub mod Parts
+pub mod EndsTelling
+pub mod Sparse
+pub mod Grouped
+pub mod Kept
+pub mod Steps
+pub mod Told
+pub mod CellsTold
+pub mod Ranges

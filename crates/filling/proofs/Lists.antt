@@ -42,7 +42,7 @@ rises-far xs rise i (suc j) low within =
       | inr more ↦ (let same : i ≡ suc j = omega arith in subst (λ k. get_or xs i 0 ≤ get_or xs k 0) same (omega arith))
     ]
 
--- a greater number behind a list that rises
+-- a greater number after a list that rises
 pub rises-more : (xs : List ℕ) (y : ℕ) → IsStrictlyIncreasing xs → ((k : ℕ) → k < length xs → get_or xs k 0 < y) → IsStrictlyIncreasing (xs ++ y ∷ [])
 rises-more xs y rise below k within =
     let wide = length_push xs y in
@@ -65,7 +65,7 @@ abbrev pub Above : ℕ → List ℕ → Type 0
 Above p [] = Unit {0}
 Above p (q ∷ qs) = (p < q) × Above p qs
 
--- each lies below all that stand behind it
+-- each lies below all that are after it
 abbrev pub Rises : List ℕ → Type 0
 Rises [] = Unit {0}
 Rises (p ∷ ps) = Above p ps × Rises ps
@@ -89,7 +89,7 @@ pub above-at : (p q : ℕ) (qs : List ℕ) → Above p qs → In q qs → p < q
 above-at p q [] above has = absurd has
 above-at p q (r ∷ rs) above has = ⊎_elim (λ is. let low = above.0 in omega arith) (λ more. above-at p q rs above.1 more) has
 
--- what a test for an element tells
+-- what a test for an element says
 pub any-in : (p : ℕ) (ps : List ℕ) → list_any (λ one. one == p) ps ≡ true → In p ps
 any-in p [] any = absurd (true≢false (sym any))
 any-in p (q ∷ qs) any =

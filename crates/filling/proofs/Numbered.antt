@@ -56,7 +56,7 @@ module _ (b : Batch) (listed : List ℕ) (place : ℕ) where
       (λ low. eq-eqb (place_at b (get_or listed m 0)) place is) in
       sym (ap (λ n. cond (nat_lt n (length listed)) (Some n) None) here ∙ ap (λ test. cond test (Some m) None) (lt-ltb m (length listed) within))
 
-  -- what a number found tells
+  -- what a number found says
   pub number-right : (m : ℕ) → number_at b listed place ≡ Some m → (m < length listed) × (place_at b (listed_slot_at listed m) ≡ place)
   number-right m found =
       let told = position-Some (λ slot. place_at b slot == place) listed m 0 found in

@@ -20,7 +20,7 @@ use Rattle.bohm_core_base.specs.Batch.{Batch, reference_words}
 use Rattle.log_batch.specs.Laws.{word_of}
 use Rattle.log_batch.specs.Supplied.{Ranged, batch_in, range_of}
 use Rattle.log_batch.proofs.SoundReferences.{references_same}
-use Rattle.log_words.specs.Keys.{Key}
+use Rattle.log_batch.specs.Keys.{Key}
 use Rattle.words.specs.declared.view.View.{View}
 use Rattle.words.specs.Layout.{partition_at, reference_at}
 use Rattle.words.specs.Passes.{Passing, Placing, Words, gone_on, open_pass, placed_on}
@@ -212,7 +212,7 @@ found-table words token latest statement is number table within here mine =
     ap (word_of ranged.first) (own-prior-is latest ranged.log.statements ranged.first (ranged.first + front_in token.view) table is.latest own)
     ∙ sym (table-word ranged (front_in token.view) statement is.at number table within here)
 
--- so many references are all of the place
+-- this many references are all of the place
 pub stored-all : (words : Words Key) (token : Placing) (latest : Latest) (statement : Statement) → IsAt words token latest statement
     → StoredBelow (batch_in words.key.batch) token.view (length (accesses_of statement.form) + length (tables_of statement.form))
     → StoredAll (batch_in words.key.batch) token.view

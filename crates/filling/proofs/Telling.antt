@@ -7,8 +7,8 @@ use Rattle.bohm_core_base.specs.Batch.{Batch, reference_words, batch_slots}
 use Rattle.bohm_core_base.specs.Machine.{end_of, start}
 use Rattle.bohm_core_base.specs.Serial.{is_end, serial_ends, whole_end}
 use Rattle.bohm_core_base.proofs.Whole.{is_end-some}
-use Rattle.log_words.specs.Keys.{Key}
-use Rattle.reading.specs.Told.{IsDeedBefore, IsReferred, Work}
+use Rattle.log_batch.specs.Keys.{Key}
+use Rattle.evaluation.specs.Told.{IsDeedBefore, IsReferred, Work}
 use Rattle.words.specs.declared.view.View.{View}
 use Rattle.words.specs.Layout.{IsListed, end_told}
 use Rattle.words.specs.Passes.{IsPassOf, Passing, Words, gone_on}
@@ -27,7 +27,7 @@ referred-known b v i other knows is =
 pub deed-settled : (b : Batch) (v : View) (i other : ℕ) → i < b.size → KnowsReferences b v i → IsDeedBefore (record { batch = b; index = i }) other → IsSettled b v other
 deed-settled b v i other within knows is = (i, is.table, is.before, within, knows, is.listed, is.deed)
 
--- an end that is known, and one that a word tells
+-- an end that is known, and one that a word says
 pub end-early : (b : Batch) (v : View) (slot : ℕ) (end : Option ℕ) → whole_end b slot ≡ end → IsEndBelow b v slot end
 end-early b v slot end is index within knows listed = ap (end_below (b.first + index)) (sym is)
 
@@ -94,7 +94,7 @@ only-learns pass after knows work =
       sightings = ap (λ (w : Work). w.sightings) work;
     }
 
--- whether a place that is known done ended the record, by the end that its word tells
+-- whether a place that is known done ended the record, by the end that its word says
 pub record-ended : (b : Batch) (v : View) (slot word index : ℕ) (end : Option ℕ) → EndTells b slot v word → In index v.known → end ≡ end_told word
     → is_end (b.first + index) end ≡ serial_ends b index slot
 unfolding serial_ends

@@ -4,3 +4,9 @@ pub mod Readings
 pub mod Outcomes
 pub mod Runs
 pub mod Placers
+pub mod Lists
+pub mod Ends
+pub mod Standing
+pub mod Finished
+pub mod Span
+pub mod Cells

@@ -1,4 +1,4 @@
--- What a place of a batch of a log resulted in, and what comes of asking for it.
+-- What a place of a batch of a log resulted in, and the outcome of asking for it.
 use Rattle.std.specs.Prelude.{◌≡◌, ◌⊎◌, ◌+◌, ℕ, true, Option, Some, None, Result, Ok, Err, List, [], ◌∷◌, if◌then◌else◌}
 use Rattle.model_base.specs.declared.outcome.Outcome.{Outcome}
 use Rattle.model_base.specs.Outcomes.{outcome}
@@ -28,7 +28,7 @@ IsEndedList ranged index ended =
     (found : Outcome) → outcome_in ranged index ≡ Some found → was_done (serial_words (batch_in ranged) index) ≡ true
     → IsRevocation (batch_in ranged) index → ended ≡ ended_in found
 
--- what comes of it: the outcome of the place in the log, which is known done from then on; or none, where nothing that the pass knew told
+-- the outcome of it: the outcome of the place in the log, which is known done from then on; or none, where nothing that the pass knew told
 -- it done, and at most the place was found held; or memory ran out, for what a revocation ended
 abbrev pub OutcomeTells : {E : Type 0} → Ranged → ℕ → View → Result (Option Outcome) E → View → Type 0
 OutcomeTells ranged index view (Ok (Some found)) after =

@@ -8,7 +8,7 @@ use Rattle.placing.specs.declared.latest.Latest.{Latest}
 use Rattle.placing.specs.Latest.{IsLatest, IsUpTo}
 use Rattle.bohm_core_base.specs.Batch.{Batch, reference_words}
 use Rattle.log_batch.specs.Supplied.{Ranged}
-use Rattle.log_words.specs.Keys.{Key}
+use Rattle.log_batch.specs.Keys.{Key}
 use Rattle.words.specs.declared.view.View.{View}
 use Rattle.words.specs.Layout.{partition_at}
 use Rattle.words.specs.Passes.{IsPlacerOf, Placing, Words, placed_on}

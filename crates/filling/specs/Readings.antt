@@ -4,8 +4,8 @@ use Rattle.model_base.specs.Records.{end_below}
 use Rattle.bohm_core_base.specs.Batch.{Batch, is_listed, table_at}
 use Rattle.bohm_core_base.specs.Serial.{whole_end}
 use Rattle.log_batch.specs.Supplied.{Ranged, batch_in}
-use Rattle.log_words.specs.Keys.{Key}
-use Rattle.reading.specs.Told.{Reader, Work}
+use Rattle.log_batch.specs.Keys.{Key}
+use Rattle.evaluation.specs.Told.{Reader, Work}
 use Rattle.words.specs.declared.view.View.{View}
 use Rattle.words.specs.Passes.{IsPassOf, Passing, Words}
 use Rattle.words.specs.Views.{In, KnowsPast, KnowsReferences}

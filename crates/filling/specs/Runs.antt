@@ -1,4 +1,4 @@
--- What comes of a place of a batch of a log that is to be run.
+-- The outcome of a place of a batch of a log that is to be run.
 use Rattle.std.specs.Prelude.{◌≡◌, ◌⊎◌, ◌+◌, ℕ, Some}
 use Rattle.log_batch.specs.Supplied.{Ranged, batch_in}
 use Rattle.words.specs.declared.view.View.{View}

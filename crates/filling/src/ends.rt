@@ -21,9 +21,9 @@ use crate::reader::{Named, PassReader};
 use bohm_core_base::{
     records_end_by_done_places, records_end_by_revocations, slots_stand_in_order,
 };
+use evaluation::ends_told;
 use log_batch::LogBatch;
 use model_base::{Deed, Place};
-use reading::ends_told;
 use std::alloc::AllocError;
 use std::marker::{Brand, PhantomData};
 use words::{BatchWords, Holding, Placed};

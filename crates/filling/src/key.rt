@@ -6,11 +6,10 @@ ghost use Rattle.std.specs.Option.{MatchOption};
 ghost use Rattle.words.specs.Layout.{listed_slot_at};
 ghost use Rattle.words.specs.Views.{In};
 ghost use Rattle.log_batch.specs.Supplied.{batch_in};
-ghost use Rattle.log_words.specs.Listing.{listed_slots};
+ghost use Rattle.log_batch.specs.Listing.{listed_slots};
 ghost use Rattle.filling.specs.Numbers.{number_at};
 
-use log_batch::LogBatch;
-use log_words::{LogKey, ended_slots};
+use log_batch::{LogBatch, LogKey, ended_slots};
 use model_base::Place;
 use std::alloc::{AllocError, Global};
 use std::marker::Model;
@@ -24,7 +23,7 @@ pub struct RangeKey<'a> {
 
 impl<'a> Model for RangeKey<'a> {
     ghost use Rattle.std.specs.List.Sorted.{IsStrictlyIncreasing};
-    ghost use Rattle.log_words.specs.Keys.{Key};
+    ghost use Rattle.log_batch.specs.Keys.{Key};
 
     ghost Value = { Key };
 

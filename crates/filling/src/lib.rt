@@ -1,16 +1,16 @@
-//! Places of a log placed and run on shared words.
+//! Places of a log placed and run on shared words, up to the end of the batch.
 //!
-//! `open` makes the words of a range, a first pass, and a `Placer` for each partition. `place_next` stores the
-//! references of the next place and then the front. `run_place` runs a place, after those that it refers to, and
-//! returns its outcome, which is the log's; `outcome` looks at a place once. A place costs what it stores and reads.
-//! Only `open`, placing and revocations allocate, before a first store.
+//! `open` makes the words of a range and a `Placer` for each partition, whose `place_next` stores the references of the
+//! next place. `run_place` runs a place after those that it refers to. `finish` keeps the words of each place that is
+//! done and runs the others; `take` decodes outcomes and versions. Each outcome is the log's. A place costs
+//! what it stores and reads. On `Err`, out of memory.
 //!
 //! After J. M. Faleiro and D. J. Abadi, "Rethinking Serializable Multiversion Concurrency Control", PVLDB 8 (2015),
-//! section 3: a thread evaluates a transaction once the versions that it reads are there, and then fills its
-//! placeholders.
+//! section 3: a transaction runs once the versions that it reads are there, and then fills its placeholders.
 #![tactic(auto)]
 
 mod bodies;
+mod completion;
 mod ends;
 mod fill;
 mod key;
@@ -23,6 +23,7 @@ mod reader;
 mod running;
 mod storing;
 
+pub use completion::{Closed, Finished, Taken, finish, take};
 pub use filling_base::Advanced;
 pub use key::RangeKey;
 pub use opening::open;

@@ -5,7 +5,7 @@ ghost use Rattle.bohm_core_base.specs.Batch.{batch_slots, was_done};
 ghost use Rattle.bohm_core_base.specs.Machine.{end_of, start};
 ghost use Rattle.bohm_core_base.specs.Serial.{serial_words};
 ghost use Rattle.log_batch.specs.Supplied.{batch_in};
-ghost use Rattle.reading.specs.Told.{IsDeedBefore};
+ghost use Rattle.evaluation.specs.Told.{IsDeedBefore};
 ghost use Rattle.words.specs.Layout.{end_told, listed_slot_at};
 ghost use Rattle.words.specs.Passes.{IsPassOf, gone_on};
 ghost use Rattle.words.specs.Tells.{EndTells};

@@ -14,12 +14,12 @@ ghost use Rattle.filling.specs.Outcomes.{IsEndedList, OutcomeTells, ended_places
 use crate::ends::has_revocation;
 use crate::key::RangeKey;
 use crate::loads::end_loaded;
-use answering::words_tell_outcomes;
 use bohm_core_base::slots_stand_in_order;
+use evaluation::words_tell_outcomes;
 use filling_base::Batch;
+use log_batch::words_length;
 use model_base::{Items, Outcome, Place};
 use own_words::{MOST_OWN_WORDS, decoded};
-use reading::words_length;
 use std::alloc::AllocError;
 use words::{BatchWords, Holding, Pass, Placed, Seen};
 

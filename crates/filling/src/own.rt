@@ -10,8 +10,8 @@ ghost use Rattle.filling.specs.Readings.{KeepsKnown, work_of};
 
 use crate::key::RangeKey;
 use crate::reader::{Named, PassReader};
+use evaluation::words_told;
 use own_words::OwnWords;
-use reading::words_told;
 use std::marker::{Brand, PhantomData};
 use words::{BatchWords, Holding};
 

@@ -24,7 +24,7 @@ pub struct Placer {
     pub(crate) finder: Finder,
 }
 
-// Notes the place before an index, if the batch has one, and finds the tables of the index. On `Err` memory was refused, and the
+// Notes the place before an index, if the batch has one, and finds the tables of the index. On `Err`, out of memory, the
 // same can be tried again.
 fn find(finder: &mut Finder, batch: &LogBatch<'_>, index: usize) -> Result<(), AllocError>
     requires within { index < batch.now.size }

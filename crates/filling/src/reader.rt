@@ -1,14 +1,14 @@
 //! A pass, as it reads for a place that it is about to fill.
 
 ghost use Rattle.std.specs.Prelude.{◌≡◌, [], ℕ, List, None, Option};
-ghost use Rattle.log_words.specs.Keys.{Key};
-ghost use Rattle.reading.specs.Told.{referred_word};
+ghost use Rattle.log_batch.specs.Keys.{Key};
+ghost use Rattle.evaluation.specs.Told.{referred_word};
 ghost use Rattle.words.specs.Passes.{Words};
 
 use crate::key::RangeKey;
 use crate::loads::{deed_was_done, end_at};
+use evaluation::Told;
 use model_base::Place;
-use reading::Told;
 use std::marker::{Brand, Model, PhantomData};
 use words::{BatchWords, Holding, Placed};
 

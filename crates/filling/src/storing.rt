@@ -12,7 +12,7 @@ ghost use Rattle.words.specs.Views.{front_in};
 ghost use Rattle.filling.specs.Placers.{IsAt, OnlyStores, StoredBelow};
 
 use crate::key::RangeKey;
-use log_words::word_of;
+use log_batch::word_of;
 use model_base::{Reference, Statement};
 use placing::{Finder, partition_of, partition_of_table};
 use words::{BatchWords, Placed, Placer};

@@ -32,7 +32,7 @@ finished-claim v w a i is = ap (λ (u : View). finished_places u.events) is ∙ 
 pub finished-back : (v w : View) (a i : ℕ) → w ≡ with_event v (GiveBack a i) → finished_places w.events ≡ finished_places v.events
 finished-back v w a i is = ap (λ (u : View). finished_places u.events) is ∙ finished-one v (GiveBack a i) ∙ append-nil (finished_places v.events)
 
--- so many more, and then so many more
+-- this many more, and then this many more
 counted-again : (b m n : ℕ) → counted_more (counted_more b m) n ≡ counted_more b (m + n)
 counted-again b zero n = ap (counted_more b) (sym (zero-add n))
 counted-again b (suc m) zero = ap (counted_more b) (sym (add-zero (suc m)))

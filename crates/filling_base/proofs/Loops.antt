@@ -61,7 +61,7 @@ now-finished i a m v u w js stores is =
     } in
     subst (λ (y : View). Finishes i v y) (sym is) all
 
--- a slot among the first so many has a number below
+-- a slot among the first this many has a number below
 pub in-ended : (listed ends : List ℕ) (n slot : ℕ) → In slot (ended_below listed ends n) → (m : ℕ) × (m < n) × (slot ≡ slot_of listed ends m)
 in-ended listed ends zero slot has = absurd has
 in-ended listed ends (suc n) slot has =

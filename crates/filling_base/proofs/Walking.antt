@@ -78,7 +78,7 @@ module _ (b : Batch) (index : ℕ) where
         λ knows. tells.2 (refers-later b v w index g.knows knows),
       )
 
-  -- who only learnt before is told the same
+  -- who only learnt before is given the same
   pub learnt-from : (v w u : View) (answer : Tried) → is_unplaced answer ≡ false → OnlyLearns v w → TriedTells b index w answer u → TriedTells b index v answer u
   learnt-from v w u (NotPlaced partition) not learns tells = absurd (true≢false not)
   learnt-from v w u Done not learns tells =

@@ -1,4 +1,4 @@
--- What comes of a placer's step. Each partition is gone through in the order of the log: J. M. Faleiro and D. J. Abadi,
+-- The outcome of a placer's step. Each partition is gone through in the order of the log: J. M. Faleiro and D. J. Abadi,
 -- "Rethinking Serializable Multiversion Concurrency Control", PVLDB 8 (2015), section 3.
 use Rattle.std.specs.Prelude.{◌≡◌, ◌<◌, ◌+◌, ℕ, suc}
 use Rattle.bohm_core_base.specs.Batch.{Batch}

@@ -1,4 +1,4 @@
--- What comes of a place that is asked for.
+-- The outcome of a place that is asked for.
 use Rattle.std.specs.Prelude.{◌≡◌, ◌⊎◌, ℕ, ◌<◌, ◌≤◌, ◌+◌, Bool, true, [], ◌∷◌, ◌++◌, length, Result, Ok, Err, List, false}
 use Rattle.bohm_core_base.specs.Batch.{Batch}
 use Rattle.words.specs.declared.view.View.{View}

@@ -4,8 +4,8 @@ use crate::deeds::{ends_in, enter, give, has_table, take};
 use crate::fault::{TrialFault, expect};
 use grants::{Book, Records, denial, holds, holds_option, last_loss};
 use model_base::{Cause, Grant, Need, Place, Revocation, Table, User};
-use plain_book::PlainBook;
 use std::alloc::Global;
+use trials_base::PlainBook;
 
 /// A book, and the plain one in which the same was done.
 #[derive(Drop)]

@@ -111,7 +111,7 @@ fn tell_answers(rt: &impl Print, both: &Both, questions: &[Question]) -> Result<
     Ok(())
 }
 
-/// Tells an example.
+/// Prints an example.
 pub fn tell_example(
     rt: &impl Print,
     alloc: Global,
@@ -123,7 +123,7 @@ pub fn tell_example(
     tell_in(rt, alloc, &mut both, (name, acts, questions))
 }
 
-/// Tells an example in books that have no tables yet.
+/// Prints an example in books that have no tables yet.
 fn tell_in(
     rt: &impl Print,
     alloc: Global,

@@ -17,7 +17,7 @@ use std::alloc::Global;
 use std::process::ExitCode;
 use worked::tell_worked;
 
-/// Tells the trials one after another.
+/// Prints the trials one after another.
 fn run(rt: &impl Print, alloc: Global) -> Result<(), TrialFault> {
     tell_worked(rt, alloc)?;
     tell_drawn(rt, alloc)

@@ -133,7 +133,7 @@ fn tell_an_own_grant(rt: &impl Print, alloc: Global) -> Result<(), TrialFault> {
     )
 }
 
-/// Tells the examples.
+/// Prints the examples.
 pub fn tell_worked(rt: &impl Print, alloc: Global) -> Result<(), TrialFault> {
     first_fault(&[
         tell_a_cascade(rt, alloc),

@@ -42,7 +42,7 @@ module _ (revocation : Revocation) (view : View) where
       by_found None is = λ k less stays. absurd (omega arith)
       by_found (Some slot) is = passed user slot is
 
-  -- the first slot that gives the option tells whether it is kept
+  -- the first slot that gives the option says whether it is kept
   pub kept_by_first : (ended : List ℕ) (user first below : ℕ) → ArePassed revocation view ended user first
       → (first < below → (bears revocation user (slot_at view first) && not (is_one_of ended first)) ≡ true)
       → nat_lt first below ≡ is_one_of (keepers revocation view ended below) user

@@ -1,4 +1,4 @@
--- What is told by the grants that are known to be in force is what all slots tell.
+-- What is given by the grants that are known to be in force is what all slots tell.
 use Rattle.std.proofs.Common.{◌≡◌, ℕ, zero, suc, ◌&&◌, ◌||◌, not, Bool, true, false, List, [], ◌∷◌, ◌++◌, Option, Some, None, is_none, map, refl, sym, ◌∙◌, ap, arith}
 use Rattle.std.specs.Prelude.{IfSome, if◌then◌else◌, is_some, nat_lt, slice_get}
 use Rattle.std.specs.List.{flat_map, list_any}
@@ -113,7 +113,7 @@ module _ (grantee : Grantee) (user : ℕ) (need : Need) (reach : reaches grantee
           ≡ last_end (option_to_list (if b then Some entry else None) ++ flat_map option_to_list (map (only_to grantee) slots)) user need
       narrow is = ap (λ (b : Bool). last_end (option_to_list (if b then Some entry else None) ++ flat_map option_to_list (map (only_to grantee) slots)) user need) is
 
-  -- what the next of those in force tells
+  -- what the next of those in force says
   pub known : (view : View) (next : NextInForce) → ShowsNextInForce passes view 0 next
       → (if is_some next.slot then Held else Lost next.lost) ≡ standing_in_slots (narrowed grantee view) user need
   known view next is =

@@ -48,7 +48,7 @@ ends_in_order (x ∷ xs) rise zero (suc j) d le less =
 ends_in_order (x ∷ xs) rise (suc i) zero d le less = absurd (omega arith)
 ends_in_order (x ∷ xs) rise (suc i) (suc j) d le less = ends_in_order xs rise.1 i j d (omega arith) (omega arith)
 
--- the first end that isn't below a slot tells whether one is of it
+-- the first end that isn't below a slot says whether one is of it
 pub found_slot : (ends : List End) (slot i : ℕ) → AreAscending (slots_of ends)
     → IsPartitionPoint (λ (end : End). ltb end.slot slot ≡ true) (λ (end : End). ltb end.slot slot ≡ false) ends i
     → option_map_or (λ (end : End). end.slot == slot) (slice_get ends i) false ≡ is_one_of (slots_of ends) slot

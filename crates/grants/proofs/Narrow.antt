@@ -43,13 +43,13 @@ both-parts true second place end = refl
 both-parts false true place end = refl
 both-parts false false place end = refl
 
--- a part that tells of no loss
+-- a part that says of no loss
 pub both-lost : (standing : Standing) → both standing (Lost None) ≡ standing
 both-lost Held = refl
 both-lost (Lost place) = ap (λ (p : Option ℕ). Lost p) (later-none place)
 
 module _ (user : ℕ) (need : Need) where
-  -- what one slot tells, its grant being to the user, to another or to PUBLIC
+  -- what one slot says, its grant being to the user, to another or to PUBLIC
   record AreParts (slot : Option Record) : Type 0 where
     gives_it : (slot_gives (only_to (User user) slot) user need || slot_gives (only_to Public slot) user need) ≡ slot_gives slot user need
     loses_it : later_of (slot_loss (only_to (User user) slot) user need) (slot_loss (only_to Public slot) user need) ≡ slot_loss slot user need
@@ -118,7 +118,7 @@ module _ (user : ℕ) (need : Need) where
       ∙ ap (later_of (slot_loss slot user need)) (last_parts slots)
       ∙ sym (last-first slot slots)
 
-  -- so the two parts of a view tell what the view tells
+  -- so the two parts of a view tell what the view says
   pub standing_in_slots-parts : (view : View)
       → both (standing_in_slots (narrowed (User user) view) user need) (standing_in_slots (narrowed Public view) user need) ≡ standing_in_slots view user need
   standing_in_slots-parts view =

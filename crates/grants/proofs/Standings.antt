@@ -1,4 +1,4 @@
--- What a standing tells.
+-- What a standing says.
 use Rattle.std.proofs.Common.{◌≡◌, ℕ, Bool, true, false, Option, Some, refl}
 use Rattle.std.specs.Prelude.{◌==◌, if◌then◌else◌}
 use Rattle.std.specs.List.{list_any}
@@ -15,7 +15,7 @@ pub when_lost : (given : Bool) (place end : Option ℕ) → Lost end ≡ (if giv
 when_lost true place end is = absurd (cc)
 when_lost false place end is = let same : end ≡ place = cc in (refl, same)
 
--- with the owner, what the slots tell is what the view tells
+-- with the owner, what the slots tell is what the view says
 pub held_by_owner : (view : View) (user owner : ℕ) (need : Need) → view.owner need.table ≡ Some owner → (owner == user) ≡ true → holds_in view user need ≡ true
 held_by_owner view user owner need is own = rw (← told_by view user owner need is, own) refl
 

@@ -103,7 +103,7 @@ impl Book {
 
     /// Adds a grant last. The place has to lie above all of the book, the table to be one of its tables, and the grantor to hold the kind
     /// with the option, as `holds_option` says by the book's view. It takes a time that grows with the logarithm of the number of grants in
-    /// force of its kind on its table to its grantee, on average. On `Err` memory was refused, and the book is as it was.
+    /// force of its kind on its table to its grantee, on average. On `Err`, out of memory, the book is as it was.
     #[tactic(auto, using(crate::proofs::GrantLaws::sound_grant, crate::proofs::GrantLaws::shows_grant, crate::proofs::LaterLaws::later_grant))]
     pub fn grant(&mut self, grant: Grant) -> Result<(), AllocError>
         requires later { IsLater self.old grant.place }
@@ -247,7 +247,7 @@ impl Book {
     /// them all. Each table costs a time that doesn't grow with their number, on average, each grant the logarithm of the number of grants
     /// in force of its kind on its table to its grantee, and each end that and the logarithm of the number of these ends. Only where the
     /// book has ends at later places than a new one are they moved for it, and found in a time that grows with the logarithm of their
-    /// number. On `Err` memory was refused, and the book is as it was.
+    /// number. On `Err`, out of memory, the book is as it was.
     pub fn extend(
         &mut self,
         tables: &[Creation],

@@ -398,7 +398,7 @@ pub(crate) fn cascade<V: Records>(
 /// through all to that grantee. For each user whose option ends it goes through the grants that gave it, each once, and through those
 /// by the user up to the first that still gives it. The slots to be judged are kept in a set, in a time that grows with the logarithm
 /// of their number. Besides that it takes memory
-/// for its answer. On `Err` memory was refused. What the view shows stays in any case.
+/// for its answer. On `Err`, out of memory. What the view shows stays in any case.
 pub fn to_end<V: Records>(
     alloc: Global,
     view: &mut V,

@@ -53,7 +53,7 @@ impl Model for Ended {
 }
 
 impl Ended {
-    /// No ends, and room for some. On `Err` memory was refused.
+    /// No ends, and room for some. On `Err`, out of memory.
     pub fn with_room(alloc: Global) -> Result<Self, AllocError>
         ensures ends { IfOk result (λ ended. ended.ends ≡ []) }
         ensures places { IfOk result (λ ended. ended.places ≡ []) }
@@ -64,7 +64,7 @@ impl Ended {
         })
     }
 
-    /// Adds the end of a slot above the others at a place, and the place where its grant was made. On `Err` memory was refused.
+    /// Adds the end of a slot above the others at a place, and the place where its grant was made. On `Err`, out of memory.
     pub fn push(&mut self, slot: usize, place: Place, made: Place) -> Result<(), AllocError>
         requires { (other : ℕ) → is_one_of (slots_of self.old.ends) other ≡ true → other < slot }
         ensures ends { OnOk result (self.new.ends ≡ self.old.ends ++ record { slot = slot; place = place } ∷ []) }

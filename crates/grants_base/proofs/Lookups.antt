@@ -72,7 +72,7 @@ rise_at (x ∷ xs) rising zero (suc j) a b at_i at_j less =
     omega arith
 rise_at (x ∷ xs) rising (suc i) (suc j) a b at_i at_j less = rise_at xs rising.1 i j a b at_i at_j (omega arith)
 
--- what a partition by a place tells of each record
+-- what a partition by a place says of each record
 module _ (entries : List Record) (place slot : ℕ) (point : IsPartitionPoint (λ (entry : Record). ltb entry.grant.place place ≡ true) (λ (entry : Record). ltb entry.grant.place place ≡ false) entries slot) where
   pub told_below : (k : ℕ) (entry : Record) → slice_get entries k ≡ Some entry → k < slot → entry.grant.place < place
   told_below k entry at less =
@@ -154,7 +154,7 @@ module _ (place : ℕ) (before : List ℕ) (made : ℕ) where
       ap (λ (e : Record). e ∷ end_slot (map (ended_at place before) xs) slot place) (sym apart)
       ∙ ap (λ r. ended_at place now x ∷ r) (ends_one xs slot found at is (λ k entry there ne. others (suc k) entry there (λ same. ne (omega arith))))
 
--- the record of a slot as it stood at a place
+-- the record of a slot as it was at a place
 pub put_reopened : (entries : List Record) (slot place : ℕ) (d : Record) → slot < length entries → put entries slot (reopened place (get_or entries slot d)) ≡ reopen_slot place slot entries
 put_reopened [] slot place d less = absurd (omega arith)
 put_reopened (x ∷ xs) zero place d less = refl
@@ -220,7 +220,7 @@ pub recorded-reopened : (place : ℕ) (entries : List Record) → recorded (map 
 recorded-reopened place [] = refl
 recorded-reopened place (x ∷ xs) = ap (λ r. x.grant ∷ r) (recorded-reopened place xs)
 
--- the front of the records, as it stood at a place, is the records that stood there
+-- the front of the records, as it was at a place, is the records that stood there
 pub take-reopened : (place n : ℕ) (entries : List Record) → take n (map (reopened place) entries) ≡ map (reopened place) (take n entries)
 take-reopened place zero entries = refl
 take-reopened place (suc n) [] = refl

@@ -113,7 +113,7 @@ module _ (passes : Grant → Bool) where
       ap (slots_from passes 0) (map-append (λ (e : Record). e.grant) entries (entry ∷ []))
       ∙ more_from 0 (recorded entries) entry.grant last (omega (arith, length-recorded entries))
 
--- what stands before the last
+-- what is before the last
 pub front : {X : Type 0} (xs : List X) (x : X) → take (length (xs ++ x ∷ []) - 1) (xs ++ x ∷ []) ≡ xs
 front {X} xs x =
     let long : length (xs ++ x ∷ []) - 1 ≡ length xs = omega (arith, length-append xs (x ∷ [])) in

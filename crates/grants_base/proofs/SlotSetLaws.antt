@@ -208,7 +208,7 @@ taken_above slot least popped old new is above some none =
 pub none_left : (least : Option ℕ) (others : List ℕ) → least ≡ None → AreAbove least others → (option_to_list least ++ others) ≡ []
 none_left least others is above = rw is (subst (λ (first : Option ℕ). AreAbove first others) is above)
 
--- what `==` tells of the least slot
+-- what `==` says of the least slot
 pub least_same : (least : Option ℕ) (slot : ℕ) → true ≡ option_eq eqb least (Some slot) → least ≡ Some slot
 least_same None slot is = absurd (cc)
 least_same (Some low) slot is = ap (λ (n : ℕ). Some n) (eqb-true low slot (sym is))

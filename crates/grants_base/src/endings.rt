@@ -55,7 +55,7 @@ pub(crate) fn reaches(endings: &[Ending], place: Place) -> bool
     }
 }
 
-/// Notes an ending. On `Err` memory was refused.
+/// Notes an ending. On `Err`, out of memory.
 fn note_one(endings: &mut Vec<Ending>, ending: Ending) -> Result<(), AllocError>
     requires order { AreInOrder endings.old.items }
     ensures order { AreInOrder endings.new.items }

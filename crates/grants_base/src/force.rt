@@ -61,7 +61,7 @@ impl InForce {
         }
     }
 
-    /// Adds a slot. On `Err` memory was refused, and nothing has changed.
+    /// Adds a slot. On `Err`, out of memory, nothing has changed.
     fn push(&mut self, slot: usize) -> Result<(), AllocError>
         ensures ok { OnOk result (IsWithSlot slot self.old self.new) }
         ensures err { OnErr result (self.new ≡ self.old) }
@@ -118,7 +118,7 @@ impl Privilege {
         }
     }
 
-    /// Adds the slot of a grant. On `Err` memory was refused.
+    /// Adds the slot of a grant. On `Err`, out of memory.
     #[inline(always)]
     pub fn push(&mut self, granted: Granted, option: bool) -> Result<(), AllocError>
         ensures { OnOk result (IsGranted granted option self.old self.new) }

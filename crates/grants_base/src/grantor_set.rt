@@ -88,7 +88,7 @@ impl GrantorSet {
         }
     }
 
-    /// Adds a slot. On `Err` memory was refused, and nothing has changed.
+    /// Adds a slot. On `Err`, out of memory, nothing has changed.
     pub fn insert(&mut self, granted: Granted) -> Result<(), AllocError>
         ensures ok { OnOk result (HasGainedBy granted self.old self.new) }
         ensures err { OnErr result (self.new ≡ self.old) }

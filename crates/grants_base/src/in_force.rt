@@ -66,7 +66,7 @@ impl InForceIndex {
         *self = InForceIndex::silent(self.alloc);
     }
 
-    /// Adds the slot of a grant under its side. On `Err` memory was refused.
+    /// Adds the slot of a grant under its side. On `Err`, out of memory.
     fn put(&mut self, side: Side, granted: Granted, option: bool) -> Result<(), AllocError>
         ensures whole { self.new.is_whole ≡ self.old.is_whole }
         ensures ok { OnOk result (IsChanged side (IsGranted granted option) self.old self.new) }

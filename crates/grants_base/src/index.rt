@@ -125,7 +125,7 @@ impl Slots {
         }
     }
 
-    /// Adds a slot last. On `Err` memory was refused, and the slots are as they were.
+    /// Adds a slot last. On `Err`, out of memory, the slots are as they were.
     #[inline(always)]
     fn push(&mut self, slot: usize) -> Result<(), AllocError>
         ensures ok { OnOk result (self.new ≡ self.old ++ slot ∷ []) }
@@ -179,7 +179,7 @@ impl Index {
         }
     }
 
-    /// Adds a slot last under a side. On `Err` memory was refused, and the slots are as they were.
+    /// Adds a slot last under a side. On `Err`, out of memory, the slots are as they were.
     pub fn push(&mut self, side: Side, slot: usize) -> Result<(), AllocError>
         ensures ok { OnOk result (IsPushed side slot self.old self.new) }
         ensures err { OnErr result (IsSame self.old self.new) }

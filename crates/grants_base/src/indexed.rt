@@ -155,7 +155,7 @@ impl IndexedRecords {
         &self.records
     }
 
-    /// Adds the record of a grant last, without an end. On `Err` memory was refused, and the records are as they were.
+    /// Adds the record of a grant last, without an end. On `Err`, out of memory, the records are as they were.
     pub fn push(&mut self, grant: Grant) -> Result<(), AllocError>
         ensures ok { OnOk result (self.new ≡ self.old ++ unended grant ∷ []) }
         ensures err { OnErr result (self.new ≡ self.old) }
@@ -168,7 +168,7 @@ impl IndexedRecords {
         Ok(())
     }
 
-    /// Ends records by their slots, one after the other. On `Err` memory was refused, and the records are as they were.
+    /// Ends records by their slots, one after the other. On `Err`, out of memory, the records are as they were.
     pub fn end(&mut self, ends: &[End]) -> Result<(), AllocError>
         requires { All (λ (end : End). end.slot < length self.old) ends.now }
         ensures ok { OnOk result (self.new ≡ end_slots self.old ends.now) }
@@ -190,7 +190,7 @@ impl IndexedRecords {
         Ok(())
     }
 
-    /// Adds the records of grants last, and then ends records by their slots. On `Err` memory was refused, and more records may be after
+    /// Adds the records of grants last, and then ends records by their slots. On `Err`, out of memory, more records may be after
     /// those that were there.
     fn put(&mut self, grants: &[Grant], ends: &[End]) -> Result<(), AllocError>
         requires { All (λ (end : End). end.slot < length self.old + length grants.now) ends.now }

@@ -42,7 +42,7 @@ impl IndexedGrants {
         }
     }
 
-    /// Adds a grant last. On `Err` memory was refused, and the grants are as they were.
+    /// Adds a grant last. On `Err`, out of memory, the grants are as they were.
     pub fn push(&mut self, grant: Grant) -> Result<(), AllocError>
         ensures ok { OnOk result (self.new ≡ self.old ++ grant ∷ []) }
         ensures err { OnErr result (self.new ≡ self.old) }

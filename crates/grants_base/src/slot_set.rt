@@ -39,7 +39,7 @@ impl SlotSet {
         }
     }
 
-    /// Adds a slot. On `Err` memory was refused, and nothing has changed.
+    /// Adds a slot. On `Err`, out of memory, nothing has changed.
     pub fn insert(&mut self, slot: usize) -> Result<(), AllocError>
         ensures ok { OnOk result (HasGained slot self.old self.new) }
         ensures err { OnErr result (self.new ≡ self.old) }

@@ -10,13 +10,11 @@ use crate::ranges::{Before, batch_of, log_of, nothing, open_batch};
 use crate::refusal::{print_begun, print_refused};
 use bohm_core::{Machine, State};
 use bohm_core_base::Event;
-use finishing::{Finished, finish};
-use log_batch::LogBatch;
+use filling::{Closed, Finished, finish};
+use log_batch::{LogBatch, LogKey, ended_slots};
 use log_machine::OfLog;
-use log_words::{LogKey, ended_slots};
 use sequencer::LogTail;
 use std::alloc::{AllocError, Global};
-use taking::Closed;
 use words::{BatchWords, Pass};
 
 /// By how many partitions the machine places.

@@ -5,7 +5,7 @@ use crate::refusal::print_begun;
 use audit_text::{Question, explain_text, grants_text};
 use batched_text::{Settings, report_text, run_text};
 use bohm_base::serial_text;
-use log_text_base::Counted;
+use line_io::Counted;
 use model_base::Place;
 use std::alloc::Global;
 use std::sync::Wait;

@@ -90,7 +90,7 @@ fn references(
     }
 }
 
-/// Tells what each place of a batch is referred to.
+/// Prints what each place of a batch is referred to.
 fn tell_refs(rt: &impl Print, name: &str, refs: &Refs) {
     tell(rt, name, &refs.len());
     for index in 0..refs.len() {
@@ -122,7 +122,7 @@ fn put_lines(alloc: Global, log: &mut LogTail) -> Result<(), TrialFault> {
     Ok(())
 }
 
-/// Tells the references of the batch that has the places of the log from the first one on.
+/// Prints the references of the batch that has the places of the log from the first one on.
 fn tell_references(
     rt: &impl Print,
     alloc: Global,
@@ -138,14 +138,14 @@ fn tell_references(
     Ok(())
 }
 
-/// Tells the references of no batch.
+/// Prints the references of no batch.
 fn tell_no_part(rt: &impl Print, alloc: Global) -> Result<(), TrialFault> {
     let refs = merge(alloc, Vec::new(alloc))?;
     tell_refs(rt, "places of no part", &refs);
     Ok(())
 }
 
-/// Tells the references of batches of the log.
+/// Prints the references of batches of the log.
 fn tell_batches(rt: &impl Print, alloc: Global, log: &mut LogTail) -> Result<(), TrialFault> {
     put_lines(alloc, log)?;
     tell_references(rt, alloc, log, 1, 1)?;
@@ -155,7 +155,7 @@ fn tell_batches(rt: &impl Print, alloc: Global, log: &mut LogTail) -> Result<(),
     tell_references(rt, alloc, log, 7, 2)
 }
 
-/// Tells the references, and the partitions of a row and of a table.
+/// Prints the references, and the partitions of a row and of a table.
 pub fn tell_batch_references(rt: &impl Print, alloc: Global) -> Result<(), TrialFault> {
     tell_no_part(rt, alloc)?;
     let rows = (partition_of(KEY, 7), partition_of(KEY, 1));

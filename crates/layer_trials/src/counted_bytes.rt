@@ -1,7 +1,7 @@
 //! A reader and a writer whose bytes and failures are counted.
 
 use crate::telling::{tell, text_of};
-use log_text_base::Counted;
+use line_io::Counted;
 use std::alloc::Global;
 use std::io::{Read, Write};
 
@@ -28,7 +28,7 @@ fn tell_writes(rt: &impl Print, alloc: Global) {
     );
 }
 
-/// Tells what is counted.
+/// Prints what is counted.
 pub fn tell_counted_bytes(rt: &impl Print, alloc: Global) {
     tell_reads(rt, "bytes read", Counted::new(b"four".as_slice()));
     let full = Counted {

@@ -98,7 +98,7 @@ fn counted(book: &Book, place: Place) -> Counting<BookView<'_>> {
     }
 }
 
-/// Tells whether a user holds a kind, and how many grants and ends were looked at for it.
+/// Prints whether a user holds a kind, and how many grants and ends were looked at for it.
 fn tell_held(rt: &impl Print, book: &Book, user: u32, kind: Kind) {
     let mut view = counted(book, Place::from(READERS).saturating_add(1));
     if view.covers(TABLE) {
@@ -119,7 +119,7 @@ fn tell_one_of_many(rt: &impl Print, book: &mut Book) -> Result<(), TrialFault> 
     Ok(())
 }
 
-/// Tells whether user 1 is denied, and how many grants and ends were looked at for it.
+/// Prints whether user 1 is denied, and how many grants and ends were looked at for it.
 fn tell_denied(rt: &impl Print, book: &Book) {
     let mut view = counted(book, 100);
     let need = Need {
@@ -177,7 +177,7 @@ fn tell_a_cascade(rt: &impl Print, alloc: Global, book: &mut Book) -> Result<(),
     Ok(())
 }
 
-/// Tells how many records each looks at.
+/// Prints how many records each looks at.
 pub fn tell_counts(rt: &impl Print, alloc: Global) -> Result<(), TrialFault> {
     tell_one_of_many(rt, &mut Book::new(alloc))?;
     tell_a_denial(rt, alloc, &mut Book::new(alloc))?;

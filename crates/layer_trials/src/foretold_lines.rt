@@ -30,7 +30,7 @@ fn found_text(alloc: Global, line: &Ahead) -> Result<String, AllocError> {
     }
 }
 
-/// Tells what is found of the lines of a piece.
+/// Prints what is found of the lines of a piece.
 fn tell_piece(rt: &impl Print, alloc: Global, what: &str, piece: &Piece) -> Result<(), AllocError> {
     for line in piece.lines() {
         tell(rt, what, &found_text(alloc, line)?);
@@ -38,7 +38,7 @@ fn tell_piece(rt: &impl Print, alloc: Global, what: &str, piece: &Piece) -> Resu
     Ok(())
 }
 
-/// Tells what is found of lines, and once more of the first with the lists of the first time.
+/// Prints what is found of lines, and once more of the first with the lists of the first time.
 fn tell_read(rt: &impl Print, alloc: Global, catalog: &Catalog) -> Result<(), AllocError> {
     let bytes = LINES.as_bytes();
     let piece = foretell_lines(alloc, catalog, bytes, 0, bytes.len(), Piece::new(alloc));
@@ -47,7 +47,7 @@ fn tell_read(rt: &impl Print, alloc: Global, catalog: &Catalog) -> Result<(), Al
     tell_piece(rt, alloc, "and once more", &again)
 }
 
-/// Tells where pieces of the lines begin.
+/// Prints where pieces of the lines begin.
 fn tell_cuts(rt: &impl Print, alloc: Global) -> Result<(), AllocError> {
     let bytes = LINES.as_bytes();
     let cuts = piece_cuts(alloc, bytes, 0, bytes.len(), 3)?;
@@ -55,7 +55,7 @@ fn tell_cuts(rt: &impl Print, alloc: Global) -> Result<(), AllocError> {
     Ok(())
 }
 
-/// Tells how many users and places names have that catch up.
+/// Prints how many users and places names have that catch up.
 fn tell_names(rt: &impl Print, alloc: Global, later: &Catalog) -> Result<(), AllocError> {
     let mut names = Catalog::new(alloc);
     names.catch_up(later)?;
@@ -64,7 +64,7 @@ fn tell_names(rt: &impl Print, alloc: Global, later: &Catalog) -> Result<(), All
     Ok(())
 }
 
-/// Takes two lines, and tells what is found of later ones by their names.
+/// Takes two lines, and says what is found of later ones by their names.
 fn tell_in(rt: &impl Print, alloc: Global, catalog: &mut Catalog) -> Result<(), TrialFault> {
     admit_line(alloc, catalog, "alice CREATE t 2")?;
     admit_line(alloc, catalog, "alice GRANT READ t bob OPTION")?;
@@ -73,7 +73,7 @@ fn tell_in(rt: &impl Print, alloc: Global, catalog: &mut Catalog) -> Result<(), 
     Ok(tell_names(rt, alloc, catalog)?)
 }
 
-/// Tells what is found of lines by the names of two earlier ones, and what other names catch up.
+/// Prints what is found of lines by the names of two earlier ones, and what other names catch up.
 pub fn tell_foretold_lines(rt: &impl Print, alloc: Global) -> Result<(), TrialFault> {
     tell_in(rt, alloc, &mut Catalog::new(alloc))
 }

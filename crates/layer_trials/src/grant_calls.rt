@@ -3,7 +3,7 @@
 use crate::deeds::{TABLE, enter, give, reading, take, unreading};
 use crate::fault::TrialFault;
 use crate::telling::tell;
-use explain_base::{are_sound, explain_needs};
+use explain::{are_sound, explain_needs};
 use grants::{Book, Records, holds, last_loss};
 use model_base::{Grantee, Kind, Need, Place, Table, User};
 use std::alloc::Global;
@@ -19,7 +19,7 @@ const READ: Need = Need {
     option: false,
 };
 
-/// Tells how many tables and records the book has.
+/// Prints how many tables and records the book has.
 fn tell_lengths(rt: &impl Print, book: &Book) {
     tell(rt, "  tables", &book.tables().len());
     tell(rt, "  records", &book.records().len());
@@ -40,7 +40,7 @@ fn tell_view<V: Records>(rt: &impl Print, view: &mut V) {
     }
 }
 
-/// Tells which slot a view finds by a user.
+/// Prints which slot a view finds by a user.
 fn tell_next<V: Records>(rt: &impl Print, view: &mut V) {
     let to_bob = view.next_to(Grantee::User(BOB), Kind::Read, TABLE, 0);
     let to_bob_later = view.next_to(Grantee::User(BOB), Kind::Read, TABLE, 1);
@@ -54,7 +54,7 @@ fn tell_next<V: Records>(rt: &impl Print, view: &mut V) {
     tell(rt, "  next by Olga to insert", &to_insert);
 }
 
-/// Tells whether Bob may read, by the book at a place, or where he lost that.
+/// Prints whether Bob may read, by the book at a place, or where he lost that.
 fn tell_bob(rt: &impl Print, book: &Book, place: Place) {
     let mut view = book.at(place);
     if view.covers(TABLE) {
@@ -66,7 +66,7 @@ fn tell_bob(rt: &impl Print, book: &Book, place: Place) {
     }
 }
 
-/// Tells whether the lines that explain Bob's need at a place are sound.
+/// Prints whether the lines that explain Bob's need at a place are sound.
 fn tell_lines(rt: &impl Print, alloc: Global, book: &Book, place: Place) -> Result<(), TrialFault> {
     if book.tables().len() > 0 {
         let lines = explain_needs(alloc, book, place, BOB, &[READ])?;
@@ -76,7 +76,7 @@ fn tell_lines(rt: &impl Print, alloc: Global, book: &Book, place: Place) -> Resu
     Ok(())
 }
 
-/// Tells each call of a book: a table, a grant and its revocation, and what is left where the book is cut.
+/// Prints each call of a book: a table, a grant and its revocation, and what is left where the book is cut.
 fn tell_book(rt: &impl Print, alloc: Global, book: &mut Book) -> Result<(), TrialFault> {
     enter(book)?;
     give(book, reading(1, (0, 2), true))?;
@@ -93,7 +93,7 @@ fn tell_book(rt: &impl Print, alloc: Global, book: &mut Book) -> Result<(), Tria
     Ok(())
 }
 
-/// Tells each call of a book.
+/// Prints each call of a book.
 pub fn tell_grant_calls(rt: &impl Print, alloc: Global) -> Result<(), TrialFault> {
     let _ = println!(rt; "each call");
     tell_book(rt, alloc, &mut Book::new(alloc))

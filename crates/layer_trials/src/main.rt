@@ -35,7 +35,7 @@ use version_marks::tell_marks;
 use worked_versions::tell_worked;
 use written_pieces::tell_written_pieces;
 
-/// Tells the trials one after another.
+/// Prints the trials one after another.
 fn run(rt: &impl Print, alloc: Global) -> Result<(), TrialFault> {
     tell_counted_bytes(rt, alloc);
     tell_read_lines(rt, alloc)?;

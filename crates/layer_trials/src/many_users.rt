@@ -44,7 +44,7 @@ const MANY: [&str; 5] = [
     "w RUN t:1:R",
 ];
 
-/// Tells what a catalog with many users takes.
+/// Prints what a catalog with many users takes.
 fn tell_many(rt: &impl Print, alloc: Global, catalog: &mut Catalog) -> Result<(), Refused> {
     admit_line(alloc, catalog, "u0 CREATE t 1")?;
     for number in 1..65_535_u32 {
@@ -57,7 +57,7 @@ fn tell_many(rt: &impl Print, alloc: Global, catalog: &mut Catalog) -> Result<()
     Ok(())
 }
 
-/// Tells the numbers of names, and of one that is taken out again.
+/// Prints the numbers of names, and of one that is taken out again.
 fn tell_names(rt: &impl Print, names: &mut NameTable) {
     for name in ["ann", "bea", "ann"] {
         let entered = names.enter(name);
@@ -71,7 +71,7 @@ fn tell_names(rt: &impl Print, names: &mut NameTable) {
     tell(rt, "bea is found", &names.find("bea"));
 }
 
-/// Tells what a catalog with many users takes, and the numbers of names.
+/// Prints what a catalog with many users takes, and the numbers of names.
 pub fn tell_many_users(rt: &impl Print, alloc: Global) -> Result<(), Refused> {
     tell_many(rt, alloc, &mut Catalog::new(alloc))?;
     tell_names(rt, &mut NameTable::new(alloc));

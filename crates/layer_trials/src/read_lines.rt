@@ -1,12 +1,12 @@
 //! Lines that cross the buffer's end, and readers that give few bytes at a time or fail.
 
 ghost use Rattle.std.specs.Prelude.{◌<◌, ◌≤◌, ◌+◌, ◌^◌, length};
-ghost use Rattle.log_text_base.specs.declared.limits.TheConstants.{BUFFER_BYTES, MOST_GIVEN_BYTES};
-ghost use Rattle.log_text_base.specs.Ahead.{ahead};
+ghost use Rattle.line_io.specs.declared.limits.TheConstants.{BUFFER_BYTES, MOST_GIVEN_BYTES};
+ghost use Rattle.line_io.specs.Ahead.{ahead};
 
 use crate::fault::TrialFault;
 use crate::telling::text_of;
-use log_text_base::{Counted, LineReader, MemoryReader};
+use line_io::{Counted, LineReader, MemoryReader};
 use std::alloc::{AllocError, Global};
 
 /// Appends a piece this many times after a text.
@@ -105,7 +105,7 @@ fn tell_pieces(
     tell_lines(rt, alloc, name, reader, 6)
 }
 
-/// Tells the lines of several readers.
+/// Prints the lines of several readers.
 pub fn tell_read_lines(rt: &impl Print, alloc: Global) -> Result<(), TrialFault> {
     tell_pieces(rt, alloc, "long lines", &LONG)?;
     tell_pieces(rt, alloc, "lines over the buffer's end", &CROSSING)?;

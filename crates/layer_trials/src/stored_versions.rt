@@ -58,7 +58,7 @@ pub fn tell_bounds(rt: &impl Print, chains: &Chains) {
     let _ = println!(rt; "  mark {}, end {}", chains.mark(), chains.end());
 }
 
-/// Tells the row of the key before the place.
+/// Prints the row of the key before the place.
 pub fn tell_row(rt: &impl Print, chains: &Chains, place: Place, key: Key) {
     let (table, row) = (key.table.0, key.row);
     let _ = if chains.end() < place {
@@ -81,7 +81,7 @@ pub fn tell_trim(rt: &impl Print, chains: &mut Chains, mark: Place) {
     let _ = println!(rt; "  trim to {mark}: {found:?}");
 }
 
-/// Tells how many versions a sweep takes out.
+/// Prints how many versions a sweep takes out.
 pub fn tell_sweep(rt: &impl Print, chains: &mut Chains) {
     let gone = chains.sweep();
     let _ = println!(rt; "  sweep: {gone}");

@@ -103,7 +103,7 @@ fn tell_absent(rt: &impl Print, alloc: Global, chains: &mut Chains) -> Result<()
     Ok(())
 }
 
-/// Tells what marks do.
+/// Prints what marks do.
 pub fn tell_marks(rt: &impl Print, alloc: Global) -> Result<(), TrialFault> {
     tell_three(rt, alloc, &mut Chains::new(alloc))?;
     tell_two(rt, alloc, &mut Chains::new(alloc))?;

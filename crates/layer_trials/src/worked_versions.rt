@@ -24,7 +24,7 @@ const OTHER_TABLE: Key = Key {
     row: 1,
 };
 
-/// Tells what a store has that is new.
+/// Prints what a store has that is new.
 fn tell_new(rt: &impl Print, alloc: Global) {
     let chains = Chains::new(alloc);
     tell(rt, "a new store");
@@ -32,7 +32,7 @@ fn tell_new(rt: &impl Print, alloc: Global) {
     tell_row(rt, &chains, 0, KEY);
 }
 
-/// Tells what the store has of the worked row, and of a row and a table beside it, before each place.
+/// Prints what the store has of the worked row, and of a row and a table beside it, before each place.
 fn tell_worked_rows(rt: &impl Print, chains: &Chains) {
     tell_bounds(rt, chains);
     for place in 0..5 {
@@ -60,7 +60,7 @@ fn three(alloc: Global) -> Result<Vec<Version>, AllocError>
     ]?)
 }
 
-/// Tells the worked rows where each version is appended by itself.
+/// Prints the worked rows where each version is appended by itself.
 fn tell_one_by_one(rt: &impl Print, alloc: Global, chains: &mut Chains) -> Result<(), TrialFault> {
     for (place, value, new_end) in [(1, 5, 2), (2, 6, 3), (3, 7, 4)] {
         put(alloc, chains, &version(place, KEY, Some(value)), new_end)?;
@@ -79,7 +79,7 @@ fn put_two_batches(alloc: Global, chains: &mut Chains) -> Result<(), TrialFault>
     put(alloc, chains, &version(3, KEY, Some(7)), 4)
 }
 
-/// Tells the worked rows where the versions are appended in two batches.
+/// Prints the worked rows where the versions are appended in two batches.
 fn tell_two_batches(rt: &impl Print, alloc: Global, chains: &mut Chains) -> Result<(), TrialFault> {
     put_two_batches(alloc, chains)?;
     tell(rt, "three versions, in two batches");
@@ -87,7 +87,7 @@ fn tell_two_batches(rt: &impl Print, alloc: Global, chains: &mut Chains) -> Resu
     Ok(())
 }
 
-/// Tells the worked rows where the versions are appended to a new store in one batch.
+/// Prints the worked rows where the versions are appended to a new store in one batch.
 fn tell_one_batch(rt: &impl Print, alloc: Global, chains: &mut Chains) -> Result<(), TrialFault> {
     if chains.end() != 0 {
         return Err(TrialFault::Store);
@@ -98,7 +98,7 @@ fn tell_one_batch(rt: &impl Print, alloc: Global, chains: &mut Chains) -> Result
     Ok(())
 }
 
-/// Tells the rows where a version without a row hides the older one.
+/// Prints the rows where a version without a row hides the older one.
 fn tell_deleted(rt: &impl Print, alloc: Global, chains: &mut Chains) -> Result<(), TrialFault> {
     for (place, value, new_end) in [(1, Some(5), 2), (2, None, 3), (4, Some(7), 6)] {
         put(alloc, chains, &version(place, KEY, value), new_end)?;
@@ -118,7 +118,7 @@ fn tell_laws(rt: &impl Print) {
     tell(rt, "the laws of versions were called");
 }
 
-/// Tells the worked rows.
+/// Prints the worked rows.
 pub fn tell_worked(rt: &impl Print, alloc: Global) -> Result<(), TrialFault> {
     tell_new(rt, alloc);
     tell_one_by_one(rt, alloc, &mut Chains::new(alloc))?;

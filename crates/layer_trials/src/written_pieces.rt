@@ -2,12 +2,10 @@
 
 use crate::fault::TrialFault;
 use crate::telling::{tell, text_of};
-use log_text_base::{
-    Counted, MemoryWriter, PIECE_LEN, flush, write_much, write_out, write_pending,
-};
+use line_io::{Counted, MemoryWriter, PIECE_LEN, flush, write_much, write_out, write_pending};
 use std::alloc::{AllocError, Global};
 
-/// Tells what a writer took, how many writes it has left, and how many failures were counted.
+/// Prints what a writer took, how many writes it has left, and how many failures were counted.
 fn tell_taken(rt: &impl Print, writer: &Counted<MemoryWriter>) {
     let (writes, errors) = (writer.inner.writes.unwrap_or(0), writer.errors);
     let taken = text_of(writer.inner.taken.as_slice());
@@ -24,7 +22,7 @@ fn tell_piece(rt: &impl Print, name: &str, writer: &mut Counted<MemoryWriter>) {
     tell_taken(rt, writer);
 }
 
-/// Tells what a writer takes of a piece.
+/// Prints what a writer takes of a piece.
 fn tell_writer(rt: &impl Print, name: &str, writer: MemoryWriter) {
     tell_piece(rt, name, &mut Counted::new(writer));
 }
@@ -57,7 +55,7 @@ fn writer_of(alloc: Global, most: usize, writes: u64, flushes: Option<u64>) -> M
     }
 }
 
-/// So many bytes.
+/// This many bytes.
 fn bytes(alloc: Global, count: usize) -> Result<Vec<u8>, AllocError> {
     let mut bytes = Vec::new(alloc);
     for _ in 0..count {
@@ -83,13 +81,13 @@ fn tell_much(
     Ok(())
 }
 
-/// Tells what is written of bytes that become much.
+/// Prints what is written of bytes that become much.
 fn tell_growing(rt: &impl Print, alloc: Global) -> Result<(), TrialFault> {
     let mut pending = bytes(alloc, PIECE_LEN - 1)?;
     tell_much(rt, &mut Counted::new(Vec::new(alloc)), &mut pending)
 }
 
-/// Tells what several writers take.
+/// Prints what several writers take.
 pub fn tell_written_pieces(rt: &impl Print, alloc: Global) -> Result<(), TrialFault> {
     tell_writer(rt, "a piece byte by byte", writer_of(alloc, 1, 100, None));
     tell_writer(

@@ -23,7 +23,7 @@ none_in_order (b ∷ bs) ne = refl
 pub no_letters : (w : List ℕ) → is_in_order (codes "RIUD") w ≡ false → is_letters w ≡ false
 no_letters w e = and_right (not (eqb (length w) 0)) (is_in_order (codes "RIUD") w) e
 
--- a word is what stands before its first colon, the colon, and what stands behind it
+-- a word is what is before its first colon, the colon, and what is after it
 pub rejoin : (w : List ℕ) → 0 < length (after_colon w) → w ≡ before_colon w ++ 58 ∷ after_colon w
 rejoin w some =
     let i = position_or_len (λ b. eqb b 58) w in

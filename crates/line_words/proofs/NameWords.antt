@@ -33,7 +33,7 @@ ends_word rest space =
     (λ k lt. no_space (get_or rest k 0) (prefix_len_passes is_name_byte rest k 0 lt))
     (λ lt. eq-eqb (get_or rest (prefix_len is_name_byte rest) 0) 32 (space lt))
 
--- the bytes up to there may all stand in a name
+-- the bytes up to there may all be in a name
 pub all_name_bytes : (rest : List ℕ) (n : ℕ) → n ≡ prefix_len is_name_byte rest → list_all is_name_byte (take n rest) ≡ true
 all_name_bytes rest n e =
     let within : n ≤ length rest = omega (arith, prefix_len-le-length is_name_byte rest, e) in
@@ -70,7 +70,7 @@ name_word line start end left view within value bound space =
     ends_word rest (λ lt. get_or-drop start line (prefix_len is_name_byte rest) 0 ∙ ap (λ j. get_or line j 0) (sym value) ∙ space (omega arith)) in
     (next_word line start end left view within (omega (arith, value, e)) bound, all_name_bytes rest (end - start) n)
 
--- a word with a byte that can't stand in a name
+-- a word with a byte that can't be in a name
 pub foreign_word : (line : List ℕ) (start end : ℕ) (left : List (List ℕ)) → words_from start line ≡ left → start ≤ length line → end ≡ start + prefix_len is_name_byte (drop start line) → end < length line →
     (get_or line end 0 ≡ 32 → ⊥) → is_name (first_word left) ≡ false
 foreign_word line start end left view within value more ne =
@@ -107,7 +107,7 @@ name-no_space w e =
     let all = (name_all w e).0 in
     list_all-from_AllPass (λ b. not (eqb b 32)) w (λ k d lt. ap not (no_space (get_or w k d) (AllPass-from_list_all is_name_byte w all k d lt)))
 
--- a name ends where a colon stands behind it
+-- a name ends where a colon is after it
 pub name_end_there : (line : List ℕ) (start : ℕ) (name : List ℕ) → is_name name ≡ true → start + length name < length line
     → take (length name) (drop start line) ≡ name → get_or line (start + length name) 0 ≡ 58
     → start + length name ≡ start + prefix_len is_name_byte (drop start line)

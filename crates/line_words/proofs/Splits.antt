@@ -37,7 +37,7 @@ some_left start line within = cond-true (leb start (length line)) (words (drop s
 pub no_word : (start : ℕ) (line : List ℕ) (left : List (List ℕ)) → words_from start line ≡ left → length line < start → left ≡ []
 no_word start line left e past = sym e ∙ none_left start line past
 
--- one word, and the words behind it
+-- one word, and the words after it
 pub next_word : (line : List ℕ) (start end : ℕ) (left : List (List ℕ)) → words_from start line ≡ left → start ≤ length line → end ≡ start + position_or_len (λ b. eqb b 32) (drop start line) → end ≤ length line →
     left ≡ take (end - start) (drop start line) ∷ words_from (end + 1) line
 next_word line start end left view within e bound =

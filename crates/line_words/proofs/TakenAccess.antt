@@ -1,4 +1,4 @@
--- An access that is taken where it stands.
+-- An access that is taken where it is.
 use Rattle.std.proofs.Common.{◌≡◌, ℕ, ◌+◌, ◌-◌, ◌<◌, ◌≤◌, Bool, true, false, not, eqb, List, [], ◌∷◌, ◌++◌, length, take, drop, get_or, refl, ap, sym, ◌∙◌, arith, drop-cons, length-drop, append_assoc, suc, inl, inr}
 use Rattle.std.specs.Fmt.{decimal}
 use Rattle.std.specs.List.{list_all, prefix_len}
@@ -57,12 +57,12 @@ access-no_space a named row =
     append-no_space a.table (58 ∷ (decimal a.row ++ 58 ∷ letters a.kinds)) (names-no_space a.table named)
     (append-no_space (decimal a.row) (58 ∷ letters a.kinds) row (letters-no_space a.kinds))
 
--- what stands before an index, and what stands from there on
+-- what is before an index, and what is from there on
 split_at : (line : List ℕ) (start end : ℕ) → start ≤ end → drop start line ≡ take (end - start) (drop start line) ++ drop end line
 split_at line start end behind =
     sym (take-append-drop (end - start) (drop start line)) ∙ ap (λ v. take (end - start) (drop start line) ++ v) (drop-drop (end - start) start line ∙ ap (λ n. drop n line) (let same : start + (end - start) ≡ end = omega arith in same))
 
--- a byte, and what is behind it
+-- a byte, and what is after it
 byte_at : (line : List ℕ) (i byte : ℕ) → i < length line → get_or line i 0 ≡ byte → drop i line ≡ byte ∷ drop (i + 1) line
 byte_at line i byte within is = drop-cons line i 0 within ∙ ap (λ b. b ∷ drop (suc i) line) is ∙ ap (λ n. byte ∷ drop n line) (let next : suc i ≡ i + 1 = omega arith in next)
 

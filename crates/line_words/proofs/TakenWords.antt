@@ -1,4 +1,4 @@
--- A word that is taken where it stands.
+-- A word that is taken where it is.
 use Rattle.std.proofs.Common.{◌≡◌, ℕ, ◌+◌, ◌*◌, ◌-◌, ◌<◌, ◌≤◌, ◌^◌, true, false, not, eqb, List, [], ◌∷◌, length, take, drop, get_or, refl, ap, sym, ◌∙◌, subst, arith, eq-eqb, drop-cons, length-drop}
 use Rattle.std.specs.Fmt.{decimal}
 use Rattle.std.specs.List.{list_all}
@@ -41,7 +41,7 @@ digit_word line start left view within low high space =
     one_byte line start byte left view (omega arith) refl (λ same. omega (arith, low, same)) (λ lt. space)
     ∙ ap (λ w. w ∷ words_from (start + 2) line) (one_digit (byte ∷ []) refl (omega (arith, low)) (omega (arith, high)))
 
--- three digits and a bar, each with a space behind it
+-- three digits and a bar, each with a space after it
 pub operand_words : (line : List ℕ) (start : ℕ) (left : List (List ℕ)) → words_from start line ≡ left → start + 7 < length line
     → 48 ≤ get_or line start 0 → get_or line start 0 ≤ 57 → get_or line (start + 1) 0 ≡ 32
     → 48 ≤ get_or line (start + 2) 0 → get_or line (start + 2) 0 ≤ 57 → get_or line (start + 3) 0 ≡ 32
@@ -71,7 +71,7 @@ operand_words line start left view within low high space low-2 high-2 space-2 lo
 digits-no_space : (w : List ℕ) (k : ℕ) → AllDigits 10 w → k < length w → eqb (get_or w k 0) 32 ≡ false
 digits-no_space w k digits lt = let d = digit_at w k digits lt in ne_eqb (get_or w k 0) 32 (λ same. omega (arith, d.0, same))
 
--- digits up to a space or the line's end are the next word, and the decimal form of what they write where no 0 stands before others
+-- digits up to a space or the line's end are the next word, and the decimal form of what they write where no 0 is before others
 pub number_word : (line : List ℕ) (start end value : ℕ) (left : List (List ℕ)) → words_from start line ≡ left → start < end → end ≤ length line → end ≤ start + 9
     → AllDigits 10 (take (end - start) (drop start line)) → value ≡ digits_value 10 (take (end - start) (drop start line))
     → (get_or line start 0 ≡ 48 → end ≡ start + 1) → (end < length line → get_or line end 0 ≡ 32)
@@ -128,7 +128,7 @@ word-no_space Check = refl
 word-no_space Skip = refl
 word-no_space Out = refl
 
--- a word with a space behind it is the next word
+-- a word with a space after it is the next word
 pub front_taken : (line : List ℕ) (start : ℕ) (word : List ℕ) (left : List (List ℕ)) → words_from start line ≡ left → start ≤ length line
     → length word < length (drop start line) → take (length word) (drop start line) ≡ word → list_all (λ b. not (eqb b 32)) word ≡ true
     → get_or (drop start line) (length word) 0 ≡ 32 → left ≡ word ∷ words_from (start + length word + 1) line

@@ -87,7 +87,7 @@ module _ (w : List ℕ) (minus : get_or w 0 0 ≢ 45) where
 pub whole_natural : (w : List ℕ) (n : ℕ) → w ≡ decimal n → n < 2 ^ 63 → signed_of w ≡ Some (pos n)
 whole_natural w n e low = ap signed_of e ∙ whole_of_decimal (pos n) (lt-ltb n (2 ^ 63) low)
 
--- behind a minus
+-- after a minus
 module _ (ds : List ℕ) where
   differs_behind : ((n : ℕ) → n < 2 ^ 63 → ds ≡ decimal (suc n) → ⊥) → (z : ℤ) → fits_64_bits z ≡ true → 45 ∷ ds ≡ signed_decimal z → ⊥
   differs_behind other (pos n) h e = (unsigned n (omega (arith, ltb-true n (2 ^ 63) h))).1 (ap (λ v. get_or v 0 0) (sym e))
@@ -112,7 +112,7 @@ module _ (ds : List ℕ) where
 pub whole_empty : signed_of [] ≡ None
 whole_empty = plain_unnatural [] (λ e. omega (arith, e)) (λ n low same. let p = (decimal_is_IsNumeral n (omega arith)).0 in let e = ap length same in omega arith)
 
--- what the code computes behind a minus
+-- what the code computes after a minus
 pub negated : (n : ℕ) → (n ≡ 0 → ⊥) → n ≤ 2 ^ 63 → to_z w64 (of_z w64 (negsuc 0 -ℤ to_z w64 (n - 1))) ≡ negsuc (n - 1)
 negated n some high = omega (arith, ints)
 

@@ -114,7 +114,7 @@ fn ends_at(line: &[u8], end: usize) -> bool
     end >= line.len() || line[end] == b' '
 }
 
-/// So many digits at most are taken at once: what they write is below 2^32.
+/// This many digits at most are taken at once: what they write is below 2^32.
 const MOST_DIGITS: usize = 9;
 
 /// The number that the digits at an index of the line write, `MOST_DIGITS` of them at most, and the index after them.

@@ -25,3 +25,11 @@ pub mod AtHand
 pub mod AtStart
 pub mod FewReferences
 pub mod FewSlots
+pub mod OwnLength
+pub mod NoneBetween
+pub mod HolderSets
+pub mod RevokedSets
+pub mod Reaching
+pub mod Listed
+pub mod OpenSlots
+pub mod Between

@@ -5,7 +5,7 @@ use Rattle.std.proofs.lemmas.Bool.{cases_lt}
 use Rattle.std.proofs.lemmas.Option.{slice_get-get_or, slice_get_within}
 use Rattle.model_base.specs.declared.deed.Grant.{Grant}
 
--- where the grants stand in order, and only those before a slot lie below a place, no other slot has the place's grant
+-- where the grants are in order, and only those before a slot lie below a place, no other slot has the place's grant
 pub only-slot : (grants : List Grant) (slot place : ℕ)
     → ((k j : ℕ) (grant later : Grant) → k < j → slice_get grants k ≡ Some grant → slice_get grants j ≡ Some later → grant.place < later.place)
     → ((k : ℕ) (grant : Grant) → k < slot → slice_get grants k ≡ Some grant → grant.place < place)

@@ -8,7 +8,7 @@ use Rattle.std.proofs.lemmas.Option.{slice_get_past}
 use Rattle.model_base.specs.declared.deed.Grant.{Grant}
 use Rattle.grants_base.specs.Index.{IsNext, passes_at}
 
--- what is taken of a list is there as it was, and behind that there is nothing
+-- what is taken of a list is there as it was, and after that there is nothing
 taken-at : (grants : List Grant) (count k : ℕ) → k < count → slice_get (take count grants) k ≡ slice_get grants k
 taken-at grants zero k less = absurd (omega arith)
 taken-at [] (suc count) k less = refl

@@ -1,4 +1,4 @@
--- What a revocation of a log ended is told by the ends of the serial run.
+-- What a revocation of a log ended is given by the ends of the serial run.
 use Rattle.std.proofs.Common.{◌≡◌, ◌==◌, ◌<◌, ◌+◌, ℕ, suc, Bool, true, false, Option, Some, None, List, [], ◌∷◌, filter, get_or, length, map, refl, sym, ap, ◌∙◌, subst, arith, zero-add}
 use Rattle.std.specs.Prelude.{slice_get}
 use Rattle.std.specs.Option.{option_map, option_map_or}
@@ -53,7 +53,7 @@ that-none by slot (grant ∷ grants) none =
     (λ k less. let next : suc slot + k ≡ slot + suc k = omega arith in ap by next ∙ none (suc k) (omega arith)))
 
 module _ (b : Batch) (sound : IsSoundBatch b) (n : ℕ) where
-  -- where the serial run ends none at the place, none is told
+  -- where the serial run ends none at the place, none is given
   none-ended : ((k : ℕ) → IsEnder b sound n k → ⊥) → places_that (serial_ends b n) 0 (batch_slots b) ≡ []
   none-ended none =
       that-none (serial_ends b n) 0 (batch_slots b)
@@ -136,7 +136,7 @@ module _ (range : Range) (is : IsOfLog range) (index : ℕ) (within : index < ra
         (λ k ender. true≢false (sym ender.done ∙ done-told ∙ not_done))
         ∙ sym (told ∙ rw not_done refl))
 
-  -- what the ends tell is what the outcome of the place tells
+  -- what the ends tell is what the outcome of the place says
   pub serial_ended_tells : (comes : Outcome) → outcome range.log place ≡ Some comes → seen ≡ ended_in comes
   serial_ended_tells comes is_outcome = by_statement (slice_get range.log place) refl
     where

@@ -5,3 +5,8 @@ pub mod Named
 pub mod Referred
 pub mod Supplied
 pub mod Earlier
+pub mod Holders
+pub mod Revoked
+pub mod Listing
+pub mod Reach
+pub mod Keys

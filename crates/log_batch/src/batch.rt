@@ -180,7 +180,7 @@ impl<'a> LogBatch<'a> {
     }
 
     /// The places of the range as a batch that isn't placed: no reference is looked for, and of each place only the number of
-    /// its references is kept. So many partitions are to place it, 1 to `MOST_PARTITIONS`. The versions of rows end where the range
+    /// its references is kept. This many partitions are to place it, 1 to `MOST_PARTITIONS`. The versions of rows end where the range
     /// begins and are those of the log, and the book has the deeds before the range. An error is out of memory.
     pub fn open(
         alloc: Global,

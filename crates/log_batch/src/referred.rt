@@ -36,7 +36,7 @@ impl References {
 }
 
 /// How many references a statement has: one for each access, and one for each table of its needs and of its deed, for which the
-/// list is room. On `Err` memory was refused.
+/// list is room. On `Err`, out of memory.
 fn reference_count(statement: &Statement, tables: &mut Vec<Table>) -> Result<usize, AllocError>
     ensures { IfOk result (λ count. count ≡ length (accesses_of statement.now.form) + length (tables_of statement.now.form)) }
 {

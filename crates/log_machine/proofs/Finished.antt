@@ -11,7 +11,7 @@ use Rattle.model_base.proofs.Replay.{by_cases}
 use Rattle.body.specs.Steps.{steps_of}
 use Rattle.own_words.specs.Places.{words_at}
 use Rattle.own_words.specs.Words.{ended_in, outcome_from}
-use Rattle.answering.proofs.Fitting.{words_tell}
+use Rattle.evaluation.proofs.Fitting.{words_tell}
 use Rattle.sequencer.specs.Taken.{IsTaken, columns_by}
 use Rattle.bohm_core_base.specs.declared.hold.Hold.{Hold}
 use Rattle.bohm_core_base.specs.declared.hold.Hold.TheVariants.{Done, Free}
@@ -130,7 +130,7 @@ ended_past (grant ∷ grants) [] place (suc slot) past = by_drop (drop slot gran
 ended_past (grant ∷ grants) (end ∷ ends) place zero past = absurd (let low = past (omega arith) in omega arith)
 ended_past (grant ∷ grants) (end ∷ ends) place (suc slot) past = ended_past grants ends place slot (λ low. let more = past (omega arith) in omega arith)
 
--- one slot more, behind those that ended at the place
+-- one slot more, after those that ended at the place
 pub ended_more : (grants : List Grant) (ends : List (Option ℕ)) (place slot : ℕ) (places : List ℕ) (grant : Grant) (ended : Bool) → slot < length grants → slot < length ends
     → slice_get grants slot ≡ Some grant → ended ≡ is_end place (get_or ends slot None)
     → (places ++ (if ended then grant.place ∷ [] else [])) ++ ended_places (drop (slot + 1) grants) (drop (slot + 1) ends) place

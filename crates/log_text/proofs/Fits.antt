@@ -79,7 +79,7 @@ step_fits (Check of) tail n o is low few h = rw (lt-ltb n 64 low, register_fits 
 step_fits (Skip of steps) tail n o is low few h = rw (lt-ltb n 64 low, register_fits of h.0, plain_of_decimal steps h.1, add-zero) refl
 step_fits (Out of) tail n o is low few h = rw (lt-ltb n 64 low, lt-ltb o 8 (omega arith), register_fits of h) refl
 
--- the grantee of a grant, and what stands behind it
+-- the grantee of a grant, and what is after it
 grantee_on : (g : RawGrantee) (option : Bool) → IsGrantee g → IsTrue (not (option && is_everyone g)) → fault_from (OfGrantee true ∷ []) (grantee_word g ∷ option_words option) ≡ None
 grantee_on (Named name) true is may = rw (is, name_is_not_public name is) refl
 grantee_on (Named name) false is may = rw (is, name_is_not_public name is) refl
@@ -91,7 +91,7 @@ grantee_last : (g : RawGrantee) → IsGrantee g → fault_from (OfGrantee false 
 grantee_last (Named name) is = rw is refl
 grantee_last Public is = refl
 
--- the words of a deed, where a step may stand
+-- the words of a deed, where a step may be
 deed_fits : (d : RawDeed) (n o : ℕ) → IsDeed d → fault_from (OfStep n o ∷ []) (deed_words d) ≡ None
 deed_fits (Grant k t g option) n o h = rw (kind_of_word k, h.0) (grantee_on g option h.1 h.2)
 deed_fits (Revoke k t g) n o h = rw (kind_of_word k, h.0) (grantee_last g h.1)

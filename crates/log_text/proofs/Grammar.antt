@@ -81,7 +81,7 @@ no_fault line s r =
 pub faulty : (line : List ℕ) (s : Sentence) (f : LineFault) → line_fault line ≡ Some f → Reads line s → ⊥
 faulty line s f e r = let n = no_fault line s r in cc
 
--- a fault found at a line that reads as something is want of memory
+-- a fault found at a line that reads as something is out of memory
 pub only_memory : (line : List ℕ) (s : Sentence) (f : LineFault) → IsFault f (line_fault line) → Reads line s → f ≡ NoMemory
 only_memory line s TooLong e r = absurd (faulty line s TooLong e r)
 only_memory line s NotAscii e r = absurd (faulty line s NotAscii e r)
@@ -102,7 +102,7 @@ pub sound : (line : List ℕ) (r : Result Sentence LineFault) → IfOk r (λ s. 
 sound line (Ok s) read = no_fault line s read
 sound line (Err f) read = tt
 
--- a fault that was found, and is no want of memory, is the line's
+-- a fault that was found, and is no out of memory, is the line's
 pub found_fault : (f : LineFault) (o : Option LineFault) → IsFault f o → (f ≡ NoMemory → ⊥) → o ≡ Some f
 found_fault TooLong o h ne = h
 found_fault NotAscii o h ne = h

@@ -48,7 +48,7 @@ one_registers (x ∷ xs) (y ∷ ys) vs ws vt wt h k e =
     let p = one_registers xs ys vs ws vt wt h.1 k.1 rest in
     (cc, p.1)
 
--- equal lists of words have equal first words, and equal words behind them
+-- equal lists of words have equal first words, and equal words after them
 parts : {u v : List ℕ} {us ws : List (List ℕ)} → u ∷ us ≡ v ∷ ws → (u ≡ v) × (us ≡ ws)
 parts e = (ap (λ ts. first_word ts) e, ap (drop 1) e)
 
@@ -160,7 +160,7 @@ one_step (Out x) t vs ws vt wt h k e = absurd (steps_apart (Out x) t vs ws refl 
 apart : (u v : List ℕ) → eqb (get_or u 0 0) (get_or v 0 0) ≡ false → u ≡ v → ⊥
 apart u v differ e = eqb-false (get_or u 0 0) (get_or v 0 0) differ (ap (λ w. get_or w 0 0) e)
 
--- the words behind a grantee tell whether the grant is with the option
+-- the words after a grantee tell whether the grant is with the option
 one_option : (a b : Bool) → option_words a ≡ option_words b → a ≡ b
 one_option true true e = refl
 one_option true false e = cc

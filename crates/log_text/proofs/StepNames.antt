@@ -40,7 +40,7 @@ no_deed Out = refl
 pub at_step : (w : List ℕ) (ws : List (List ℕ)) (n o : ℕ) → is_deed w ≡ false → fault_from (OfStep n o ∷ []) (w ∷ ws) ≡ or_else (step_fault (step_name w) n o) (fault_from (expected_in (step_name w) n o ++ []) ws)
 at_step w ws n o e = rw e refl
 
--- a step's word, and what is behind it
+-- a step's word, and what is after it
 pub goes_on : (old mid left : List (List ℕ)) (s : StepName) (n o outs : ℕ) (more : Bool)
     → old ≡ step_word s ∷ mid → step_name (step_word s) ≡ Some s → step_fault (Some s) n o ≡ None → outs ≡ 0
     → fault_from (expected_in (Some s) n o) mid ≡ fault_behind more (n + 1) o left

@@ -1,4 +1,4 @@
--- What stands behind accesses, and behind a step: nothing, or a bar and more.
+-- What is after accesses, and after a step: nothing, or a bar and more.
 use Rattle.std.proofs.Common.{◌≡◌, ℕ, true, false, List, [], ◌∷◌, ◌++◌, Option, Some, None, refl, ap, sym, ◌∙◌, append_assoc}
 use Rattle.std.specs.Prelude.{codes}
 use Rattle.std.specs.List.{flat_map}

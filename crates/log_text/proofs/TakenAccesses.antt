@@ -1,4 +1,4 @@
--- One more access behind those that were taken.
+-- One more access after those that were taken.
 use Rattle.std.proofs.Common.{◌≡◌, ◌<◌, ◌≤◌, ℕ, ◌+◌, false, List, [], ◌∷◌, ◌++◌, None, map, refl, ap, sym, ◌∙◌, subst, arith, append_assoc}
 use Rattle.std.specs.List.{AllByRecursion}
 use Rattle.std.proofs.lemmas.List.{map-append}
@@ -24,7 +24,7 @@ each_more found more a each here is = subst (AllByRecursion IsAccess) (sym is) (
     with_last [] h = (here, tt)
     with_last (x ∷ xs) h = (h.0, with_last xs h.1)
 
--- there may be so many accesses
+-- there may be this many accesses
 pub some_more : (len new : ℕ) → 1 ≤ len → new ≡ len + 1 → 1 ≤ new
 some_more len new some one = omega arith
 

@@ -1,4 +1,4 @@
--- A step behind its word: what is answered of the words behind it, for the step as a whole.
+-- A step after its word: what is answered of the words after it, for the step as a whole.
 use Rattle.std.proofs.Common.{◌≡◌, ◌<◌, ◌≤◌, ℕ, ◌+◌, Bool, true, false, List, [], ◌∷◌, ◌++◌, Option, Some, None, refl, ap, sym, ◌∙◌, subst, arith, append_assoc}
 use Rattle.std.specs.Prelude.{codes, Result, Ok, Err, IfOk, IfErr}
 use Rattle.std.proofs.lemmas.Bool.{ltb-true, and_parts}
@@ -19,7 +19,7 @@ use Rattle.line_words.specs.declared.step_name.StepName.TheVariants.{Const, Comp
 use Rattle.line_words.proofs.StepNames.{named_step}
 use Rattle.log_text.proofs.StepNames.{at_step, no_deed}
 
--- the word names the step, of which there may be one more behind so many steps and outs
+-- the word names the step, of which there may be one more after this many steps and outs
 abbrev pub Names : StepName → List ℕ → ℕ → ℕ → Type 0
 Names s word steps outs = (word ≡ step_word s) × (step_name (step_word s) ≡ Some s) × (step_fault (Some s) steps outs ≡ None)
 
@@ -60,7 +60,7 @@ is_fault TooManyAccesses o e = e
 is_fault BadRegister o e = e
 is_fault NoMemory o e = tt
 
--- a step that makes so many outs leads from so many to so many
+-- a step that makes this many outs leads from this many to this many
 pub leads : (k o after : ℕ) (s : StepName) (t : RawStep) (old new : List (List ℕ)) (result : Result Bool LineFault) → after ≡ o + k
     → IfOk result (λ r. TakesStep (step_word s ∷ old) t r new × IsStep t × (outs_of t ≡ k))
     → IfOk result (λ r. TakesStep (step_word s ∷ old) t r new × IsStep t × (after ≡ o + outs_of t))
@@ -91,7 +91,7 @@ module _ (s : StepName) (t : RawStep) (word : List ℕ) (old new : List (List �
         omega (arith, took.2, few),
       )
 
-  -- what is left has the fault of what is behind the step
+  -- what is left has the fault of what is after the step
   pub fits : (after : ℕ → ℕ) → IfOk result (λ r. TakesStep (step_word s ∷ old) t r new × IsStep t × (after o ≡ o + outs_of t))
       → IfOk result (λ r. (steps outs : ℕ) → fault_from (expected_in (Some s) steps outs) old ≡ fault_behind r (steps + 1) (after outs) new)
       → IfOk result (λ r. fault_from (OfStep n o ∷ []) (word ∷ old) ≡ fault_behind r (n + 1) (o + outs_of t) new)
@@ -103,7 +103,7 @@ module _ (s : StepName) (t : RawStep) (word : List ℕ) (old new : List (List �
       fits_if (Err f) took fit = tt
       fits_if (Ok r) took fit = behind ∙ fit n o ∙ ap (λ (m : ℕ). fault_behind r (n + 1) m new) took.2
 
-  -- a fault of what is behind the word is one of the step
+  -- a fault of what is after the word is one of the step
   pub fails_so : IfErr result (λ f. (steps outs : ℕ) → fault_from (expected_in (Some s) steps outs) old ≡ Some f)
       → IfErr result (λ f. IsFault f (fault_from (OfStep n o ∷ []) (word ∷ old)))
   fails_so failed = fails_if result failed
@@ -113,7 +113,7 @@ module _ (s : StepName) (t : RawStep) (word : List ℕ) (old new : List (List �
       fails_if (Ok r) failed = tt
       fails_if (Err f) failed = is_fault f _ (behind ∙ failed n o)
 
--- one more step behind a bar
+-- one more step after a bar
 pub one_more : (all before left : List (List ℕ)) (found more : List RawStep) (s : RawStep) → codes "|" ∷ all ≡ flat_map further_step found ++ codes "|" ∷ before
     → before ≡ step_words s ++ codes "|" ∷ left → more ≡ found ++ s ∷ [] → codes "|" ∷ all ≡ flat_map further_step more ++ codes "|" ∷ left
 one_more all before left found more s same taken is =

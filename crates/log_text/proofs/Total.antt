@@ -18,7 +18,7 @@ use Rattle.log_text.proofs.Grammar.{reads}
 use Rattle.log_text.proofs.TotalWords.{both_none, unless_none, access_spells}
 use Rattle.log_text.proofs.TotalSteps.{Further, deed_from, ended, further_from, name_next, plain_next, access_next}
 
--- the words begin with further accesses, when there are so many, and go on with the steps
+-- the words begin with further accesses, when there are this many, and go on with the steps
 record Accesses (k : ℕ) (ws : List (List ℕ)) : Type 0 where
   accesses : List RawAccess
   left : List (List ℕ)

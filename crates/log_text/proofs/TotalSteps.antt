@@ -75,7 +75,7 @@ kind_next ps ws e = next kind_word (λ k. Unit {0}) OfKind ps ws refl (λ w. ref
 pub access_next : (ps : List Expected) (ws : List (List ℕ)) → fault_from (OfAccess ∷ ps) ws ≡ None → Next RawAccess access_word IsAccess ps ws
 access_next ps ws e = next access_word IsAccess OfAccess ps ws refl (λ w. refl) (λ f. cc) access_spells e
 
--- the words are those of further steps and a deed, when there are so many steps and outs before them
+-- the words are those of further steps and a deed, when there are this many steps and outs before them
 pub record Further (n o : ℕ) (ws : List (List ℕ)) : Type 0 where
   pub steps : List RawStep
   pub deed : Option RawDeed
@@ -214,7 +214,7 @@ record Step (n o : ℕ) (ws : List (List ℕ)) : Type 0 where
   same : ws ≡ step_words step ++ left
   is : IsStep step
 
--- what the name of a step says of the words behind it
+-- what the name of a step says of the words after it
 step_from : (fuel n o : ℕ) (w : List ℕ) (ws : List (List ℕ)) (s : Option StepName) → Reader fuel → length ws ≤ fuel → step_name w ≡ s → step_fault s n o ≡ None → fault_from (expected_in s n o ++ []) ws ≡ None → n ≤ 64 → o ≤ 8 → Step n o (w ∷ ws)
 step_from fuel n o w ws None read low is fits e steps few = absurd cc
 step_from fuel n o w ws (Some name.Const) read low is fits e steps few =
@@ -346,7 +346,7 @@ behind_bar fuel n o (w ∷ ws) read low steps few e = elim (cases_Bool (is_deed 
       a_step (step_from fuel n o w ws (step_name w) read (omega arith) refl b.0 b.1 steps few)
 ]
 
--- what stands behind a bar, read
+-- what is after a bar, read
 further_with : (n o : ℕ) (w : List ℕ) (ws : List (List ℕ)) → w ≡ codes "|" → n ≤ 64 → o ≤ 8 → Behind n o ws → Further n o (w ∷ ws)
 further_with n o w ws bar steps few (a_deed d) = record {
   steps = [];
@@ -369,7 +369,7 @@ further_with n o w ws bar steps few (a_step s) =
       last = t.last;
     }
 
--- words without a fault, where a bar or the end may stand, are those of further steps and a deed
+-- words without a fault, where a bar or the end may be, are those of further steps and a deed
 pub further_from : (fuel : ℕ) → Reader fuel
 further_from fuel n o [] low steps few e = record { steps = []; deed = None; same = refl; room = omega arith; few = omega arith; each = tt; last = tt }
 further_from zero n o (w ∷ ws) low steps few e = absurd (omega arith)

@@ -79,7 +79,7 @@ kind_spells w e =
     let s = some_of (kind_named w) (unless_none (is_some (kind_named w)) UnknownWord e) in
     record { value = s.0; same = (named_kind w s.0 s.1).0; good = tt }
 
--- the first letter, if it stands there, and the others
+-- the first letter, if it is there, and the others
 letter_first : (c : ℕ) (cs bs : List ℕ) → is_in_order (c ∷ cs) bs ≡ true → (b : Bool) × (rest : List ℕ) × (bs ≡ letter_if b c ++ rest) × (is_in_order cs rest ≡ true)
 letter_first c cs [] e = (false, [], refl, order_nil cs)
 letter_first c cs (x ∷ bs) e = elim (cases_Bool (eqb x c)) [

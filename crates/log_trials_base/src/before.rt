@@ -1,14 +1,14 @@
 //! What is before a place of a log once the places before it are run.
 
 ghost use Rattle.std.specs.Prelude.{◌≡◌, ◌≤◌, IfOk, OnOk, length};
-ghost use Rattle.standing.specs.Stands.{Stands};
+ghost use Rattle.engine.specs.Stands.{Stands};
 
 use crate::fault::TrialFault;
 use crate::known::are_known;
 use crate::logs::WholeLog;
 use chains::Chains;
+use engine::{RememberingBook, run_in_order};
 use model_base::Place;
-use standing::{RememberingBook, run_in_order};
 use std::alloc::Global;
 use workers::NoGate;
 

@@ -3,7 +3,7 @@
 ghost use Rattle.std.specs.Prelude.{◌≡◌, ◌<◌, ◌≤◌, ◌-◌, IfOk, length, map, true};
 ghost use Rattle.std.specs.List.{range_with_len};
 ghost use Rattle.placing.specs.Parts.{part_of};
-ghost use Rattle.standing.specs.Stands.{Stands};
+ghost use Rattle.engine.specs.Stands.{Stands};
 
 use log_batch::LogBatch;
 use log_trials_base::{Before, WholeLog};

@@ -12,7 +12,7 @@ const KEY: Key = Key {
     row: 1,
 };
 
-/// Tells who asks for what.
+/// Prints who asks for what.
 fn tell_form(rt: &impl Print, form: &Form) -> Result<(), TrialFault> {
     match form {
         Form::Create { columns, .. } => println!(rt; "creates a table, columns: {columns}")?,
@@ -29,7 +29,7 @@ fn tell_form(rt: &impl Print, form: &Form) -> Result<(), TrialFault> {
     Ok(())
 }
 
-/// Tells the statement of each index and what it is referred to.
+/// Prints the statement of each index and what it is referred to.
 fn tell_statements(rt: &impl Print, batch: &LogBatch<'_>) -> Result<(), TrialFault>
     requires { batch.now.placed ≡ true }
 {
@@ -43,7 +43,7 @@ fn tell_statements(rt: &impl Print, batch: &LogBatch<'_>) -> Result<(), TrialFau
     Ok(())
 }
 
-/// Tells the grant of each slot and its end before the batch.
+/// Prints the grant of each slot and its end before the batch.
 fn tell_grants(rt: &impl Print, batch: &LogBatch<'_>) -> Result<(), TrialFault> {
     for slot in 0..batch.slot_count() {
         let grant = batch.grant(slot);

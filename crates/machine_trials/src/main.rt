@@ -60,7 +60,7 @@ const BORNE: [&str; 9] = [
     "eve RUN t:1:R | LOAD 1 t 1 0 | OUT 1",
 ];
 
-/// Tells the trials one after another.
+/// Prints the trials one after another.
 fn run(rt: &impl Print, alloc: Global) -> Result<(), TrialFault> {
     let one = "the whole log, partitions: 1\n";
     try_lines(rt, alloc, one, &WORKED, 0, 1, Trial::Whole(&ONE))?;

@@ -61,7 +61,7 @@ pub fn tell_events(
     Ok(())
 }
 
-/// Tells an outcome.
+/// Prints an outcome.
 fn tell_outcome(rt: &impl Print, outcome: &Outcome) -> Result<(), TrialFault> {
     match outcome {
         Outcome::Created => println!(rt; "created")?,
@@ -97,7 +97,7 @@ fn tell_place(
     tell_outcome(rt, &outcome)
 }
 
-/// Tells where the record of each slot ended.
+/// Prints where the record of each slot ended.
 fn tell_slots(rt: &impl Print, machine: &Machine<OfLog<'_>>) -> Result<(), TrialFault> {
     for slot in 0..machine.statements().batch().slot_count() {
         let place = machine.statements().batch().grant(slot).place;

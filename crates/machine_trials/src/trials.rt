@@ -1,7 +1,7 @@
 //! Trials of a range of a log as a batch of which all is placed.
 
 ghost use Rattle.std.specs.Prelude.{◌≡◌, ◌<◌, ◌≤◌, ◌-◌, IfOk, length, true};
-ghost use Rattle.standing.specs.Stands.{Stands};
+ghost use Rattle.engine.specs.Stands.{Stands};
 
 use crate::batches::batch_of;
 use crate::calls::tell_batch;
@@ -9,14 +9,12 @@ use crate::rows::{FIRST, LAST, MIDDLE};
 use crate::telling::{tell_events, tell_found};
 use bohm_core::Machine;
 use bohm_core_base::Event;
-use finishing::{Finished, finish};
-use log_batch::LogBatch;
+use filling::{Finished, finish, take};
+use log_batch::{LogBatch, LogKey, LogWords, ended_slots};
 use log_machine::OfLog;
 use log_trials_base::{Before, TrialFault, WholeLog, before_place, log_of};
-use log_words::{LogKey, LogWords, ended_slots};
 use model_base::{MOST_PARTITIONS, Place};
 use std::alloc::{AllocError, Global};
-use taking::take;
 
 /// What is tried on a batch.
 #[derive(Clone, Copy)]
@@ -33,7 +31,7 @@ pub enum Trial {
     Finished,
 }
 
-/// Tells the events of the whole log.
+/// Prints the events of the whole log.
 fn tell_whole(
     rt: &impl Print,
     alloc: Global,
@@ -49,7 +47,7 @@ fn tell_whole(
     tell_found(rt, alloc, machine)
 }
 
-/// Tells the calls of the batch in the middle of the log, and its events.
+/// Prints the calls of the batch in the middle of the log, and its events.
 fn tell_middle(
     rt: &impl Print,
     alloc: Global,
@@ -74,7 +72,7 @@ fn finish_unstored<'a>(alloc: Global, batch: LogBatch<'a>) -> Result<Finished<'a
     finish(alloc, key, &closed)
 }
 
-/// Tells the outcomes of a log that is finished after words of which nothing is stored.
+/// Prints the outcomes of a log that is finished after words of which nothing is stored.
 fn tell_finished(
     rt: &impl Print,
     alloc: Global,
@@ -95,7 +93,7 @@ fn tell_finished(
     Ok(())
 }
 
-/// Tells the slots of the grants that the batch may end.
+/// Prints the slots of the grants that the batch may end.
 fn tell_ended(rt: &impl Print, alloc: Global, batch: &LogBatch<'_>) -> Result<(), TrialFault> {
     let slots = ended_slots(alloc, batch)?;
     let slots = slots.as_slice();

@@ -7,13 +7,13 @@ use Rattle.model_base.specs.declared.statement.Statement.{Statement}
 use Rattle.model_base.specs.declared.outcome.Outcome.{Outcome}
 use Rattle.model_base.specs.Outcomes.{World, at_place, empty_world, outcome, owners, world_after}
 
--- the outcomes of the statements, of which the first has this place and stands before this world
+-- the outcomes of the statements, of which the first has this place and is before this world
 abbrev pub outcomes_from : List ℕ → ℕ → World → List Statement → List Outcome
 outcomes_from owners place world [] = []
 outcomes_from owners place world (statement ∷ statements) =
     (at_place owners place world statement).0 ∷ outcomes_from owners (place + 1) (at_place owners place world statement).1 statements
 
--- each of them is what its statement comes to after those before it
+-- each of them is what its statement results in after those before it
 pub slice_get-outcomes_from : (owners : List ℕ) (first : ℕ) (world : World) (statements : List Statement) (place : ℕ)
     → slice_get (outcomes_from owners first world statements) place
     ≡ option_map (λ statement. (at_place owners (first + place) (world_after owners first world (take place statements)) statement).0) (slice_get statements place)

@@ -1,4 +1,4 @@
--- Who is admitted: the tests of the definitions say who holds what, and what a denial tells.
+-- Who is admitted: the tests of the definitions say who holds what, and what a denial says.
 use Rattle.std.proofs.Common.{◌≡◌, ℕ, zero, suc, ◌&&◌, ◌||◌, not, Bool, true, false, List, [], ◌∷◌, ◌++◌, Option, Some, None, refl, sym, ◌∙◌, ap, arith, inl, inr, eq-eqb}
 use Rattle.std.specs.Prelude.{◌==◌, All, Any, slice_get, take}
 use Rattle.std.specs.List.{find, list_any}
@@ -243,7 +243,7 @@ module _ (owners : List ℕ) (deeds : List Deed) (user : ℕ) (need : Need) wher
   is-cause Never out is = (cause-never owners user need deeds out).1 (λ n. unheld-missing owners (take n deeds) user need (is n))
   is-cause (Taken place) out is = (cause-taken owners user need deeds place out).1 (taken-loss place is)
 
--- a body that is run has an outcome, whatever it comes to
+-- a body that is run has an outcome, whatever it results in
 ran : (owners : List ℕ) (world : World) (deed : Option Deed) (ending : Ending) → WasAdmitted (Some (ended owners world deed ending))
 ran owners world deed (completed rows outputs) = tt
 ran owners world deed (aborted step reason) = tt
@@ -265,7 +265,7 @@ form-judged own place world statement (Form.Create table columns) asks = absurd 
 form-judged own place world statement (Form.Run accesses steps deed) asks = refl
 form-judged own place world statement (Form.Deed deed) asks = refl
 
--- what a place comes to, by the first need that is missing
+-- what a place results in, by the first need that is missing
 module _ (log : List Statement) (place : ℕ) (statement : Statement) (asked : IsAsked log place statement) where
   abbrev world : World
   world = world_before log place

@@ -1,4 +1,4 @@
--- The records of a beginning of the deeds are those of the whole, as they stood where the beginning ends.
+-- The records of a beginning of the deeds are those of the whole, as they were where the beginning ends.
 use Rattle.std.proofs.Common.{◌≡◌, ℕ, suc, ◌<◌, ◌≤◌, true, List, [], ◌∷◌, ◌++◌, map, refl, sym, ◌∙◌, ap, arith, inl, inr, Option, Some, None}
 use Rattle.std.specs.Prelude.{All, nat_lt}
 use Rattle.std.specs.Option.{option_or}

@@ -1,4 +1,4 @@
--- Statements behind a log change nothing of its places. Each needs what is on the log's tables, and who owns these is settled.
+-- Statements after a log change nothing of its places. Each needs what is on the log's tables, and who owns these is settled.
 use Rattle.std.proofs.Common.{◌≡◌, ℕ, zero, suc, ◌+◌, ◌-◌, ◌<◌, ◌≤◌, Bool, false, not, ◌&&◌, List, [], ◌∷◌, ◌++◌, length, map, take, Option, Some, None, ℤ, refl, ap, ◌∙◌, arith}
 use Rattle.std.specs.Prelude.{All, IfSome, nat_lt, slice_get, if◌then◌else◌}
 use Rattle.std.specs.List.{find, range_with_len}
@@ -41,7 +41,7 @@ get-all P [] i all = tt
 get-all P (x ∷ xs) zero all = All-head P x xs all
 get-all P (x ∷ xs) (suc i) all = get-all P xs i (All-tail P x xs all)
 
--- one place comes to the same with more tables
+-- one place results in the same with more tables
 module _ (own more : List ℕ) (world : World) (proper : IsProper own world.deeds) where
   -- who holds what, and why it isn't held
   held-same : (user : ℕ) (need : Need) → need.table < length own → holds (own ++ more) world.deeds user need ≡ holds own world.deeds user need
@@ -64,7 +64,7 @@ module _ (own more : List ℕ) (world : World) (proper : IsProper own world.deed
       (λ held. rw (here, held) rest)
       (λ lacks. rw (here, lacks) refl)
 
-  -- what a deed comes to, and a body
+  -- what a deed results in, and a body
   deed-same : (deed : Option Deed) → deed_done (own ++ more) world deed ≡ deed_done own world deed
   deed-same None = refl
   deed-same (Some (Granting grant)) = refl
@@ -114,14 +114,14 @@ run-same own more place world (statement ∷ statements) stands low =
 pub owners-append : (log more : List Statement) → owners (log ++ more) ≡ owners log ++ owners more
 owners-append log more = flat_map-append (λ (s : Statement). creator s.user s.form) log more
 
--- an item of the first list is at its index with more behind
+-- an item of the first list is at its index with more after it
 pub get-front : {X : Type 0} (xs ys : List X) (i : ℕ) → i < length xs → slice_get (xs ++ ys) i ≡ slice_get xs i
 get-front [] ys i low = absurd (omega arith)
 get-front (x ∷ xs) ys zero low = refl
 get-front (x ∷ xs) ys (suc i) low = get-front xs ys i (omega arith)
 
 module _ (log more : List Statement) where
-  -- what stands before a place
+  -- what is before a place
   pub world-stands : (place : ℕ) → NeedsOwnTables log → place ≤ length log → world_before (log ++ more) place ≡ world_before log place
   world-stands place own low =
       ap (λ (front : List Statement). world_after (owners (log ++ more)) 0 empty_world front) (take-append-le place log more low)

@@ -23,7 +23,7 @@ use Rattle.model_base.proofs.Recorded.{All-both, All-grants}
 use Rattle.model_base.proofs.Cuts.{deeds_below-whole, deeds_below-none, deeds_below-proper, records-below, deeds_below-grows}
 
 module _ (owners : List ℕ) where
-  -- by the records as they stood at a place, a user holds what the deeds below it give
+  -- by the records as they were at a place, a user holds what the deeds below it give
   pub holds_by-cut : (deeds : List Deed) (place user : ℕ) (need : Need) → IsProper owners deeds
       → holds_by owners (cut place (records owners deeds)) user need ≡ holds owners (deeds_below place deeds) user need
   holds_by-cut deeds place user need proper =
@@ -34,7 +34,7 @@ module _ (owners : List ℕ) where
   abbrev held_when_made : List Deed → List Deed → Grant → Type 0
   held_when_made start deeds grant = holds owners (start ++ deeds_below grant.place deeds) grant.grantor (option_of grant) ≡ true
 
-  -- what is held by the later deeds below a place is held by them behind one more that lies below
+  -- what is held by the later deeds below a place is held by them after one more that lies below
   held-later : (start deeds : List Deed) (deed : Deed) → All (λ next. place_of deed < place_of next) deeds
       → All (held_when_made (start ++ deed ∷ []) deeds) (grants_of deeds) → All (held_when_made start (deed ∷ deeds)) (grants_of deeds)
   held-later start deeds deed above held =
@@ -66,7 +66,7 @@ module _ (owners : List ℕ) where
   records-authorised deeds proper =
       All-map (λ entry. held_when_made [] deeds entry.grant) (record_of owners deeds) (grants_of deeds) (authorised-after [] deeds proper)
 
-  -- and by the records as they stood there
+  -- and by the records as they were there
   pub records-authorised_by : (deeds : List Deed) → IsProper owners deeds
       → All (λ entry. holds_by owners (cut entry.grant.place (records owners deeds)) entry.grant.grantor (option_of entry.grant) ≡ true) (records owners deeds)
   records-authorised_by deeds proper =

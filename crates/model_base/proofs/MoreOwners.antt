@@ -18,7 +18,7 @@ use Rattle.model_base.proofs.Records.{grants-append}
 use Rattle.model_base.proofs.Recorded.{part-kept_grants}
 use Rattle.model_base.proofs.Owners.{IsSameOwner, AreSameOwners, proper-owners}
 
--- what is in a list is there with more behind it
+-- what is in a list is there with more after it
 slice_get-append : (first later : List ℕ) (i : ℕ) → i < length first → slice_get (first ++ later) i ≡ slice_get first i
 slice_get-append [] later i less = absurd (omega arith)
 slice_get-append (x ∷ first) later zero less = refl

@@ -1,4 +1,4 @@
--- The grants in force stand in the order of their places, and one that has left force never comes back.
+-- The grants in force are in the order of their places, and one that has left force never comes back.
 use Rattle.std.proofs.Common.{◌≡◌, ℕ, ◌<◌, ◌||◌, true, false, List, [], ◌∷◌, ◌++◌, refl, sym, ◌∙◌, append_assoc, arith, inl, inr, subst}
 use Rattle.std.specs.Prelude.{All, Contains, ◌==◌}
 use Rattle.std.specs.List.{list_any}
@@ -106,7 +106,7 @@ module _ (owners : List ℕ) where
       (λ other. rw other (All-erased (λ q. grant.place < q) deeds above, rest))
   IsRising-erased past (Revoking revocation ∷ deeds) proper = IsRising-erased (past ++ Revoking revocation ∷ []) deeds proper.1
 
-  -- the grants in force stand in the order of their places
+  -- the grants in force are in the order of their places
   pub IsRising-kept : (deeds : List Deed) → IsProper owners deeds → IsRising (kept owners deeds)
   IsRising-kept deeds proper = rising-part (part-replayed owners [] (erased deeds)) (IsRising-erased [] deeds proper)
 

@@ -150,7 +150,7 @@ module _ (owners : List ℕ) where
   same_ends deeds grant [] = refl
   same_ends deeds grant (x ∷ grants) = rw (end-grant deeds grant x.place, same_ends deeds grant grants) refl
 
-  -- a grant of a new place is recorded behind the others, with no end
+  -- a grant of a new place is recorded after the others, with no end
   pub records-grant : (deeds : List Deed) (grant : Grant) → All (λ deed. place_of deed ≢ grant.place) deeds
       → records owners (deeds ++ Granting grant ∷ []) ≡ records owners deeds ++ record { grant = grant; end = None } ∷ []
   records-grant deeds grant others =

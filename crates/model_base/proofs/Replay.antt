@@ -74,14 +74,14 @@ module _ (owners : List ℕ) where
       rw (list_any-append (λ x. gives x user need) grants (grant ∷ []))
       (or_snoc (owns owners user need.table) (list_any (λ x. gives x user need) grants) (gives grant user need))
 
-  -- what gives no more still gives no more after one grant behind both
+  -- what gives no more still gives no more after one grant after both
   pub both_more : (fewer more : List Grant) (grant : Grant) → GivesNoMore owners fewer more
       → GivesNoMore owners (fewer ++ grant ∷ []) (more ++ grant ∷ [])
   both_more fewer more grant weaker = record {
     within = λ user need held. rw (has-snoc more grant user need) (grind (arith, weaker.within user need, simp has-snoc at held));
   }
 
-  -- and after one behind the second
+  -- and after one after the second
   pub one_more : (fewer more : List Grant) (grant : Grant) → GivesNoMore owners fewer more → GivesNoMore owners fewer (more ++ grant ∷ [])
   one_more fewer more grant weaker = record {
     within = λ user need held. rw (has-snoc more grant user need) (grind (arith, weaker.within user need));

@@ -136,11 +136,11 @@ step_form owners place world statement (Form.Create table columns) = (Outcome.Cr
 step_form owners place world statement form =
     judged owners place world statement (missing owners world statement.user form)
 
--- one place of the log: its outcome, and what stands after it
+-- one place of the log: its outcome, and what is after it
 abbrev pub at_place : List ℕ → ℕ → World → Statement → Outcome × World
 at_place owners place world statement = step_form owners place world statement statement.form
 
--- what stands after the statements, of which the first has this place
+-- what is after the statements, of which the first has this place
 abbrev pub world_after : List ℕ → ℕ → World → List Statement → World
 world_after owners place world [] = world
 world_after owners place world (statement ∷ statements) =

@@ -1,5 +1,5 @@
 //! How large what a log says may be, and how a log may be run: each limit once. The longest line is `MOST_LINE_BYTES` of
-//! `log_text_base`.
+//! `line_io`.
 
 /// Accesses of a statement; a line that declares one more is refused.
 pub const MOST_ACCESSES: usize = 16;

@@ -5,7 +5,7 @@ use Rattle.std.specs.Option.{is_some}
 use Rattle.std.proofs.lemmas.List.{map-append}
 use Rattle.std.proofs.lemmas.List.Folds.{list_any-append}
 
--- the number of what isn't among the first is counted on behind them
+-- the number of what isn't among the first is counted on after them
 pub position-append : {X : Type 0} (p : X → Bool) (xs ys : List X) → position_or_len p (xs ++ ys) ≡ position_or_len p xs + cond (list_any p xs) 0 (position_or_len p ys)
 position-append p [] ys = sym (zero-add (position_or_len p ys))
 position-append p (x ∷ xs) ys =
@@ -23,7 +23,7 @@ position-le p (x ∷ xs) =
       | false ↦ omega (arith, position-le p xs)
     ]
 
--- what isn't among some is counted behind them all
+-- what isn't among some is counted after them all
 pub position-none : {X : Type 0} (p : X → Bool) (xs : List X) → list_any p xs ≡ false → position_or_len p xs ≡ length xs
 position-none p [] none = refl
 position-none p (x ∷ xs) none =
@@ -34,7 +34,7 @@ position-none p (x ∷ xs) none =
     ]
     in by_first (p x) none
 
--- what isn't among the first part of some is looked for behind it
+-- what isn't among the first part of some is looked for after it
 pub record IsPassed {X : Type 0} (p : X → Bool) (part rest whole : List X) : Type 0 where
   pub found : list_any p whole ≡ list_any p rest
   pub part_number : position_or_len p part ≡ length part
@@ -53,13 +53,13 @@ passed p part rest whole split none = record {
 
 pub ruleset numbers = (position-append, position-le, position-none, list_any-append, map-append, length-append)
 
--- what stands at a number of some stands there with more behind them
+-- what is at a number of some is there with more after them
 pub slice_get-first : {X : Type 0} (xs ys : List X) (n : ℕ) → is_some (slice_get xs n) ≡ true → slice_get (xs ++ ys) n ≡ slice_get xs n
 slice_get-first [] ys n some = let no : false ≡ true = some in cc
 slice_get-first (x ∷ xs) ys zero some = refl
 slice_get-first (x ∷ xs) ys (suc n) some = slice_get-first xs ys n some
 
--- where some have no such number, it is counted on behind them
+-- where some have no such number, it is counted on after them
 pub slice_get-behind : {X : Type 0} (xs ys : List X) (n : ℕ) → is_some (slice_get xs n) ≡ false → slice_get (xs ++ ys) n ≡ slice_get ys (n - length xs)
 slice_get-behind [] ys n none = let same : n ≡ n - 0 = omega arith in ap (slice_get ys) same
 slice_get-behind (x ∷ xs) ys zero none = let no : true ≡ false = none in cc

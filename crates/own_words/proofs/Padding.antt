@@ -5,7 +5,7 @@ use Rattle.std.proofs.Math.Seq.{drop-append_seam, set-append_seam, take-append_s
 use Rattle.std.proofs.lemmas.List.{get_or-replicate, length-replicate, length-take-le, replicate-append-replicate}
 use Rattle.own_words.specs.Room.{IsRoomPadded}
 
--- what stands behind some numbers that stand in front of the array
+-- what is after some numbers that are in front of the array
 pub take_front : (n : ℕ) (front rest : List ℕ) → length front ≡ n → take n (front ++ rest) ≡ front
 take_front n front rest long = ap (λ k. take k (front ++ rest)) (sym long) ∙ take-append_seam front rest
 
@@ -37,7 +37,7 @@ module _ (n : ℕ) (xs : List ℕ) (within : n ≤ 156) (whole : length xs ≡ 1
       zeros = set_split ∙ sym (append_assoc (take n xs) (x ∷ []) rest) ∙ ap (λ ys. ys ++ rest) (sym take_more);
     }
 
-  -- no word, where so many zeros stand in the place of the words
+  -- no word, where this many zeros are in the place of the words
   module _ (front : List ℕ) (long : length front ≡ n) (each : (k : ℕ) → k < n → get_or front k 0 ≡ 0) where
     front_zeros : front ≡ replicate n 0
     front_zeros = ext_get_or 0 front (replicate n 0) (long ∙ sym (length-replicate {A = ℕ} n 0))

@@ -1,4 +1,4 @@
--- Decoding undoes coding: what each word tells.
+-- Decoding undoes coding: what each word says.
 use Rattle.std.proofs.Common.{◌≡◌, ℕ, zero, suc, ◌+◌, ◌-◌, ◌*◌, ◌^◌, ◌<◌, ◌≤◌, min, Bool, true, false, not, cond, eqb, ◌&&◌, Option, Some, None, List, [], ◌∷◌, ◌++◌, ℤ, All, Contains, length, map, take, get_or, slice_get, refl, sym, ap, ◌∙◌, arith, w64, append_assoc, length-append}
 use Rattle.std.specs.Prelude.{replicate}
 use Rattle.std.specs.Int.RustNames.{FitsSigned}
@@ -24,7 +24,7 @@ use Rattle.model_base.specs.Privileges.{has_kind, same_kind}
 use Rattle.model_base.specs.Versions.{accesses_of}
 use Rattle.own_words.specs.Words.{FitsColumns, FitsDetails, bits, cause_from, cause_word, deed_form, deed_told, denied_from, places_ended_by, ended_in, header, need_number, numbers_from, outcome_from, outputs_of, outputs_told, row_of, row_words, same_need, same_option, second_detail, signed}
 
--- numbers of 64 bits are told by their words
+-- numbers of 64 bits are given by their words
 pub numbers_told : (values : List ℤ) → All (FitsSigned w64) values → map signed (map bits values) ≡ values
 numbers_told [] fit = refl
 numbers_told (value ∷ values) fit =
@@ -32,7 +32,7 @@ numbers_told (value ∷ values) fit =
     let rest : map signed (map bits values) ≡ values = numbers_told values (All-tail (FitsSigned w64) value values fit) in
     rw (here, rest) refl
 
--- also with more words behind them
+-- also with more words after them
 pub numbers_told_in_front : (values : List ℤ) (more : List ℕ) (n : ℕ) → n ≡ length values → All (FitsSigned w64) values → map signed (take n (map bits values ++ more)) ≡ values
 numbers_told_in_front values more n long fit =
     let same : length (map bits values) ≡ n = length-map values bits ∙ sym long in
@@ -103,7 +103,7 @@ need_told need (first ∷ needed) among = by_first (need_told need needed) (same
         let next : 1 + position_or_len (same_need need) needed ≡ suc (position_or_len (same_need need) needed) = omega arith in
         ap (slice_get (first ∷ needed)) next ∙ later (among-others need first needed other among)
 
--- a cause is told by its word
+-- a cause is given by its word
 pub cause_told : (cause : Cause) → cause_from (cause_word cause) ≡ cause
 cause_told Never = refl
 cause_told (Taken place) =
@@ -111,7 +111,7 @@ cause_told (Taken place) =
     let same : place + 1 - 1 ≡ place = omega arith in
     ap (λ b. cond b Never (Taken (place + 1 - 1))) test ∙ ap Taken same
 
--- the details of an outcome are told by the header, with more words behind it
+-- the details of an outcome are given by the header, with more words after it
 pub details_told : (form : Form) (outcome : Outcome) (more : List ℕ) → FitsDetails form outcome → outcome_from form (header form outcome ++ more) (ended_in outcome) ≡ outcome
 details_told form Outcome.Created more fit = refl
 details_told form (Outcome.Undeclared step) more fit = refl
@@ -130,7 +130,7 @@ details_told form (Outcome.Done outputs deed) more fit =
     ∙ numbers_told_in_front outputs (rest ++ more) (min (length outputs) 8) few fit.range in
     ap (λ told. Outcome.Done told (deed_told (places_ended_by deed) (deed_form form))) told ∙ ap (Outcome.Done outputs) (sym fit.kind)
 
--- the row of a version cell is told by its words, with more words behind them
+-- the row of a version cell is given by its words, with more words after them
 pub row_told : (columns : ℕ) (row : Option (List ℤ)) (more : List ℕ) → FitsColumns columns row → row_of columns (row_words columns row ++ more) ≡ row
 row_told columns None more fit = refl
 row_told columns (Some row) more fit = ap Some (numbers_told_in_front row more columns (sym fit.0) fit.1)

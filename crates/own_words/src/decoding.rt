@@ -30,7 +30,7 @@ fn behind(words: &[u64], first: usize) -> &[u64]
     }
 }
 
-/// So many of the words, or all if there are fewer.
+/// This many of the words, or all if there are fewer.
 fn front(words: &[u64], count: usize) -> &[u64]
     ensures { result.now ≡ take count words.now }
 {
@@ -41,7 +41,7 @@ fn front(words: &[u64], count: usize) -> &[u64]
     }
 }
 
-/// So many whole numbers, from the words after the first few.
+/// This many whole numbers, from the words after the first few.
 fn numbers_from(first: usize, count: usize, words: &[u64]) -> Values
     requires { count ≤ MOST_VALUES }
     ensures { result ≡ numbers_from first count words.now }

@@ -1,4 +1,4 @@
--- The tables of a statement, each once: put one behind another where it isn't there yet.
+-- The tables of a statement, each once: put one after another where it isn't there yet.
 use Rattle.std.proofs.Common.{◌≡◌, ℕ, Bool, true, false, ◌&&◌, ◌||◌, not, cond, Some, None, List, [], ◌∷◌, ◌++◌, map, filter, refl, sym, ◌∙◌, ap, ◌==◌}
 use Rattle.std.specs.List.{flat_map, list_any}
 use Rattle.std.proofs.lemmas.Bool.Decides.{nat_tests}

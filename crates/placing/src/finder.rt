@@ -32,7 +32,7 @@ impl Finder {
         }
     }
 
-    /// Notes the statement of a place that was placed. On `Err` memory was refused; the place can be noted again.
+    /// Notes the statement of a place that was placed. On `Err`, out of memory; the place can be noted again.
     pub fn note(&mut self, statement: &Statement, place: Place) -> Result<(), AllocError>
         ensures partition { self.new.latest.partition ≡ self.old.latest.partition }
         ensures partitions { self.new.latest.partitions ≡ self.old.latest.partitions }
@@ -46,7 +46,7 @@ impl Finder {
         self.latest.note(statement, place)
     }
 
-    /// Finds the tables of a statement. On `Err` memory was refused.
+    /// Finds the tables of a statement. On `Err`, out of memory.
     pub fn find(&mut self, statement: &Statement) -> Result<(), AllocError>
         ensures latest { self.new.latest ≡ self.old.latest }
         ensures tables { OnOk result (self.new.tables.items ≡ tables_of statement.now.form) }

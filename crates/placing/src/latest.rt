@@ -111,7 +111,7 @@ impl Latest {
         Ok(())
     }
 
-    /// Notes the statement of a place. On `Err` memory was refused, and only a part of it may be noted.
+    /// Notes the statement of a place. On `Err`, out of memory, only a part of it may be noted.
     pub(crate) fn note(&mut self, statement: &Statement, place: Place) -> Result<(), AllocError>
         ensures others { ChangesOnly self.old self.new statement.now }
         ensures noted { OnOk result (Notes self.old self.new statement.now place) }

@@ -71,7 +71,7 @@ fn piece<'a>(ends: &[usize], references: &'a [Reference], index: usize) -> &'a [
     &references[start_at(ends, index)..ends[index]]
 }
 
-/// So many references to the base.
+/// This many references to the base.
 fn bases(alloc: Global, count: usize) -> Result<Vec<Reference>, AllocError>
     ensures { IfOk result (λ references. references.items ≡ replicate count Base) }
 {

@@ -44,7 +44,7 @@ fn add_needs(tables: &mut Vec<Table>, accesses: &[Access]) -> Result<(), AllocEr
 }
 
 /// Writes the tables of a statement's needs and of its deed into an empty list, each once, in the order in which they first appear. On
-/// `Err` memory was refused, and some may be in it.
+/// `Err`, out of memory, and some may be in it.
 pub fn find_tables(tables: &mut Vec<Table>, statement: &Statement) -> Result<(), AllocError>
     requires { tables.old.items ≡ [] }
     ensures tables { OnOk result (tables.new.items ≡ tables_of statement.now.form) }

@@ -3,7 +3,7 @@ use Rattle.std.proofs.Common.{◌≡◌, ◌<◌, ◌++◌, ℕ, List, [], ◌�
 use Rattle.std.specs.Prelude.{All}
 use Rattle.std.proofs.lemmas.Option.{slice_get-get_or}
 use Rattle.std.proofs.lemmas.List.Elements.{All-pop}
-use Rattle.log_words.specs.Keys.{Key}
+use Rattle.log_batch.specs.Keys.{Key}
 use Rattle.words.specs.Passes.{Words}
 use Rattle.filling.specs.declared.placer.Placer.{Placer}
 use Rattle.filling.specs.Placers.{AreNewPlacers, IsPlacerIn}

@@ -1,4 +1,4 @@
--- What stands before the first place of a log.
+-- What is before the first place of a log.
 use Rattle.std.proofs.Common.{◌≡◌, ◌++◌, ◌<◌, ℕ, List, [], length, refl, ap, subst, sym, ◌∙◌}
 use Rattle.std.specs.Prelude.{IfSome}
 use Rattle.std.proofs.lemmas.List.Elements.{All-nil}
@@ -9,9 +9,9 @@ use Rattle.model_base.specs.Outcomes.{owners}
 use Rattle.chains.specs.Store.{IsRight, Store}
 use Rattle.grants_base.specs.Book.{Entries, table_of_deed}
 use Rattle.grants_base.specs.declared.entries.Creation.{Creation}
-use Rattle.standing.specs.Stands.{Stands}
+use Rattle.engine.specs.Stands.{Stands}
 
--- no version of a row and no deed stand before any log
+-- no version of a row and no deed are before any log
 pub empty_stands : (log : List Statement) (store : Store) (book : Entries) → store.end ≡ 0 → IsRight log store → book.tables ≡ [] → book.records ≡ []
     → Stands log 0 store book
 empty_stands log store book ends right tables records =

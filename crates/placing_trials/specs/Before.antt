@@ -3,7 +3,7 @@ use Rattle.std.specs.Prelude.{ℕ, List, false}
 use Rattle.model_base.specs.declared.statement.Statement.{Statement}
 use Rattle.log_batch.specs.Supplied.{Ranged}
 use Rattle.sequencer.specs.Log.{Accepted}
-use Rattle.standing.specs.Stands.{Stands}
+use Rattle.engine.specs.Stands.{Stands}
 use Rattle.placing_trials.specs.declared.before.Before.{Before}
 
 -- the versions of rows end there and are those of the log, and the book has the deeds before it

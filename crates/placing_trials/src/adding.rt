@@ -76,7 +76,7 @@ pub fn before_adding(
     Ok((before, first))
 }
 
-/// What the place of this index puts out in the run in order.
+/// What the place of this index outputs in the run in order.
 fn output_of(index: usize, rows: usize) -> i64 {
     let turns = index / rows.max(1);
     i64::try_from(turns).unwrap_or(i64::MAX).saturating_add(1)

@@ -108,7 +108,7 @@ fn push_range(rest: &mut VecDeque<usize>, range: Range<usize>)
     }
 }
 
-/// So many indices, from one on and then round. An error is out of memory.
+/// This many indices, from one on and then round. An error is out of memory.
 pub fn all_from(alloc: Global, first: usize, size: usize) -> Result<VecDeque<usize>, AllocError> {
     let first = first.min(size);
     let mut rest = VecDeque::with_capacity(alloc, size)?;

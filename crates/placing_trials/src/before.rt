@@ -7,8 +7,8 @@ use crate::fault::TrialFault;
 use crate::known::are_known;
 use crate::logs::WholeLog;
 use chains::Chains;
+use engine::{RememberingBook, run_in_order};
 use model_base::Place;
-use standing::{RememberingBook, run_in_order};
 use std::alloc::Global;
 use workers::NoGate;
 

@@ -89,7 +89,7 @@ fn run_adding<R: Threads + Wait + Sync>(
     count_ended(rt, alloc, &batch, pass, placers, rows, crew)
 }
 
-/// Reports what comes of a chain, after what is before it.
+/// Reports the outcome of a chain, after what is before it.
 fn tell_links<R: Threads + Wait + Print + Sync>(
     rt: &R,
     alloc: Global,
@@ -112,7 +112,7 @@ fn tell_links<R: Threads + Wait + Print + Sync>(
     Ok(())
 }
 
-/// Runs what is before a chain, and says what comes of the chain.
+/// Runs what is before a chain, and says the outcome of the chain.
 fn tell_chain_of<R: Threads + Wait + Print + Sync>(
     rt: &R,
     alloc: Global,
@@ -122,7 +122,7 @@ fn tell_chain_of<R: Threads + Wait + Print + Sync>(
     tell_links(rt, alloc, log, &before, first)
 }
 
-/// Tells what comes of a chain of places, each of which adds 1 to what the one before it wrote: each of 64 threads has a placer
+/// Prints the outcome of a chain of places, each of which adds 1 to what the one before it wrote: each of 64 threads has a placer
 /// and a pass.
 pub fn tell_chain<R: Threads + Wait + Print + Sync>(
     rt: &R,
@@ -181,7 +181,7 @@ fn tell_rounds_of<R: Threads + Wait + Print + Sync>(
     tell_right(rt, alloc, log, &before, first)
 }
 
-/// Tells what comes of many rounds over some rows: each of 32 threads has a placer or a pass.
+/// Prints the outcome of many rounds over some rows: each of 32 threads has a placer or a pass.
 pub fn tell_rounds<R: Threads + Wait + Print + Sync>(
     rt: &R,
     alloc: Global,

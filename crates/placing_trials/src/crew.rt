@@ -190,7 +190,7 @@ pub fn start_placers<'s, E, K: Fills + Sync, P: BatchPlacer<K> + Send + 's>(
     start_placers(scope, batch, stop, placers, places)
 }
 
-/// So many threads, each with a pass of its own, which only run places, all at the same time. Thread w begins with the place of index w
+/// This many threads, each with a pass of its own, which only run places, all at the same time. Thread w begins with the place of index w
 /// times the share. The first pass is kept back, and knows in the end what all know. Returns whether every thread was started; if one
 /// wasn't, all are known to stop.
 fn run_passes<'s, E, K: Fills + Sync, R: Threads + Wait + Sync>(

@@ -38,7 +38,7 @@ struct Found {
     unplaced: usize,
 }
 
-/// Asks for a place, and counts what comes of it.
+/// Asks for a place, and counts the outcome of it.
 fn find(batch: &Batch<RangeKey<'_>>, pass: Pass, index: usize, found: &mut Found) -> Pass
     requires { IsPassOf batch.now pass }
     ensures { IsPassOf batch.now result }
@@ -103,7 +103,7 @@ fn run_left<R: Threads + Wait + Sync>(
     Ok(finish_left(rt, alloc, &batch, pass, placers))
 }
 
-/// Reports what comes of a batch that is left midway, after what is before it.
+/// Reports the outcome of a batch that is left midway, after what is before it.
 fn tell_left<R: Threads + Wait + Print + Sync>(
     rt: &R,
     alloc: Global,
@@ -134,7 +134,7 @@ fn tell_left<R: Threads + Wait + Print + Sync>(
     Ok(())
 }
 
-/// Runs what is before the places, and says what comes of them.
+/// Runs what is before the places, and says the outcome of them.
 fn tell_dropped_of<R: Threads + Wait + Print + Sync>(
     rt: &R,
     alloc: Global,

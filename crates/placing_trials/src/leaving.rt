@@ -37,7 +37,7 @@ fn ask_once<K: Fills>(alloc: Global, batch: &Batch<K>, stop: &AtomicBool, pass: 
     let _pass = ask_round(batch, stop, pass, &mut rest);
 }
 
-/// So many threads, each with a pass, which asks once for each place and is dropped. Returns whether every thread was started; if one
+/// This many threads, each with a pass, which asks once for each place and is dropped. Returns whether every thread was started; if one
 /// wasn't, all are known to stop.
 fn start_passes<'s, E, K: Fills + Sync>(
     scope: &Scope<'s, E>,

@@ -41,7 +41,7 @@ pub fn tell_run(
     Ok(pass)
 }
 
-/// Tells whether all is placed.
+/// Prints whether all is placed.
 pub fn tell_placed(
     rt: &impl Print,
     batch: &Batch<RangeKey<'_>>,
@@ -72,7 +72,7 @@ pub fn tell_steps(
     Ok(())
 }
 
-/// Tells the row of calls: one partition places both places before the other places any.
+/// Prints the row of calls: one partition places both places before the other places any.
 fn tell_row(
     rt: &impl Print,
     batch: &Batch<RangeKey<'_>>,
@@ -99,7 +99,7 @@ fn tell_row(
     Ok(())
 }
 
-/// Tells the row of calls, with the two placers of the batch.
+/// Prints the row of calls, with the two placers of the batch.
 #[tactic(auto, using(crate::proofs::Opened::last_in, crate::proofs::Opened::rest_in))]
 fn tell_placers(
     rt: &impl Print,
@@ -145,7 +145,7 @@ fn tell_log(rt: &impl Print, alloc: Global, log: &WholeLog) -> Result<(), TrialF
     tell_last(rt, alloc, log, &before)
 }
 
-/// Tells the row of calls on the reader and the revocation, which are asked for while they are placed.
+/// Prints the row of calls on the reader and the revocation, which are asked for while they are placed.
 pub fn tell_opened(rt: &impl Print, alloc: Global) -> Result<(), TrialFault> {
     println!(rt; "a reader and a revocation, asked for while they are placed")?;
     let log = log_of(alloc, &LINES)?;

@@ -27,7 +27,7 @@ const LINES: [&str; 5] = [
 /// How many places the placer has placed when it is dropped.
 const STEPS: usize = 3;
 
-/// Tells what comes of each place.
+/// Prints the outcome of each place.
 fn tell_each(rt: &impl Print, batch: &Batch<RangeKey<'_>>, pass: Pass) -> Result<(), TrialFault>
     requires ours { IsPassOf batch.now pass }
     requires first { batch.now.key.batch.first ≡ 0 }
@@ -41,7 +41,7 @@ fn tell_each(rt: &impl Print, batch: &Batch<RangeKey<'_>>, pass: Pass) -> Result
     Ok(())
 }
 
-/// Tells what comes of the places, of which one partition places some, and the others all.
+/// Prints the outcome of the places, of which one partition places some, and the others all.
 #[tactic(auto, using(crate::proofs::Opened::last_in, crate::proofs::Opened::rest_in))]
 fn tell_some(
     rt: &impl Print,

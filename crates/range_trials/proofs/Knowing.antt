@@ -14,7 +14,7 @@ use Rattle.model_base.specs.Growing.{NeedsWithin}
 use Rattle.model_base.specs.Outcomes.{creator, kinds_in, need_of, needs_of_access, needs_of_deed}
 use Rattle.model_base.specs.References.{deed_tables, table_of}
 use Rattle.model_base.specs.Versions.{accesses_of}
-use Rattle.standing.specs.Known.{AreKnownFrom, AreNamedFrom, IsKnown}
+use Rattle.engine.specs.Known.{AreKnownFrom, AreNamedFrom, IsKnown}
 
 -- a deed's table, if there is one
 pub some_within : (form : Form) (tables table : ℕ) → option_to_list (Some table) ≡ deed_tables form → table < tables → All (λ t. t < tables) (deed_tables form)
@@ -24,13 +24,13 @@ some_within form tables table is less =
 pub none_within : (form : Form) (tables : ℕ) → option_to_list {X = ℕ} None ≡ deed_tables form → All (λ t. t < tables) (deed_tables form)
 none_within form tables is = All-same (λ t. t < tables) (deed_tables form) [] (sym is) (All-nil (λ t. t < tables))
 
--- a form whose deed is on one of so many tables, where there is room for one more
+-- a form whose deed is on one of this many tables, where there is room for one more
 pub known_form : (form : Form) (tables : ℕ) → tables < 65536 → All (λ t. t < tables) (deed_tables form) → IsKnown tables form
 known_form (Form.Create table columns) tables few deed = few
 known_form (Form.Run accesses steps made) tables few deed = deed
 known_form (Form.Deed made) tables few deed = deed
 
--- what an access on one of so many tables needs
+-- what an access on one of this many tables needs
 access_needs : (tables : ℕ) (access : Access) → access.key.table < tables → All (λ (need : Need). need.table < tables) (needs_of_access access)
 access_needs tables access less = All-map (λ (need : Need). need.table < tables) (need_of access) (kinds_in access.kinds) (λ k d within. less)
 
@@ -85,7 +85,7 @@ named_step tables more zero (first ∷ statements) statement less at is count re
 named_step tables more (suc index) (first ∷ statements) statement less at is count rest =
     named_step tables more index statements statement (omega arith) at is count rest
 
--- behind the last statement there is none
+-- after the last statement there is none
 pub known_end : (tables index : ℕ) (statements : List Statement) → length statements ≤ index → AreKnownFrom tables (drop index statements)
 known_end tables zero [] end = tt
 known_end tables (suc index) [] end = tt

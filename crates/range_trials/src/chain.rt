@@ -47,7 +47,7 @@ fn count_told(batch: &Batch<RangeKey<'_>>, pass: Pass) -> (Pass, usize)
     (last, count)
 }
 
-/// Tells what comes of all places, asked for once more.
+/// Prints the outcome of all places, asked for once more.
 fn tell_again(rt: &impl Print, batch: &Batch<RangeKey<'_>>, pass: Pass) -> Result<(), TrialFault>
     requires { IsPassOf batch.now pass }
 {
@@ -59,7 +59,7 @@ fn tell_again(rt: &impl Print, batch: &Batch<RangeKey<'_>>, pass: Pass) -> Resul
     Ok(())
 }
 
-/// Tells what comes of the last place, asked for before any other.
+/// Prints the outcome of the last place, asked for before any other.
 fn tell_last(rt: &impl Print, batch: &Batch<RangeKey<'_>>, pass: Pass) -> Result<(), TrialFault>
     requires { IsPassOf batch.now pass }
 {

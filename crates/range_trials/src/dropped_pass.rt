@@ -9,10 +9,9 @@ use crate::batches::{Before, finished, nothing, words_of};
 use crate::drawn_logs::push_drawn;
 use crate::fault::TrialFault;
 use crate::logs::WholeLog;
+use filling::{Closed, Finished, take};
 use filling_base::{Batch, Fills};
-use finishing::Finished;
 use std::alloc::Global;
-use taking::{Closed, take};
 use trials_base::Generator;
 use words::{Claimed, Holding, Pass};
 
@@ -183,7 +182,7 @@ fn compare_drawn(
     compare(alloc, &log, first, counts)
 }
 
-/// Tells what comes of drawn logs of which a pass held some places when it was dropped.
+/// Prints the outcome of drawn logs of which a pass held some places when it was dropped.
 pub fn tell_dropped(rt: &impl Print, alloc: Global) -> Result<(), TrialFault> {
     let mut generator = Generator::new(2015);
     let mut counts = Counts::default();

@@ -31,7 +31,7 @@ const LINES: [&str; 13] = [
 /// The later revocation, the readers after it from the last on, those before it, and last the table's.
 const ORDER: [usize; 8] = [9, 12, 11, 10, 8, 7, 6, 0];
 
-/// Tells the outcomes of all places that are done.
+/// Prints the outcomes of all places that are done.
 fn tell_outcomes(
     rt: &impl Print,
     alloc: Global,

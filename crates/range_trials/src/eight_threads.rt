@@ -151,7 +151,7 @@ fn run_drawn<R: Threads + Print + Sync>(
     run_log(rt, alloc, &log, kinds, found)
 }
 
-/// Tells how the drawn logs come out; how often a place was found held, on standard error, since that differs from run to run.
+/// Prints how the drawn logs come out; how often a place was found held, on standard error, since that differs from run to run.
 pub fn tell_drawn<R: Threads + Print + Eprint + Sync>(
     rt: &R,
     alloc: Global,

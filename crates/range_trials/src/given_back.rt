@@ -27,7 +27,7 @@ const HELD: usize = 2;
 /// The last place, which waits for it.
 const LAST: usize = 3;
 
-/// Tells what comes of both places while one is held, and of the last once the other was given back.
+/// Prints the outcome of both places while one is held, and of the last once the other was given back.
 fn tell_holding(
     rt: &impl Print,
     batch: &Batch<RangeKey<'_>>,

@@ -27,7 +27,7 @@ const HELD: usize = 2;
 /// The last place, which waits for it.
 const LAST: usize = 4;
 
-/// Tells what a pass finds when it claims a place. What it won it gives back.
+/// Prints what a pass finds when it claims a place. What it won it gives back.
 fn tell_claim(
     rt: &impl Print,
     batch: &Batch<RangeKey<'_>>,
@@ -52,7 +52,7 @@ fn tell_claim(
     Ok(())
 }
 
-/// Tells what a pass that holds none finds when it claims each place in turn.
+/// Prints what a pass that holds none finds when it claims each place in turn.
 fn tell_claims(rt: &impl Print, batch: &Batch<RangeKey<'_>>, pass: Pass) -> Result<(), TrialFault>
     requires { IsPassOf batch.now pass }
 {
@@ -63,7 +63,7 @@ fn tell_claims(rt: &impl Print, batch: &Batch<RangeKey<'_>>, pass: Pass) -> Resu
     Ok(())
 }
 
-/// Tells what comes of the last place while another is held, and what a further pass finds.
+/// Prints the outcome of the last place while another is held, and what a further pass finds.
 fn tell_waiting(
     rt: &impl Print,
     batch: &Batch<RangeKey<'_>>,
@@ -80,7 +80,7 @@ fn tell_waiting(
     Ok(asker)
 }
 
-/// Tells what comes of a place that was given back, and of the last.
+/// Prints the outcome of a place that was given back, and of the last.
 fn tell_given_back(
     rt: &impl Print,
     batch: &Batch<RangeKey<'_>>,
@@ -96,7 +96,7 @@ fn tell_given_back(
     Ok(())
 }
 
-/// A pass takes a place. Tells what comes of the last place meanwhile, and once the other was given back and run.
+/// A pass takes a place. Tells the outcome of the last place meanwhile, and once the other was given back and run.
 fn tell_calls(
     rt: &impl Print,
     batch: &Batch<RangeKey<'_>>,

@@ -5,7 +5,7 @@ ghost use Rattle.model_base.specs.Growing.{NeedsWithin};
 ghost use Rattle.model_base.specs.Outcomes.{creator};
 ghost use Rattle.model_base.specs.References.{deed_tables};
 ghost use Rattle.model_base.specs.Versions.{accesses_of};
-ghost use Rattle.standing.specs.Known.{AreKnown, AreNamed, IsKnown};
+ghost use Rattle.engine.specs.Known.{AreKnown, AreNamed, IsKnown};
 
 use model_base::{Access, Form, MOST_NAMES, Statement};
 

@@ -3,7 +3,7 @@
 ghost use Rattle.std.specs.Prelude.{◌≡◌, ◌<◌, ◌≤◌, ◌+◌, ◌-◌, All, IfOk, false, length};
 ghost use Rattle.words.specs.Passes.{IsPassOf};
 ghost use Rattle.filling.specs.Placers.{IsPlacerIn};
-ghost use Rattle.standing.specs.Stands.{Stands};
+ghost use Rattle.engine.specs.Stands.{Stands};
 
 use crate::batches::placed;
 use crate::earlier::Earlier;

@@ -3,7 +3,7 @@
 ghost use Rattle.std.specs.Prelude.{◌≡◌, ◌<◌, ◌≤◌, [], IfOk, length};
 ghost use Rattle.words.specs.Passes.{IsPassOf};
 ghost use Rattle.words.specs.Views.{Holds};
-ghost use Rattle.standing.specs.Stands.{Stands};
+ghost use Rattle.engine.specs.Stands.{Stands};
 
 use crate::earlier::{Earlier, earlier_than};
 use crate::fault::TrialFault;
@@ -51,7 +51,7 @@ fn tell_revoked(
     Ok(())
 }
 
-/// Tells what comes of both places while the first is held, and of the second once the first was given back.
+/// Prints the outcome of both places while the first is held, and of the second once the first was given back.
 fn tell_holding(
     rt: &impl Print,
     batch: &Batch<RangeKey<'_>>,

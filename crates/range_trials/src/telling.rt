@@ -83,7 +83,7 @@ pub fn tell_asked(
     Ok(pass)
 }
 
-/// Tells the outcome of a place, and whether it is the one that is wanted.
+/// Prints the outcome of a place, and whether it is the one that is wanted.
 pub fn tell_outcome(
     rt: &impl Print,
     alloc: Global,

@@ -2,8 +2,8 @@
 use Rattle.std.proofs.Common.{◌≡◌, ◌+◌, ◌-◌, ◌<◌, ◌≤◌, ℕ, List, [], length, take, drop, Option, Some, None, ap, ◌∙◌, subst, arith, drop-drop, length-drop, length-append}
 use Rattle.std.proofs.lemmas.List.{append-nil, length-take, take_all}
 use Rattle.std.specs.Io.KnownBytes.{prepend_known}
-use Rattle.log_text_base.specs.Known.{HadSome, TookLine}
-use Rattle.log_text_base.specs.Lines.{first_line}
+use Rattle.line_io.specs.Known.{HadSome, TookLine}
+use Rattle.line_io.specs.Lines.{first_line}
 use Rattle.read_ahead.specs.Ahead.{IsLineAt, line_from}
 
 -- a line was taken out of the bytes at hand, of which these are left

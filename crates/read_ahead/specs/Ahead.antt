@@ -1,7 +1,7 @@
 -- Lines that are read before their turn.
 use Rattle.std.specs.Prelude.{◌≡◌, ◌≢◌, ◌<◌, ◌≤◌, ◌+◌, ◌++◌, List, None, Some, drop, length, take, ℕ}
-use Rattle.log_text_base.specs.Lines.{first_line, other_lines}
-use Rattle.log_text_base.specs.declared.limits.TheConstants.{KEPT_BYTES}
+use Rattle.line_io.specs.Lines.{first_line, other_lines}
+use Rattle.line_io.specs.declared.limits.TheConstants.{KEPT_BYTES}
 use Rattle.line_words.specs.declared.fault.LineFault.{LineFault}
 use Rattle.model_base.specs.declared.statement.Statement.{Statement}
 use Rattle.log_text.specs.Fault.{line_fault}

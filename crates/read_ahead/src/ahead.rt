@@ -31,7 +31,7 @@ pub struct Ahead {
     pub found: Found,
 }
 
-/// What a line's fault gives. Want of memory says nothing.
+/// What a line's fault gives. Out of memory says nothing.
 fn found_faulty(fault: LineFault) -> Found
     ensures { (names : Names) (line : List ℕ)
         → (fault ≢ LineFault.NoMemory → line_fault line ≡ Some fault) → IsFoundOf names line result }

@@ -2,7 +2,7 @@
 
 ghost use Rattle.std.specs.Prelude.{◌≡◌, ◌≤◌, ◌<◌, ◌+◌, All, IfOk, length};
 
-use log_text_base::cut_line;
+use line_io::cut_line;
 use std::alloc::{AllocError, Global};
 
 /// The end of the line in which an index of the bytes lies, up to another: the index after the first LF from there on.

@@ -19,7 +19,7 @@ pub struct Piece {
     len: usize,
 }
 
-/// Appends a line to a list. On `Err` memory was refused, and the list is unchanged.
+/// Appends a line to a list. On `Err`, out of memory, the list is unchanged.
 fn push_line(lines: &mut Vec<Ahead>, line: Ahead) -> Result<(), AllocError>
     ensures ok { OnOk result (lines.new.items ≡ lines.old.items ++ line ∷ []) }
     ensures err { OnErr result (lines.new.items ≡ lines.old.items) }

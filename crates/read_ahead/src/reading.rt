@@ -5,8 +5,8 @@ ghost use Rattle.read_ahead.specs.Ahead.{IsAhead};
 
 use crate::ahead::{Ahead, Found, found_of};
 use crate::piece::Piece;
+use line_io::cut_line;
 use log_text::RawRoom;
-use log_text_base::cut_line;
 use sequencer::{Catalog, Recent, Room};
 use std::alloc::Global;
 

@@ -1,4 +1,4 @@
--- The report is a line for each line of its text, and the line of a place tells who was denied.
+-- The report is a line for each line of its text, and the line of a place says who was denied.
 use Rattle.std.proofs.Common.{◌≡◌, ◌↔◌, ℕ, ℤ, zero, suc, ◌+◌, List, [], ◌∷◌, ◌++◌, Option, None, Some, length, drop, eqb, get_or, refl, sym, ◌∙◌, ap, append_assoc, arith, subst}
 use Rattle.std.specs.Prelude.{Any, codes, slice_get, take}
 use Rattle.std.specs.Fmt.{decimal}
@@ -63,7 +63,7 @@ places-after names [] = omega arith
 places-after names (reading ∷ readings) =
     omega (arith, places-after (names_with names reading) readings, places-with names reading, length-append (accepted names reading) (log_of (names_with names reading) readings))
 
--- the readings before one, that one, and those behind it
+-- the readings before one, that one, and those after it
 split-at : (readings : List Reading) (index : ℕ) (reading : Reading) → slice_get readings index ≡ Some reading
     → readings ≡ take index readings ++ reading ∷ drop (suc index) readings
 split-at [] index reading is = absurd (cc)
@@ -74,7 +74,7 @@ behind : {X : Type 0} (xs ys : List X) (x : X) → slice_get (xs ++ x ∷ ys) (l
 behind [] ys x = refl
 behind (y ∷ xs) ys x = behind xs ys x
 
--- what the log takes of a line and those behind it begins with the statement of the line
+-- what the log takes of a line and those after it begins with the statement of the line
 taken-first : (names : Names) (sentence : Sentence) (later : List Reading) → refusal names sentence ≡ None
     → log_of names (read sentence ∷ later) ≡ numbered names sentence ∷ log_of (names_with names (read sentence)) later
 taken-first names sentence later taken =
@@ -93,7 +93,7 @@ logged-behind earlier later sentence taken =
     ∙ ap (slice_get (log_of no_names earlier ++ numbered (names_after no_names earlier) sentence ∷ log_of (names_with (names_after no_names earlier) (read sentence)) later)) place
     ∙ behind (log_of no_names earlier) (log_of (names_with (names_after no_names earlier) (read sentence)) later) (numbered (names_after no_names earlier) sentence)
 
--- the statement that the log takes stands at its place
+-- the statement that the log takes is at its place
 logged-at : (readings : List Reading) (index : ℕ) (sentence : Sentence) → slice_get readings index ≡ Some (read sentence)
     → refusal (names_ahead readings index) sentence ≡ None
     → slice_get (log_of no_names readings) (names_ahead readings index).places ≡ Some (numbered (names_ahead readings index) sentence)
@@ -101,7 +101,7 @@ logged-at readings index sentence is taken =
     ap (λ (all : List Reading). slice_get (log_of no_names all) (names_ahead readings index).places) (split-at readings index (read sentence) is)
     ∙ logged-behind (take index readings) (drop (suc index) readings) sentence taken
 
--- what stands behind the place in a line that says denied
+-- what is after the place in a line that says denied
 ending-said : (tables : List (List ℕ)) (place : ℕ) (form : Form) (o : Outcome) (rest : List ℕ)
     → outcome_text tables place form o ≡ decimal place ++ codes " denied " ++ rest
     → ending_text tables form o ++ codes "\n" ≡ codes " denied " ++ rest
@@ -163,7 +163,7 @@ module _ (log : List Statement) (tables : List (List ℕ)) (place : ℕ) (statem
   outcome-said (Some (Outcome.Aborted step reason)) is denied = absurd denied
   outcome-said (Some (Outcome.Undeclared step)) is denied = absurd denied
 
-  -- the line of a RUN or a deed tells who holds what
+  -- the line of a RUN or a deed says who holds what
   place-tells : TellsPrivileges log tables place statement (place_text log tables place)
   place-tells = record {
     denied = (

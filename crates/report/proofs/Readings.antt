@@ -4,7 +4,7 @@ use Rattle.log_text.specs.Statement.{Sentence, Reads}
 use Rattle.log_text.specs.Fault.{line_fault}
 use Rattle.line_words.specs.declared.fault.LineFault.{LineFault}
 use Rattle.log_text.proofs.Grammar.{no_fault, one_statement}
-use Rattle.log_text_base.specs.Lines.{lines_of}
+use Rattle.line_io.specs.Lines.{lines_of}
 use Rattle.report.specs.Report.{AreReadings, IsReading, IsReport, Reading, read, faulty, report_of}
 
 -- a line without a fault reads as a statement

@@ -1,4 +1,4 @@
--- The log and the names of lines and of others behind them, and the report's line for a place.
+-- The log and the names of lines and of others after them, and the report's line for a place.
 use Rattle.std.proofs.Common.{◌≡◌, ℕ, List, [], ◌∷◌, ◌++◌, Option, Some, refl, ap, sym, ◌∙◌, append_assoc}
 use Rattle.std.specs.Prelude.{slice_get}
 use Rattle.model_base.specs.declared.statement.Statement.{Statement}

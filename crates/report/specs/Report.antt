@@ -3,7 +3,7 @@ use Rattle.std.specs.Prelude.{◌≡◌, ℕ, ◌+◌, Option, Some, None, List,
 use Rattle.model_base.specs.declared.statement.Statement.{Statement}
 use Rattle.model_base.specs.declared.outcome.Outcome.{Outcome}
 use Rattle.model_base.specs.Outcomes.{outcome}
-use Rattle.log_text_base.specs.Lines.{lines_of}
+use Rattle.line_io.specs.Lines.{lines_of}
 use Rattle.log_text.specs.Statement.{Sentence, Reads}
 use Rattle.log_text.specs.Fault.{line_fault}
 use Rattle.line_words.specs.declared.fault.LineFault.{LineFault}

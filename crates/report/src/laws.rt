@@ -2,7 +2,7 @@
 
 ghost use Rattle.std.specs.Prelude.{◌≡◌, ℕ, List};
 ghost use Rattle.std.specs.List.{flat_map};
-ghost use Rattle.log_text_base.specs.Lines.{lines_of};
+ghost use Rattle.line_io.specs.Lines.{lines_of};
 ghost use Rattle.model_base.specs.declared.statement.Statement.{Statement};
 ghost use Rattle.report.specs.Denials.{HasLineFor, IsTakenAt, report_lines};
 ghost use Rattle.report.specs.Report.{AreReadings, IsReport, Reading};

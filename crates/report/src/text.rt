@@ -10,7 +10,7 @@ use model_base::{Cause, DeedDone, Form, Need, Outcome, Place, Reason};
 use sequencer::{NameTable, Refused};
 use std::alloc::AllocError;
 
-/// The word of a line's fault. Want of memory is no line's fault, and has none.
+/// The word of a line's fault. Out of memory is no line's fault, and has none.
 fn fault_word(fault: LineFault) -> &'static str
     ensures { result.now ≡ fault_word fault }
 {
@@ -28,7 +28,7 @@ fn fault_word(fault: LineFault) -> &'static str
     }
 }
 
-/// The word of the log's refusal. Want of memory has none.
+/// The word of the log's refusal. Out of memory has none.
 fn refused_word(refused: Refused) -> &'static str
     ensures { result.now ≡ refused_word refused }
 {

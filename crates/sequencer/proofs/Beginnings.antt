@@ -19,7 +19,7 @@ first_within {X} first all e = omega (arith, length-take (length first) all, ap 
 first_longer : {X : Type 0} (first all more : List X) → take (length first) all ≡ first → take (length first) (all ++ more) ≡ first
 first_longer {X} first all more e = take-append-le (length first) all more (first_within first all e) ∙ e
 
--- a list that begins so is that and what is behind it
+-- a list that begins so is that and what is after it
 pub behind : {X : Type 0} (first all : List X) → take (length first) all ≡ first → all ≡ first ++ drop (length first) all
 behind {X} first all e =
     sym (take-append-drop (length first) all) ∙ ap (λ (xs : List X). xs ++ drop (length first) all) e
@@ -59,7 +59,7 @@ begins_further names some later begins further = record {
   columns = first_first names.columns some.columns later.columns begins.columns further.columns;
 }
 
--- a statement only names behind
+-- a statement only names after it
 begins_form : (names later : Names) (user : ℕ) (form : RawForm) → Begins names later → Begins names (with_form later user form)
 begins_form names later user (RawForm.Create table columns) begins = record {
   users = begins.users;

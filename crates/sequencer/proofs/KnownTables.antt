@@ -19,7 +19,7 @@ use Rattle.sequencer.specs.Catalog.{Names, numbered, numbered_access, numbered_d
 use Rattle.sequencer.specs.Refusal.{access_refusal, accesses_refusal, deed_refusal, form_refusal, refusal, steps_refusal}
 use Rattle.sequencer.proofs.Passed.{both_none, form_passes, known-table}
 
--- the needs, the accesses and the tables are of no table but the first so many
+-- the needs, the accesses and the tables are of no table but the first this many
 abbrev pub AreNeedsBelow : ℕ → List Need → Type 0
 AreNeedsBelow tables needed = All (λ (need : Need). need.table < tables) needed
 

@@ -12,7 +12,7 @@ next_taken {X} xs index x at =
     take_more xs index x (slice_get_within xs index x at)
     ∙ ap (λ (y : X). take index xs ++ y ∷ []) (get_or_from_slice_get xs index x x at)
 
--- a name that none before it is goes behind them
+-- a name that none before it is goes after them
 pub learned_name : (names later new : List (List ℕ)) (index : ℕ) (name : List ℕ) → names ≡ take index later → slice_get later index ≡ Some name
     → is_known (take index later) name ≡ false → new ≡ with_name names name → new ≡ take (index + 1) later
 learned_name names later new index name first at unknown added = rw (added, first, unknown, next_taken later index name at) refl

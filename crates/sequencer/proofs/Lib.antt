@@ -9,3 +9,5 @@ pub mod Passed
 pub mod RefusalLemmas
 pub mod TwoNames
 pub mod WholeLogs
+mod Rotated
+mod Sent

@@ -13,7 +13,7 @@ use Rattle.std.proofs.lemmas.List.{get_or-take, length-map, length-take, map-app
 use Rattle.model_base.proofs.Replay.{by_cases}
 use Rattle.sequencer.specs.Names.{is_known, known_number, number_of, with_name}
 
--- names that differ, whichever stands first
+-- names that differ, whichever is first
 differ_back : (first second : List ℕ) → bytes_eq first second ≡ false → bytes_eq second first ≡ false
 differ_back first second differ =
     by_cases (bytes_eq second first)
@@ -44,7 +44,7 @@ module _ {X : Type 0} (view : X → List ℕ) where
       rw (is_known-map (view k) xs)
       (by_cases (list_any (λ x. bytes_eq (view k) (view x)) xs) (λ known. rw known refl) (λ new. rw new (map-append view xs (k ∷ []))))
 
-  -- where the names are distinct, each has the number at which it stands
+  -- where the names are distinct, each has the number at which it is
   own_place : (keys : List X) (i : ℕ) (key : X) (name : List ℕ) → IsDistinct (λ x y. bytes_eq (view x) (view y)) keys
       → slice_get keys i ≡ Some key → view key ≡ name → position_or_len (λ x. bytes_eq name (view x)) keys ≡ i
   own_place keys i key name distinct at same =

@@ -1,4 +1,4 @@
--- What a test that is passed tells.
+-- What a test that is passed says.
 use Rattle.std.proofs.Common.{◌≡◌, ℕ, ◌<◌, Bool, true, false, List, [], ◌∷◌, length, Option, Some, None, refl, arith}
 use Rattle.std.specs.Prelude.{bytes_eq}
 use Rattle.model_base.proofs.Replay.{by_cases}

@@ -24,7 +24,7 @@ use Rattle.sequencer.proofs.Bodies.{sound_body}
 use Rattle.sequencer.proofs.KnownTables.{known_names}
 use Rattle.sequencer.proofs.Passed.{both_none, form_passes, passes}
 
--- the tables and their columns stay, and others may come behind them
+-- the tables and their columns stay, and others may come after them
 pub record IsLonger (names more : Names) : Type 0 where
   pub tables : length names.tables ≤ length more.tables
   pub columns : (later : List ℕ) × (more.columns ≡ names.columns ++ later)
@@ -39,7 +39,7 @@ longer names sentence =
     let form = longer_form names (number_of names.users sentence.user) sentence.form in
     record { tables = form.tables; columns = form.columns }
 
--- a row that has a column and fits its table fits it with more tables behind
+-- a row that has a column and fits its table fits it with more tables after it
 columns_stay : (columns later : List ℕ) (table width : ℕ) → 1 ≤ width → width ≡ slice_index_or columns table 0 → width ≡ slice_index_or (columns ++ later) table 0
 columns_stay columns later table width filled is =
     elim (cases_lt table (length columns)) [

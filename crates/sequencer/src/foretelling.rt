@@ -189,7 +189,7 @@ impl Catalog {
         self.places += 1;
     }
 
-    /// Learns a table from a later catalog, whose tables these begin. On `Err` memory was refused, and nothing has changed.
+    /// Learns a table from a later catalog, whose tables these begin. On `Err`, out of memory, nothing has changed.
     fn learn_table(&mut self, later: &Catalog, table: Table) -> Result<(), AllocError>
         requires within { table < length later.now.tables }
         requires next { self.old ≡ with_tables_of self.old later.now table }
@@ -204,7 +204,7 @@ impl Catalog {
         Ok(())
     }
 
-    /// Learns the users and the tables that a later catalog has beyond these. On `Err` memory was refused, and the first of them
+    /// Learns the users and the tables that a later catalog has beyond these. On `Err`, out of memory, the first of them
     /// may be learned. The places stay what they are.
     pub fn catch_up(&mut self, later: &Catalog) -> Result<(), AllocError>
         requires { Begins self.old later.now }

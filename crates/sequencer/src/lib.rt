@@ -2,9 +2,9 @@
 //!
 //! `Catalog::admit` takes a statement as the next place, or refuses it by the first test that it fails; after a refusal
 //! the catalog is unchanged, and out of memory is returned only if no test refuses. `Log` keeps every statement.
-//! `LogTail` may `forget` the first, and clauses still speak of the whole log. `Catalog::foretell` numbers a statement
-//! before its turn, and the result holds whatever is admitted before it; `take_foretold` takes it, and `catch_up`
-//! learns another catalog's names.
+//! `LogTail` may `forget` the first: these go into a `Past`, which has no bytes, so clauses still speak of the whole log.
+//! `Catalog::foretell` numbers a statement before its turn, and the result holds whatever is admitted before it;
+//! `take_foretold` takes it, and `catch_up` learns another catalog's names.
 //!
 //! A name is found by its hash, and a statement costs its accesses and steps. Lists come from forgotten statements, by
 //! `Room`.
@@ -13,9 +13,12 @@
 mod admitting;
 mod catalog;
 mod foretelling;
+mod forgetting;
+mod growing;
 mod log;
 mod names;
 mod numbering;
+mod past;
 mod refused;
 mod room;
 mod tail;
@@ -23,8 +26,10 @@ mod testing;
 
 pub use catalog::Catalog;
 pub use foretelling::Recent;
+pub use forgetting::forget_first;
 pub use log::Log;
 pub use names::NameTable;
+pub use past::Past;
 pub use refused::Refused;
 pub use room::Room;
 pub use tail::LogTail;

@@ -10,7 +10,7 @@ use model_base::{Grantee, HashSeed, MOST_NAMES, User};
 use std::alloc::{AllocError, Global};
 use std::marker::Model;
 
-/// So many numbers are remembered.
+/// This many numbers are remembered.
 const RECENT_NUMBERS: usize = 256;
 
 /// Where the number of a name is remembered: by its last bytes, so that names that count up are remembered in different places.
@@ -115,7 +115,7 @@ impl NameTable {
         self.names.get_index(number as usize).unwrap().as_str()
     }
 
-    /// Enters a name that isn't there last, and returns its number. On `Err` memory was refused, and nothing has changed.
+    /// Enters a name that isn't there last, and returns its number. On `Err`, out of memory, nothing has changed.
     pub(crate) fn add(&mut self, name: &str) -> Result<u32, AllocError>
         requires room { length self.old < MOST_NAMES }
         requires is_new { is_known self.old name.now ≡ false }
@@ -140,7 +140,7 @@ impl NameTable {
         own.as_str()
     }
 
-    /// Learns the names that a later table has beyond these. On `Err` memory was refused, and the first of them may be learned.
+    /// Learns the names that a later table has beyond these. On `Err`, out of memory, the first of them may be learned.
     pub(crate) fn catch_up(&mut self, later: &NameTable) -> Result<(), AllocError>
         requires { take (length self.old) later.now ≡ self.old }
         ensures ok { OnOk result (self.new ≡ later.now) }

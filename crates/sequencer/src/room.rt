@@ -31,7 +31,7 @@ impl Room {
         }
     }
 
-    /// Makes room for this many accesses and steps. On `Err` memory was refused.
+    /// Makes room for this many accesses and steps. On `Err`, out of memory.
     #[inline(always)]
     pub(crate) fn reserve_for(&mut self, accesses: usize, steps: usize) -> Result<(), AllocError>
         ensures { OnOk result ((self.new.accesses.items ≡ []) × (self.new.steps.items ≡ [])
@@ -48,7 +48,7 @@ impl Room {
         Ok(())
     }
 
-    /// Makes room for each access and each step of a statement. On `Err` memory was refused.
+    /// Makes room for each access and each step of a statement. On `Err`, out of memory.
     pub(crate) fn reserve(&mut self, form: &RawForm<'_>) -> Result<(), AllocError>
         ensures { OnOk result (HasRoom self.new form.now) }
     {

@@ -10,11 +10,12 @@ ghost use Rattle.sequencer.specs.Log.{empty_log, with_accepted};
 ghost use Rattle.sequencer.specs.Taken.{IsWhole};
 
 use crate::catalog::Catalog;
+use crate::forgetting::forget_first;
+use crate::past::Past;
 use crate::refused::Refused;
 use crate::room::Room;
 use log_text::{RawForm, RawRoom, RawStatement};
 use model_base::{Form, HashSeed, MOST_COLUMNS, MOST_PLACES, Place, Statement, Table, User};
-use past::{Past, forget_first};
 use std::alloc::{AllocError, Global};
 use std::marker::Model;
 use std::mem;
@@ -162,7 +163,7 @@ impl LogTail {
     }
 
     /// Takes a statement that was foretold as the next place, which is the length until then, and leaves another one, of which nothing is
-    /// known. On `Err` memory was refused, and log and statement are as they were.
+    /// known. On `Err`, out of memory, log and statement are as they were.
     pub fn push_foretold(&mut self, statement: &mut Statement) -> Result<Place, AllocError>
         requires place { length self.old.log.statements < MOST_PLACES }
         requires foretold { (sentence : Sentence) × (IsInGrammar sentence × IsForetold self.old.log.names sentence statement.old) }

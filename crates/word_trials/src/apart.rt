@@ -8,7 +8,7 @@ ghost use Rattle.word_trials.specs.Apart.{apart};
 use model_base::MOST_PLACES;
 use words::{MOST_WORDS_OF_A_PLACE, Placed};
 
-/// So many places that refer to none, with this many own words.
+/// This many places that refer to none, with this many own words.
 #[derive(Drop)]
 pub struct Apart {
     pub size: usize,

@@ -55,7 +55,7 @@ fn last_word(batch: &Batch<Chain>, pass: Pass, index: usize) -> (Pass, Option<u6
     }
 }
 
-/// Tells what comes of the last place of a long chain, asked for before any other.
+/// Prints the outcome of the last place of a long chain, asked for before any other.
 pub fn tell_long(rt: &impl Print, alloc: Global) -> Result<(), TrialFault> {
     let (batch, pass) = Batch::new(alloc, Chain { size: LONG })?;
     let (pass, tried) = batch.try_run(pass, LAST);
@@ -67,7 +67,7 @@ pub fn tell_long(rt: &impl Print, alloc: Global) -> Result<(), TrialFault> {
     Ok(())
 }
 
-/// Tells what comes of three places while one part of a pass holds the one in the middle, and once it was given back.
+/// Prints the outcome of three places while one part of a pass holds the one in the middle, and once it was given back.
 fn tell_middle_held(rt: &impl Print, batch: &Batch<Chain>, pass: Pass) -> Result<(), TrialFault>
     requires ours { IsPassOf batch.now pass }
     requires size { batch.now.key.size ≡ 3 }
@@ -96,7 +96,7 @@ fn tell_middle_held(rt: &impl Print, batch: &Batch<Chain>, pass: Pass) -> Result
     Ok(())
 }
 
-/// Tells what comes of three places while another pass holds the one in the middle, and once it was given back.
+/// Prints the outcome of three places while another pass holds the one in the middle, and once it was given back.
 pub fn tell_held(rt: &impl Print, alloc: Global) -> Result<(), TrialFault> {
     let (batch, pass) = Batch::new(alloc, Chain { size: 3 })?;
     tell_middle_held(rt, &batch, pass)
@@ -129,7 +129,7 @@ fn ask_by_two<R: Threads + Sync>(
     )
 }
 
-/// Tells how many places of a chain are done once two threads asked for all and their passes were joined, and how many of the
+/// Prints how many places of a chain are done once two threads asked for all and their passes were joined, and how many of the
 /// words say so when they are closed.
 pub fn tell_shared<R: Threads + Print + Sync>(rt: &R, alloc: Global) -> Result<(), TrialFault> {
     let (batch, pass) = Batch::new(alloc, Chain { size: SHARED })?;

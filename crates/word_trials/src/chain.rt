@@ -9,7 +9,7 @@ use model_base::MOST_PLACES;
 use std::alloc::AllocError;
 use words::{BatchWords, Holding, Placed};
 
-/// So many places that all write one row.
+/// This many places that all write one row.
 #[derive(Drop)]
 pub struct Chain {
     pub size: usize,

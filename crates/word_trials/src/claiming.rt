@@ -120,7 +120,7 @@ fn claim_by_sixteen<R: Threads + Sync>(
     one.saturating_add(other)
 }
 
-/// Tells how many places sixteen threads win together, and how many are held then: all, so each was won once.
+/// Prints how many places sixteen threads win together, and how many are held then: all, so each was won once.
 pub fn tell_claiming<R: Threads + Print + Sync>(rt: &R, alloc: Global) -> Result<(), TrialFault> {
     let key = Apart {
         size: PLACES,

@@ -120,7 +120,7 @@ fn fill_halves<R: Threads + Sync>(
     (low, high, count_done(words, joined, PLACES))
 }
 
-/// Tells how many places each part fills, and how many the joined pass finds done.
+/// Prints how many places each part fills, and how many the joined pass finds done.
 pub fn tell_filling<R: Threads + Print + Sync>(rt: &R, alloc: Global) -> Result<(), TrialFault> {
     let key = Apart {
         size: PLACES,

@@ -27,14 +27,14 @@ use std::sync::Wait;
 use std::thread::Threads;
 use working::tell_workers;
 
-/// Tells what passes find on the shared words of a batch.
+/// Prints what passes find on the shared words of a batch.
 fn tell_words<R: Threads + Print + Sync>(rt: &R, alloc: Global) -> Result<(), TrialFault> {
     tell_claiming(rt, alloc)?;
     tell_filling(rt, alloc)?;
     tell_row(rt, alloc)
 }
 
-/// Tells what comes of places that are run on shared words.
+/// Prints the outcome of places that are run on shared words.
 fn tell_places<R: Threads + Wait + Print + Sync>(rt: &R, alloc: Global) -> Result<(), TrialFault> {
     tell_long(rt, alloc)?;
     tell_held(rt, alloc)?;
@@ -45,7 +45,7 @@ fn tell_places<R: Threads + Wait + Print + Sync>(rt: &R, alloc: Global) -> Resul
     Ok(())
 }
 
-/// Tells the trials one after another.
+/// Prints the trials one after another.
 fn run<R: Threads + Wait + Print + Sync>(rt: &R, alloc: Global) -> Result<(), TrialFault> {
     tell_words(rt, alloc)?;
     tell_places(rt, alloc)

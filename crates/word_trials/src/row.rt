@@ -64,7 +64,7 @@ fn revoke(words: &BatchWords<Late>, holding: &mut Holding)
     words.finish_place(holding, 1);
 }
 
-/// Tells what a pass finds of the revocation: its outcome, and the end of the record, if it is done.
+/// Prints what a pass finds of the revocation: its outcome, and the end of the record, if it is done.
 fn tell_found(
     rt: &impl Print,
     words: &BatchWords<Late>,
@@ -112,7 +112,7 @@ fn tell_reader(
     Ok(())
 }
 
-/// Tells the row of calls of the two parts of a pass.
+/// Prints the row of calls of the two parts of a pass.
 fn tell_calls(rt: &impl Print, words: &BatchWords<Late>, pass: Pass) -> Result<(), TrialFault>
     requires { IsPassOf words.now pass }
 {
@@ -135,7 +135,7 @@ fn tell_calls(rt: &impl Print, words: &BatchWords<Late>, pass: Pass) -> Result<(
     tell_found(rt, words, &mut other)
 }
 
-/// Tells the row of calls.
+/// Prints the row of calls.
 pub fn tell_row(rt: &impl Print, alloc: Global) -> Result<(), TrialFault> {
     let (words, pass) = BatchWords::new(alloc, &Late {})?;
     tell_calls(rt, &words, pass)

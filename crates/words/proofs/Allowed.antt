@@ -1,4 +1,4 @@
--- Each kind of step keeps the rule, and tells what it tells.
+-- Each kind of step keeps the rule, and says what it says.
 use Rattle.std.proofs.Common.{◌≡◌, ℕ, zero, suc, ◌+◌, ◌<◌, Bool, true, false, true≢false, List, [], ◌∷◌, ◌++◌, length, get_or, set, refl, sym, ap, ◌∙◌, subst, arith, eqb, eq-eqb, inl, get_or-set_same}
 use Rattle.std.specs.Prelude.{◌==◌, if◌then◌else◌, nat_lt, not, is_none, Option, Some, None}
 use Rattle.std.proofs.lemmas.Bool.{and_from, lt-ltb}
@@ -140,7 +140,7 @@ module _ (b : Batch) (listed : List ℕ) (slots by : ℕ) (me : Me ℕ View) (al
   abbrev Rule : Table ℕ View → Type 0
   Rule s = legal b listed s.words s.views
 
-  -- the state behind the words
+  -- the state after the words
   abbrev behind : (s : Table ℕ View) → Rule s → State
   behind s r = reach b r.0
 
@@ -328,7 +328,7 @@ module _ (b : Batch) (listed : List ℕ) (slots by : ℕ) (me : Me ℕ View) (al
         (refl, r.1.shows.at (reference_word i k) (below, within) past ∙ placed-reference b sound r.0 i k below within past),
       )
 
-  -- a front, behind which all is known to be placed
+  -- a front, after which all is known to be placed
   pub settles : (p last : ℕ) → last + 1 ≡ b.size → KnowsPast b me.0 last
       → Allows Rule slots by me (position b (front_word p)) (λ n. n) (goes_to (with_all_placed me.0) me)
   settles p last size past s r _ at _ =

@@ -6,7 +6,7 @@ use Rattle.bohm_core_base.specs.Batch.{Batch, reference_words}
 use Rattle.words.specs.Layout.{block_begin, block_length, reference_begin}
 use Rattle.words.specs.Passes.{AreBlocks, AreReferences}
 
--- the beginnings for so many places, and where the next place's block begins
+-- the beginnings for this many places, and where the next place's block begins
 pub record IsBegun (b : Batch) (places index ends : ℕ) (begins : List ℕ) : Type 0 where
   pub size : b.size ≡ places
   pub every : length begins ≡ index

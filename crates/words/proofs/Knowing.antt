@@ -1,4 +1,4 @@
--- What the rule says of the state behind the words, as one pass sees it.
+-- What the rule says of the state after the words, as one pass sees it.
 use Rattle.std.proofs.Common.{◌≡◌, ◌≢◌, ◌⊎◌, ℕ, zero, suc, ◌+◌, ◌<◌, ◌≤◌, Bool, true, false, true≢false, List, [], ◌∷◌, length, get_or, set, refl, sym, ap, ◌∙◌, subst, inl, inr, ⊎_elim, arith, eq-eqb}
 use Rattle.std.specs.Prelude.{Option, Some, None}
 use Rattle.std.specs.List.{list_all}
@@ -120,7 +120,7 @@ module _ (b : Batch) (listed words : List ℕ) (views : List View) (es : List Ev
   settled-done i settled =
       done-is (hold_of now i) (deeds-before settled.0 settled.1 settled.4 settled.5 i settled.2 settled.6)
 
-  -- what an end tells
+  -- what an end says
   pub tells-end : (slot word : ℕ) → slot < length (batch_slots b) → word ≡ end_code (end_of now slot) → EndTells b slot v word
   tells-end slot word within is = record {
     none_or = by_end (end_of now slot) refl;

@@ -26,13 +26,13 @@ two-is-done Free two = absurd (omega arith)
 two-is-done (Held a) two = absurd (omega arith)
 two-is-done Done two = refl
 
--- behind its end a list has nothing
+-- after its end a list has nothing
 past-end : (l : List ℕ) (m : ℕ) → length l ≤ m → get_or l m 0 ≡ 0
 past-end [] m past = refl
 past-end (x ∷ l) zero past = absurd (omega arith)
 past-end (x ∷ l) (suc m) past = past-end l m (omega arith)
 
--- a beginning of a list, as so many of its elements
+-- a beginning of a list, as this many of its elements
 beginning : (own rest all : List ℕ) (m : ℕ) → own ++ rest ≡ all → get_or own m 0 ≡ (if nat_lt m (length own) then get_or all m 0 else 0)
 beginning own rest all m is =
     by_cases (nat_lt m (length own))

@@ -18,7 +18,7 @@ module _ (b : Batch) where
   pub block-room : (i : ℕ) → words_length b i < block_length b i
   block-room i = omega arith
 
-  -- blocks begin behind those of all places before them
+  -- blocks begin after those of all places before them
   block-high : (i j : ℕ) → i < j → block_begin b i + block_length b i ≤ block_begin b j
   block-high i zero less = absurd (omega arith)
   block-high i (suc j) less =
@@ -43,7 +43,7 @@ module _ (b : Batch) where
             ]
       ]
 
-  -- references begin behind all blocks, and behind those of all places before them
+  -- references begin after all blocks, and after those of all places before them
   pub references-low : (i : ℕ) → block_begin b b.size ≤ reference_begin b i
   references-low zero = omega arith
   references-low (suc i) = let low = references-low i in omega arith
@@ -110,7 +110,7 @@ module _ (b : Batch) where
     position-below (front_word p) has = omega arith
     position-below (end_word r) has = omega arith
 
-    -- the claims and own words stand before the references, these before the fronts, and these before the ends
+    -- the claims and own words are before the references, these before the fronts, and these before the ends
     abbrev zone : Meaning → ℕ
     zone (claim_word i) = 0
     zone (own_word i m) = 0

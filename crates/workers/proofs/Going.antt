@@ -149,7 +149,7 @@ asked_on batch index pass after tried same tells =
       fronts = tells_fronts batch index pass.view after.view tried tells;
     }
 
--- what came of two workers is that all is done only if both came to that
+-- what came of two workers is that all is done only if both resulted in that
 pub worse_done : (one other : Worked) → worse one other ≡ WorkedDone → one ≡ WorkedDone
 worse_done NotStarted other is = absurd (cc is)
 worse_done WorkedNoMemory NotStarted is = absurd (cc is)

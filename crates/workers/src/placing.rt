@@ -87,7 +87,7 @@ fn no_placers<P: Drop>(alloc: Global, workers: usize) -> Result<Vec<Vec<P>>, All
     Ok(hands)
 }
 
-/// Gives a worker one placer more. On `Err` memory was refused.
+/// Gives a worker one placer more. On `Err`, out of memory.
 fn give<P: Drop>(hands: &mut Vec<Vec<P>>, worker: usize, placer: P) -> Result<(), AllocError>
     requires { worker < length hands.old.items }
     ensures len { length hands.new.items ≡ length hands.old.items }

@@ -11,8 +11,8 @@ use super::form::{other_form, run, takes_run};
 use super::places::name;
 use crate::raw_room::{RawRoom, leave_none, same_name};
 use crate::statement::RawStatement;
+use line_io::MOST_LINE_BYTES;
 use line_words::{LineFault, Name, Words};
-use log_text_base::MOST_LINE_BYTES;
 use std::alloc::Global;
 
 /// Whether each byte is a printable one of ASCII. It looks at all of them, so that many are tested at once.

@@ -1,5 +1,5 @@
 use Rattle.std.proofs.Common.{refl, ap, ◌∙◌, rules}
-use Rattle.log_text_base.specs.Ahead.{found_line}
+use Rattle.line_io.specs.Ahead.{found_line}
 use Rattle.engine.specs.Engine.{Run, finished}
 use Rattle.batched_text.proofs.TakenLines.{taken_end, taken_start, taken_step}
 use Rattle.batched_text.proofs.quiet.take_lines.Goals as goal

@@ -1,9 +1,9 @@
 use Rattle.std.proofs.Common.{◌≡◌, ◌<◌, ◌≤◌, ◌+◌, ◌-◌, length}
 use Rattle.std.specs.Io.KnownBytes.{prepend_known}
-use Rattle.log_text_base.specs.Ahead.{ahead}
+use Rattle.line_io.specs.Ahead.{ahead}
 use Rattle.engine.specs.Engine.{finished}
 use Rattle.batched_text.specs.Reaching.{HasTaken}
-use Rattle.log_text_base.specs.declared.limits.TheConstants.{BUFFER_BYTES, MOST_GIVEN_BYTES}
+use Rattle.line_io.specs.declared.limits.TheConstants.{BUFFER_BYTES, MOST_GIVEN_BYTES}
 use Rattle.batched_text.proofs.reaching.run_until.Given as goal
 
 abbrev pub invariant-batches : goal.invariant-batches

@@ -1,5 +1,5 @@
 use Rattle.std.proofs.Common.{◌≡◌, ◌∙◌, ap, arith, length}
-use Rattle.log_text_base.specs.Ahead.{found_line}
+use Rattle.line_io.specs.Ahead.{found_line}
 use Rattle.engine.specs.Engine.{Run, finished}
 use Rattle.batched_text.proofs.Fronts.{front_step}
 use Rattle.batched_text.proofs.reaching.take_until.Goals as goal

@@ -1,6 +1,6 @@
 use Rattle.std.proofs.Common.{◌∙◌, arith, rules}
-use Rattle.log_text_base.specs.Ahead.{ahead, found_line}
-use Rattle.log_text_base.proofs.Pieces.{read_none}
+use Rattle.line_io.specs.Ahead.{ahead, found_line}
+use Rattle.line_io.proofs.Pieces.{read_none}
 use Rattle.log_text.proofs.Total.{total}
 use Rattle.batched_text.proofs.Faults.{reads_told, writes_never}
 use Rattle.batched_text.proofs.ForetoldLines.{begins_dealt}

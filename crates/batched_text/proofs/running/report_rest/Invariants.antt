@@ -1,11 +1,11 @@
 use Rattle.std.proofs.Common.{◌≡◌, ℕ, ◌+◌, ◌-◌, [], List, Option, length}
 use Rattle.std.specs.Io.KnownBytes.{prepend_known}
-use Rattle.log_text_base.specs.Ahead.{ahead}
+use Rattle.line_io.specs.Ahead.{ahead}
 use Rattle.sequencer.specs.Foretelling.{Begins}
 use Rattle.batched_text.specs.Batching.{BatchedUpTo, IsBatchReady}
 use Rattle.batched_text.specs.Foretold.{log_names}
 use Rattle.batched_text.specs.History.{NoneWait}
-use Rattle.log_text_base.specs.declared.limits.TheConstants.{BUFFER_BYTES, MOST_GIVEN_BYTES}
+use Rattle.line_io.specs.declared.limits.TheConstants.{BUFFER_BYTES, MOST_GIVEN_BYTES}
 use Rattle.batched_text.proofs.running.report_rest.Given as goal
 
 abbrev pub invariant-lines : goal.invariant-lines

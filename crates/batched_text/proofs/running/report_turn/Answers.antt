@@ -1,5 +1,5 @@
 use Rattle.std.proofs.Common.{◌≡◌, ◌-◌, length, ap, refl, ◌∙◌, arith, rules, length-drop}
-use Rattle.log_text_base.specs.Ahead.{ahead}
+use Rattle.line_io.specs.Ahead.{ahead}
 use Rattle.log_text.proofs.Total.{total}
 use Rattle.batched_text.proofs.Ended.{batched_written, begun_cut}
 use Rattle.batched_text.proofs.Faults.{reads_told, writes_told}

@@ -1,5 +1,5 @@
 use Rattle.std.proofs.Common.{ℕ, ap, refl, ◌∙◌, rules}
-use Rattle.log_text_base.specs.Ahead.{found_line}
+use Rattle.line_io.specs.Ahead.{found_line}
 use Rattle.bohm_base.specs.Faults.{read_errors}
 use Rattle.bohm_base.proofs.LinesRead.{collect_start, collect_step, collect_end, fault_told}
 use Rattle.bohm_base.proofs.collecting.collect_all.Goals as goal

@@ -1,8 +1,8 @@
 use Rattle.std.proofs.Common.{◌≡◌, ◌<◌, ◌≤◌, ◌+◌, ◌-◌, length}
 use Rattle.std.specs.Io.KnownBytes.{prepend_known}
-use Rattle.log_text_base.specs.Ahead.{ahead}
+use Rattle.line_io.specs.Ahead.{ahead}
 use Rattle.bohm_base.specs.Collecting.{CollectsSoFar}
-use Rattle.log_text_base.specs.declared.limits.TheConstants.{BUFFER_BYTES, MOST_GIVEN_BYTES}
+use Rattle.line_io.specs.declared.limits.TheConstants.{BUFFER_BYTES, MOST_GIVEN_BYTES}
 use Rattle.bohm_base.proofs.collecting.collect_all.Given as goal
 
 abbrev pub invariant-lines : goal.invariant-lines

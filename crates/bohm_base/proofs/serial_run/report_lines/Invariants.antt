@@ -1,5 +1,5 @@
 use Rattle.std.proofs.Common.{◌≡◌, ◌≤◌, ◌+◌, ◌++◌, drop}
-use Rattle.log_text_base.specs.Known.{MovesOut}
+use Rattle.line_io.specs.Known.{MovesOut}
 use Rattle.bohm_base.specs.Collecting.{log_text, report_text}
 use Rattle.bohm_base.proofs.serial_run.report_lines.Given as goal
 

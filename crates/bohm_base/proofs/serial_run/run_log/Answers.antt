@@ -1,4 +1,4 @@
-use Rattle.log_text_base.proofs.Written.{appends_none}
+use Rattle.line_io.proofs.Written.{appends_none}
 use Rattle.bohm_base.specs.Collecting.{log_text}
 use Rattle.bohm_base.proofs.Runnable.{runnable_log}
 use Rattle.bohm_base.proofs.serial_run.run_log.Goals as goal

@@ -1,4 +1,4 @@
-use Rattle.log_text_base.proofs.Written.{front_kept}
+use Rattle.line_io.proofs.Written.{front_kept}
 use Rattle.bohm_base.proofs.Beginnings.{front_written, whole_written}
 use Rattle.bohm_base.proofs.serial_run.write_report.Goals as goal
 

@@ -3,11 +3,11 @@ use Rattle.std.specs.Prelude.{All, Decides, slice_get}
 use Rattle.model_base.specs.declared.deed.Need.{Need}
 use Rattle.model_base.specs.Outcomes.{deeds_before, needs, owners}
 use Rattle.grants_base.specs.Book.{Entries, ShowsBook}
-use Rattle.grant_paths.specs.declared.line.Line.{Line}
+use Rattle.explain.specs.declared.line.Line.{Line}
 use Rattle.sequencer.specs.Log.{Accepted}
 use Rattle.engine.specs.Engine.{finished}
 use Rattle.engine.proofs.Named.{named_in}
-use Rattle.explain_base.specs.Explained.{AreSound}
+use Rattle.explain.specs.ExplainedNeeds.{AreSound}
 use Rattle.explain.proofs.Checks.{explains_at}
 use Rattle.explain.proofs.checking.check.Goals as goal
 

@@ -4,8 +4,8 @@ use Rattle.std.proofs.lemmas.Bool.{true≢false}
 use Rattle.std.proofs.lemmas.Option.{get_or_from_slice_get, slice_get_within}
 use Rattle.model_base.specs.declared.deed.Need.{Need}
 use Rattle.model_base.specs.Outcomes.{needs}
-use Rattle.explain_base.specs.Explained.{AreSound}
-use Rattle.explain_base.proofs.Passing.{ended, passed_back, passed_fore, wrong_fails}
+use Rattle.explain.specs.ExplainedNeeds.{AreSound}
+use Rattle.explain.proofs.Passing.{ended, passed_back, passed_fore, wrong_fails}
 use Rattle.explain.proofs.Checks.{lines_ended, long_fails, none_told}
 use Rattle.explain.proofs.Indexing.{from_read}
 use Rattle.explain.proofs.checking.explain_all.Goals as goal

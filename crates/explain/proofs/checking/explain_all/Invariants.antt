@@ -4,7 +4,7 @@ use Rattle.model_base.specs.declared.deed.Deed.{Deed}
 use Rattle.model_base.specs.declared.deed.Need.{Need}
 use Rattle.model_base.specs.Outcomes.{needs}
 use Rattle.grants_base.specs.Book.{ShowsBook}
-use Rattle.explain_base.specs.Explained.{AreSound}
+use Rattle.explain.specs.ExplainedNeeds.{AreSound}
 use Rattle.explain.proofs.checking.explain_all.Given as goal
 
 -- the lines that are left explain the needs that are left just where all explain all

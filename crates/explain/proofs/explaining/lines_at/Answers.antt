@@ -5,13 +5,13 @@ use Rattle.std.proofs.lemmas.Result.{IfOk-weaker}
 use Rattle.model_base.specs.declared.deed.Deed.{Deed}
 use Rattle.model_base.specs.declared.deed.Need.{Need}
 use Rattle.model_base.specs.Outcomes.{deeds_before, needs, owners}
-use Rattle.grant_paths.specs.declared.line.Line.{Line}
+use Rattle.explain.specs.declared.line.Line.{Line}
 use Rattle.grants_base.specs.Book.{Entries, ShowsBook}
 use Rattle.sequencer.specs.Log.{Accepted}
 use Rattle.sequencer.specs.Taken.{IsWhole}
 use Rattle.engine.specs.Engine.{finished}
 use Rattle.engine.proofs.Named.{named_in}
-use Rattle.explain_base.specs.Explained.{explaining_lines}
+use Rattle.explain.specs.ExplainedNeeds.{explaining_lines}
 use Rattle.explain.specs.Explained.{LinesAreNamed, explained}
 use Rattle.explain.proofs.Lines.{lines_told, named_told}
 use Rattle.explain.proofs.explaining.lines_at.Goals as goal

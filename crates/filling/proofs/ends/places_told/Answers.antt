@@ -1,5 +1,5 @@
 use Rattle.std.proofs.Common.{ap}
-use Rattle.reading.specs.Told.{Work}
+use Rattle.evaluation.specs.Told.{Work}
 use Rattle.filling.proofs.Telling.{only-learns, same-pass}
 use Rattle.filling.proofs.ends.places_told.Goals as goal
 

@@ -1,6 +1,6 @@
 use Rattle.std.proofs.Common.{◌==◌, sym, ap, ◌∙◌, subst, arith}
 use Rattle.bohm_core_base.specs.Batch.{IsSoundBatch, was_done}
-use Rattle.reading.proofs.Referred.{word-there}
+use Rattle.evaluation.proofs.Referred.{word-there}
 use Rattle.words.specs.declared.claims.Seen.{Seen}
 use Rattle.words.specs.Passes.{gone_on}
 use Rattle.words.specs.Tells.{LookTells}

@@ -1,6 +1,6 @@
 use Rattle.std.proofs.Common.{◌+◌, ◌==◌, Some, None, sym, ap, ◌∙◌, subst}
 use Rattle.log_batch.specs.Supplied.{Ranged, batch_in}
-use Rattle.log_words.specs.Keys.{Key}
+use Rattle.log_batch.specs.Keys.{Key}
 use Rattle.words.specs.Layout.{listed_slot_at}
 use Rattle.words.specs.Tells.{EndTells}
 use Rattle.filling.proofs.Telling.{record-ended}

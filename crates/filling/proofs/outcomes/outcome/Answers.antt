@@ -1,6 +1,6 @@
 use Rattle.std.proofs.Common.{sym, ap, ◌∙◌, subst, inl, inr}
 use Rattle.log_batch.specs.Supplied.{batch_in}
-use Rattle.log_words.specs.Keys.{Key}
+use Rattle.log_batch.specs.Keys.{Key}
 use Rattle.words.specs.declared.view.View.{View}
 use Rattle.words.specs.Passes.{Passing, Words}
 use Rattle.words.specs.Views.{In, with_known, with_sighting}

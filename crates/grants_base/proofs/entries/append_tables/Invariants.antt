@@ -1,7 +1,7 @@
 use Rattle.std.proofs.Common.{◌≡◌, ◌≤◌, ◌+◌, ◌++◌, length, take, vec_len, vec_capacity}
 use Rattle.grants_base.proofs.entries.append_tables.Given as goal
 
--- so many tables are behind the others, and there is room for the rest
+-- this many tables are after the others, and there is room for the rest
 abbrev pub invariant-loop-creation : goal.invariant-loop-creation
 invariant-loop-creation l = record {
   items : l.tables.items ≡ l.initial.tables.items ++ take l.creation-index l.more;

@@ -57,7 +57,7 @@ last_is : (entries : List Record) (entry : Record) → slice_get (entries ++ ent
 last_is [] entry = refl
 last_is (first ∷ entries) entry = last_is entries entry
 
--- the last grant may end behind all
+-- the last grant may end after all
 last_ended : (book : Entries) (grant : Grant) (slot place : ℕ) → IsSoundBook (with_grant book grant) → IsLater (with_grant book grant) place → slot ≡ length book.records
     → IsSoundBook (record { tables = book.tables; records = end_slot (book.records ++ unended grant ∷ []) slot place })
 last_ended book grant slot place sound later is =

@@ -1,6 +1,6 @@
 use Rattle.std.proofs.Common.{◌+◌, ◌<◌, ◌≤◌, ◌^◌, length}
-use Rattle.log_text_base.specs.Ahead.{ahead}
-use Rattle.log_text_base.specs.declared.limits.TheConstants.{BUFFER_BYTES, MOST_GIVEN_BYTES}
+use Rattle.line_io.specs.Ahead.{ahead}
+use Rattle.line_io.specs.declared.limits.TheConstants.{BUFFER_BYTES, MOST_GIVEN_BYTES}
 use Rattle.layer_trials.proofs.read_lines.tell_calls.Given as goal
 
 -- what the next call wants

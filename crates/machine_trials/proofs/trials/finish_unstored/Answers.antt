@@ -1,6 +1,6 @@
 use Rattle.std.proofs.Common.{◌≡◌, IfOk, ap, subst, ◌∙◌}
 use Rattle.log_batch.specs.Supplied.{Ranged}
-use Rattle.log_words.specs.Keys.{Key}
+use Rattle.log_batch.specs.Keys.{Key}
 use Rattle.machine_trials.proofs.trials.finish_unstored.Goals as goal
 
 pub returns : goal.returns

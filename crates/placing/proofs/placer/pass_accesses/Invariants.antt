@@ -3,7 +3,7 @@ use Rattle.placing.specs.Latest.{own_writer}
 use Rattle.placing.specs.Parts.{with_reference}
 use Rattle.placing.proofs.placer.pass_accesses.Given as goal
 
--- with the references of the rest, the part comes to what it comes to with all
+-- with the references of the rest, the part results in what it results in with all
 abbrev pub invariant-loop-access : goal.invariant-loop-access
 invariant-loop-access l = record {
   part :

@@ -3,7 +3,7 @@ use Rattle.placing.specs.Latest.{own_prior}
 use Rattle.placing.specs.Parts.{with_reference}
 use Rattle.placing.proofs.placer.pass_tables.Given as goal
 
--- with the references of the rest, the part comes to what it comes to with all
+-- with the references of the rest, the part results in what it results in with all
 abbrev pub invariant-loop-table : goal.invariant-loop-table
 invariant-loop-table l = record {
   part :

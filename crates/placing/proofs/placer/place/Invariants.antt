@@ -4,7 +4,7 @@ use Rattle.placing.specs.Latest.{IsLatest}
 use Rattle.placing.specs.Parts.{own_references, part_of, with_place}
 use Rattle.placing.proofs.placer.place.Given as goal
 
--- with what there is to find at the rest of the places, the part comes to what it comes to in the end; and the last places
+-- with what there is to find at the rest of the places, the part results in what it results in in the end; and the last places
 -- are kept
 abbrev pub invariant-loop-place : goal.invariant-loop-place
 invariant-loop-place l = record {

@@ -5,7 +5,7 @@ use Rattle.model_base.specs.declared.deed.Need.{Need}
 use Rattle.placing.specs.Tables.{with_numbers}
 use Rattle.placing.proofs.tables.add_needs.Given as goal
 
--- with the tables of the rest, the list comes to what it comes to with all
+-- with the tables of the rest, the list results in what it results in with all
 abbrev pub invariant-loop-access : goal.invariant-loop-access
 invariant-loop-access l = record {
   tables :

@@ -1,8 +1,8 @@
 use Rattle.std.proofs.Common.{◌≤◌, drop}
-use Rattle.standing.specs.Known.{AreKnown, AreKnownFrom, AreNamed, AreNamedFrom}
+use Rattle.engine.specs.Known.{AreKnown, AreKnownFrom, AreNamed, AreNamedFrom}
 use Rattle.placing_trials.proofs.known.are_known.Given as goal
 
--- if what comes later is known behind the tables so far, all is
+-- if what comes later is known after the tables so far, all is
 abbrev pub invariant-loop-statement : goal.invariant-loop-statement
 invariant-loop-statement l = record {
   few : l.tables ≤ 65536;

@@ -1,6 +1,6 @@
 use Rattle.std.proofs.Common.{◌≡◌, ap, subst, ◌∙◌}
 use Rattle.log_batch.specs.Supplied.{Ranged}
-use Rattle.log_words.specs.Keys.{Key}
+use Rattle.log_batch.specs.Keys.{Key}
 use Rattle.range_trials.proofs.batches.finished.Goals as goal
 
 pub returns : goal.returns

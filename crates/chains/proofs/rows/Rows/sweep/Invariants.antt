@@ -5,7 +5,7 @@ use Rattle.chains.specs.Kept.{AreNoted, IsStoreKept}
 use Rattle.chains.specs.Store.{newest_or, of_key, swept}
 use Rattle.chains.proofs.rows.Rows.sweep.Given as goal
 
--- what is left comes to the same when it is swept, and so many versions went
+-- what is left results in the same when it is swept, and this many versions went
 abbrev pub invariant-loop-write : goal.invariant-loop-write
 invariant-loop-write l = record {
   left : (key : Key) → swept l.mark (of_key key l.self.versions) ≡ swept l.mark (of_key key l.initial.self.versions);

@@ -1,7 +1,7 @@
 use Rattle.std.proofs.Common.{◌∙◌, ◌++◌, ap, List, ℕ}
 use Rattle.sequencer.specs.Log.{Accepted}
 use Rattle.report.specs.Report.{place_text}
-use Rattle.explained_text.specs.Text.{explanation_text}
+use Rattle.audit_text.specs.Explanation.{explanation_text}
 use Rattle.fed_run.proofs.FedExplained.{fed_explains}
 use Rattle.fed_run.proofs.Feeding.{on_ok}
 use Rattle.fed_run.proofs.fed.FedRun.explain.Goals as goal

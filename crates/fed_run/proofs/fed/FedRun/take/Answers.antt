@@ -1,5 +1,5 @@
 use Rattle.std.proofs.Common.{◌++◌, ◌∷◌, [], Some, ap, arith, length, refl, sym}
-use Rattle.log_text_base.specs.Lines.{first_line}
+use Rattle.line_io.specs.Lines.{first_line}
 use Rattle.fed_run.specs.Progress.{Progress}
 use Rattle.fed_run.proofs.Feeding.{on_err}
 use Rattle.fed_run.proofs.FedTexts.{stands_all, stands_line, stands_same}

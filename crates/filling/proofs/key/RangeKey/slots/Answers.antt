@@ -1,5 +1,5 @@
 use Rattle.std.proofs.Common.{ap, ◌∙◌}
-use Rattle.log_words.specs.Keys.{Key}
+use Rattle.log_batch.specs.Keys.{Key}
 use Rattle.filling.proofs.key.RangeKey.slots.Goals as goal
 
 pub returns-clause-value : goal.returns-clause-value

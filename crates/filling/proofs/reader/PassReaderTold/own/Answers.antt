@@ -2,9 +2,9 @@ use Rattle.std.proofs.Common.{◌<◌, get_or, sym, ap, ◌∙◌, subst, arith}
 use Rattle.bohm_core_base.specs.Batch.{words_length}
 use Rattle.bohm_core_base.specs.Serial.{serial_words}
 use Rattle.log_batch.specs.Supplied.{batch_in}
-use Rattle.log_words.specs.Keys.{Key}
-use Rattle.reading.specs.Told.{IsReferred}
-use Rattle.reading.proofs.Referred.{referred-low}
+use Rattle.log_batch.specs.Keys.{Key}
+use Rattle.evaluation.specs.Told.{IsReferred}
+use Rattle.evaluation.proofs.Referred.{referred-low}
 use Rattle.words.specs.Passes.{Passing}
 use Rattle.filling.specs.Readings.{IsReadingPass, PlaceReading, reader_in, work_of}
 use Rattle.filling.proofs.Telling.{referred-known}

@@ -2,8 +2,8 @@ use Rattle.std.proofs.Common.{◌<◌, sym, ap, ◌∙◌, subst}
 use Rattle.bohm_core_base.specs.Batch.{was_done}
 use Rattle.bohm_core_base.specs.Serial.{serial_words}
 use Rattle.log_batch.specs.Supplied.{batch_in}
-use Rattle.log_words.specs.Keys.{Key}
-use Rattle.reading.specs.Told.{IsDeedBefore}
+use Rattle.log_batch.specs.Keys.{Key}
+use Rattle.evaluation.specs.Told.{IsDeedBefore}
 use Rattle.words.specs.Passes.{Passing}
 use Rattle.words.specs.Views.{KnowsReferences}
 use Rattle.filling.specs.Readings.{PlaceReading, reader_in, work_of}

@@ -5,7 +5,7 @@ use Rattle.bohm_core_base.specs.Batch.{reference_words}
 use Rattle.log_batch.specs.Laws.{word_of}
 use Rattle.log_batch.specs.Supplied.{batch_in}
 use Rattle.log_batch.proofs.Referring.{reference-is, reference-within}
-use Rattle.reading.specs.Told.{Indexed}
+use Rattle.evaluation.specs.Told.{Indexed}
 use Rattle.log_machine.proofs.by_state.ByStateTold.reference.Goals as goal
 
 pub reference_at-requires : goal.reference_at-requires

@@ -5,7 +5,7 @@ use Rattle.model_base.specs.References.{is_write_to}
 use Rattle.placing.specs.Latest.{is_own_row, prior_in, writer_in}
 use Rattle.placing.proofs.latest.Latest.note_writes.Given as goal
 
--- with the rest of the accesses, the last writers come to what they come to with all
+-- with the rest of the accesses, the last writers result in what they result in with all
 abbrev pub invariant-loop-access : goal.invariant-loop-access
 invariant-loop-access l = record {
   partition : l.self.partition ≡ l.initial.self.partition;

@@ -1,5 +1,0 @@
-use Rattle.answering.proofs.Fitting.{words_tell}
-use Rattle.answering.proofs.laws.words_tell_outcomes.Goals as goal
-
-pub returns : goal.returns
-returns c = words_tell

@@ -1,0 +1,151 @@
+-- What a place of a log results in, run over what is before it.
+use Rattle.std.proofs.Common.{◌≡◌, ◌≤◌, ◌+◌, ◌++◌, ℕ, ℤ, false, List, [], ◌∷◌, Option, Some, None, filter, length, map, take, refl, ap, sym, ◌∙◌, subst, arith}
+use Rattle.std.specs.Prelude.{slice_get}
+use Rattle.std.specs.Option.{option_map_or, option_to_list}
+use Rattle.std.proofs.lemmas.List.{append-nil}
+use mathlib.Core.Path.{fun_ext}
+use Rattle.model_base.specs.declared.deed.Cause.{Cause}
+use Rattle.model_base.specs.declared.deed.Deed.{Deed}
+use Rattle.model_base.specs.declared.deed.Need.{Need}
+use Rattle.model_base.specs.declared.outcome.Outcome.{Outcome}
+use Rattle.model_base.specs.declared.statement.Access.{Access}
+use Rattle.model_base.specs.declared.statement.Form.{Form}
+use Rattle.model_base.specs.declared.statement.Statement.{Statement}
+use Rattle.model_base.specs.Body.{Ending, completed}
+use Rattle.model_base.specs.Growing.{NeedsWithin}
+use Rattle.model_base.specs.Outcomes.{World, body, changed, deed_of, deeds_before, ended, judged, missing, needs, owners, rows_before, step_form, world_before}
+use Rattle.model_base.specs.Rows.{Rows}
+use Rattle.model_base.specs.Versions.{accesses_of, is_writing, writes_of}
+use Rattle.model_base.proofs.Replay.{by_cases}
+use Rattle.body.specs.declared.ending.BodyEnd.{BodyEnd}
+use Rattle.body.specs.declared.window.Window.{Window}
+use Rattle.body.specs.Ending.{ending_of}
+use Rattle.body.specs.Premises.{HasFittingBody}
+use Rattle.body.specs.Shown.{WindowShows, with_rows}
+use Rattle.chains.specs.declared.version.Version.{Version}
+use Rattle.chains.specs.Store.{IsRight, Store, rows_at_end, versions_at, versions_by}
+use Rattle.checker.specs.Admission.{admission, admitted_if}
+use Rattle.checker.specs.Missing.{Covers}
+use Rattle.checker.specs.declared.admission.Admission.{Admission}
+use Rattle.grants_base.specs.Book.{Entries, view_of}
+use Rattle.own_words.specs.Words.{creates}
+use Rattle.engine.specs.Known.{AreKnown, AreNamed, AreNamedFrom}
+use Rattle.engine.specs.Stands.{BookStands, Stands}
+use Rattle.engine.proofs.Making.{made_none, owned}
+use Rattle.engine.proofs.Stepping.{Leads, at_tables, counted, leads, listed, make_owners}
+
+-- a right store that ends at a place tells the rows before it
+pub rows-are : (log : List Statement) (store : Store) (place : ℕ) → store.mark ≤ store.end → store.end ≡ place → IsRight log store → rows_at_end store ≡ rows_before log place
+rows-are log store place within is right =
+    fun_ext (λ table. fun_ext (λ row. right store.end (record { table = table; row = row }) within (omega arith) ∙ ap (λ (n : ℕ). rows_before log n table row) is))
+
+-- a store that is right stays so where a place leaves the rows as they are
+abbrev PassesRight : Store → Store → Type 0
+PassesRight old new = (other : List Statement) → rows_before other (old.end + 1) ≡ rows_before other old.end → IsRight other old → IsRight other new
+
+-- a place that leaves the rows as they are was passed
+pub pass-stands : (log : List Statement) (place : ℕ) (old new : Store) (book after : Entries) → Stands log place old book → new ≡ record { versions = old.versions; mark = old.mark; end = old.end + 1 }
+    → PassesRight old new
+    → world_before log (place + 1) ≡ world_before log place → BookStands log (place + 1) after → Stands log (place + 1) new after
+pass-stands log place old new book after stands is right same booked = record {
+  ends = ap (λ (store : Store). store.end) is ∙ ap (λ (n : ℕ). n + 1) stands.ends;
+  right =
+      right log
+      (subst (λ (n : ℕ). rows_before log (n + 1) ≡ rows_before log n) (sym stands.ends) (ap (λ (w : World). w.rows) same))
+      stands.right;
+  booked = booked;
+}
+
+module _ (log : List Statement) (place : ℕ) (statement : Statement) (at : slice_get log place ≡ Some statement) where
+  abbrev own : List ℕ
+  own = owners log
+
+  abbrev world : World
+  world = world_before log place
+
+  abbrev deed : Option Deed
+  deed = deed_of place statement.user statement.form
+
+  judged-form : (form : Form) → creates form ≡ false → step_form own place world statement form ≡ judged own place world statement (missing own world statement.user form)
+  judged-form (Form.Create table columns) other = absurd (cc)
+  judged-form form other = refl
+
+  -- what the first missing need denies
+  denied : (need : Need) (why : Cause) (found : Option Need) → Admission.Denied need why ≡ admitted_if own world.deeds statement.user found
+      → judged own place world statement found ≡ (Outcome.Denied need why, world)
+  denied need why None is = absurd (cc)
+  denied need why (Some other) is = ap (λ (d : Outcome). (d, world)) (cc)
+
+  pub denied-leads : creates statement.form ≡ false → (need : Need) (why : Cause) → Admission.Denied need why ≡ admission own world.deeds statement.user statement.form
+      → Leads log place statement at (Outcome.Denied need why, world)
+  denied-leads other need why is =
+      leads log place statement at (Outcome.Denied need why, world)
+      (judged-form statement.form other ∙ denied need why (missing own world statement.user statement.form) is)
+
+  -- what the body in a window ends with, the place results in
+  abbrev Left : Window → BodyEnd → Ending
+  Left ran end = ending_of end (with_rows (accesses_of statement.form) ran.rows world.rows) ran.outputs
+
+  pub ended-leads : creates statement.form ≡ false → missing own world statement.user statement.form ≡ None → (store : Store) → store.mark ≤ store.end
+      → (book : Entries) → Stands log place store book → (window ran : Window) → WindowShows (accesses_of statement.form) window (rows_at_end store)
+      → (found end : BodyEnd) → found ≡ end → ((rows : Rows) → WindowShows (accesses_of statement.form) window rows
+      → body rows statement.form ≡ ending_of found (with_rows (accesses_of statement.form) ran.rows rows) ran.outputs)
+      → Leads log place statement at (ended own world deed (Left ran end), changed world deed (Left ran end))
+  ended-leads other none store within book stands window ran shows found end is ends =
+      let same = subst (WindowShows (accesses_of statement.form) window) (rows-are log store place within stands.ends stands.right) shows in
+      leads log place statement at (ended own world deed (Left ran end), changed world deed (Left ran end))
+      (judged-form statement.form other
+      ∙ ap (judged own place world statement) none
+      ∙ ap (λ (e : Ending). (ended own world deed e, changed world deed e)) (ends world.rows same ∙ ap (Left ran) is))
+
+  -- the deeds after a body that completes
+  pub completed-deeds : (rows : Rows) (outputs : List ℤ) (made : Option Deed) → world_before log (place + 1) ≡ changed world deed (completed rows outputs) → made ≡ deed
+      → deeds_before log (place + 1) ≡ deeds_before log place ++ option_to_list made
+  completed-deeds rows outputs made is same = ap (λ (w : World). w.deeds) is ∙ ap (λ ds. world.deeds ++ ds) (listed deed ∙ ap option_to_list (sym same))
+
+  -- where a place makes no deed either, the book is after it too
+  pub same-stands : (old new : Store) (book : Entries) → Stands log place old book → AreKnown log → creates statement.form ≡ false → new ≡ record { versions = old.versions; mark = old.mark; end = old.end + 1 }
+      → PassesRight old new → world_before log (place + 1) ≡ world → Stands log (place + 1) new book
+  same-stands old new book stands known other is right same =
+      pass-stands log place old new book book stands is right same
+      (made_none log place book stands.booked (make_owners log place statement at book stands.booked known other) None refl
+      (ap (λ (w : World). w.deeds) same ∙ sym (append-nil world.deeds)))
+
+  -- the versions of a place whose accesses have these rows after it
+  abbrev version_of : Rows → Access → Version
+  version_of rows access = record { place = place; key = access.key; row = rows access.key.table access.key.row }
+
+  by-shown : (rows : Rows) (accesses : List Access) (contents : List (Option (List ℤ))) → take (length accesses) contents ≡ map (λ (access : Access). rows access.key.table access.key.row) accesses
+      → versions_by place accesses contents ≡ map (version_of rows) (filter is_writing accesses)
+  by-shown rows [] contents shows = refl
+  by-shown rows (access ∷ accesses) [] shows = absurd (cc)
+  by-shown rows (access ∷ accesses) (content ∷ contents) shows =
+      let first : content ≡ rows access.key.table access.key.row = cc in
+      let rest = by-shown rows accesses contents (cc) in
+      by_cases (is_writing access) (λ writes. rw (writes, first, rest) refl) (λ reads. rw (reads, rest) refl)
+
+  pub placed-versions : (rows : Rows) (contents : List (Option (List ℤ))) → rows_before log (place + 1) ≡ rows
+      → take (length (accesses_of statement.form)) contents ≡ map (λ (access : Access). rows access.key.table access.key.row) (accesses_of statement.form)
+      → versions_by place (accesses_of statement.form) contents ≡ versions_at log place
+  placed-versions rows contents after shows =
+      by-shown rows (accesses_of statement.form) contents shows
+      ∙ ap (λ (rs : Rows). map (version_of rs) (writes_of statement)) (sym after)
+      ∙ ap (λ (found : Option Statement). map (version_of (rows_before log (place + 1))) (option_map_or writes_of found [])) (sym at)
+
+-- a body that fits a window has no more accesses than that has rows
+pub few_accesses : (form : Form) → HasFittingBody form → length (accesses_of form) ≤ 16
+few_accesses (Form.Run accesses steps deed) fits = fits.places
+few_accesses form fits = omega arith
+
+-- the book covers what the place needs
+pub covers-needs : (log : List Statement) (place : ℕ) (statement : Statement) → slice_get log place ≡ Some statement → (book : Entries) → BookStands log place book → AreNamed log
+    → Covers (view_of book place) (needs statement.form)
+covers-needs log place statement at book stands named =
+    let low : NeedsWithin (length book.tables) statement =
+    at_tables NeedsWithin AreNamedFrom (λ tables first rest are. are) 0 (length book.tables) log place statement named at (counted log place book stands) in
+    λ k need within. owned book.tables _ (low k need within)
+
+-- an admitted statement lacks nothing
+pub lacks-none : (owners : List ℕ) (deeds : List Deed) (user : ℕ) (found : Option Need) → Admission.Admitted ≡ admitted_if owners deeds user found → found ≡ None
+lacks-none owners deeds user None is = refl
+lacks-none owners deeds user (Some other) is = absurd (cc)

@@ -1,0 +1,16 @@
+pub mod Executing
+pub mod Denying
+pub mod Cells
+pub mod Room
+pub mod Fitting
+pub mod ShownCells
+pub mod Comes
+pub mod Listed
+pub mod Shown
+pub mod Slots
+pub mod Referred
+pub mod Asked
+pub mod Rising
+pub mod LastEnds
+pub mod InForce
+pub mod Steps

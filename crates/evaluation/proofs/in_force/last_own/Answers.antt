@@ -1,0 +1,55 @@
+use Rattle.std.proofs.Common.{◌≡◌, ◌+◌, ◌<◌, ◌≤◌, Option, Some, None, ℕ, length, sym, ap, ◌∙◌, subst, arith, true, false}
+use Rattle.std.specs.Prelude.{nat_lt, slice_get}
+use Rattle.grants_base.specs.Force.{is_in_force}
+use Rattle.grants_base.specs.Index.{IsFirst, IsNext, is_to}
+use Rattle.grants_base.specs.View.{slot_at}
+use Rattle.bohm_core_base.specs.Batch.{batch_slots}
+use Rattle.log_batch.specs.Earlier.{earlier_count, records_before}
+use Rattle.log_batch.specs.Supplied.{batch_in, range_of}
+use Rattle.evaluation.specs.Seen.{seen_at, seen_view}
+use Rattle.evaluation.specs.Sought.{IsLastEnd, is_sought, slot_end}
+use Rattle.evaluation.specs.Told.{Reader}
+use Rattle.evaluation.proofs.InForce.{in-force-low}
+use Rattle.evaluation.proofs.Steps.{last-own, last-own-all, last-own-none}
+use Rattle.evaluation.proofs.LastEnds.{last-greatest}
+use Rattle.evaluation.proofs.in_force.last_own.Goals as goal
+
+pub loop-from-preserved : goal.loop-from-preserved
+loop-from-preserved g c =
+    let ranged = c.args.batch.now in
+    let index = (g.T.Told.told c.args.told.now).index in
+    let passes = is_sought c.args.sought.now in
+    let of_log = c.log-log.ensures.of_log in
+    let first : IsNext (is_to c.args.sought.now.grantee c.args.sought.now.kind c.args.sought.now.table) (batch_slots (batch_in ranged)) c.loop-from.from (Some c.in-Some.slot) = c.in-Some.ensures in
+    let end : c.end_sought.result ≡ slot_end passes (slot_at (seen_view (seen_at ranged index)) c.in-Some.slot) =
+    c.end_sought.ensures.value ∙ ap (λ (reader : Reader). slot_end passes (slot_at (seen_view (seen_at ranged reader.index)) c.in-Some.slot)) c.loop-from.invariant.told in
+    let above = first.0 in
+    record {
+      told = c.end_sought.ensures.same.0 ∙ c.loop-from.invariant.told;
+      kept = c.end_sought.ensures.same.1 ∙ c.loop-from.invariant.kept;
+      count = c.loop-from.invariant.count;
+      own = omega (arith, above, c.loop-from.invariant.own);
+      last =
+          subst (λ (place : Option ℕ). IsLastEnd passes (seen_view (seen_at ranged index)) (λ k. nat_lt k (c.in-Some.slot + 1)) place) (sym c.later-place.ensures)
+          (last-own ranged of_log index c.args.sought.now c.loop-from.from c.in-Some.slot c.loop-from.place c.end_sought.result c.loop-from.invariant.last first end);
+    }
+
+pub returns-in_default-clause-last : goal.returns-in_default-clause-last
+returns-in_default-clause-last g c =
+    let ranged = c.args.batch.now in
+    let index = (g.T.Told.told c.args.told.now).index in
+    let passes = is_sought c.args.sought.now in
+    let of_log = c.log-log.ensures.of_log in
+    last-greatest passes (seen_view (seen_at ranged index)) c.loop-from.place
+    (last-own-none ranged of_log index c.args.sought.now c.loop-from.from c.loop-from.place c.loop-from.invariant.last
+    (subst (λ (found : Option ℕ). IsNext (is_to c.args.sought.now.grantee c.args.sought.now.kind c.args.sought.now.table) (batch_slots (batch_in ranged)) c.loop-from.from found) c.in_default.is c.next_own_to.ensures))
+
+pub returns-clause-last : goal.returns-clause-last
+returns-clause-last g c =
+    let ranged = c.args.batch.now in
+    let index = (g.T.Told.told c.args.told.now).index in
+    let passes = is_sought c.args.sought.now in
+    let of_log = c.log-log.ensures.of_log in
+    last-greatest passes (seen_view (seen_at ranged index)) c.loop-from.place
+    (last-own-all ranged of_log index c.args.sought.now c.loop-from.from c.loop-from.place c.loop-from.invariant.last
+    (omega (arith, c.loop-from-test.false, c.loop-from.invariant.count)))

@@ -1,0 +1,45 @@
+use Rattle.std.proofs.Common.{◌≡◌, ◌+◌, ℕ, List, Some, Vec, Global, sym, ap, ◌∙◌, subst, arith}
+use Rattle.std.specs.Prelude.{All, IsSome, slice_get}
+use Rattle.std.proofs.lemmas.Result.{IfOk-weaker}
+use Rattle.model_base.specs.declared.deed.Deed.{Deed}
+use Rattle.model_base.specs.declared.statement.Statement.{Statement}
+use Rattle.model_base.specs.Outcomes.{deed_of, deeds_before, owners}
+use Rattle.model_base.specs.References.{tables_of}
+use Rattle.grants_base.specs.View.{ShowsDeeds}
+use Rattle.evaluation.specs.Answering.{ended_by_deed}
+use Rattle.bohm_core_base.specs.Batch.{Batch}
+use Rattle.evaluation.specs.Seen.{seen_at, seen_view}
+use Rattle.evaluation.proofs.Comes.{deed-covered}
+use Rattle.evaluation.proofs.Slots.{all-covered, shows_seen}
+use Rattle.evaluation.proofs.judged.judge_ends.Goals as goal
+
+pub ended-places-requires : goal.ended-places-requires
+ended-places-requires g c =
+    let ranged = c.args.batch.now in
+    let statement = c.statement-statement.result.now in
+    record {
+      covered =
+          deed-covered (seen_view (seen_at ranged (g.T.Told.told c.args.told).index)).owner statement.form
+          (subst (λ index. All (λ table. IsSome ((seen_view (seen_at ranged index)).owner table)) (tables_of statement.form)) c.reader.ensures.value
+          (all-covered ranged c.log-log.ensures.whole c.reader.result statement c.statement-statement.ensures.at));
+    }
+
+pub returns-clause-value : goal.returns-clause-value
+returns-clause-value g c statement at =
+    let ranged = c.args.batch.now in
+    let log = ranged.log.statements in
+    let index = (g.T.Told.told c.args.told).index in
+    let place = ranged.first + index in
+    let mine = subst (λ index. slice_get log (ranged.first + index) ≡ Some c.statement-statement.result.now) c.reader.ensures.value c.statement-statement.ensures.at in
+    let both : Some c.statement-statement.result.now ≡ Some statement = sym mine ∙ at in
+    let same : c.statement-statement.result.now ≡ statement = cc in
+    let size = ap (λ (batch : Batch). batch.size) c.requires.batch in
+    let shows = shows_seen ranged c.log-log.ensures.of_log index (omega (arith, c.reader.ensures.within, c.reader.ensures.value, size)) in
+    IfOk-weaker c.ended-places.result
+    (λ (places : Vec ℕ Global). (users : List ℕ) (deeds : List Deed) → ShowsDeeds (seen_view (seen_at ranged index)) users deeds
+    → places.items ≡ ended_by_deed users deeds (deed_of place c.statement-statement.result.now.user c.statement-statement.result.now.form))
+    (λ (places : Vec ℕ Global). places.items ≡ ended_by_deed (owners log) (deeds_before log place) (deed_of place statement.user statement.form))
+    (λ places told.
+    told (owners log) (deeds_before log place) shows
+    ∙ ap (λ (one : Statement). ended_by_deed (owners log) (deeds_before log place) (deed_of place one.user one.form)) same)
+    c.ended-places.ensures.value

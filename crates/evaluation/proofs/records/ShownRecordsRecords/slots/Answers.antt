@@ -1,0 +1,8 @@
+use Rattle.std.proofs.Common.{sym, ◌∙◌}
+use Rattle.evaluation.proofs.Slots.{slots-all}
+use Rattle.evaluation.proofs.records.ShownRecordsRecords.slots.Goals as goal
+
+pub returns : goal.returns
+returns g c =
+    let self = c.args.self.now in
+    c.slot_count.ensures ∙ sym (slots-all self.batch.now c.log-log.ensures.of_log (g.T.Told.told self.told).index)

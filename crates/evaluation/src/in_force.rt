@@ -1,0 +1,308 @@
+//! The grants in force at a place of a batch: those in force as the batch began that no place of it ended since, and those that
+//! places of it made and none of them ended.
+
+ghost use Rattle.std.specs.Prelude.{◌≡◌, ◌<◌, ◌≤◌, ◌&&◌, nat_lt, true, IfSome, length, slice_get};
+ghost use Rattle.grants_base.specs.Force.{greatest_end, is_in_force};
+ghost use Rattle.grants_base.specs.Index.{IsFirst};
+ghost use Rattle.grants_base.specs.View.{entries, slot_at};
+ghost use Rattle.bohm_core_base.specs.Batch.{batch_slots, is_listed};
+ghost use Rattle.log_batch.specs.Earlier.{earlier_count, records_before};
+ghost use Rattle.log_batch.specs.Supplied.{batch_in};
+ghost use Rattle.evaluation.specs.Seen.{seen_at, seen_view};
+ghost use Rattle.evaluation.specs.Sought.{IsLastEnd, is_sought, is_wanted, open_grant, slot_end, sought_end};
+
+use crate::records::{end_of_shown, grant_shown};
+use crate::told::Told;
+use grants::{NextBy, is_to};
+use grants_base::later;
+use log_batch::LogBatch;
+use model_base::{Grant, Grantee, Kind, Place, Table, User};
+
+/// Which grants to a grantee are looked for.
+#[derive(Clone, Copy)]
+pub(crate) enum Wanted {
+    /// All, or those with the option alone.
+    Giving(bool),
+    /// Those by a user.
+    By(User),
+}
+
+/// The grants that are looked for: such grants to a grantee, of a kind on a table.
+#[derive(Clone, Copy)]
+pub(crate) struct Sought {
+    pub(crate) grantee: Grantee,
+    pub(crate) kind: Kind,
+    pub(crate) table: Table,
+    pub(crate) wanted: Wanted,
+}
+
+/// The last end of a grant, if one has ended.
+#[derive(Clone, Copy)]
+pub(crate) struct LastEnd {
+    pub(crate) place: Option<Place>,
+}
+
+/// Whether the grant is one of those that are wanted.
+fn is_wanted(wanted: &Wanted, grant: &Grant) -> bool
+    ensures { result ≡ is_wanted wanted.now grant.now }
+{
+    match wanted {
+        Wanted::Giving(option) => grant.option || !*option,
+        Wanted::By(user) => grant.grantor == *user,
+    }
+}
+
+/// Whether the grant is one of those that are looked for.
+fn is_sought(sought: &Sought, grant: &Grant) -> bool
+    ensures { result ≡ is_sought sought.now grant.now }
+{
+    is_to(grant, sought.grantee, sought.kind, sought.table) && is_wanted(&sought.wanted, grant)
+}
+
+/// Whether there is a grant, which is one of these and has no end.
+fn is_open(sought: &Sought, grant: &Option<Grant>, end: Option<Place>) -> bool
+    ensures { result ≡ open_grant (is_sought sought.now) grant.now end }
+{
+    match grant {
+        Some(grant) => end.is_none() && is_sought(sought, grant),
+        None => false,
+    }
+}
+
+/// The end, if there is a grant and it is one of these.
+fn end_if_sought(sought: &Sought, grant: &Option<Grant>, end: Option<Place>) -> Option<Place>
+    ensures { result ≡ sought_end (is_sought sought.now) grant.now end }
+{
+    match grant {
+        Some(grant) => { if is_sought(sought, grant) { end } else { None } }
+        None => None,
+    }
+}
+
+/// The least slot at or above this one of a grant in force as the batch began. None where that isn't known.
+fn next_at_start(batch: &LogBatch, sought: &Sought, from: usize) -> Option<NextBy>
+    ensures { IfSome result (λ next.
+        IsFirst (λ k. is_in_force (is_sought sought.now) (slice_get (records_before (batch_in batch.now)) k)) from next.slot) }
+{
+    let (grantee, kind, table) = (sought.grantee, sought.kind, sought.table);
+    match &sought.wanted {
+        Wanted::Giving(option) => {
+            match batch.earlier_in_force(grantee, kind, table, *option, from) {
+                Some(next) => Some(NextBy { slot: next.slot }),
+                None => None,
+            }
+        }
+        Wanted::By(user) => batch.earlier_in_force_by(*user, grantee, kind, table, from),
+    }
+}
+
+/// The last end before the batch of such a grant, of those that give something. None where that isn't known.
+pub(crate) fn lost_at_start(batch: &LogBatch, sought: &Sought) -> Option<LastEnd>
+    ensures { IfSome result (λ last. last.place ≡ greatest_end (is_sought sought.now) (records_before (batch_in batch.now))) }
+{
+    let (grantee, kind, table) = (sought.grantee, sought.kind, sought.table);
+    match &sought.wanted {
+        Wanted::Giving(option) => {
+            match batch.earlier_in_force(grantee, kind, table, *option, 0) {
+                Some(next) => Some(LastEnd { place: next.lost }),
+                None => None,
+            }
+        }
+        Wanted::By(_) => None,
+    }
+}
+
+/// Whether the reader is shown one of these grants in a slot, in force.
+fn is_shown_in_force<T: Told>(batch: &LogBatch, told: &mut T, sought: &Sought, slot: usize) -> bool
+    requires batch { (T.told told.old).batch ≡ batch_in batch.now }
+    requires within { slot < length (batch_slots (batch_in batch.now)) }
+    ensures value { result ≡ is_in_force (is_sought sought.now) (slot_at (seen_view (seen_at batch.now (T.told told.old).index)) slot) }
+    ensures same { (T.told told.new ≡ T.told told.old) × (T.kept told.new ≡ T.kept told.old) }
+{
+    let grant = grant_shown(batch, told, slot);
+    let end = end_of_shown(batch, told, slot, &grant);
+    is_open(sought, &grant, end)
+}
+
+/// The end of a slot's record, if the reader is shown one of these grants there and it has ended.
+fn end_sought<T: Told>(
+    batch: &LogBatch,
+    told: &mut T,
+    sought: &Sought,
+    slot: usize,
+) -> Option<Place>
+    requires batch { (T.told told.old).batch ≡ batch_in batch.now }
+    requires within { slot < length (batch_slots (batch_in batch.now)) }
+    ensures value { result ≡ slot_end (is_sought sought.now) (slot_at (seen_view (seen_at batch.now (T.told told.old).index)) slot) }
+    ensures same { (T.told told.new ≡ T.told told.old) × (T.kept told.new ≡ T.kept told.old) }
+{
+    let grant = grant_shown(batch, told, slot);
+    let end = end_of_shown(batch, told, slot, &grant);
+    end_if_sought(sought, &grant, end)
+}
+
+/// The least slot at or above this one of such a grant from before the batch that the reader is shown in force. It goes through
+/// those in force as the batch began up to it. None where these aren't known.
+fn next_earlier<T: Told>(
+    batch: &LogBatch,
+    told: &mut T,
+    sought: &Sought,
+    start: usize,
+) -> Option<NextBy>
+    requires { (T.told told.old).batch ≡ batch_in batch.now }
+    ensures next { IfSome result (λ next.
+        IsFirst (λ k. nat_lt k (earlier_count (batch_in batch.now))
+        && is_in_force (is_sought sought.now) (slot_at (seen_view (seen_at batch.now (T.told told.old).index)) k)) start next.slot) }
+    ensures same { (T.told told.new ≡ T.told told.old) × (T.kept told.new ≡ T.kept told.old) }
+{
+    let _log = batch.log();
+    let count = batch.earlier_count();
+    let mut from = start;
+    while from < count {
+        let Some(next) = next_at_start(batch, sought, from) else {
+            return None;
+        };
+        let Some(slot) = next.slot else {
+            return Some(NextBy { slot: None });
+        };
+        if is_shown_in_force(batch, told, sought, slot) {
+            return Some(NextBy { slot: Some(slot) });
+        }
+        from = slot + 1;
+    }
+    Some(NextBy { slot: None })
+}
+
+/// The least slot at or above this one, which is none of a grant from before the batch, of such a grant that the reader is shown in
+/// force. It goes through the batch's own grants of this kind on this table to the grantee, up to it.
+fn next_own<T: Told>(batch: &LogBatch, told: &mut T, sought: &Sought, start: usize) -> Option<usize>
+    requires batch { (T.told told.old).batch ≡ batch_in batch.now }
+    requires own { earlier_count (batch_in batch.now) ≤ start }
+    ensures next { IsFirst (λ k. is_in_force (is_sought sought.now) (slot_at (seen_view (seen_at batch.now (T.told told.old).index)) k))
+        start result }
+    ensures same { (T.told told.new ≡ T.told told.old) × (T.kept told.new ≡ T.kept told.old) }
+{
+    let _log = batch.log();
+    let count = batch.slot_count();
+    let mut from = start;
+    while from < count {
+        let Some(slot) = batch.next_own_to(&sought.grantee, sought.kind, sought.table, from) else {
+            return None;
+        };
+        if is_shown_in_force(batch, told, sought, slot) {
+            return Some(slot);
+        }
+        from = slot + 1;
+    }
+    None
+}
+
+/// The least slot at or above this one of such a grant that the reader is shown in force. It goes through those in force as the
+/// batch began and then through the batch's own. None where the former aren't known.
+pub(crate) fn next_shown<T: Told>(
+    batch: &LogBatch,
+    told: &mut T,
+    sought: &Sought,
+    from: usize,
+) -> Option<NextBy>
+    requires { (T.told told.old).batch ≡ batch_in batch.now }
+    ensures next { IfSome result (λ next.
+        IsFirst (λ k. is_in_force (is_sought sought.now) (slot_at (seen_view (seen_at batch.now (T.told told.old).index)) k))
+        from next.slot) }
+    ensures same { (T.told told.new ≡ T.told told.old) × (T.kept told.new ≡ T.kept told.old) }
+{
+    let _log = batch.log();
+    let Some(next) = next_earlier(batch, told, sought, from) else {
+        return None;
+    };
+    if next.slot.is_some() {
+        return Some(next);
+    }
+    let own = from.max(batch.earlier_count());
+    let slot = next_own(batch, told, sought, own);
+    Some(NextBy { slot })
+}
+
+/// The last end of such a grant from before the batch that the reader is shown, where that before the batch is known. It goes
+/// through those in force as the batch began. None where these aren't known.
+fn last_earlier<T: Told>(
+    batch: &LogBatch,
+    told: &mut T,
+    sought: &Sought,
+    before: Option<Place>,
+) -> Option<LastEnd>
+    requires batch { (T.told told.old).batch ≡ batch_in batch.now }
+    requires listed { is_listed ((batch_in batch.now).tables (T.told told.old).index) sought.now.table ≡ true }
+    requires before { before ≡ greatest_end (is_sought sought.now) (records_before (batch_in batch.now)) }
+    ensures last { IfSome result (λ last. IsLastEnd (is_sought sought.now) (seen_view (seen_at batch.now (T.told told.old).index))
+        (λ k. nat_lt k (earlier_count (batch_in batch.now))) last.place) }
+    ensures same { (T.told told.new ≡ T.told told.old) × (T.kept told.new ≡ T.kept told.old) }
+{
+    let _log = batch.log();
+    let count = batch.earlier_count();
+    let mut place = before;
+    let mut from = 0;
+    while from < count {
+        let Some(next) = next_at_start(batch, sought, from) else {
+            return None;
+        };
+        let Some(slot) = next.slot else {
+            return Some(LastEnd { place });
+        };
+        place = later(place, end_sought(batch, told, sought, slot));
+        from = slot + 1;
+    }
+    Some(LastEnd { place })
+}
+
+/// The last end of such a grant that the reader is shown, where that of the slots below one is known, with all those of grants
+/// from before the batch. It goes through the batch's own others of this kind on this table to the grantee.
+fn last_own<T: Told>(
+    batch: &LogBatch,
+    told: &mut T,
+    sought: &Sought,
+    before: LastEnd,
+    start: usize,
+) -> Option<Place>
+    requires batch { (T.told told.old).batch ≡ batch_in batch.now }
+    requires own { earlier_count (batch_in batch.now) ≤ start }
+    requires before { IsLastEnd (is_sought sought.now) (seen_view (seen_at batch.now (T.told told.old).index))
+        (λ k. nat_lt k start) before.place }
+    ensures last { result ≡ greatest_end (is_sought sought.now) (entries (seen_view (seen_at batch.now (T.told told.old).index))) }
+    ensures same { (T.told told.new ≡ T.told told.old) × (T.kept told.new ≡ T.kept told.old) }
+{
+    let _log = batch.log();
+    let count = batch.slot_count();
+    let mut place = before.place;
+    let mut from = start;
+    while from < count {
+        let Some(slot) = batch.next_own_to(&sought.grantee, sought.kind, sought.table, from) else {
+            return place;
+        };
+        place = later(place, end_sought(batch, told, sought, slot));
+        from = slot + 1;
+    }
+    place
+}
+
+/// The last end of such a grant that the reader is shown, where that before the batch is known. It goes through those in force as
+/// the batch began and then through the batch's own. None where the former aren't known.
+pub(crate) fn last_shown<T: Told>(
+    batch: &LogBatch,
+    told: &mut T,
+    sought: &Sought,
+    before: Option<Place>,
+) -> Option<LastEnd>
+    requires batch { (T.told told.old).batch ≡ batch_in batch.now }
+    requires listed { is_listed ((batch_in batch.now).tables (T.told told.old).index) sought.now.table ≡ true }
+    requires before { before ≡ greatest_end (is_sought sought.now) (records_before (batch_in batch.now)) }
+    ensures last { IfSome result (λ last.
+        last.place ≡ greatest_end (is_sought sought.now) (entries (seen_view (seen_at batch.now (T.told told.old).index)))) }
+    ensures same { (T.told told.new ≡ T.told told.old) × (T.kept told.new ≡ T.kept told.old) }
+{
+    let Some(last) = last_earlier(batch, told, sought, before) else {
+        return None;
+    };
+    let place = last_own(batch, told, sought, last, batch.earlier_count());
+    Some(LastEnd { place })
+}

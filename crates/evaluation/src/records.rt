@@ -1,0 +1,248 @@
+//! The records of grants that a place of a batch is shown.
+
+ghost use Rattle.std.specs.Prelude.{◌≡◌, ◌<◌, IfSome, None, Option, Some, length};
+ghost use Rattle.model_base.specs.Records.{end_below};
+ghost use Rattle.grants_base.specs.InForce.{ShowsNextInForce};
+ghost use Rattle.grants_base.specs.View.{end_in, grant_in, slot_at};
+ghost use Rattle.bohm_core_base.specs.Batch.{batch_slots};
+ghost use Rattle.log_batch.specs.Supplied.{batch_in};
+ghost use Rattle.evaluation.specs.Seen.{seen_at, seen_view};
+ghost use Rattle.evaluation.specs.Sought.{is_sought};
+ghost use Rattle.evaluation.specs.Told.{Reader, Work};
+
+use crate::in_force::{Sought, Wanted, last_shown, lost_at_start, next_shown};
+use crate::tables::is_on;
+use crate::told::Told;
+use grants::{NextBy, NextInForce, Records};
+use log_batch::LogBatch;
+use model_base::{Grant, Grantee, Kind, Place, Table, User};
+use std::marker::{Brand, PhantomData};
+
+/// Which reader something is, and what it did itself, whoever has it as `&mut` meanwhile: a call picks both.
+pub(crate) trait Pinned {
+    ghost told: { Option Reader };
+
+    ghost kept: { Option Work };
+}
+
+impl Pinned for Brand {
+    ghost told = { None };
+
+    ghost kept = { None };
+}
+
+/// The records of grants that a place of the batch is shown: of the grants on the tables of its needs and of its deed, those
+/// that were made below it, each with its end if that lies below it too. A slot is looked up when it is asked for, and no
+/// memory is taken.
+pub(crate) struct ShownRecords<'a, T: Told, P: Pinned> {
+    pub(crate) batch: &'a LogBatch<'a>,
+    pub(crate) told: T,
+    pub(crate) pinned: PhantomData<P>,
+    ghost same: { (T.told told).batch ≡ batch_in batch.now },
+    ghost place: { Some (T.told told) ≡ P.told },
+    ghost kept: { Some (T.kept told) ≡ P.kept },
+}
+
+/// The end, if it lies below the place.
+fn end_below(end: Option<Place>, place: Place) -> Option<Place>
+    ensures { result ≡ end_below place end }
+{
+    end.filter(|end| *end < place)
+}
+
+/// The grant of a slot, if the reader is shown it: it is on one of its tables, lies below it, and was made, before the batch
+/// or by a place that was done.
+pub(crate) fn grant_shown<T: Told>(batch: &LogBatch, told: &mut T, slot: usize) -> Option<Grant>
+    requires batch { (T.told told.old).batch ≡ batch_in batch.now }
+    requires within { slot < length (batch_slots (batch_in batch.now)) }
+    ensures value { result ≡ grant_in (slot_at (seen_view (seen_at batch.now (T.told told.old).index)) slot) }
+    ensures same { (T.told told.new ≡ T.told told.old) × (T.kept told.new ≡ T.kept told.old) }
+{
+    let _log = batch.log();
+    let index = told.reader();
+    let first = batch.first_place();
+    let grant = batch.grant(slot);
+    if !is_on(batch.statement(index), grant.table) || grant.place >= first + index as u64 {
+        return None;
+    }
+    if grant.place < first || told.was_done((grant.place - first) as usize) {
+        Some(grant)
+    } else {
+        None
+    }
+}
+
+/// The end of the record of a slot whose grant the reader is shown, if it is, and if the end lies below the reader.
+pub(crate) fn end_of_shown<T: Told>(
+    batch: &LogBatch,
+    told: &mut T,
+    slot: usize,
+    grant: &Option<Grant>,
+) -> Option<Place>
+    requires batch { (T.told told.old).batch ≡ batch_in batch.now }
+    requires within { slot < length (batch_slots (batch_in batch.now)) }
+    requires shown { grant.now ≡ grant_in (slot_at (seen_view (seen_at batch.now (T.told told.old).index)) slot) }
+    ensures value { result ≡ end_in (slot_at (seen_view (seen_at batch.now (T.told told.old).index)) slot) }
+    ensures same { (T.told told.new ≡ T.told told.old) × (T.kept told.new ≡ T.kept told.old) }
+{
+    let _log = batch.log();
+    let _grant = batch.grant(slot);
+    match grant {
+        Some(_) => {
+            let place = batch.first_place() + told.reader() as u64;
+            end_below(told.end(slot), place)
+        }
+        None => None,
+    }
+}
+
+/// The end of the record of a slot, if the reader is shown its grant and it lies below the reader.
+fn end_shown<T: Told>(batch: &LogBatch, told: &mut T, slot: usize) -> Option<Place>
+    requires batch { (T.told told.old).batch ≡ batch_in batch.now }
+    requires within { slot < length (batch_slots (batch_in batch.now)) }
+    ensures value { result ≡ end_in (slot_at (seen_view (seen_at batch.now (T.told told.old).index)) slot) }
+    ensures same { (T.told told.new ≡ T.told told.old) × (T.kept told.new ≡ T.kept told.old) }
+{
+    let grant = grant_shown(batch, told, slot);
+    end_of_shown(batch, told, slot, &grant)
+}
+
+/// The least slot at or above this one of a grant that the reader is shown in force and that is looked for, and the last end of
+/// such a grant. None where it isn't known what was in force as the batch began, or the table is none of the reader's.
+fn shown_next<T: Told>(
+    batch: &LogBatch,
+    told: &mut T,
+    sought: &Sought,
+    from: usize,
+) -> Option<NextInForce>
+    requires batch { (T.told told.old).batch ≡ batch_in batch.now }
+    ensures next { IfSome result (λ next.
+        ShowsNextInForce (is_sought sought.now) (seen_view (seen_at batch.now (T.told told.old).index)) from next) }
+    ensures same { (T.told told.new ≡ T.told told.old) × (T.kept told.new ≡ T.kept told.old) }
+{
+    let _log = batch.log();
+    let statement = batch.statement(told.reader());
+    if !is_on(statement, sought.table) {
+        return None;
+    }
+    let Some(lost) = lost_at_start(batch, sought) else {
+        return None;
+    };
+    let Some(next) = next_shown(batch, told, sought, from) else {
+        return None;
+    };
+    let Some(last) = last_shown(batch, told, sought, lost.place) else {
+        return None;
+    };
+    Some(NextInForce {
+        slot: next.slot,
+        lost: last.place,
+    })
+}
+
+impl<T: Told, P: Pinned> Records for ShownRecords<'_, T, P> {
+    ghost use Rattle.bohm_core_base.specs.Batch.{batch_slots};
+    ghost use Rattle.log_batch.specs.Supplied.{batch_in};
+    ghost use Rattle.evaluation.specs.Seen.{seen_at, seen_view};
+
+    ghost shown = { λ records. seen_view (seen_at records.batch.now (T.told records.told).index) };
+
+    ghost asked = { λ records. batch_slots (batch_in records.batch.now) };
+
+    fn at(&self) -> Place {
+        let _log = self.batch.log();
+        self.batch.first_place() + self.told.reader() as u64
+    }
+
+    fn covers(&self, table: Table) -> bool {
+        let _log = self.batch.log();
+        is_on(self.batch.statement(self.told.reader()), table)
+    }
+
+    fn owner(&self, table: Table) -> User {
+        let _statement = self.batch.statement(self.told.reader());
+        self.batch.log().owner(table)
+    }
+
+    fn slots(&self) -> usize {
+        let _log = self.batch.log();
+        self.batch.slot_count()
+    }
+
+    fn grant(&mut self, i: usize) -> Option<Grant> {
+        let _log = self.batch.log();
+        grant_shown(self.batch, &mut self.told, i)
+    }
+
+    fn end(&mut self, i: usize) -> Option<Place> {
+        let _log = self.batch.log();
+        end_shown(self.batch, &mut self.told, i)
+    }
+
+    fn next_to(
+        &mut self,
+        grantee: Grantee,
+        kind: Kind,
+        table: Table,
+        from: usize,
+    ) -> Option<usize> {
+        let _log = self.batch.log();
+        self.batch.next_to(&grantee, kind, table, from)
+    }
+
+    fn next_by(&mut self, user: User, kind: Kind, table: Table, from: usize) -> Option<usize> {
+        let _log = self.batch.log();
+        self.batch.next_by(user, kind, table, from)
+    }
+
+    fn next_in_force(
+        &mut self,
+        grantee: Grantee,
+        kind: Kind,
+        table: Table,
+        option: bool,
+        from: usize,
+    ) -> Option<NextInForce> {
+        let sought = Sought {
+            grantee,
+            kind,
+            table,
+            wanted: Wanted::Giving(option),
+        };
+        shown_next(self.batch, &mut self.told, &sought, from)
+    }
+
+    fn next_slot_in_force(
+        &mut self,
+        grantee: Grantee,
+        kind: Kind,
+        table: Table,
+        option: bool,
+        from: usize,
+    ) -> Option<NextBy> {
+        let sought = Sought {
+            grantee,
+            kind,
+            table,
+            wanted: Wanted::Giving(option),
+        };
+        next_shown(self.batch, &mut self.told, &sought, from)
+    }
+
+    fn next_in_force_by(
+        &mut self,
+        user: User,
+        grantee: Grantee,
+        kind: Kind,
+        table: Table,
+        from: usize,
+    ) -> Option<NextBy> {
+        let sought = Sought {
+            grantee,
+            kind,
+            table,
+            wanted: Wanted::By(user),
+        };
+        next_shown(self.batch, &mut self.told, &sought, from)
+    }
+}

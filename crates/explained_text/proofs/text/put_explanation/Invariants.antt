@@ -1,6 +1,0 @@
-use Rattle.std.proofs.Common.{◌≡◌, ◌++◌, take}
-use Rattle.explained_text.specs.Text.{explanation_text}
-use Rattle.explained_text.proofs.text.put_explanation.Given as goal
-
-abbrev pub invariant-loop-line : goal.invariant-loop-line
-invariant-loop-line l = l.text.items ≡ l.initial.text.items ++ explanation_text l.tables (take l.line-index l.line-items)

@@ -1,8 +1,0 @@
-use Rattle.std.proofs.Common.{◌≡◌, take}
-use Rattle.bohm_core_base.specs.Serial.{serial_words}
-use Rattle.log_batch.specs.Supplied.{batch_in}
-use Rattle.finishing.proofs.copying.copy_words.Given as goal
-
--- so many of the words are copied
-abbrev pub invariant-loop-number : goal.invariant-loop-number
-invariant-loop-number l = l.words ≡ take l.number (serial_words (batch_in l.batch) l.index)

@@ -1,4 +1,0 @@
-use Rattle.finishing.proofs.running.complete_all.Goals as goal
-
-pub complete-requires-clause-stands : goal.complete-requires-clause-stands
-complete-requires-clause-stands c = c.loop-index.invariant.stands

@@ -1,4 +1,0 @@
-pub mod Lists
-pub mod Ends
-pub mod Standing
-pub mod Finished

@@ -1,4 +1,0 @@
-pub mod Searching
-pub mod Standing
-pub mod Leading
-pub mod Showing

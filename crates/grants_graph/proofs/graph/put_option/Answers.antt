@@ -1,5 +1,0 @@
-use Rattle.std.proofs.Common.{rules}
-use Rattle.grants_graph.proofs.graph.put_option.Goals as goal
-
-pub returns-then-option : goal.returns-then-option
-returns-then-option c = search rules

@@ -1,0 +1,324 @@
+//! Which slots the revocations of a batch may reach.
+
+ghost use Rattle.std.specs.Prelude.{◌≡◌, ◌<◌, ◌≤◌, ◌+◌, ◌++◌, ◌∷◌, ◌||◌, ◌&&◌, ◌==◌, [], ℕ, suc, not, true, IfOk, IfSome, OnOk, length, slice_get, Some};
+ghost use Rattle.model_base.specs.declared.deed.Grant.{Grant};
+ghost use Rattle.grants_base.specs.Force.{gives_by, is_in_force};
+ghost use Rattle.grants_base.specs.Index.{IsFirst, IsNext, is_by};
+ghost use Rattle.model_base.specs.Privileges.{option_holder};
+ghost use Rattle.bohm_core_base.specs.Batch.{batch_slots};
+ghost use Rattle.log_batch.specs.Earlier.{earlier_count, earlier_grants, records_before};
+ghost use Rattle.log_batch.specs.Supplied.{batch_in};
+ghost use Rattle.log_batch.specs.Holders.{grantor_of, has_holder, new_holder};
+ghost use Rattle.log_batch.specs.Listing.{is_open, is_reached, lends};
+ghost use Rattle.log_batch.specs.Reach.{Adds, AreSeeds, IsDue, IsNextOpen, IsReach, has_party};
+ghost use Rattle.log_batch.specs.Revoked.{is_named_by};
+ghost use Rattle.grants_base.specs.Index.{is_one_of};
+
+use crate::batch::LogBatch;
+use crate::holders::{Holders, holder_of};
+use crate::revoked::Revoked;
+use grants::NextBy;
+use model_base::{Deed, Grant, Grantee, Kind, Table, User};
+use std::alloc::{AllocError, Global};
+use std::collections::BTreeSet;
+
+/// Whose grants are looked for: those by a user to a grantee, or all by a user.
+#[derive(Clone, Copy)]
+enum Party {
+    Between(User, Grantee),
+    By(User),
+}
+
+/// The slots that are found, to whom they give an option, and what the revocations of the batch name.
+#[derive(Drop)]
+pub(crate) struct Reach {
+    slots: Vec<usize>,
+    lent: Holders,
+    revoked: Revoked,
+}
+
+/// The least slot at or above this one whose grant was made before the batch, by the user to the grantee and of the kind on the
+/// table, in force or not. It goes through those of others to the grantee up to it.
+fn next_between(
+    batch: &LogBatch<'_>,
+    user: User,
+    grantee: &Grantee,
+    kind: Kind,
+    table: Table,
+    start: usize,
+) -> Option<usize>
+    ensures { IsNext (gives_by user grantee.now kind table) (earlier_grants (batch_in batch.now)) start result }
+{
+    let _count = batch.earlier_count();
+    let mut from = start;
+    while let Some(slot) = batch.earlier_to(grantee, kind, table, from) {
+        if batch.grant(slot).grantor == user {
+            return Some(slot);
+        }
+        from = slot + 1;
+    }
+    None
+}
+
+/// The least slot at or above this one whose grant was made before the batch and is one of this party, of the kind on the
+/// table, in force or not.
+fn next_made(
+    batch: &LogBatch<'_>,
+    party: &Party,
+    kind: Kind,
+    table: Table,
+    from: usize,
+) -> Option<usize>
+    ensures { IsNext (has_party party.now kind table) (earlier_grants (batch_in batch.now)) from result }
+{
+    match party {
+        Party::Between(user, grantee) => next_between(batch, *user, grantee, kind, table, from),
+        Party::By(user) => batch.earlier_by(*user, kind, table, from),
+    }
+}
+
+/// The least slot at or above this one of a grant in force before the batch of this party, of the kind on the table. None where
+/// that isn't known, as of all by a user.
+fn next_in_force(
+    batch: &LogBatch<'_>,
+    party: &Party,
+    kind: Kind,
+    table: Table,
+    from: usize,
+) -> Option<NextBy>
+    ensures { IfSome result (λ next.
+        IsFirst (λ k. is_in_force (has_party party.now kind table) (slice_get (records_before (batch_in batch.now)) k)) from next.slot) }
+{
+    match party {
+        Party::Between(user, grantee) => {
+            batch.earlier_in_force_by(*user, *grantee, kind, table, from)
+        }
+        Party::By(_) => None,
+    }
+}
+
+/// A slot at or above this one of a grant of this party, of the kind on the table, such that none from this one on and before it
+/// is in force before the batch; none where there is no later one. It goes through those that aren't in force only where all by
+/// a user are looked for, or the book doesn't know which are.
+fn next_of(
+    batch: &LogBatch<'_>,
+    party: &Party,
+    kind: Kind,
+    table: Table,
+    from: usize,
+) -> Option<usize>
+    ensures { IsNextOpen (batch_in batch.now) (has_party party.now kind table) from result }
+{
+    let _log = batch.log();
+    match next_in_force(batch, party, kind, table, from) {
+        Some(next) => next.slot,
+        None => next_made(batch, party, kind, table, from),
+    }
+}
+
+/// The slot is due, if its record has no end before the batch.
+fn add_slot(batch: &LogBatch<'_>, slot: usize, due: &mut BTreeSet<usize>) -> Result<(), AllocError>
+    requires { slot < length (batch_slots (batch_in batch.now)) }
+    ensures { OnOk result ((j : ℕ) → is_one_of due.new.keys j
+        ≡ ((is_open (batch_in batch.now) slot && (slot == j)) || is_one_of due.old.keys j)) }
+{
+    let unended = batch.end_at_first(slot).is_none();
+    if unended {
+        due.insert(slot)?;
+    }
+    Ok(())
+}
+
+/// The slots from this one on are due, as `add_slot` says, whose grants were made before the batch and are this party's, of the
+/// kind on the table.
+fn add_grants(
+    batch: &LogBatch<'_>,
+    party: &Party,
+    kind: Kind,
+    table: Table,
+    start: usize,
+    due: &mut BTreeSet<usize>,
+) -> Result<(), AllocError>
+    ensures { OnOk result (Adds (batch_in batch.now) (has_party party.now kind table) start
+        (earlier_count (batch_in batch.now)) due.old.keys due.new.keys) }
+{
+    let end = batch.earlier_count();
+    let mut from = start;
+    while from < end {
+        let Some(slot) = next_of(batch, party, kind, table, from) else {
+            return Ok(());
+        };
+        add_slot(batch, slot, due)?;
+        from = slot + 1;
+    }
+    Ok(())
+}
+
+/// The deed of a place, if there is one and it is a revocation: the grants from before the batch that it names are due. They are
+/// looked up once for all revocations that name the same.
+fn put_deed(
+    batch: &LogBatch<'_>,
+    index: usize,
+    deed: Option<Deed>,
+    revoked: &mut Revoked,
+    due: &mut BTreeSet<usize>,
+) -> Result<(), AllocError>
+    requires deed { deed ≡ (batch_in batch.now).deed index }
+    requires seeds { AreSeeds (batch_in batch.now) index revoked.old due.old.keys }
+    ensures { OnOk result (AreSeeds (batch_in batch.now) (suc index) revoked.new due.new.keys) }
+{
+    let Some(Deed::Revoking(revocation)) = deed else {
+        return Ok(());
+    };
+    if revoked.put(&revocation)? {
+        let party = Party::Between(revocation.grantor, revocation.grantee);
+        add_grants(batch, &party, revocation.kind, revocation.table, 0, due)?;
+    }
+    Ok(())
+}
+
+/// The revocations that the batch may make.
+fn put_deeds(
+    batch: &LogBatch<'_>,
+    revoked: &mut Revoked,
+    due: &mut BTreeSet<usize>,
+) -> Result<(), AllocError>
+    requires { AreSeeds (batch_in batch.now) 0 revoked.old due.old.keys }
+    ensures { OnOk result (AreSeeds (batch_in batch.now) batch.now.size revoked.new due.new.keys) }
+{
+    let first = batch.first_place();
+    for index in 0..batch.size() {
+        let deed = batch.statement(index).deed_at(first + index as u64);
+        put_deed(batch, index, deed, revoked, due)?;
+    }
+    Ok(())
+}
+
+impl Reach {
+    /// The user has the option by a grant. Returns the user, if none of the grants before gave it.
+    #[tactic(auto, using(crate::proofs::HolderSets::by_holder))]
+    fn lend(&mut self, user: User, grant: &Grant) -> Result<Option<User>, AllocError>
+        ensures slots { self.new.slots.items ≡ self.old.slots.items }
+        ensures lent { OnOk result ((other : Grant)
+            → has_holder self.new.lent (grantor_of other)
+            ≡ (is_by user grant.now.kind grant.now.table other || has_holder self.old.lent (grantor_of other))) }
+        ensures revoked { (other : Grant) → is_named_by self.new.revoked other ≡ is_named_by self.old.revoked other }
+        ensures was { IfOk result (λ found. found ≡ new_holder self.old.lent grant.now (Some user)) }
+    {
+        let holder = holder_of(Grantee::User(user), grant.kind, grant.table);
+        let is_new = self.lent.put(holder)?;
+        if is_new { Ok(Some(user)) } else { Ok(None) }
+    }
+
+    /// One more slot. Returns to whom its grant gives the option, if none of the slots before it did.
+    fn take(&mut self, slot: usize, grant: &Grant) -> Result<Option<User>, AllocError>
+        ensures slots { OnOk result (self.new.slots.items ≡ self.old.slots.items ++ slot ∷ []) }
+        ensures lent { OnOk result ((other : Grant)
+            → has_holder self.new.lent (grantor_of other)
+            ≡ (lends grant.now other || has_holder self.old.lent (grantor_of other))) }
+        ensures revoked { OnOk result ((other : Grant) → is_named_by self.new.revoked other ≡ is_named_by self.old.revoked other) }
+        ensures was { IfOk result (λ found. found ≡ new_holder self.old.lent grant.now (option_holder grant.now)) }
+    {
+        self.slots.push(slot)?;
+        match grant.option_holder() {
+            Some(user) => self.lend(user, grant),
+            None => Ok(None),
+        }
+    }
+
+    /// A slot before the batch that it may reach, and the next: with the slot, the later ones are due by whom its grant gives
+    /// the option. They are looked up once for each user.
+    fn take_earlier(
+        &mut self,
+        batch: &LogBatch<'_>,
+        slot: usize,
+        next: usize,
+        due: &mut BTreeSet<usize>,
+    ) -> Result<(), AllocError>
+        requires within { slot < earlier_count (batch_in batch.now) }
+        requires next { next ≡ suc slot }
+        requires reached { is_reached (batch_in batch.now) self.old.slots.items slot ≡ true }
+        requires reach { IsReach (batch_in batch.now) slot self.old }
+        requires due { IsDue (batch_in batch.now) next self.old.slots.items due.old.keys }
+        ensures reach { OnOk result (IsReach (batch_in batch.now) next self.new) }
+        ensures due { OnOk result (IsDue (batch_in batch.now) next self.new.slots.items due.new.keys) }
+    {
+        let _slots = batch.earlier_count();
+        let grant = batch.grant(slot);
+        if let Some(user) = self.take(slot, &grant)? {
+            let party = Party::By(user);
+            add_grants(batch, &party, grant.kind, grant.table, next, due)?;
+        }
+        Ok(())
+    }
+
+    /// All slots before the batch that it may reach, from those on that are due by its revocations.
+    fn take_all_earlier(
+        &mut self,
+        batch: &LogBatch<'_>,
+        due: &mut BTreeSet<usize>,
+    ) -> Result<(), AllocError>
+        requires reach { IsReach (batch_in batch.now) 0 self.old }
+        requires due { IsDue (batch_in batch.now) 0 self.old.slots.items due.old.keys }
+        ensures { OnOk result (IsReach (batch_in batch.now) (earlier_count (batch_in batch.now)) self.new) }
+    {
+        let _slots = batch.earlier_count();
+        let mut low = 0;
+        while let Some(slot) = due.pop_first() {
+            low = slot + 1;
+            self.take_earlier(batch, slot, low, due)?;
+        }
+        Ok(())
+    }
+
+    /// A slot of a grant that the batch may make, if it may reach it.
+    fn judge_own(&mut self, batch: &LogBatch<'_>, slot: usize) -> Result<(), AllocError>
+        requires within { slot < length (batch_slots (batch_in batch.now)) }
+        requires reach { IsReach (batch_in batch.now) slot self.old }
+        ensures { OnOk result (IsReach (batch_in batch.now) (suc slot) self.new) }
+    {
+        let grant = batch.grant(slot);
+        let is_open = batch.end_at_first(slot).is_none();
+        let is_revoked = self.revoked.names(&grant);
+        let is_lent = self.lent.has(holder_of(
+            Grantee::User(grant.grantor),
+            grant.kind,
+            grant.table,
+        ));
+        if is_open && (is_revoked || is_lent) {
+            let _found = self.take(slot, &grant)?;
+        }
+        Ok(())
+    }
+
+    /// All slots that the batch may reach. An error means out of memory.
+    pub(crate) fn of(alloc: Global, batch: &LogBatch<'_>) -> Result<Reach, AllocError>
+        ensures { IfOk result (λ reach. IsReach (batch_in batch.now) (length (batch_slots (batch_in batch.now))) reach) }
+    {
+        let mut revoked = Revoked::new(alloc);
+        let mut due = BTreeSet::new(alloc);
+        put_deeds(batch, &mut revoked, &mut due)?;
+        let mut reach = Reach {
+            slots: Vec::new(alloc),
+            lent: Holders::new(alloc),
+            revoked,
+        };
+        reach.take_all_earlier(batch, &mut due)?;
+        for slot in batch.earlier_count()..batch.slot_count() {
+            reach.judge_own(batch, slot)?;
+        }
+        Ok(reach)
+    }
+
+    /// The slots.
+    pub(crate) fn into_slots(self) -> Vec<usize>
+        ensures { result ≡ self.slots }
+    {
+        let Reach {
+            slots,
+            lent: _,
+            revoked: _,
+        } = self;
+        slots
+    }
+}

@@ -1,6 +1,0 @@
--- The law of a front, by its lemma.
-use Rattle.log_text_base.proofs.Written.{appends_front}
-use Rattle.log_text_base.proofs.laws.writing_laws.Goals as goal
-
-pub returns-clause-front : goal.returns-clause-front
-returns-clause-front c = appends_front

@@ -1,5 +1,0 @@
-use Rattle.log_words.proofs.HolderSets.{holder_added}
-use Rattle.log_words.proofs.holders.Holders.put.Goals as goal
-
-pub returns-clause-put : goal.returns-clause-put
-returns-clause-put c = λ other. holder_added c.args.self.now.holders c.insert.new.self c.args.holder other (c.in_ok-is_new.ensures.updates.0 other)

@@ -1,6 +1,0 @@
-use Rattle.log_batch.specs.Supplied.{batch_in}
-use Rattle.log_words.specs.Reach.{IsReach}
-use Rattle.log_words.proofs.reach.Reach.of.Given as goal
-
-abbrev pub invariant-loop-slot : goal.invariant-loop-slot
-invariant-loop-slot l = IsReach (batch_in l.batch) l.slot l.reach

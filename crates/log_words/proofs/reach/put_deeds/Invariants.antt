@@ -1,6 +1,0 @@
-use Rattle.log_batch.specs.Supplied.{batch_in}
-use Rattle.log_words.specs.Reach.{AreSeeds}
-use Rattle.log_words.proofs.reach.put_deeds.Given as goal
-
-abbrev pub invariant-loop-index : goal.invariant-loop-index
-invariant-loop-index l = AreSeeds (batch_in l.batch) l.index l.revoked l.due.keys

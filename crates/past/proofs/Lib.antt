@@ -1,2 +1,0 @@
-mod Rotated
-mod Sent

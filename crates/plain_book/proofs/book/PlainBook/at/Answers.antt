@@ -1,5 +1,0 @@
-use Rattle.grants.proofs.SeenLaws.{shows_view}
-use Rattle.plain_book.proofs.book.PlainBook.at.Goals as goal
-
-pub returns-clause-shows : goal.returns-clause-shows
-returns-clause-shows c = shows_view c.args.self.now c.args.place

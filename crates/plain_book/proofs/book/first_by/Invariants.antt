@@ -1,8 +1,0 @@
-use Rattle.std.proofs.Common.{◌≡◌, ◌<◌, ◌≤◌, ℕ, false}
-use Rattle.model_base.specs.Records.{recorded}
-use Rattle.grants_base.specs.Index.{is_by, passes_at}
-use Rattle.plain_book.proofs.book.first_by.Given as goal
-
--- no record from the first on passes
-abbrev pub invariant-loop-i : goal.invariant-loop-i
-invariant-loop-i l = (k : ℕ) → l.from ≤ k → k < l.i → passes_at (is_by l.user l.kind l.table) (recorded l.records) k ≡ false

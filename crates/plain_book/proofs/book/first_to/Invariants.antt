@@ -1,8 +1,0 @@
-use Rattle.std.proofs.Common.{◌≡◌, ◌<◌, ◌≤◌, ℕ, false}
-use Rattle.model_base.specs.Records.{recorded}
-use Rattle.grants_base.specs.Index.{is_to, passes_at}
-use Rattle.plain_book.proofs.book.first_to.Given as goal
-
--- no record from the first on passes
-abbrev pub invariant-loop-i : goal.invariant-loop-i
-invariant-loop-i l = (k : ℕ) → l.from ≤ k → k < l.i → passes_at (is_to l.grantee l.kind l.table) (recorded l.records) k ≡ false

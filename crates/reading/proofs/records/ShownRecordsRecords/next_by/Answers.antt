@@ -1,7 +1,0 @@
-use Rattle.reading.proofs.Asked.{asked_seen}
-use Rattle.reading.proofs.records.ShownRecordsRecords.next_by.Goals as goal
-
-pub returns-clause-asked : goal.returns-clause-asked
-returns-clause-asked g c =
-    let self = c.args.self.now in
-    asked_seen self.batch.now (g.T.Told.told self.told).index c.log-log.ensures.of_log
