@@ -6,7 +6,8 @@ use Rattle.line_io.specs.declared.fault.ReadFault.{ReadFault}
 use Rattle.bohm_base.specs.Faults.{read_errors, write_errors}
 use Rattle.bohm_base.specs.declared.fault.EngineFault.{EngineFault}
 use Rattle.engine.specs.declared.fault.EngineFault.{EngineFault as RunFault}
-use Rattle.batched_text.specs.Faults.{IsOfBatch, of_text}
+use Rattle.workers.specs.declared.fault.RunFault.{RunFault as BatchFault}
+use Rattle.batched_text.specs.Faults.{IsOfBatch, of_batch, of_text}
 
 told_on : {B E : Type 0} (fault : E) (result : Result B E) → IsErrAnd result (λ other. other ≡ fault) → result ≡ Err fault
 told_on fault (Ok value) same = absurd same
@@ -59,35 +60,65 @@ never_bad EngineFault.Write told result same comes is = cc (ap Err (sym same) �
 never_bad EngineFault.Spawn told result same comes is = cc (ap Err (sym same) ∙ sym comes ∙ is)
 
 -- a fault of a batch that is passed on is one of a batch, and neither the reader's nor the writer's
-pub stops_told : {A : Type 0} (fault : EngineFault) (result : Result A EngineFault) → IsErrAnd result (λ other. other ≡ fault) → IsOfBatch fault
-    → IfErr result IsOfBatch
+pub stops_told : {A : Type 0} {workers : ℕ} (fault : EngineFault) (result : Result A EngineFault) → IsErrAnd result (λ other. other ≡ fault)
+    → IsOfBatch workers fault → IfErr result (IsOfBatch workers)
 stops_told fault (Ok value) same stops = absurd same
-stops_told fault (Err other) same stops = subst IsOfBatch (sym same) stops
+stops_told {workers = workers} fault (Err other) same stops = subst (IsOfBatch workers) (sym same) stops
 
-pub stops_memory : {A : Type 0} (result : Result A EngineFault) → IsErrAnd result (λ other. other ≡ EngineFault.NoMemory) → IfErr result IsOfBatch
-stops_memory (Ok value) same = absurd same
-stops_memory (Err other) same = inl same
+pub stops_memory : {A : Type 0} (workers : ℕ) (result : Result A EngineFault) → IsErrAnd result (λ other. other ≡ EngineFault.NoMemory)
+    → IfErr result (IsOfBatch workers)
+stops_memory workers (Ok value) same = absurd same
+stops_memory workers (Err other) same = inl same
 
-reads_of : (A : Type 0) (fault : EngineFault) (errors : ℕ) → IsOfBatch fault → read_errors {A = A} (Err fault) errors ≡ errors
+-- the fault of a batch is one of a batch: no thread is started for one worker
+pub stops_batch : {A : Type 0} {workers : ℕ} (fault : BatchFault) (result : Result A BatchFault) → result ≡ Err fault
+    → (workers ≤ 1 → result ≡ Err BatchFault.Spawn → ⊥) → IsOfBatch workers (of_batch fault)
+stops_batch BatchFault.NoMemory result is alone = inl refl
+stops_batch {workers = workers} BatchFault.Spawn result is alone = inr (refl, omega (arith, λ (one : workers ≤ 1). alone one is))
+
+-- a thread is started for several workers alone
+pub several_of : {workers : ℕ} (fault : EngineFault) → IsOfBatch workers fault → fault ≡ EngineFault.Spawn → 1 < workers
+several_of fault (inl memory) is = absurd (cc (sym is ∙ memory))
+several_of fault (inr start) is = start.1
+
+pub several_told : {A : Type 0} {workers : ℕ} (fault : EngineFault) (result : Result A EngineFault) → IsErrAnd result (λ other. other ≡ fault)
+    → IsOfBatch workers fault → IfErr result (λ other. other ≡ EngineFault.Spawn → 1 < workers)
+several_told fault (Ok value) same stops = absurd same
+several_told fault (Err other) same stops = λ is. several_of fault stops (sym same ∙ is)
+
+pub several_kept : {A : Type 0} {workers : ℕ} (fault : EngineFault) (result : Result A EngineFault) → IsErrAnd result (λ other. other ≡ fault)
+    → (fault ≡ EngineFault.Spawn → 1 < workers) → IfErr result (λ other. other ≡ EngineFault.Spawn → 1 < workers)
+several_kept fault (Ok value) same several = absurd same
+several_kept fault (Err other) same several = λ is. several (sym same ∙ is)
+
+-- what an engine's fault says of threads
+pub several_engine : {A : Type 0} {workers : ℕ} (fault : EngineFault) (told : RunFault) (result : Result A RunFault) → told ≡ of_text fault
+    → result ≡ Err told → (fault ≡ EngineFault.Spawn → 1 < workers) → workers ≤ 1 → result ≡ Err RunFault.Spawn → ⊥
+several_engine EngineFault.NoMemory told result same comes several one is = cc (ap Err (sym same) ∙ sym comes ∙ is)
+several_engine EngineFault.Read told result same comes several one is = cc (ap Err (sym same) ∙ sym comes ∙ is)
+several_engine EngineFault.Write told result same comes several one is = cc (ap Err (sym same) ∙ sym comes ∙ is)
+several_engine EngineFault.Spawn told result same comes several one is = omega (arith, several refl, one)
+
+reads_of : {workers : ℕ} (A : Type 0) (fault : EngineFault) (errors : ℕ) → IsOfBatch workers fault → read_errors {A = A} (Err fault) errors ≡ errors
 reads_of A fault errors (inl memory) = ap (λ (f : EngineFault). read_errors {A = A} (Err f) errors) memory
-reads_of A fault errors (inr start) = ap (λ (f : EngineFault). read_errors {A = A} (Err f) errors) start
+reads_of A fault errors (inr start) = ap (λ (f : EngineFault). read_errors {A = A} (Err f) errors) start.0
 
-writes_of : (A : Type 0) (fault : EngineFault) (errors : ℕ) → IsOfBatch fault → write_errors {A = A} (Err fault) errors ≡ errors
+writes_of : {workers : ℕ} (A : Type 0) (fault : EngineFault) (errors : ℕ) → IsOfBatch workers fault → write_errors {A = A} (Err fault) errors ≡ errors
 writes_of A fault errors (inl memory) = ap (λ (f : EngineFault). write_errors {A = A} (Err f) errors) memory
-writes_of A fault errors (inr start) = ap (λ (f : EngineFault). write_errors {A = A} (Err f) errors) start
+writes_of A fault errors (inr start) = ap (λ (f : EngineFault). write_errors {A = A} (Err f) errors) start.0
 
-pub reads_told : (A : Type 0) (fault : EngineFault) (result : Result A EngineFault) (errors : ℕ) → IsErrAnd result (λ other. other ≡ fault)
-    → IsOfBatch fault → errors ≡ read_errors result errors
+pub reads_told : {workers : ℕ} (A : Type 0) (fault : EngineFault) (result : Result A EngineFault) (errors : ℕ) → IsErrAnd result (λ other. other ≡ fault)
+    → IsOfBatch workers fault → errors ≡ read_errors result errors
 reads_told A fault (Ok value) errors same stops = absurd same
-reads_told A fault (Err other) errors same stops = sym (reads_of A other errors (subst IsOfBatch (sym same) stops))
+reads_told {workers = workers} A fault (Err other) errors same stops = sym (reads_of A other errors (subst (IsOfBatch workers) (sym same) stops))
 
-pub writes_told : (A : Type 0) (fault : EngineFault) (result : Result A EngineFault) (errors : ℕ) → IsErrAnd result (λ other. other ≡ fault)
-    → IsOfBatch fault → errors ≡ write_errors result errors
+pub writes_told : {workers : ℕ} (A : Type 0) (fault : EngineFault) (result : Result A EngineFault) (errors : ℕ) → IsErrAnd result (λ other. other ≡ fault)
+    → IsOfBatch workers fault → errors ≡ write_errors result errors
 writes_told A fault (Ok value) errors same stops = absurd same
-writes_told A fault (Err other) errors same stops = sym (writes_of A other errors (subst IsOfBatch (sym same) stops))
+writes_told {workers = workers} A fault (Err other) errors same stops = sym (writes_of A other errors (subst (IsOfBatch workers) (sym same) stops))
 
-pub writes_never : {A : Type 0} (fault : EngineFault) (result : Result A EngineFault) → IsErrAnd result (λ other. other ≡ fault) → IsOfBatch fault
+pub writes_never : {A : Type 0} {workers : ℕ} (fault : EngineFault) (result : Result A EngineFault) → IsErrAnd result (λ other. other ≡ fault) → IsOfBatch workers fault
     → IfErr result (λ other. other ≡ EngineFault.Write → ⊥)
 writes_never fault (Ok value) same stops = absurd same
 writes_never fault (Err other) same (inl memory) = λ is. cc (sym is ∙ same ∙ memory)
-writes_never fault (Err other) same (inr start) = λ is. cc (sym is ∙ same ∙ start)
+writes_never fault (Err other) same (inr start) = λ is. cc (sym is ∙ same ∙ start.0)

@@ -54,7 +54,7 @@ module _ (plan : Plan) (bytes : List ℕ) (given : ℕ) where
 
   -- memory was refused or no thread started, and what was pending is
   pub runs_fault : (from : ℕ) (old new : Batching) (result : Result ℕ EngineFault) → new.pending.items ≡ old.pending.items
-      → IsErrAnd result IsOfBatch → Runs plan bytes given from old new result
+      → IsErrAnd result (IsOfBatch plan.settings.workers) → Runs plan bytes given from old new result
   runs_fault from old new (Ok to) same is = absurd is
   runs_fault from old new (Err fault) same is = record {
     within = tt;
@@ -137,7 +137,7 @@ module _ (plan : Plan) (bytes : List ℕ) (given : ℕ) where
       }
 
   pub runs_early_fault : (from to : ℕ) (old mid new : Batching) (result : Result ℕ EngineFault) → Runs plan bytes given from old mid (Ok to)
-      → new.pending.items ≡ mid.pending.items → IsErrAnd result IsOfBatch → Runs plan bytes given from old new result
+      → new.pending.items ≡ mid.pending.items → IsErrAnd result (IsOfBatch plan.settings.workers) → Runs plan bytes given from old new result
   runs_early_fault from to old mid new (Ok other) runs same is = absurd is
   runs_early_fault from to old mid new (Err fault) runs same is = record {
     within = tt;
@@ -152,6 +152,6 @@ module _ (plan : Plan) (bytes : List ℕ) (given : ℕ) where
 
   -- and that fault is passed on
   pub runs_early_told : (from to : ℕ) (old mid new : Batching) (fault : EngineFault) (result : Result ℕ EngineFault) → Runs plan bytes given from old mid (Ok to)
-      → new.pending.items ≡ mid.pending.items → IsOfBatch fault → IsErrAnd result (λ other. other ≡ fault) → Runs plan bytes given from old new result
+      → new.pending.items ≡ mid.pending.items → IsOfBatch plan.settings.workers fault → IsErrAnd result (λ other. other ≡ fault) → Runs plan bytes given from old new result
   runs_early_told from to old mid new fault result runs same stops is =
       runs_told from old new fault result (runs_early_fault from to old mid new (Err fault) runs same stops) is

@@ -1,5 +1,5 @@
 -- A fault of a run of a text, as one of an engine, and a fault of the run of a batch, as one of a text.
-use Rattle.std.specs.Prelude.{◌≡◌, ◌⊎◌}
+use Rattle.std.specs.Prelude.{◌≡◌, ◌⊎◌, ◌<◌, ℕ}
 use Rattle.workers.specs.declared.fault.RunFault.{RunFault}
 use Rattle.bohm_base.specs.declared.fault.EngineFault.{EngineFault as TextFault}
 use Rattle.engine.specs.declared.fault.EngineFault.{EngineFault}
@@ -14,6 +14,6 @@ abbrev pub of_batch : RunFault → TextFault
 of_batch RunFault.NoMemory = TextFault.NoMemory
 of_batch RunFault.Spawn = TextFault.Spawn
 
--- neither the reader nor the writer failed: memory was refused, or a worker's thread could not be started
-abbrev pub IsOfBatch : TextFault → Type 0
-IsOfBatch fault = (fault ≡ TextFault.NoMemory) ⊎ (fault ≡ TextFault.Spawn)
+-- neither the reader nor the writer failed: memory was refused, or a thread for one of several workers could not be started
+abbrev pub IsOfBatch : ℕ → TextFault → Type 0
+IsOfBatch workers fault = (fault ≡ TextFault.NoMemory) ⊎ ((fault ≡ TextFault.Spawn) × (1 < workers))

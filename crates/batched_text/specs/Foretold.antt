@@ -61,4 +61,4 @@ pub record Runs (plan : Plan) (bytes : List ℕ) (given from : ℕ) (old new : B
   pub taken : IfOk result (λ to. TakesFrom bytes from to old new)
   pub begun : BeginsFrom bytes from old new
   pub begins : OnOk result (Begins (log_names old) (log_names new))
-  pub err : IfErr result IsOfBatch
+  pub err : IfErr result (IsOfBatch plan.settings.workers)

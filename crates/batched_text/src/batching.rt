@@ -81,8 +81,7 @@ fn crew_of(settings: &Settings) -> Crew
 
 /// The fault of a batch, as one of a text.
 fn text_fault(fault: RunFault) -> EngineFault
-    ensures same { result ≡ of_batch fault }
-    ensures stops { IsOfBatch result }
+    ensures { result ≡ of_batch fault }
 {
     match fault {
         RunFault::NoMemory => EngineFault::NoMemory,
@@ -92,6 +91,7 @@ fn text_fault(fault: RunFault) -> EngineFault
 
 /// Runs the places that wait as a batch, and trims the rows after it. Where none wait nothing is done. After an error the engine is as it
 /// was.
+#[tactic(auto, using(crate::proofs::Faults::stops_batch))]
 fn run_waiting<T: Threads + Wait + Sync>(
     rt: &T,
     alloc: Global,
@@ -100,7 +100,7 @@ fn run_waiting<T: Threads + Wait + Sync>(
 ) -> Result<(), EngineFault>
     requires settings { are_within_limits settings.now ≡ true }
     requires mark { engine.old.store.mark ≤ mark_behind settings.now (finished engine.old) (length engine.old.log.statements) }
-    ensures stops { IfErr result IsOfBatch }
+    ensures stops { IfErr result (IsOfBatch settings.now.workers) }
     ensures log { engine.new.log ≡ engine.old.log }
     ensures dropped { engine.new.dropped ≡ engine.old.dropped }
     ensures all { OnOk result (finished engine.new ≡ length engine.old.log.statements) }
@@ -140,7 +140,7 @@ pub(crate) fn report_batch<T: Threads + Wait + Sync>(
     plan: &Plan,
 ) -> Result<(), EngineFault>
     requires filling { IsFilling plan.now batching.old }
-    ensures stops { IfErr result IsOfBatch }
+    ensures stops { IfErr result (IsOfBatch plan.now.settings.workers) }
     ensures kept { OnOk result (batching.new.engine.dropped ≡ dropped_by plan.now.history batching.new.engine) }
     ensures told { OnOk result (batching.new.pending.items ≡ batching.old.pending.items ++ lines_text batching.old.engine.log
         (batching.old.number - length batching.old.waiting.items) (finished batching.old.engine) batching.old.waiting.items) }
@@ -180,7 +180,7 @@ pub(crate) fn report_full<T: Threads + Wait + Sync>(
     plan: &Plan,
 ) -> Result<(), EngineFault>
     requires filling { IsFilling plan.now batching.old }
-    ensures stops { IfErr result IsOfBatch }
+    ensures stops { IfErr result (IsOfBatch plan.now.settings.workers) }
     ensures reports { OnOk result (ReportsLines batching.old.engine.log (finished batching.old.engine) (finished batching.new.engine)
         batching.old.waiting.items batching.new.waiting.items batching.old.number batching.old.pending.items batching.new.pending.items) }
     ensures log { OnOk result (batching.new.engine.log ≡ batching.old.engine.log) }
@@ -204,7 +204,7 @@ pub(crate) fn report_early<T: Threads + Wait + Sync>(
     plan: &Plan,
 ) -> Result<(), EngineFault>
     requires room { IsOpen plan.now batching.old }
-    ensures stops { IfErr result IsOfBatch }
+    ensures stops { IfErr result (IsOfBatch plan.now.settings.workers) }
     ensures reports { OnOk result (ReportsLines batching.old.engine.log (finished batching.old.engine) (finished batching.new.engine)
         batching.old.waiting.items batching.new.waiting.items batching.old.number batching.old.pending.items batching.new.pending.items) }
     ensures log { OnOk result (batching.new.engine.log ≡ batching.old.engine.log) }

@@ -103,7 +103,7 @@ pub(crate) fn deal<'a, T: Threads + Wait + Sync>(
     ensures dealt { OnOk result ((reading : Reading) × (ReadsAs line.now reading × Deals reading batching.old batching.new)) }
     ensures room { OnOk result (IsOpen plan.now batching.new) }
     ensures pending { OnErr result (batching.new.pending.items ≡ batching.old.pending.items) }
-    ensures err { IfErr result IsOfBatch }
+    ensures err { IfErr result (IsOfBatch plan.now.settings.workers) }
 {
     take_line(batching, line, raw)?;
     let _dropped = batching.engine.log().dropped();

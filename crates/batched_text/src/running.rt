@@ -80,6 +80,7 @@ fn next_line<R: Read>(
 }
 
 /// Takes the next line, and reports its batch if that is full. False at the end of the input.
+#[tactic(auto, using(crate::proofs::Faults::several_told, crate::proofs::Faults::several_kept))]
 fn report_line<T: Threads + Wait + Sync, R: Read>(
     rt: &T,
     alloc: Global,
@@ -97,6 +98,7 @@ fn report_line<T: Threads + Wait + Sync, R: Read>(
     ensures reads { reader.new.errors ≡ read_errors result reader.old.errors }
     ensures begins { OnOk result (Begins (log_names batching.old) (log_names batching.new)) }
     ensures err { IfErr result (λ f. f ≢ TextFault.Write) }
+    ensures alone { IfErr result (λ f. f ≡ TextFault.Spawn → 1 < plan.now.settings.workers) }
 {
     if !next_line(
         reader,
@@ -158,6 +160,7 @@ fn report_at_hand<T: Threads + Wait + Sync>(
 
 /// Takes the next line, as `report_line`, and then the whole buffered lines, as `report_at_hand`. Then it writes what is pending of the
 /// report.
+#[tactic(auto, using(crate::proofs::Faults::several_told, crate::proofs::Faults::several_kept))]
 fn report_turn<T: Threads + Wait + Sync, R: Read, W: Write>(
     rt: &T,
     alloc: Global,
@@ -181,6 +184,7 @@ fn report_turn<T: Threads + Wait + Sync, R: Read, W: Write>(
     ensures reads { reader.new.errors ≡ read_errors result reader.old.errors }
     ensures writes { writer.new.errors ≡ write_errors result writer.old.errors }
     ensures flushes { writer.new.flushes ≡ writer.old.flushes }
+    ensures alone { IfErr result (λ f. f ≡ TextFault.Spawn → 1 < plan.now.settings.workers) }
 {
     if !report_line(rt, alloc, reader, lines, batching, plan)? {
         return Ok(false);
@@ -193,6 +197,7 @@ fn report_turn<T: Threads + Wait + Sync, R: Read, W: Write>(
 }
 
 /// Takes lines to the end of the input, as `report_turn`.
+#[tactic(auto, using(crate::proofs::Faults::several_told, crate::proofs::Faults::several_kept))]
 fn report_rest<T: Threads + Wait + Sync, R: Read, W: Write>(
     rt: &T,
     alloc: Global,
@@ -213,6 +218,7 @@ fn report_rest<T: Threads + Wait + Sync, R: Read, W: Write>(
     ensures reads { reader.new.errors ≡ read_errors result reader.old.errors }
     ensures writes { writer.new.errors ≡ write_errors result writer.old.errors }
     ensures flushes { writer.new.flushes ≡ writer.old.flushes }
+    ensures alone { IfErr result (λ f. f ≡ TextFault.Spawn → 1 < plan.now.settings.workers) }
 {
     'lines: while report_turn(rt, alloc, reader, writer, lines, lookahead, batching, plan)? {}
     Ok(())
@@ -229,6 +235,7 @@ fn lines_for(alloc: Global, reading: ReadingAhead) -> Result<LineReader, AllocEr
 }
 
 /// Takes the lines of the input from the first to the last, and runs and reports each batch as it is full.
+#[tactic(auto, using(crate::proofs::Faults::several_told, crate::proofs::Faults::several_kept))]
 fn report_lines<T: Threads + Wait + Sync, R: Read, W: Write>(
     rt: &T,
     alloc: Global,
@@ -250,6 +257,7 @@ fn report_lines<T: Threads + Wait + Sync, R: Read, W: Write>(
     ensures reads { reader.new.errors ≡ read_errors result reader.old.errors }
     ensures writes { writer.new.errors ≡ write_errors result writer.old.errors }
     ensures flushes { writer.new.flushes ≡ writer.old.flushes }
+    ensures alone { IfErr result (λ f. f ≡ TextFault.Spawn → 1 < plan.now.settings.workers) }
 {
     let mut lines = lines_for(alloc, reading)?;
     let seed = batching.engine.log().catalog().seed();
@@ -267,6 +275,7 @@ fn report_lines<T: Threads + Wait + Sync, R: Read, W: Write>(
 }
 
 /// Takes the lines of the input, and runs and reports all of it, the end of the report still pending.
+#[tactic(auto, using(crate::proofs::Faults::several_told, crate::proofs::Faults::several_kept))]
 fn report_all<T: Threads + Wait + Sync, R: Read, W: Write>(
     rt: &T,
     alloc: Global,
@@ -291,6 +300,7 @@ fn report_all<T: Threads + Wait + Sync, R: Read, W: Write>(
     ensures reads { reader.new.errors ≡ read_errors result reader.old.errors }
     ensures writes { writer.new.errors ≡ write_errors result writer.old.errors }
     ensures flushes { writer.new.flushes ≡ writer.old.flushes }
+    ensures alone { IfErr result (λ f. f ≡ TextFault.Spawn → 1 < plan.now.settings.workers) }
 {
     report_lines(rt, alloc, reader, writer, batching, plan, reading)?;
     report_batch(rt, alloc, batching, plan)?;
@@ -311,6 +321,7 @@ fn end_report<W: Write>(writer: &mut Counted<W>) -> Result<(), TextFault>
 
 /// Reads a log to its end, runs it in batches, and writes its report, at a fault as much of it as was made; then the writer is
 /// flushed. No line was dealt with before.
+#[tactic(auto, using(crate::proofs::Faults::several_told, crate::proofs::Faults::several_kept))]
 fn run_batches<T: Threads + Wait + Sync, R: Read, W: Write>(
     rt: &T,
     alloc: Global,
@@ -336,6 +347,7 @@ fn run_batches<T: Threads + Wait + Sync, R: Read, W: Write>(
     ensures write { result ≡ Err TextFault.Write → writer.old.errors < 2 ^ 64 - 1 → writer.old.errors < writer.new.errors }
     ensures whole { OnOk result ((reader.new.errors ≡ reader.old.errors) × (writer.new.errors ≡ writer.old.errors)) }
     ensures flushed { OnOk result ((writer.new.flushes ≡ raised writer.old.flushes) × (writer.new.is_flushed ≡ true)) }
+    ensures alone { IfErr result (λ f. f ≡ TextFault.Spawn → 1 < plan.now.settings.workers) }
 {
     let ended = report_all(rt, alloc, reader, writer, batching, plan, reading);
     let written = write_out(writer, &batching.pending);
@@ -368,6 +380,7 @@ fn report_batches<T: Threads + Wait + Sync, R: Read, W: Write>(
     ensures write { result ≡ Err TextFault.Write → writer.old.errors < 2 ^ 64 - 1 → writer.old.errors < writer.new.errors }
     ensures whole { OnOk result ((reader.new.errors ≡ reader.old.errors) × (writer.new.errors ≡ writer.old.errors)) }
     ensures flushed { OnOk result ((writer.new.flushes ≡ raised writer.old.flushes) × (writer.new.is_flushed ≡ true)) }
+    ensures alone { IfErr result (λ f. f ≡ TextFault.Spawn → 1 < settings.now.workers) }
 {
     let plan = Plan {
         settings: *settings,
@@ -427,6 +440,8 @@ pub fn run_text<T: Threads + Wait + Sync, R: Read, W: Write>(
     // BadSettings comes exactly where a setting is outside its limits, and then nothing is done.
     ensures bad { (result ≡ Err EngineFault.BadSettings) ↔ (are_within_limits settings.now ≡ false) }
     ensures nothing { result ≡ Err EngineFault.BadSettings → (reader.new ≡ reader.old) × (writer.new ≡ writer.old) }
+    // One worker starts no thread.
+    ensures alone { settings.now.workers ≤ 1 → result ≢ Err EngineFault.Spawn }
 
     // The engine has the log of what was read, all of it finished and nothing of it dropped, and the rows before the last few batches.
     ensures log { IfOk result (λ engine. IsLogOfText (R.remaining reader.old.inner) engine.log) }
@@ -438,6 +453,7 @@ pub fn run_text<T: Threads + Wait + Sync, R: Read, W: Write>(
 }
 
 /// The same, by maps that find their keys under this seed.
+#[tactic(auto, using(crate::proofs::Faults::several_engine))]
 pub fn run_text_seeded<T: Threads + Wait + Sync, R: Read, W: Write>(
     rt: &T,
     alloc: Global,
@@ -458,6 +474,7 @@ pub fn run_text_seeded<T: Threads + Wait + Sync, R: Read, W: Write>(
     ensures flushed { OnOk result ((writer.new.flushes ≡ raised writer.old.flushes) × (writer.new.is_flushed ≡ true)) }
     ensures bad { (result ≡ Err EngineFault.BadSettings) ↔ (are_within_limits settings.now ≡ false) }
     ensures nothing { result ≡ Err EngineFault.BadSettings → (reader.new ≡ reader.old) × (writer.new ≡ writer.old) }
+    ensures alone { settings.now.workers ≤ 1 → result ≢ Err EngineFault.Spawn }
     ensures log { IfOk result (λ engine. IsLogOfText (R.remaining reader.old.inner) engine.log) }
     ensures all { IfOk result (λ engine. finished engine ≡ length engine.log.statements) }
     ensures trimmed { IfOk result (λ engine. IsTrimmed settings.now engine) }
@@ -511,11 +528,14 @@ pub fn report_text<T: Threads + Wait + Sync, R: Read, W: Write>(
     // BadSettings comes exactly where a setting is outside its limits, and then nothing is done.
     ensures bad { (result ≡ Err EngineFault.BadSettings) ↔ (are_within_limits settings.now ≡ false) }
     ensures nothing { result ≡ Err EngineFault.BadSettings → (reader.new ≡ reader.old) × (writer.new ≡ writer.old) }
+    // One worker starts no thread.
+    ensures alone { settings.now.workers ≤ 1 → result ≢ Err EngineFault.Spawn }
 {
     report_text_seeded(rt, alloc, reader, writer, settings, HashSeed::fixed())
 }
 
 /// The same, by maps that find their keys under this seed.
+#[tactic(auto, using(crate::proofs::Faults::several_engine))]
 pub fn report_text_seeded<T: Threads + Wait + Sync, R: Read, W: Write>(
     rt: &T,
     alloc: Global,
@@ -536,6 +556,7 @@ pub fn report_text_seeded<T: Threads + Wait + Sync, R: Read, W: Write>(
     ensures flushed { OnOk result ((writer.new.flushes ≡ raised writer.old.flushes) × (writer.new.is_flushed ≡ true)) }
     ensures bad { (result ≡ Err EngineFault.BadSettings) ↔ (are_within_limits settings.now ≡ false) }
     ensures nothing { result ≡ Err EngineFault.BadSettings → (reader.new ≡ reader.old) × (writer.new ≡ writer.old) }
+    ensures alone { settings.now.workers ≤ 1 → result ≢ Err EngineFault.Spawn }
 {
     if !are_within_limits(settings) {
         return Err(EngineFault::BadSettings);
@@ -588,6 +609,8 @@ pub fn report_in_order<T: Threads + Wait + Sync, R: Read, W: Write>(
     ensures whole { OnOk result ((reader.new.errors ≡ reader.old.errors) × (writer.new.errors ≡ writer.old.errors)) }
     // Ok says that the writer was flushed once, and not written to since.
     ensures flushed { OnOk result ((writer.new.flushes ≡ raised writer.old.flushes) × (writer.new.is_flushed ≡ true)) }
+    // A thread that reads ahead and can't be started ends no run.
+    ensures alone { result ≢ Err TextFault.Spawn }
 {
     report_in_order_seeded(rt, alloc, reader, writer, reading, HashSeed::fixed())
 }
@@ -611,6 +634,7 @@ pub fn report_in_order_seeded<T: Threads + Wait + Sync, R: Read, W: Write>(
     ensures write { result ≡ Err TextFault.Write → writer.old.errors < 2 ^ 64 - 1 → writer.old.errors < writer.new.errors }
     ensures whole { OnOk result ((reader.new.errors ≡ reader.old.errors) × (writer.new.errors ≡ writer.old.errors)) }
     ensures flushed { OnOk result ((writer.new.flushes ≡ raised writer.old.flushes) × (writer.new.is_flushed ≡ true)) }
+    ensures alone { result ≢ Err TextFault.Spawn }
 {
     let mut batching = Batching::seeded(alloc, seed);
     report_batches(rt, alloc, reader, writer, &mut batching, &IN_ORDER, reading)

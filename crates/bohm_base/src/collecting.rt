@@ -153,6 +153,7 @@ fn collect_all<R: Read>(
         (λ input. Collects input collected.new.log collected.new.lines.items)) }
     ensures reads { reader.new.errors ≡ read_errors result reader.old.errors }
     ensures err { IfErr result (λ f. f ≢ EngineFault.Write) }
+    ensures alone { IfErr result (λ f. f ≢ EngineFault.Spawn) }
 {
     'lines: while reading.next_line(reader)? {
         let line = take_line(alloc, &mut collected.log, reading.line())?;
@@ -172,6 +173,7 @@ pub fn collect_lines<R: Read>(
         (λ input. Collects input collected.log collected.lines.items)) }
     ensures reads { reader.new.errors ≡ read_errors result reader.old.errors }
     ensures err { IfErr result (λ f. f ≢ EngineFault.Write) }
+    ensures alone { IfErr result (λ f. f ≢ EngineFault.Spawn) }
 {
     let mut reading = LineReader::new(alloc)?;
     let mut collected = Collected::seeded(alloc, seed);

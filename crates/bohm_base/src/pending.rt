@@ -23,6 +23,7 @@ pub(crate) fn put_out<W: Write>(
     ensures errors { writer.new.errors ≡ write_errors result writer.old.errors }
     ensures flushes { writer.new.flushes ≡ writer.old.flushes }
     ensures err { IfErr result (λ f. f ≢ EngineFault.Read) }
+    ensures alone { IfErr result (λ f. f ≢ EngineFault.Spawn) }
 {
     pending.extend_from_slice(line)?;
     write_much(writer, pending)?;

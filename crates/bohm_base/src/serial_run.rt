@@ -84,6 +84,7 @@ fn report_line<W: Write>(
     ensures errors { writer.new.errors ≡ write_errors result writer.old.errors }
     ensures flushes { writer.new.flushes ≡ writer.old.flushes }
     ensures err { IfErr result (λ f. f ≢ EngineFault.Read) }
+    ensures alone { IfErr result (λ f. f ≢ EngineFault.Spawn) }
 {
     text.clear();
     put_line(text, log, outcomes, number, place, line)?;
@@ -109,6 +110,7 @@ fn report_lines<W: Write>(
     ensures errors { writer.new.errors ≡ write_errors result writer.old.errors }
     ensures flushes { writer.new.flushes ≡ writer.old.flushes }
     ensures err { IfErr result (λ f. f ≢ EngineFault.Read) }
+    ensures alone { IfErr result (λ f. f ≢ EngineFault.Spawn) }
 {
     let mut text = Vec::new(alloc);
     let mut place = 0;
@@ -145,6 +147,7 @@ fn write_report<W: Write>(
     ensures begun { AppendsFront (W.contents writer.old.inner) (W.contents writer.new.inner)
         (log_text collected.now.log collected.now.lines.items) }
     ensures err { IfErr result (λ f. f ≢ EngineFault.Read) }
+    ensures alone { IfErr result (λ f. f ≢ EngineFault.Spawn) }
     ensures write { result ≡ Err EngineFault.Write → writer.old.errors < 2 ^ 64 - 1 → writer.old.errors < writer.new.errors }
     ensures whole { OnOk result (writer.new.errors ≡ writer.old.errors) }
     ensures flushed { OnOk result ((writer.new.flushes ≡ raised writer.old.flushes) × (writer.new.is_flushed ≡ true)) }
@@ -171,6 +174,7 @@ fn run_log<W: Write>(
     ensures begun { AppendsFront (W.contents writer.old.inner) (W.contents writer.new.inner)
         (log_text collected.now.log collected.now.lines.items) }
     ensures err { IfErr result (λ f. f ≢ EngineFault.Read) }
+    ensures alone { IfErr result (λ f. f ≢ EngineFault.Spawn) }
     ensures write { result ≡ Err EngineFault.Write → writer.old.errors < 2 ^ 64 - 1 → writer.old.errors < writer.new.errors }
     ensures whole { OnOk result (writer.new.errors ≡ writer.old.errors) }
     ensures flushed { OnOk result ((writer.new.flushes ≡ raised writer.old.flushes) × (writer.new.is_flushed ≡ true)) }
@@ -204,6 +208,8 @@ pub fn serial_text<R: Read, W: Write>(
     ensures whole { OnOk result ((reader.new.errors ≡ reader.old.errors) × (writer.new.errors ≡ writer.old.errors)) }
     // Ok says that the writer was flushed once, and not written to since.
     ensures flushed { OnOk result ((writer.new.flushes ≡ raised writer.old.flushes) × (writer.new.is_flushed ≡ true)) }
+    // No thread is started.
+    ensures alone { IfErr result (λ f. f ≢ EngineFault.Spawn) }
 {
     serial_text_seeded(alloc, reader, writer, HashSeed::fixed())
 }
@@ -223,6 +229,7 @@ pub fn serial_text_seeded<R: Read, W: Write>(
     ensures write { result ≡ Err EngineFault.Write → writer.old.errors < 2 ^ 64 - 1 → writer.old.errors < writer.new.errors }
     ensures whole { OnOk result ((reader.new.errors ≡ reader.old.errors) × (writer.new.errors ≡ writer.old.errors)) }
     ensures flushed { OnOk result ((writer.new.flushes ≡ raised writer.old.flushes) × (writer.new.is_flushed ≡ true)) }
+    ensures alone { IfErr result (λ f. f ≢ EngineFault.Spawn) }
 {
     let mut pending = Vec::with_capacity(alloc, PENDING_BYTES)?;
     let collected = collect_lines(alloc, reader, seed)?;

@@ -1,4 +1,4 @@
--- A beginning of what a work says of its log is a beginning of what answers a command, where all that the work tells does.
+-- A beginning of what a work tells of its log is a beginning of what answers a command, where all that the work tells does.
 use Rattle.std.proofs.Common.{ℕ, List, None, Option, Some, inl, inr}
 use Rattle.command_line.specs.Running.{TextHasBegun}
 

@@ -3,8 +3,8 @@ use Rattle.std.specs.Prelude.{◌≡◌, ◌≤◌, ◌⊎◌, ℕ, Err, IfSome,
 use Rattle.std.specs.Io.KnownBytes.{Appends}
 use Rattle.line_io.specs.Known.{AppendsFront}
 use Rattle.report.specs.Report.{IsReport}
-use Rattle.audit_text.specs.Answer.{IsExplanation}
-use Rattle.audit_text.specs.Picture.{IsPicture}
+use Rattle.audit_text.specs.Answer.{HasNoPlace, IsExplanation}
+use Rattle.audit_text.specs.Picture.{EndsBefore, IsPicture}
 use Rattle.audit_text.specs.declared.question.Question.{Question}
 use Rattle.batched_text.specs.declared.settings.Settings.{Settings}
 use Rattle.command_line.specs.Words.{path_of}
@@ -40,6 +40,13 @@ AnswersCommand (Command.Run source way) input text = IsReport input text
 AnswersCommand (Command.Serial source) input text = IsReport input text
 AnswersCommand (Command.Explain source question) input text = IsExplanation input question text
 AnswersCommand (Command.Grants source limit) input text = IsPicture input limit text
+
+-- the log has no such place as a command asks about
+abbrev pub LacksPlace : Command → List ℕ → Type 0
+LacksPlace (Command.Run source way) input = ⊥
+LacksPlace (Command.Serial source) input = ⊥
+LacksPlace (Command.Explain source question) input = HasNoPlace input question.place
+LacksPlace (Command.Grants source limit) input = EndsBefore input limit
 
 -- the end of a command's work, or of that on its log
 abbrev pub EndOf : Type 0 → Type 0

@@ -2,12 +2,12 @@
 
 ghost use Rattle.std.specs.Prelude.{◌≡◌, ◌≤◌, ◌<◌, ◌-◌, ◌^◌, ℕ, Err, IfNone, IfSome, IsSome, List, OnOk, Option, true};
 ghost use Rattle.line_io.specs.Known.{raised};
-ghost use Rattle.audit_text.specs.Answer.{IsExplanation};
-ghost use Rattle.audit_text.specs.Picture.{IsPicture};
+ghost use Rattle.audit_text.specs.Answer.{HasNoPlace, IsExplanation};
+ghost use Rattle.audit_text.specs.Picture.{EndsBefore, IsPicture};
 ghost use Rattle.audit_text.specs.declared.question.Question.{Question};
 ghost use Rattle.batched_text.specs.Settings.{are_within_limits};
 ghost use Rattle.batched_text.specs.declared.settings.Settings.{Settings};
-ghost use Rattle.command_line.specs.Running.{AnswersCommand, DoesCommand, EndsWork, HasTold, TellsReports, TextHasBegun, path_in};
+ghost use Rattle.command_line.specs.Running.{AnswersCommand, DoesCommand, EndsWork, HasTold, LacksPlace, TellsReports, TextHasBegun, path_in};
 ghost use Rattle.command_line.specs.Words.{IsWithinLimits};
 
 use crate::command_words::{Command, ProgramFault};
@@ -96,12 +96,20 @@ fn work_on<
         → E.tells works.now.explained question input text → IsExplanation input question text }
     requires pictures { (limit : Option ℕ) (input text : List ℕ)
         → G.tells works.now.pictured limit input text → IsPicture input limit text }
+    requires in_order_lacks { (threads : ℕ) (input : List ℕ) → P.lacks works.now.in_order threads input → ⊥ }
+    requires batched_lacks { (settings : Settings) (input : List ℕ) → B.lacks works.now.batched settings input → ⊥ }
+    requires slow_lacks { (input : List ℕ) → S.lacks works.now.slow tt input → ⊥ }
+    requires explained_lacks { (question : Question) (input : List ℕ)
+        → E.lacks works.now.explained question input → HasNoPlace input question.place }
+    requires pictured_lacks { (limit : Option ℕ) (input : List ℕ) → G.lacks works.now.pictured limit input → EndsBefore input limit }
     ensures ends { EndsWork (P.answers works.now.in_order) (B.answers works.now.batched) (S.answers works.now.slow tt)
         (E.answers works.now.explained) (G.answers works.now.pictured) command.entry result }
     ensures done { OnOk result (HasTold (AnswersCommand command.entry) (R.remaining log.old.inner)
         (W.contents told.old.inner) (W.contents told.new.inner)) }
     ensures begun { TextHasBegun (AnswersCommand command.entry) (R.remaining log.old.inner)
         (W.contents told.old.inner) (W.contents told.new.inner) }
+    ensures none { result ≡ Err WorkFault.NoSuchPlace
+        → (told.new ≡ told.old) × IfSome (R.remaining log.old.inner) (LacksPlace command.entry) }
     ensures read { result ≡ Err WorkFault.Read → log.old.errors < 2 ^ 64 - 1 → log.old.errors < log.new.errors }
     ensures write { result ≡ Err WorkFault.Write → told.old.errors < 2 ^ 64 - 1 → told.old.errors < told.new.errors }
     ensures whole { OnOk result ((log.new.errors ≡ log.old.errors) × (told.new.errors ≡ told.old.errors)) }
@@ -168,6 +176,12 @@ pub fn do_command<
         → E.tells works.now.explained question input text → IsExplanation input question text }
     requires pictures { (limit : Option ℕ) (input text : List ℕ)
         → G.tells works.now.pictured limit input text → IsPicture input limit text }
+    requires in_order_lacks { (threads : ℕ) (input : List ℕ) → P.lacks works.now.in_order threads input → ⊥ }
+    requires batched_lacks { (settings : Settings) (input : List ℕ) → B.lacks works.now.batched settings input → ⊥ }
+    requires slow_lacks { (input : List ℕ) → S.lacks works.now.slow tt input → ⊥ }
+    requires explained_lacks { (question : Question) (input : List ℕ)
+        → E.lacks works.now.explained question input → HasNoPlace input question.place }
+    requires pictured_lacks { (limit : Option ℕ) (input : List ℕ) → G.lacks works.now.pictured limit input → EndsBefore input limit }
     ensures does { DoesCommand (P.answers works.now.in_order) (B.answers works.now.batched) (S.answers works.now.slow tt)
         (E.answers works.now.explained) (G.answers works.now.pictured) command.entry result }
 
@@ -176,6 +190,9 @@ pub fn do_command<
         (W.contents told.old.inner) (W.contents told.new.inner)) }
     ensures begun { TextHasBegun (AnswersCommand command.entry) (L.bytes sources (path_in command.entry))
         (W.contents told.old.inner) (W.contents told.new.inner) }
+    // NoSuchPlace comes only where the log of the source has no such place, and nothing is written then.
+    ensures none { result ≡ Err (ProgramFault.Work WorkFault.NoSuchPlace)
+        → (told.new ≡ told.old) × IfSome (L.bytes sources (path_in command.entry)) (LacksPlace command.entry) }
     // Ok says that the writer didn't fail, and that it was flushed, once, and not written to since.
     ensures whole { OnOk result (told.new.errors ≡ told.old.errors) }
     ensures flushed { OnOk result ((told.new.flushes ≡ raised told.old.flushes) × (told.new.is_flushed ≡ true)) }

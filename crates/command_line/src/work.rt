@@ -1,11 +1,11 @@
 //! What the program does with a log.
 
-ghost use Rattle.std.specs.Prelude.{◌≡◌, ◌≢◌, ◌<◌, ◌-◌, ◌^◌, ℕ, Err, List, OnOk, Result, true};
+ghost use Rattle.std.specs.Prelude.{◌≡◌, ◌≢◌, ◌<◌, ◌≤◌, ◌-◌, ◌^◌, ℕ, Err, IfSome, List, OnOk, Result, true};
 ghost use Rattle.std.specs.Thread.{IsSync};
 ghost use Rattle.line_io.specs.Known.{raised};
 ghost use Rattle.report.specs.Report.{IsReport};
-ghost use Rattle.audit_text.specs.Answer.{IsExplanation};
-ghost use Rattle.audit_text.specs.Picture.{IsPicture};
+ghost use Rattle.audit_text.specs.Answer.{HasNoPlace, IsExplanation};
+ghost use Rattle.audit_text.specs.Picture.{EndsBefore, IsPicture};
 ghost use Rattle.batched_text.specs.Settings.{are_within_limits};
 ghost use Rattle.engine.specs.declared.fault.EngineFault.TheVariants.{BadSettings};
 ghost use Rattle.command_line.specs.Running.{TextHasBegun, HasTold};
@@ -46,10 +46,12 @@ pub trait Work<O: Copy> {
     ghost answers: { Self → O → Result (Unit {0}) WorkFault → Type 0 };
     // Which texts it says of a log by an order.
     ghost tells: { Self → O → List ℕ → List ℕ → Type 0 };
+    // Of which logs it says by an order that they have no such place.
+    ghost lacks: { Self → O → List ℕ → Type 0 };
 
     /// Reads the log, as far as it has to, and writes what it says of it. After a fault a beginning of that was written, or nothing; `Read`
-    /// and `Write` come only where the log's reader or the writer failed, and Ok only where neither did and the writer was flushed, once,
-    /// and not written to since.
+    /// and `Write` come only where the log's reader or the writer failed, `NoSuchPlace` only where the log has no such place, and then nothing
+    /// is written. Ok comes only where neither failed and the writer was flushed, once, and not written to since.
     fn work<T: Threads + Wait + Sync, R: Read, W: Write>(
         &self,
         rt: &T,
@@ -65,6 +67,8 @@ pub trait Work<O: Copy> {
             (W.contents told.old.inner) (W.contents told.new.inner)) }
         ensures begun { TextHasBegun (tells self.now order) (R.remaining log.old.inner)
             (W.contents told.old.inner) (W.contents told.new.inner) }
+        ensures none { result ≡ Err WorkFault.NoSuchPlace
+            → (told.new ≡ told.old) × IfSome (R.remaining log.old.inner) (lacks self.now order) }
         ensures read { result ≡ Err WorkFault.Read → log.old.errors < 2 ^ 64 - 1 → log.old.errors < log.new.errors }
         ensures write { result ≡ Err WorkFault.Write → told.old.errors < 2 ^ 64 - 1 → told.old.errors < told.new.errors }
         ensures whole { OnOk result ((log.new.errors ≡ log.old.errors) × (told.new.errors ≡ told.old.errors)) }
@@ -119,9 +123,11 @@ pub struct InOrder {
 impl Work<u64> for InOrder {
     ghost takes = { λ _ _. Unit {0} };
 
-    ghost answers = { λ _ _ result. result ≢ Err WorkFault.NoSuchPlace };
+    ghost answers = { λ _ _ result. (result ≢ Err WorkFault.NoSuchPlace) × (result ≢ Err WorkFault.Spawn) };
 
     ghost tells = { λ _ _. IsReport };
+
+    ghost lacks = { λ _ _ _. ⊥ };
 
     fn work<T: Threads + Wait + Sync, R: Read, W: Write>(
         &self,
@@ -149,9 +155,11 @@ pub struct Slow {
 impl Work<()> for Slow {
     ghost takes = { λ _ _. Unit {0} };
 
-    ghost answers = { λ _ _ result. result ≢ Err WorkFault.NoSuchPlace };
+    ghost answers = { λ _ _ result. (result ≢ Err WorkFault.NoSuchPlace) × (result ≢ Err WorkFault.Spawn) };
 
     ghost tells = { λ _ _. IsReport };
+
+    ghost lacks = { λ _ _ _. ⊥ };
 
     fn work<T: Threads + Wait + Sync, R: Read, W: Write>(
         &self,
@@ -178,9 +186,12 @@ pub struct Batched {
 impl Work<Settings> for Batched {
     ghost takes = { λ _ settings. are_within_limits settings ≡ true };
 
-    ghost answers = { λ _ _ result. result ≢ Err WorkFault.NoSuchPlace };
+    ghost answers = { λ _ settings result. (result ≢ Err WorkFault.NoSuchPlace)
+        × (settings.workers ≤ 1 → result ≢ Err WorkFault.Spawn) };
 
     ghost tells = { λ _ _. IsReport };
+
+    ghost lacks = { λ _ _ _. ⊥ };
 
     fn work<T: Threads + Wait + Sync, R: Read, W: Write>(
         &self,
@@ -207,9 +218,11 @@ pub struct Explained {
 impl Work<Question> for Explained {
     ghost takes = { λ _ _. Unit {0} };
 
-    ghost answers = { λ _ _ _. Unit {0} };
+    ghost answers = { λ _ _ result. result ≢ Err WorkFault.Spawn };
 
     ghost tells = { λ _ question input text. IsExplanation input question text };
+
+    ghost lacks = { λ _ question input. HasNoPlace input question.place };
 
     fn work<T: Threads + Wait + Sync, R: Read, W: Write>(
         &self,
@@ -236,9 +249,11 @@ pub struct Pictured {
 impl Work<Option<Place>> for Pictured {
     ghost takes = { λ _ _. Unit {0} };
 
-    ghost answers = { λ _ _ _. Unit {0} };
+    ghost answers = { λ _ _ result. result ≢ Err WorkFault.Spawn };
 
     ghost tells = { λ _ limit input text. IsPicture input limit text };
+
+    ghost lacks = { λ _ limit input. EndsBefore input limit };
 
     fn work<T: Threads + Wait + Sync, R: Read, W: Write>(
         &self,

@@ -404,6 +404,7 @@ impl Engine {
     ) -> Result<(), EngineFault>
         ensures bad { (result ≡ Err EngineFault.BadSettings) ↔ (may_run self.old range.start range.end crew ≡ false) }
         ensures fault { IfErr result (λ f. (f ≡ EngineFault.BadSettings) ⊎ (f ≡ EngineFault.NoMemory) ⊎ (f ≡ EngineFault.Spawn)) }
+        ensures alone { crew.workers ≤ 1 → result ≢ Err EngineFault.Spawn }
         ensures ends { OnOk result (finished self.new ≡ range.end) }
         ensures stands { OnOk result (Stands self.new.log.statements range.end self.new.store self.new.book) }
         ensures came { OnOk result (AreOutcomes self.new.log.statements 0 range.end self.new.outcomes) }

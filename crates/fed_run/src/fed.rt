@@ -1,6 +1,6 @@
 //! A run that is fed piece by piece.
 
-ghost use Rattle.std.specs.Prelude.{◌≡◌, ◌≤◌, ◌<◌, ◌+◌, ◌++◌, ◌∷◌, ◌↔◌, ℕ, [], List, Err, IfErr, IfOk, Ok, OnErr, OnOk, false, true, drop, length, take};
+ghost use Rattle.std.specs.Prelude.{◌≡◌, ◌≤◌, ◌<◌, ◌+◌, ◌++◌, ◌∷◌, ◌^◌, ◌↔◌, ℕ, [], List, Err, IfErr, IfOk, Ok, OnErr, OnOk, false, true, drop, length, take};
 ghost use Rattle.line_io.specs.declared.limits.TheConstants.{KEPT_BYTES};
 ghost use Rattle.report.specs.Report.{IsReport, Reading};
 ghost use Rattle.sequencer.specs.Taken.{IsWhole};
@@ -150,6 +150,7 @@ impl FedRun {
         ensures none { OnOk result (self.new.order.waiting ≡ []) }
         ensures nothing { OnErr result (unsent self.new ≡ []) }
         ensures open { result ≡ Err FeedFault.Ended → ⊥ }
+        ensures counted { result ≡ Err FeedFault.Full → 2 ^ 64 ≤ self.new.lines + length self.new.order.waiting + 1 }
         ensures begun { self.new.begun.items ≡ self.old.begun.items }
         ensures ended { self.new.is_ended ≡ self.old.is_ended }
     {
@@ -183,6 +184,7 @@ impl FedRun {
         ensures stands { OnErr result (Gives self.old self.new out.old out.new made made) }
         ensures nothing { OnErr result (unsent self.new ≡ []) }
         ensures open { result ≡ Err FeedFault.Ended → ⊥ }
+        ensures counted { result ≡ Err FeedFault.Full → 2 ^ 64 ≤ self.new.lines + length self.new.order.waiting + 1 }
         ensures begun { self.new.begun.items ≡ self.old.begun.items }
     {
         self.settle(alloc)?;
@@ -196,6 +198,7 @@ impl FedRun {
         ensures settled { OnOk result (IsGivenOut self.new out.new step.new.made) }
         ensures nothing { OnErr result (unsent self.new ≡ []) }
         ensures open { result ≡ Err FeedFault.Ended → ⊥ }
+        ensures counted { result ≡ Err FeedFault.Full → 2 ^ 64 ≤ self.new.lines + length self.new.order.waiting + 1 }
         ensures begun { self.new.begun.items ≡ self.old.begun.items }
     {
         step.made = self.give(out, 0);
@@ -222,6 +225,7 @@ impl FedRun {
         ensures order { OnErr result (self.new.order ≡ self.old.order) }
         ensures kept { OnErr result (self.new.begun.items ≡ self.old.begun.items) }
         ensures open { result ≡ Err FeedFault.Ended → ⊥ }
+        ensures counted { result ≡ Err FeedFault.Full → ⊥ }
         ensures lines { self.new.lines ≡ self.old.lines }
         ensures unsent { unsent self.new ≡ unsent self.old }
         ensures ended { self.new.is_ended ≡ self.old.is_ended }
@@ -258,6 +262,7 @@ impl FedRun {
             → IsFed self.new (input ++ take n bytes.now) written) }
         ensures err { OnErr result ((input written : List ℕ) → IsFed self.old input written → IsFed self.new input written) }
         ensures open { result ≡ Err FeedFault.Ended → ⊥ }
+        ensures counted { result ≡ Err FeedFault.Full → ⊥ }
         ensures unsent { unsent self.new ≡ unsent self.old }
         ensures ended { self.new.is_ended ≡ self.old.is_ended }
     {
@@ -287,6 +292,7 @@ impl FedRun {
         ensures some { OnOk result (self.old.order.waiting ≡ [] → step.old.used < length input.now → step.old.used < step.new.used) }
         ensures made { step.new.made ≡ step.old.made }
         ensures open { result ≡ Err FeedFault.Ended → ⊥ }
+        ensures counted { result ≡ Err FeedFault.Full → ⊥ }
         ensures unsent { unsent self.new ≡ unsent self.old }
         ensures ended { self.new.is_ended ≡ self.old.is_ended }
     {
@@ -312,6 +318,7 @@ impl FedRun {
         ensures all { OnOk result (unsent self.new ≡ [] → step.new.used ≡ length input.now) }
         ensures nothing { OnErr result (unsent self.new ≡ []) }
         ensures open { result ≡ Err FeedFault.Ended → ⊥ }
+        ensures counted { result ≡ Err FeedFault.Full → 2 ^ 64 ≤ self.new.lines + length self.new.order.waiting + 1 }
     {
         self.start(alloc, out, step)?;
         let mut raw = RawRoom::new(alloc);
@@ -348,6 +355,8 @@ impl FedRun {
         ensures still { result.1 ≡ Err FeedFault.Ended
             → (self.new ≡ self.old) × (out.new ≡ out.old) × (result.0.used ≡ 0) × (result.0.made ≡ 0) }
         ensures open { self.new.is_ended ≡ self.old.is_ended }
+        // Full comes only where one line more couldn't be counted.
+        ensures counted { result.1 ≡ Err FeedFault.Full → 2 ^ 64 ≤ self.new.lines + length self.new.order.waiting + 1 }
     {
         let mut step = Step { used: 0, made: 0 };
         if self.is_ended {
@@ -367,6 +376,7 @@ impl FedRun {
         ensures none { OnOk result (unsent self.new ≡ [] → self.new.begun.items ≡ []) }
         ensures nothing { OnErr result (unsent self.new ≡ []) }
         ensures open { result ≡ Err FeedFault.Ended → ⊥ }
+        ensures counted { result ≡ Err FeedFault.Full → 2 ^ 64 ≤ self.new.lines + length self.new.order.waiting + 1 }
     {
         self.feed(alloc, &[], out, step)?;
         if self.waiting() > 0 {
@@ -392,6 +402,7 @@ impl FedRun {
             → IsReport text (written ++ take result.0 out.new)) }
         ensures lines { OnErr result.1 (unsent self.new ≡ []) }
         ensures open { result.1 ≡ Err FeedFault.Ended → ⊥ }
+        ensures counted { result.1 ≡ Err FeedFault.Full → 2 ^ 64 ≤ self.new.lines + length self.new.order.waiting + 1 }
         ensures ended { self.new.is_ended ≡ true }
     {
         self.is_ended = true;

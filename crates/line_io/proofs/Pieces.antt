@@ -1,6 +1,6 @@
 -- Lines that are cut out of pieces of the input.
 use Rattle.std.proofs.Common.{◌≡◌, ◌≢◌, ℕ, zero, suc, ◌+◌, ◌-◌, ◌<◌, ◌≤◌, eqb, List, [], ◌∷◌, ◌++◌, length, take, drop, min, Option, Some, None, refl, inl, inr, ap, sym, ◌∙◌, subst, arith, append_assoc, add-one, slice_index, slice_range, IsTrue, is_some, ◌↔◌, take-take, drop-drop, length-drop, length-append}
-use Rattle.std.specs.Io.KnownBytes.{Consumes, Keeps, IsAtEnd, prepend_known}
+use Rattle.std.specs.Io.KnownBytes.{Keeps, IsAtEnd, prepend_known}
 use Rattle.std.proofs.KnownBytes.{Consumes-kept, Consumes-nil, Consumes-trans}
 use borrow.Author.Tests.{eqb-true, eq-eqb}
 use Rattle.std.proofs.lemmas.Bool.{ne_eqb, cond-false, cases_lt}

@@ -1,5 +1,5 @@
 //! A reader of lines that keeps at most `KEPT_BYTES` of a line.
-ghost use Rattle.std.specs.Prelude.{◌≡◌, ◌<◌, ◌≤◌, ◌+◌, ◌^◌, ◌↔◌, [], ◌++◌, IfOk, OnOk, IfErr, IsTrue, MatchBool, drop, length, take, vec_len};
+ghost use Rattle.std.specs.Prelude.{◌≡◌, ◌<◌, ◌≤◌, ◌+◌, ◌^◌, ◌↔◌, [], ◌++◌, IfOk, OnOk, IfErr, OnErr, IsTrue, MatchBool, drop, length, take, vec_len};
 ghost use Rattle.std.specs.Io.KnownBytes.{Keeps, IsAtEnd, prepend_known};
 ghost use Rattle.memchr.specs.Find.{IsFirstByte, is_byte};
 ghost use Rattle.line_io.specs.Known.{raised, ReadSome, TookLine, HadSome};
@@ -159,6 +159,7 @@ impl LineReader {
         ensures ok { OnOk result (reader.new.errors ≡ reader.old.errors) }
         ensures err { IfErr result (λ f. (f ≡ ReadFault.Read)
             × (reader.new.errors ≡ raised reader.old.errors)) }
+        ensures gone { OnErr result (self.new.start ≡ self.new.end) }
         ensures left { ReadSome (R.remaining reader.old.inner) (R.remaining reader.new.inner) }
         ensures kept { self.new.kept.items ≡ self.old.kept.items }
         ensures is_kept { self.new.is_kept ≡ self.old.is_kept }
@@ -174,6 +175,7 @@ impl LineReader {
         }
     }
 
+    #[tactic(auto, using(crate::proofs::Pieces::empty_range))]
     /// Reads ahead if nothing is ahead. False at the end of what the reader gives.
     fn look_ahead<R: Read>(&mut self, reader: &mut Counted<R>) -> Result<bool, ReadFault>
         requires { 0 < length (ahead self.old) → reader.old.given ≤ MOST_GIVEN_BYTES + BUFFER_BYTES }
@@ -190,6 +192,7 @@ impl LineReader {
         ensures ok { OnOk result (reader.new.errors ≡ reader.old.errors) }
         ensures err { IfErr result (λ f. (f ≡ ReadFault.Read)
             × (reader.new.errors ≡ raised reader.old.errors)) }
+        ensures gone { OnErr result (ahead self.new ≡ []) }
         ensures left { ReadSome (R.remaining reader.old.inner) (R.remaining reader.new.inner) }
         ensures kept { self.new.kept.items ≡ self.old.kept.items }
         ensures is_kept { self.new.is_kept ≡ self.old.is_kept }
@@ -237,6 +240,7 @@ impl LineReader {
             × (reader.new.given ≤ MOST_GIVEN_BYTES + BUFFER_BYTES)) }
         ensures bound { 0 < length (ahead self.new) → reader.new.given ≤ MOST_GIVEN_BYTES + BUFFER_BYTES }
         ensures left { ReadSome (R.remaining reader.old.inner) (R.remaining reader.new.inner) }
+        ensures gone { result ≡ Err ReadFault.Read → ahead self.new ≡ [] }
         ensures is_kept { self.new.is_kept ≡ self.old.is_kept }
     {
         'pieces: loop {
@@ -280,6 +284,8 @@ impl LineReader {
         ensures left { ReadSome (R.remaining reader.old.inner) (R.remaining reader.new.inner) }
         // What a further call requires holds after an error too.
         ensures bound { 0 < length (ahead self.new) → reader.new.given ≤ MOST_GIVEN_BYTES + BUFFER_BYTES }
+        // After an error of the reader nothing of the line is ahead.
+        ensures gone { result ≡ Err ReadFault.Read → ahead self.new ≡ [] }
         // Where a whole line was read ahead, the reader isn't asked.
         ensures unread { HasLine (ahead self.old) → reader.new ≡ reader.old }
     {
