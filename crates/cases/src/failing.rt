@@ -1,10 +1,9 @@
 //! Readers that fail at any read, and writers that fail at any write, take no byte, or fail at their flush.
 
 use crate::case::Runs;
-use crate::doubles::{Giving, Taking};
 use crate::fault::TrialFault;
 use crate::run::Run;
-use line_io::Counted;
+use line_io::{Counted, MemoryReader, MemoryWriter};
 use std::alloc::{AllocError, Global};
 use std::rt::Files;
 use std::sync::Wait;
@@ -82,10 +81,10 @@ fn with_reads<R: Threads + Wait + Sync>(
     run: &Run,
     reads: u64,
 ) -> Trial {
-    let mut log = Counted::new(Giving {
-        bytes: log,
+    let mut log = Counted::new(MemoryReader {
+        left: log,
         most: 1,
-        reads,
+        reads: Some(reads),
     });
     let mut text = Counted::new(Vec::new(alloc));
     let ended = run.execute(rt, alloc, &mut log, &mut text);
@@ -102,7 +101,7 @@ fn with_writer<R: Threads + Wait + Sync>(
     alloc: Global,
     log: &[u8],
     run: &Run,
-    writer: Taking,
+    writer: MemoryWriter,
 ) -> Trial {
     let mut text = Counted::new(writer);
     let ended = run.execute(rt, alloc, &mut Counted::new(log), &mut text);
@@ -146,11 +145,11 @@ fn count_writes<R: Threads + Wait + Sync>(
     let wanted = run.text(rt, alloc, log)?;
     let length = wanted.len() as u64;
     for writes in 0..length.saturating_add(TRIES) {
-        let writer = Taking {
+        let writer = MemoryWriter {
             taken: Vec::new(alloc),
             most: 1,
-            writes,
-            flushes: true,
+            writes: Some(writes),
+            flushes: None,
         };
         let trial = with_writer(rt, alloc, log, run, writer);
         if writes < length {
@@ -171,11 +170,11 @@ fn count_ends<R: Threads + Wait + Sync>(
     counts: &mut Counts,
 ) -> Result<(), TrialFault> {
     let wanted = run.text(rt, alloc, log)?;
-    for (most, flushes) in [(4096, false), (1, false), (0, true)] {
-        let writer = Taking {
+    for (most, flushes) in [(4096, Some(0)), (1, Some(0)), (0, None)] {
+        let writer = MemoryWriter {
             taken: Vec::new(alloc),
             most,
-            writes: u64::MAX,
+            writes: None,
             flushes,
         };
         let trial = with_writer(rt, alloc, log, run, writer);

@@ -9,7 +9,6 @@ mod case;
 mod changed;
 mod command;
 mod doing;
-mod doubles;
 mod drawn;
 mod failing;
 mod fault;

@@ -1,8 +1,8 @@
 //! Trials of the machine over logs.
 //!
-//! Events on a whole log and on a batch in the middle of it, each with what it changed, and the calls of a batch; which
-//! grants a batch may end, and a log finished after words of which nothing is stored. What is printed is compared with
-//! `stdout`.
+//! Events on a whole log and on a batch in the middle of it, each with what it changed, and the calls of a batch; a place of
+//! which two words are stored by a pass that is dropped, and its batch finished; which grants a batch may end, and a log
+//! finished after words of which nothing is stored. What is printed is compared with `stdout`.
 #![tactic(auto)]
 
 mod batches;
@@ -10,12 +10,14 @@ mod calls;
 mod rows;
 mod telling;
 mod trials;
+mod two_words;
 
 use log_trials_base::TrialFault;
 use rows::{ONE, THREE};
 use std::alloc::Global;
 use std::process::ExitCode;
 use trials::{Trial, try_lines};
+use two_words::tell_two_words;
 
 /// The worked log: a reader, and after it the revocation of the grant by which it reads.
 const WORKED: [&str; 5] = [
@@ -70,6 +72,7 @@ fn run(rt: &impl Print, alloc: Global) -> Result<(), TrialFault> {
     try_lines(rt, alloc, middle, &WORKED, 3, 1, Trial::Middle)?;
     let calls = "the calls of a batch\n";
     try_lines(rt, alloc, calls, &GRANTING, 0, 3, Trial::Calls)?;
+    tell_two_words(rt, alloc, &WORKED)?;
     try_lines(rt, alloc, "", &REACHED, 0, 1, Trial::Ended)?;
     let finished = "finished behind words of which nothing is stored\n";
     try_lines(rt, alloc, finished, &BORNE, 0, 1, Trial::Finished)
