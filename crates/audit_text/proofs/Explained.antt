@@ -8,8 +8,8 @@ use Rattle.line_io.specs.Lines.{lines_of}
 use Rattle.model_base.specs.declared.statement.Statement.{Statement}
 use Rattle.sequencer.specs.Catalog.{Names, no_names}
 use Rattle.sequencer.specs.Log.{Accepted}
-use Rattle.sequencer.specs.Taken.{IsWhole}
-use Rattle.report.specs.Report.{AreReadings, Reading, log_of, names_after}
+use Rattle.sequencer.specs.Whole.{IsWhole}
+use Rattle.report.specs.Report.{AreParsedLines, ParsedLine, log_of, names_after}
 use Rattle.report.proofs.ReportLemmas.{log_of-append, names_after-append}
 use Rattle.bohm_base.proofs.WholeLogs.{tables_after}
 use Rattle.batched_text.specs.Reaching.{IsLogOfFront, IsLogUpTo}
@@ -19,17 +19,17 @@ use Rattle.audit_text.specs.declared.question.Question.{Question}
 use Rattle.audit_text.proofs.Longer.{answers-longer}
 
 -- where all lines were taken, they are those of the input
-pub all-read : (input : List ℕ) (limit : Option ℕ) (log : Accepted) (so : IsLogOfFront input limit log) → so.later ≡ [] → AreReadings (lines_of input) so.earlier
+pub all-read : (input : List ℕ) (limit : Option ℕ) (log : Accepted) (so : IsLogOfFront input limit log) → so.later ≡ [] → AreParsedLines (lines_of input) so.earlier
 all-read input limit log so none =
-    subst (AreReadings (lines_of input)) (append-nil so.earlier)
-    (subst (λ (later : List Reading). AreReadings (lines_of input) (so.earlier ++ later)) none so.read)
+    subst (AreParsedLines (lines_of input)) (append-nil so.earlier)
+    (subst (λ (later : List ParsedLine). AreParsedLines (lines_of input) (so.earlier ++ later)) none so.read)
 
 -- the answer about the log of the first lines of a text is the answer about the text
 explains : (input : List ℕ) (log : Accepted) (question : Question) (text : List ℕ) → IsWhole log → IsLogOfFront input (Some question.place) log
     → AnswersAccepted log question text → IsExplanation input question text
 explains input log question text whole so answers =
-    let earlier : List Reading = so.earlier in
-    let later : List Reading = so.later in
+    let earlier : List ParsedLine = so.earlier in
+    let later : List ParsedLine = so.later in
     let names : Names = names_after no_names earlier in
     let longer = tables_after names later in
     let extra : List (List ℕ) = longer.0 in

@@ -13,7 +13,7 @@ use Rattle.model_base.proofs.Growth.{deeds_before-stands}
 use Rattle.explain.specs.declared.line.Line.{Line}
 use Rattle.explain.specs.ExplainedNeeds.{explaining_lines}
 use Rattle.sequencer.specs.Log.{Accepted}
-use Rattle.sequencer.specs.Taken.{IsWhole}
+use Rattle.sequencer.specs.Whole.{IsWhole}
 use Rattle.report.specs.Report.{place_text}
 use Rattle.bohm_base.proofs.Reporting.{name-longer}
 use Rattle.batched_text.proofs.Reports.{needs-own, place-same}

@@ -5,7 +5,7 @@ use Rattle.line_io.specs.Lines.{lines_of}
 use Rattle.explain.specs.declared.line.Line.{Line}
 use Rattle.sequencer.specs.Catalog.{no_names}
 use Rattle.sequencer.specs.Log.{Accepted}
-use Rattle.report.specs.Report.{AreReadings, Reading, log_of, names_after, place_text}
+use Rattle.report.specs.Report.{AreParsedLines, ParsedLine, log_of, names_after, place_text}
 use Rattle.explain.specs.Explained.{explained}
 use Rattle.audit_text.specs.Explanation.{explanation_text}
 use Rattle.audit_text.specs.declared.question.Question.{Question}
@@ -30,10 +30,10 @@ AnswersAccepted log question text = Answers log.statements log.names.tables ques
 -- the text answers the question about the log that the lines of the input make
 abbrev pub IsExplanation : List ℕ → Question → List ℕ → Type 0
 IsExplanation input question text =
-    (readings : List Reading)
-    × (AreReadings (lines_of input) readings × Answers (log_of no_names readings) (names_after no_names readings).tables question text)
+    (readings : List ParsedLine)
+    × (AreParsedLines (lines_of input) readings × Answers (log_of no_names readings) (names_after no_names readings).tables question text)
 
 -- the log that the lines of the input make has no such place
 abbrev pub HasNoPlace : List ℕ → ℕ → Type 0
 HasNoPlace input place =
-    (readings : List Reading) × (AreReadings (lines_of input) readings × (length (log_of no_names readings) ≤ place))
+    (readings : List ParsedLine) × (AreParsedLines (lines_of input) readings × (length (log_of no_names readings) ≤ place))

@@ -7,7 +7,7 @@ use Rattle.grants_base.specs.Book.{Entries, ShowsBook}
 use Rattle.audit_text.specs.Graph.{graph_text}
 use Rattle.sequencer.specs.Catalog.{Names, no_names}
 use Rattle.sequencer.specs.Log.{Accepted}
-use Rattle.report.specs.Report.{AreReadings, Reading, log_of}
+use Rattle.report.specs.Report.{AreParsedLines, ParsedLine, log_of}
 use Rattle.batched_text.specs.Reaching.{IsLogOfFront}
 
 -- the place that is asked of, or the end of the log
@@ -33,6 +33,6 @@ IsPicture input limit text = (log : Accepted) × (IsLogOfFront input limit log �
 -- the log that the lines of the input make ends before the place
 abbrev pub EndsBefore : List ℕ → Option ℕ → Type 0
 EndsBefore input limit =
-    (readings : List Reading)
-    × (AreReadings (lines_of input) readings
+    (readings : List ParsedLine)
+    × (AreParsedLines (lines_of input) readings
     × (length (log_of no_names readings) < place_before (log_of no_names readings) limit))

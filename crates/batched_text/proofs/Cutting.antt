@@ -4,11 +4,11 @@ use Rattle.std.specs.Prelude.{◌==◌, min, nat_lt, nat_le, if◌then◌else◌
 use Rattle.std.proofs.Math.Nat.{mul-sub}
 use Rattle.std.proofs.lemmas.Bool.{and_parts, cases_lt, le-ltb, leb-true, lt-ltb, ne_eqb}
 use Rattle.std.proofs.lemmas.List.{append-nil, length-append}
-use Rattle.report.specs.Report.{Reading, accepted}
+use Rattle.report.specs.Report.{ParsedLine, accepted}
 use Rattle.sequencer.specs.Log.{Accepted}
-use Rattle.sequencer.specs.Taken.{IsWhole}
-use Rattle.bohm_base.specs.Collecting.{became, with_reading}
-use Rattle.bohm_base.specs.declared.collecting.Became.{Became}
+use Rattle.sequencer.specs.Whole.{IsWhole}
+use Rattle.bohm_base.specs.Collecting.{line_outcome, with_reading}
+use Rattle.bohm_base.specs.declared.collecting.LineOutcome.{LineOutcome}
 use Rattle.engine.specs.Engine.{Run, finished}
 use Rattle.batched_text.specs.Batching.{Deals, IsCounted, IsFilling, IsFresh, IsOpen, ReportsLines, Takes, lines_text}
 use Rattle.batched_text.specs.History.{IsCutBy, IsTrimmedBy, dropped_by}
@@ -177,8 +177,8 @@ module _ (plan : Plan) (old new : Batching) (reported : IsReported plan.settings
         filling = record {
           within = filling.within;
           whole = subst IsWhole (sym reported.log) filling.whole;
-          counted = subst (λ (ls : List Became). IsCounted new.engine ls) (sym reported.left) (omega (arith, counts, reported.all));
-          few = subst (λ (ls : List Became). length ls < new.number) (sym reported.left) (omega (arith, filling.few, reported.number));
+          counted = subst (λ (ls : List LineOutcome). IsCounted new.engine ls) (sym reported.left) (omega (arith, counts, reported.all));
+          few = subst (λ (ls : List LineOutcome). length ls < new.number) (sym reported.left) (omega (arith, filling.few, reported.number));
           kept = kept;
           cut = cut_next plan.history filling.cut (omega (arith, filling.counted)) filling.most some due;
           most = omega (arith, counts, reported.all);
@@ -226,7 +226,7 @@ module _ (plan : Plan) (old new : Batching) (reported : IsReported plan.settings
       → ReportsLines old.engine.log (finished old.engine) (finished new.engine) old.waiting.items new.waiting.items old.number old.pending.items new.pending.items
   reports_all filling told = record {
     out = old.waiting.items;
-    all = sym (append-nil old.waiting.items) ∙ ap (λ (ls : List Became). old.waiting.items ++ ls) (sym reported.left);
+    all = sym (append-nil old.waiting.items) ∙ ap (λ (ls : List LineOutcome). old.waiting.items ++ ls) (sym reported.left);
     first = old.number - length old.waiting.items;
     number = omega (arith, filling.few);
     told = told;
@@ -252,11 +252,11 @@ cut_longer History.Kept settings run log cut = record { batches = cut.batches; f
 cut_longer History.Dropped settings run log cut = cut
 
 -- a line that was taken fills the batch by one statement at most
-pub filled : (plan : Plan) (old new : Batching) (reading : Reading) → IsOpen plan old → Takes reading old new → IsWhole new.engine.log → IsFilling plan new
+pub filled : (plan : Plan) (old new : Batching) (reading : ParsedLine) → IsOpen plan old → Takes reading old new → IsWhole new.engine.log → IsFilling plan new
 filled plan old new reading room takes whole =
     let log : Accepted = old.engine.log in
     let was = room.filling in
-    let line : Became = became log.names reading in
+    let line : LineOutcome = line_outcome log.names reading in
     record {
       within = was.within;
       whole = whole;
@@ -269,13 +269,13 @@ filled plan old new reading room takes whole =
     }
 
 -- a line that was taken, and what was reported then
-pub dealt : (reading : Reading) (old taken new : Batching) → Takes reading old taken → new.engine.log ≡ taken.engine.log → new.number ≡ taken.number
+pub dealt : (reading : ParsedLine) (old taken new : Batching) → Takes reading old taken → new.engine.log ≡ taken.engine.log → new.number ≡ taken.number
     → ReportsLines taken.engine.log (finished taken.engine) (finished new.engine) taken.waiting.items new.waiting.items taken.number taken.pending.items new.pending.items
     → Deals reading old new
 dealt reading old taken new takes log number reports =
     let done : finished taken.engine ≡ finished old.engine = ap finished takes.engine in
-    let lines : List Became = old.waiting.items ++ became old.engine.log.names reading ∷ [] in
-    let put : Accepted → ℕ → List Became → ℕ → List ℕ → Type 0 =
+    let lines : List LineOutcome = old.waiting.items ++ line_outcome old.engine.log.names reading ∷ [] in
+    let put : Accepted → ℕ → List LineOutcome → ℕ → List ℕ → Type 0 =
     λ l d ls n pending. ReportsLines l d (finished new.engine) ls new.waiting.items n pending new.pending.items in
     record {
       log = log ∙ ap (λ (run : Run). run.log) takes.engine;
@@ -283,7 +283,7 @@ dealt reading old taken new takes log number reports =
       reports = subst (λ (l : Accepted). put l (finished old.engine) lines new.number old.pending.items) (sym log)
           (subst (λ (n : ℕ). put taken.engine.log (finished old.engine) lines n old.pending.items) (sym number)
           (subst (λ (pending : List ℕ). put taken.engine.log (finished old.engine) lines taken.number pending) takes.pending
-          (subst (λ (ls : List Became). put taken.engine.log (finished old.engine) ls taken.number taken.pending.items) takes.waiting
+          (subst (λ (ls : List LineOutcome). put taken.engine.log (finished old.engine) ls taken.number taken.pending.items) takes.waiting
           (subst (λ (n : ℕ). put taken.engine.log n taken.waiting.items taken.number taken.pending.items) done reports))));
     }
 

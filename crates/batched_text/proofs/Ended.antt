@@ -9,9 +9,9 @@ use Rattle.sequencer.specs.Catalog.{Names}
 use Rattle.sequencer.specs.Log.{Accepted, empty_log}
 use Rattle.sequencer.specs.Refusal.{refusal}
 use Rattle.sequencer.specs.declared.refused.Refused.{Refused}
-use Rattle.report.specs.Report.{Reading, accepted, faulty, read, statement_if}
-use Rattle.bohm_base.specs.declared.collecting.Became.{Became}
-use Rattle.bohm_base.specs.Collecting.{Collects, IsLogOf, became, became_if, log_text, places_of}
+use Rattle.report.specs.Report.{ParsedLine, accepted, faulty, read, statement_if}
+use Rattle.bohm_base.specs.declared.collecting.LineOutcome.{LineOutcome}
+use Rattle.bohm_base.specs.Collecting.{Collects, IsLogOf, line_outcome, outcome_unless, log_text, places_of}
 use Rattle.bohm_base.proofs.Beginnings.{rest_lost}
 use Rattle.bohm_base.proofs.Reached.{report_begun, appends_nothing}
 use Rattle.bohm_base.specs.Pending.{HasBegunReport, HasReport}
@@ -26,7 +26,7 @@ use Rattle.batched_text.proofs.Reports.{parts}
 use Rattle.batched_text.proofs.Sofar.{places-append}
 
 -- a line has as many places as it adds statements
-places_if : (names : Names) (sentence : Sentence) (o : Option Refused) → places_of (became_if o) ≡ length (statement_if names sentence o)
+places_if : (names : Names) (sentence : Sentence) (o : Option Refused) → places_of (outcome_unless o) ≡ length (statement_if names sentence o)
 places_if names sentence None = refl
 places_if names sentence (Some refused) = refl
 
@@ -34,21 +34,21 @@ one_if : (names : Names) (sentence : Sentence) (o : Option Refused) → length (
 one_if names sentence None = omega arith
 one_if names sentence (Some refused) = omega arith
 
-places_are : (names : Names) (reading : Reading) → places_of (became names reading) ≡ length (accepted names reading)
+places_are : (names : Names) (reading : ParsedLine) → places_of (line_outcome names reading) ≡ length (accepted names reading)
 places_are names (read sentence) = places_if names sentence (refusal names sentence)
 places_are names (faulty fault) = refl
 
-pub counted_more : (old new : Batching) (reading : Reading) → IsCounted old.engine old.waiting.items → Takes reading old new → IsCounted new.engine new.waiting.items
+pub counted_more : (old new : Batching) (reading : ParsedLine) → IsCounted old.engine old.waiting.items → Takes reading old new → IsCounted new.engine new.waiting.items
 counted_more old new reading counted takes =
     let log : Accepted = old.engine.log in
-    let waiting : List Became = old.waiting.items in
-    let line : Became = became log.names reading in
+    let waiting : List LineOutcome = old.waiting.items in
+    let line : LineOutcome = line_outcome log.names reading in
     subst (λ (run : Run). IsCounted run new.waiting.items) (sym takes.engine)
-    (subst (λ (ls : List Became). finished old.engine + places_in ls ≡ length (log.statements ++ accepted log.names reading)) (sym takes.waiting)
+    (subst (λ (ls : List LineOutcome). finished old.engine + places_in ls ≡ length (log.statements ++ accepted log.names reading)) (sym takes.waiting)
     (omega (arith, counted, places-append waiting (line ∷ []), places_are log.names reading, length-append log.statements (accepted log.names reading))))
 
 -- a line adds one statement at most
-pub one_more : (names : Names) (reading : Reading) → length (accepted names reading) ≤ 1
+pub one_more : (names : Names) (reading : ParsedLine) → length (accepted names reading) ≤ 1
 one_more names (read sentence) = one_if names sentence (refusal names sentence)
 one_more names (faulty fault) = omega arith
 
@@ -64,7 +64,7 @@ batched_start (Some xs) o bytes batching b first = (
       earlier = [];
       leads = subst (λ (w : List ℕ). AreReadFirst xs (w ++ xs) []) (sym b) (read_start xs);
       reported = [];
-      made = subst (λ (ls : List Became). IsLogOf [] batching.engine.log ls) (sym first.nobody)
+      made = subst (λ (ls : List LineOutcome). IsLogOf [] batching.engine.log ls) (sym first.nobody)
           (subst (λ (log : Accepted). IsLogOf [] log []) (sym first.log) (record { names = refl; statements = refl; each = refl }));
       number = omega (arith, ap length first.nobody, first.number);
       places = sym first.none;
@@ -75,12 +75,12 @@ batched_start (Some xs) o bytes batching b first = (
   ),
 )
 
-pub counted_start : (run : Run) (waiting : List Became) → run.log ≡ empty_log → finished run ≡ 0 → waiting ≡ [] → IsCounted run waiting
+pub counted_start : (run : Run) (waiting : List LineOutcome) → run.log ≡ empty_log → finished run ≡ 0 → waiting ≡ [] → IsCounted run waiting
 counted_start run waiting l none nobody =
-    subst (λ (ls : List Became). IsCounted run ls) (sym nobody) (omega (arith, none, ap (λ (log : Accepted). length log.statements) l))
+    subst (λ (ls : List LineOutcome). IsCounted run ls) (sym nobody) (omega (arith, none, ap (λ (log : Accepted). length log.statements) l))
 
 -- what was pending is written
-pub batched_written : (i j o n m : Option (List ℕ)) (pending less : List ℕ) (log : Accepted) (done : ℕ) (waiting : List Became) (next : ℕ)
+pub batched_written : (i j o n m : Option (List ℕ)) (pending less : List ℕ) (log : Accepted) (done : ℕ) (waiting : List LineOutcome) (next : ℕ)
     → Batched i j o n pending log done waiting next → Appends n m pending → less ≡ [] → Batched i j o m less log done waiting next
 batched_written None j o n m pending less log done waiting next so appends none = tt
 batched_written (Some xs) None o n m pending less log done waiting next so appends none = absurd so
@@ -104,8 +104,8 @@ module _ (o n : Option (List ℕ)) (batching : Batching) (text : List ℕ)
   ended xs so =
       let was = so.1.1 in
       let log : Accepted = batching.engine.log in
-      let waiting : List Became = batching.waiting.items in
-      let all : List Became = was.reported ++ waiting in
+      let waiting : List LineOutcome = batching.waiting.items in
+      let all : List LineOutcome = was.reported ++ waiting in
       let collects : Collects xs log all = collect_end (Some xs) (Some []) log all (was.earlier, (read_before xs [] was.earlier was.leads, was.made)) refl in
       let number : batching.number - length waiting ≡ 1 + length was.reported = omega (arith, was.number) in
       let place : finished batching.engine ≡ 0 + places_in was.reported = omega (arith, was.places) in (
@@ -134,7 +134,7 @@ pub log_ended : (i left o n : Option (List ℕ)) (batching : Batching) → Gathe
 log_ended None left o n batching gathers = tt
 log_ended (Some xs) left o n batching gathers =
     let was = gathers.1.1.1 in
-    let all : List Became = was.reported ++ batching.waiting.items in
+    let all : List LineOutcome = was.reported ++ batching.waiting.items in
     (all, collect_end (Some xs) (Some []) batching.engine.log all (was.earlier, (read_before xs [] was.earlier was.leads, was.made)) refl)
 
 -- what is whole has begun

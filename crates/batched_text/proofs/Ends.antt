@@ -4,7 +4,7 @@ use Rattle.std.proofs.lemmas.Bool.{cases_eq, cond-false, ne_eqb}
 use Rattle.std.proofs.lemmas.List.{append-nil, length-append}
 use Rattle.line_io.specs.Lines.{first_line, lines_of, other_lines}
 use Rattle.line_io.proofs.LinesLaws.{lines_first}
-use Rattle.report.specs.Report.{AreReadings, IsReading, Reading}
+use Rattle.report.specs.Report.{AreParsedLines, IsParsedLine, ParsedLine}
 use Rattle.bohm_base.specs.Collecting.{AreReadBefore}
 use Rattle.batched_text.specs.Batching.{AreReadFirst}
 
@@ -54,20 +54,20 @@ first-cut (b ∷ bs) =
           )
     ]
 
-pub leads_more : (input ys zs : List ℕ) (earlier : List Reading) (reading : Reading) → 0 < length ys → zs ≡ other_lines ys → IsReading (first_line ys) reading
+pub leads_more : (input ys zs : List ℕ) (earlier : List ParsedLine) (reading : ParsedLine) → 0 < length ys → zs ≡ other_lines ys → IsParsedLine (first_line ys) reading
     → AreReadBefore input ys earlier → AreReadBefore input zs (earlier ++ reading ∷ [])
 leads_more input [] zs earlier reading some others reads leads = absurd (omega arith)
 leads_more input (b ∷ bs) zs earlier reading some others reads leads = λ later rest.
-    let first : AreReadings (lines_of (b ∷ bs)) (reading ∷ later) =
-    subst (λ (ls : List (List ℕ)). AreReadings ls (reading ∷ later)) (sym (lines_first b bs)) (reads, subst (λ (l : List ℕ). AreReadings (lines_of l) later) others rest) in
-    subst (AreReadings (lines_of input)) (sym (append_assoc earlier (reading ∷ []) later)) (leads (reading ∷ later) first)
+    let first : AreParsedLines (lines_of (b ∷ bs)) (reading ∷ later) =
+    subst (λ (ls : List (List ℕ)). AreParsedLines ls (reading ∷ later)) (sym (lines_first b bs)) (reads, subst (λ (l : List ℕ). AreParsedLines (lines_of l) later) others rest) in
+    subst (AreParsedLines (lines_of input)) (sym (append_assoc earlier (reading ∷ []) later)) (leads (reading ∷ later) first)
 
 -- at first no line is read
 pub read_start : (input : List ℕ) → AreReadFirst input input []
 read_start input = record { taken = []; all = refl; reads = λ more end is later reads. reads }
 
 -- one more line
-pub read_step : (input ys zs : List ℕ) (earlier : List Reading) (reading : Reading) → 0 < length ys → zs ≡ other_lines ys → IsReading (first_line ys) reading
+pub read_step : (input ys zs : List ℕ) (earlier : List ParsedLine) (reading : ParsedLine) → 0 < length ys → zs ≡ other_lines ys → IsParsedLine (first_line ys) reading
     → AreReadFirst input ys earlier → AreReadFirst input zs (earlier ++ reading ∷ [])
 read_step input ys zs earlier reading some others reads so =
     let cut = first-cut ys in
@@ -83,18 +83,18 @@ read_step input ys zs earlier reading some others reads so =
           cut.1.whole ∙ ap (λ (w : List ℕ). line ++ w) ends ∙ sym (append_assoc line more end) in
           let step : AreReadBefore (so.taken ++ (line ++ more)) more (earlier ++ reading ∷ []) =
           leads_more (so.taken ++ (line ++ more)) (line ++ more) more earlier reading (omega (arith, cut.1.some some, length-append line more))
-          (sym (cut.1.others more end ends)) (subst (λ (l : List ℕ). IsReading l reading) (sym (cut.1.first more end ends)) reads)
+          (sym (cut.1.others more end ends)) (subst (λ (l : List ℕ). IsParsedLine l reading) (sym (cut.1.first more end ends)) reads)
           (so.reads (line ++ more) end before) in
           subst (λ (w : List ℕ). AreReadBefore w more (earlier ++ reading ∷ [])) (sym (append_assoc so.taken line more)) step;
     }
 
 -- where the text ends at its end
-pub read_before : (input rest : List ℕ) (earlier : List Reading) → AreReadFirst input rest earlier → AreReadBefore input rest earlier
+pub read_before : (input rest : List ℕ) (earlier : List ParsedLine) → AreReadFirst input rest earlier → AreReadBefore input rest earlier
 read_before input rest earlier so =
     subst (λ (w : List ℕ). AreReadBefore w rest earlier) (sym so.all) (so.reads rest [] (sym (append-nil rest)))
 
 -- where it ends earlier
-pub read_less : (input rest part end : List ℕ) (earlier : List Reading) (so : AreReadFirst input rest earlier) → rest ≡ part ++ end
+pub read_less : (input rest part end : List ℕ) (earlier : List ParsedLine) (so : AreReadFirst input rest earlier) → rest ≡ part ++ end
     → AreReadFirst (so.taken ++ part) part earlier
 read_less input rest part end earlier so is = record {
   taken = so.taken;

@@ -18,9 +18,9 @@ use Rattle.sequencer.proofs.Beginnings.{begins_further, begins_same, begins_with
 use Rattle.read_ahead.specs.Ahead.{IsAhead, line_from}
 use Rattle.read_ahead.specs.declared.ahead.Ahead.{Ahead}
 use Rattle.read_ahead.specs.declared.ahead.Found.{Found}
-use Rattle.report.specs.Report.{Reading, faulty, names_if, names_with, read, statement_if}
-use Rattle.bohm_base.specs.Collecting.{ReadsAs, became, became_if, with_reading}
-use Rattle.bohm_base.specs.declared.collecting.Became.{Became}
+use Rattle.report.specs.Report.{ParsedLine, faulty, names_if, names_with, read, statement_if}
+use Rattle.bohm_base.specs.Collecting.{ReadsAs, line_outcome, outcome_unless, with_reading}
+use Rattle.bohm_base.specs.declared.collecting.LineOutcome.{LineOutcome}
 use Rattle.bohm_base.proofs.LinesRead.{reads_as}
 use Rattle.batched_text.specs.Batching.{Deals}
 use Rattle.batched_text.specs.Foretold.{WasReadAhead, WereReadAhead, log_names}
@@ -31,8 +31,8 @@ pub known_log : (log : Accepted) (sentence : Sentence) → refusal log.names sen
 known_log log sentence passes =
     ap (λ (r : Option Refused). record { names = names_if log.names sentence r; statements = log.statements ++ statement_if log.names sentence r }) (sym passes)
 
-pub known_became : (names : Names) (sentence : Sentence) → refusal names sentence ≡ None → Became.Accepted ≡ became names (read sentence)
-known_became names sentence passes = ap became_if (sym passes)
+pub known_became : (names : Names) (sentence : Sentence) → refusal names sentence ≡ None → LineOutcome.Accepted ≡ line_outcome names (read sentence)
+known_became names sentence passes = ap outcome_unless (sym passes)
 
 -- what was found of a line is how it is read
 known_reading : (line : List ℕ) (sentence : Sentence) → Reads line sentence → line_fault line ≡ None → ReadsAs line (read sentence)
@@ -58,11 +58,11 @@ begins_if : (names : Names) (sentence : Sentence) (refused : Option Refused) →
 begins_if names sentence None = begins_with names names sentence (begins_same names)
 begins_if names sentence (Some refused) = begins_same names
 
-begins_reading : (names : Names) (reading : Reading) → Begins names (names_with names reading)
+begins_reading : (names : Names) (reading : ParsedLine) → Begins names (names_with names reading)
 begins_reading names (read sentence) = begins_if names sentence (refusal names sentence)
 begins_reading names (faulty fault) = begins_same names
 
-pub begins_dealt : (reading : Reading) (old new : Batching) → Deals reading old new → Begins (log_names old) (log_names new)
+pub begins_dealt : (reading : ParsedLine) (old new : Batching) → Deals reading old new → Begins (log_names old) (log_names new)
 begins_dealt reading old new deals =
     subst (λ (log : Accepted). Begins (log_names old) log.names) (sym deals.log) (begins_reading (log_names old) reading)
 

@@ -9,10 +9,10 @@ use Rattle.line_io.specs.Known.{HadSome, TookLine}
 use Rattle.line_io.specs.Lines.{first_line, lines_of}
 use Rattle.sequencer.specs.Catalog.{no_names}
 use Rattle.sequencer.specs.Log.{Accepted, empty_log}
-use Rattle.report.specs.Report.{AreReadings, Reading, log_of}
+use Rattle.report.specs.Report.{AreParsedLines, ParsedLine, log_of}
 use Rattle.report.proofs.Readings.{readings}
-use Rattle.bohm_base.specs.Collecting.{ReadsAs, became, with_reading}
-use Rattle.bohm_base.specs.declared.collecting.Became.{Became}
+use Rattle.bohm_base.specs.Collecting.{ReadsAs, line_outcome, with_reading}
+use Rattle.bohm_base.specs.declared.collecting.LineOutcome.{LineOutcome}
 use Rattle.bohm_base.proofs.Logs.{log_step}
 use Rattle.batched_text.proofs.Ends.{leads_more}
 use Rattle.batched_text.specs.Reaching.{AreFewest, EndsTaking, HasTaken, IsFrontTaken, IsLogOfFront, IsLogUpTo}
@@ -39,10 +39,10 @@ fewest-none : (limit : Option ℕ) → AreFewest limit []
 fewest-none limit = λ front last same. absurd (not-nil front last same)
 
 -- a line that is taken while the log hasn't the place
-fewest-more : (place : ℕ) (earlier : List Reading) (reading : Reading) → length (log_of no_names earlier) ≤ place → AreFewest (Some place) (earlier ++ reading ∷ [])
+fewest-more : (place : ℕ) (earlier : List ParsedLine) (reading : ParsedLine) → length (log_of no_names earlier) ≤ place → AreFewest (Some place) (earlier ++ reading ∷ [])
 fewest-more place earlier reading few = λ front last same has.
     let is = snoc-front earlier front reading last same in
-    let count : length (log_of no_names earlier) ≡ length (log_of no_names front) = ap (λ (rs : List Reading). length (log_of no_names rs)) is in
+    let count : length (log_of no_names earlier) ≡ length (log_of no_names front) = ap (λ (rs : List ParsedLine). length (log_of no_names rs)) is in
     omega (arith, has, few, count)
 
 -- at first no line is taken
@@ -55,12 +55,12 @@ front_start (Some input) bytes place log none empty =
 
 -- one more line
 pub front_step : (i j k : Option (List ℕ)) (place : ℕ) (log new : Accepted) (known : List ℕ) → HasTaken i j place log → TookLine j k [] known × HadSome j
-    → length log.statements ≤ place → (reading : Reading) → ReadsAs known reading → new ≡ with_reading log reading → HasTaken i k place new
+    → length log.statements ≤ place → (reading : ParsedLine) → ReadsAs known reading → new ≡ with_reading log reading → HasTaken i k place new
 front_step None j k place log new known so took few reading reads is = tt
 front_step (Some input) None k place log new known so took few reading reads is = absurd so
 front_step (Some input) (Some ys) None place log new known so took few reading reads is = absurd took.0
 front_step (Some input) (Some ys) (Some zs) place log new known so took few reading reads is =
-    let line : Became = became log.names reading in
+    let line : LineOutcome = line_outcome log.names reading in
     let count : length log.statements ≡ length (log_of no_names so.earlier) = ap length so.made.statements in
     record {
       earlier = so.earlier ++ reading ∷ [];
@@ -84,7 +84,7 @@ front-ended input rest place log so (inl has) =
     let later = readings total (lines_of rest) in
     record { earlier = so.earlier; later = later.0; read = so.leads later.0 later.1; lines = so.lines; made = so.made; fewest = so.fewest; enough = inl has }
 front-ended input rest place log so (inr end) =
-    let none : AreReadings (lines_of rest) [] = subst (λ (l : List ℕ). AreReadings (lines_of l) []) (sym end) tt in
+    let none : AreParsedLines (lines_of rest) [] = subst (λ (l : List ℕ). AreParsedLines (lines_of l) []) (sym end) tt in
     record { earlier = so.earlier; later = []; read = so.leads [] none; lines = so.lines; made = so.made; fewest = so.fewest; enough = inr refl }
 
 ended-known : (i j : Option (List ℕ)) (place : ℕ) (log : Accepted) → HasTaken i j place log → (place < length log.statements) ⊎ IsAtEnd j → IsLogUpTo i (Some place) log

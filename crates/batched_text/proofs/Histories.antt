@@ -1,6 +1,6 @@
 -- How many places were dropped, as the run goes on.
 use Rattle.std.proofs.Common.{◌≡◌, List, [], sym, ◌∙◌}
-use Rattle.bohm_base.specs.declared.collecting.Became.{Became}
+use Rattle.bohm_base.specs.declared.collecting.LineOutcome.{LineOutcome}
 use Rattle.engine.specs.Engine.{Run, finished}
 use Rattle.batched_text.specs.History.{KeepsAll, NoneWait, dropped_by}
 use Rattle.batched_text.specs.declared.history.History.{History}
@@ -21,6 +21,6 @@ keeps_all History.Kept old new same kept = same ∙ kept
 keeps_all History.Dropped old new same kept = tt
 
 -- where no line waits, none does
-pub none_wait : (history : History) (waiting : List Became) → waiting ≡ [] → NoneWait history waiting
+pub none_wait : (history : History) (waiting : List LineOutcome) → waiting ≡ [] → NoneWait history waiting
 none_wait History.Kept waiting none = tt
 none_wait History.Dropped waiting none = none

@@ -8,7 +8,7 @@ use Rattle.line_io.proofs.Written.{front_kept}
 use Rattle.report.specs.Report.{IsReport}
 use Rattle.report.proofs.Readings.{IsTotal}
 use Rattle.sequencer.specs.Log.{Accepted}
-use Rattle.bohm_base.specs.declared.collecting.Became.{Became}
+use Rattle.bohm_base.specs.declared.collecting.LineOutcome.{LineOutcome}
 use Rattle.bohm_base.specs.Pending.{HasBegunReport, HasReport}
 use Rattle.bohm_base.proofs.Beginnings.{nothing_written}
 use Rattle.bohm_base.proofs.Reached.{begun_start, front_written}
@@ -21,7 +21,7 @@ use Rattle.batched_text.proofs.Ends.{read_less}
 use Rattle.batched_text.proofs.Sofar.{begun_batched}
 
 -- what holds wherever the text ends after the lines so far holds of what was read
-module _ (o n : Option (List ℕ)) (pending : List ℕ) (log : Accepted) (done : ℕ) (waiting : List Became) (next : ℕ) where
+module _ (o n : Option (List ℕ)) (pending : List ℕ) (log : Accepted) (done : ℕ) (waiting : List LineOutcome) (next : ℕ) where
   pub if_read : (i j k : Option (List ℕ)) (bytes : List ℕ) (P : List ℕ → Type 0) → Batched i (prepend_known bytes j) o n pending log done waiting next → ReadSome j k
       → ((given more : List ℕ) → Batched (Some given) (Some (bytes ++ more)) o n pending log done waiting next → P given) → IfRead i k P
   if_read None j k bytes P so some holds = tt

@@ -7,11 +7,11 @@ use Rattle.model_base.specs.declared.outcome.Outcome.{Outcome}
 use Rattle.model_base.specs.declared.statement.Statement.{Statement}
 use Rattle.model_base.specs.Outcomes.{outcome, owners}
 use Rattle.sequencer.specs.Log.{Accepted}
-use Rattle.sequencer.specs.Taken.{IsTaken, IsWhole}
+use Rattle.sequencer.specs.Whole.{IsAccepted, IsWhole}
 use Rattle.report.specs.Text.{IsNamed}
 use Rattle.report.specs.Report.{place_text, text_of}
-use Rattle.bohm_base.specs.Collecting.{became_text, places_of, report_text}
-use Rattle.bohm_base.specs.declared.collecting.Became.{Became}
+use Rattle.bohm_base.specs.Collecting.{line_outcome_text, places_of, report_text}
+use Rattle.bohm_base.specs.declared.collecting.LineOutcome.{LineOutcome}
 use Rattle.bohm_base.proofs.Named.{outcome-named}
 use Rattle.model_base.specs.Growing.{NeedsOwnTables, NeedsWithin}
 use Rattle.model_base.proofs.Growing.{get-front, outcome-stands}
@@ -22,7 +22,7 @@ pub needs-own : (log : Accepted) → IsWhole log → NeedsOwnTables log.statemen
 needs-own log whole =
     let count : length log.names.tables ≡ length (owners log.statements) = sym whole.owned ∙ ap length whole.owners in
     subst (λ (n : ℕ). All (NeedsWithin n) log.statements) count
-    (All-weaker (IsTaken log.names) (NeedsWithin (length log.names.tables)) (λ statement taken. taken.needs) log.statements whole.taken)
+    (All-weaker (IsAccepted log.names) (NeedsWithin (length log.names.tables)) (λ statement taken. taken.needs) log.statements whole.taken)
 
 module _ (log : Accepted) (whole : IsWhole log) (more : List Statement) (extra : List (List ℕ)) where
   text-same : (place : ℕ) (statement : Option Statement) (found : Option Outcome) → ((o : Outcome) → found ≡ Some o → IsNamed (length log.names.tables) o)
@@ -37,24 +37,24 @@ module _ (log : Accepted) (whole : IsWhole log) (more : List Statement) (extra :
       ∙ ap (text_of (log.names.tables ++ extra) place (slice_get log.statements place)) (outcome-stands log.statements more place (needs-own log whole) less)
       ∙ text-same place (slice_get log.statements place) (outcome log.statements place) (λ o is. outcome-named log place o whole is)
 
-  line-same : (number place : ℕ) (line : Became) → place + places_of line ≤ length log.statements
-      → became_text (log.statements ++ more) (log.names.tables ++ extra) number place line ≡ became_text log.statements log.names.tables number place line
-  line-same number place Became.Accepted less = place-same place (omega (arith, less))
-  line-same number place (Became.Faulty fault) less = refl
-  line-same number place (Became.Refused refused) less = refl
+  line-same : (number place : ℕ) (line : LineOutcome) → place + places_of line ≤ length log.statements
+      → line_outcome_text (log.statements ++ more) (log.names.tables ++ extra) number place line ≡ line_outcome_text log.statements log.names.tables number place line
+  line-same number place LineOutcome.Accepted less = place-same place (omega (arith, less))
+  line-same number place (LineOutcome.Faulty fault) less = refl
+  line-same number place (LineOutcome.Refused refused) less = refl
 
-  lines-same : (number place : ℕ) (lines : List Became) → place + places_in lines ≤ length log.statements
+  lines-same : (number place : ℕ) (lines : List LineOutcome) → place + places_in lines ≤ length log.statements
       → report_text (log.statements ++ more) (log.names.tables ++ extra) number place lines ≡ report_text log.statements log.names.tables number place lines
   lines-same number place [] less = refl
   lines-same number place (line ∷ lines) less =
       ap (λ t. t ++ report_text (log.statements ++ more) (log.names.tables ++ extra) (number + 1) (place + places_of line) lines) (line-same number place line (omega (arith, less)))
-      ∙ ap (λ t. became_text log.statements log.names.tables number place line ++ t) (lines-same (number + 1) (place + places_of line) lines (omega (arith, less)))
+      ∙ ap (λ t. line_outcome_text log.statements log.names.tables number place line ++ t) (lines-same (number + 1) (place + places_of line) lines (omega (arith, less)))
 
-pub longer : (log : Accepted) (more : List Statement) (extra : List (List ℕ)) (number place : ℕ) (lines : List Became) → IsWhole log → place + places_in lines ≤ length log.statements
+pub longer : (log : Accepted) (more : List Statement) (extra : List (List ℕ)) (number place : ℕ) (lines : List LineOutcome) → IsWhole log → place + places_in lines ≤ length log.statements
     → report_text (log.statements ++ more) (log.names.tables ++ extra) number place lines ≡ report_text log.statements log.names.tables number place lines
 longer log more extra number place lines whole less = lines-same log whole more extra number place lines less
 
-pub parts : (log : List Statement) (tables : List (List ℕ)) (number place : ℕ) (lines later : List Became)
+pub parts : (log : List Statement) (tables : List (List ℕ)) (number place : ℕ) (lines later : List LineOutcome)
     → report_text log tables number place (lines ++ later)
     ≡ report_text log tables number place lines ++ report_text log tables (number + length lines) (place + places_in lines) later
 parts log tables number place [] later =
@@ -64,7 +64,7 @@ parts log tables number place [] later =
 parts log tables number place (line ∷ lines) later =
     let a : number + 1 + length lines ≡ number + suc (length lines) = omega arith in
     let b : place + places_of line + places_in lines ≡ place + (places_of line + places_in lines) = omega arith in
-    let first = became_text log tables number place line in
+    let first = line_outcome_text log tables number place line in
     ap (λ t. first ++ t)
     (parts log tables (number + 1) (place + places_of line) lines later
     ∙ ap (λ (n : ℕ). report_text log tables (number + 1) (place + places_of line) lines ++ report_text log tables n (place + places_of line + places_in lines) later) a

@@ -6,12 +6,12 @@ use Rattle.line_io.specs.Known.{HadSome, TookLine}
 use Rattle.line_io.specs.Lines.{first_line, lines_of}
 use Rattle.sequencer.specs.Catalog.{Names, no_names}
 use Rattle.sequencer.specs.Log.{Accepted}
-use Rattle.sequencer.specs.Taken.{IsWhole}
-use Rattle.report.specs.Report.{IsReport, Reading, accepted, log_of, names_after, names_with}
+use Rattle.sequencer.specs.Whole.{IsWhole}
+use Rattle.report.specs.Report.{IsReport, ParsedLine, accepted, log_of, names_after, names_with}
 use Rattle.report.proofs.ReportLemmas.{log_of-append, names_after-append}
 use Rattle.report.proofs.Readings.{IsTotal, readings}
-use Rattle.bohm_base.specs.declared.collecting.Became.{Became}
-use Rattle.bohm_base.specs.Collecting.{IsLogOf, ReadsAs, all_became, became, log_text, report_text, with_reading}
+use Rattle.bohm_base.specs.declared.collecting.LineOutcome.{LineOutcome}
+use Rattle.bohm_base.specs.Collecting.{IsLogOf, ReadsAs, line_outcomes, line_outcome, log_text, report_text, with_reading}
 use Rattle.bohm_base.proofs.Logs.{log_step, report_is}
 use Rattle.bohm_base.proofs.WholeLogs.{tables_after}
 use Rattle.bohm_base.specs.Pending.{HasBegunReport}
@@ -27,16 +27,16 @@ pub record IsWithin (batching : Batching) : Type 0 where
   pub whole : IsWhole batching.engine.log
   pub within : finished batching.engine ≤ length batching.engine.log.statements
 
-pub places-append : (xs ys : List Became) → places_in (xs ++ ys) ≡ places_in xs + places_in ys
+pub places-append : (xs ys : List LineOutcome) → places_in (xs ++ ys) ≡ places_in xs + places_in ys
 places-append [] ys = omega arith
 places-append (x ∷ xs) ys = omega (arith, places-append xs ys)
 
-became-append : (names : Names) (xs ys : List Reading) → all_became names (xs ++ ys) ≡ all_became names xs ++ all_became (names_after names xs) ys
-became-append names [] ys = refl
-became-append names (x ∷ xs) ys = ap (λ (lines : List Became). became names x ∷ lines) (became-append (names_with names x) xs ys)
+line_outcome-append : (names : Names) (xs ys : List ParsedLine) → line_outcomes names (xs ++ ys) ≡ line_outcomes names xs ++ line_outcomes (names_after names xs) ys
+line_outcome-append names [] ys = refl
+line_outcome-append names (x ∷ xs) ys = ap (λ (lines : List LineOutcome). line_outcome names x ∷ lines) (line_outcome-append (names_with names x) xs ys)
 
 -- the lines that were reported are given the same by a longer log
-told-longer : (log : Accepted) (more : List Reading) (reported : List Became) → IsWhole log → places_in reported ≤ length log.statements
+told-longer : (log : Accepted) (more : List ParsedLine) (reported : List LineOutcome) → IsWhole log → places_in reported ≤ length log.statements
     → report_text (log.statements ++ log_of log.names more) (names_after log.names more).tables 1 0 reported ≡ lines_text log 1 0 reported
 told-longer log more reported whole less =
     let tables = tables_after log.names more in
@@ -44,19 +44,19 @@ told-longer log more reported whole less =
     ∙ longer log (log_of log.names more) tables.0 1 0 reported whole (omega (arith, less))
 
 -- the whole report begins with that of the reported lines
-module _ (log : Accepted) (earlier later : List Reading) (reported waiting : List Became) (whole : IsWhole log) (so : IsLogOf earlier log (reported ++ waiting))
+module _ (log : Accepted) (earlier later : List ParsedLine) (reported waiting : List LineOutcome) (whole : IsWhole log) (so : IsLogOf earlier log (reported ++ waiting))
     (less : places_in reported ≤ length log.statements) where
   abbrev after : Accepted
   after = record { names = names_after no_names (earlier ++ later); statements = log_of no_names (earlier ++ later) }
 
-  abbrev rest : List Became
-  rest = waiting ++ all_became (names_after no_names earlier) later
+  abbrev rest : List LineOutcome
+  rest = waiting ++ line_outcomes (names_after no_names earlier) later
 
-  all-lines : all_became no_names (earlier ++ later) ≡ reported ++ rest
+  all-lines : line_outcomes no_names (earlier ++ later) ≡ reported ++ rest
   all-lines =
-      became-append no_names earlier later
-      ∙ ap (λ (ls : List Became). ls ++ all_became (names_after no_names earlier) later) (sym so.each)
-      ∙ append_assoc reported waiting (all_became (names_after no_names earlier) later)
+      line_outcome-append no_names earlier later
+      ∙ ap (λ (ls : List LineOutcome). ls ++ line_outcomes (names_after no_names earlier) later) (sym so.each)
+      ∙ append_assoc reported waiting (line_outcomes (names_after no_names earlier) later)
 
   statements-are : after.statements ≡ log.statements ++ log_of log.names later
   statements-are =
@@ -70,9 +70,9 @@ module _ (log : Accepted) (earlier later : List Reading) (reported waiting : Lis
   abbrev behind : List ℕ
   behind = report_text after.statements after.names.tables (1 + length reported) (0 + places_in reported) rest
 
-  pub report-begins : log_text after (all_became no_names (earlier ++ later)) ≡ lines_text log 1 0 reported ++ behind
+  pub report-begins : log_text after (line_outcomes no_names (earlier ++ later)) ≡ lines_text log 1 0 reported ++ behind
   report-begins =
-      ap (λ (ls : List Became). report_text after.statements after.names.tables 1 0 ls) all-lines
+      ap (λ (ls : List LineOutcome). report_text after.statements after.names.tables 1 0 ls) all-lines
       ∙ parts after.statements after.names.tables 1 0 reported rest
       ∙ ap (λ t. t ++ behind)
       (ap (λ (xs : List Statement). report_text xs after.names.tables 1 0 reported) statements-are
@@ -80,33 +80,33 @@ module _ (log : Accepted) (earlier later : List Reading) (reported waiting : Lis
       ∙ told-longer log later reported whole less)
 
 -- what was written, and then what is pending, is a beginning of the report
-pub begun_batched : IsTotal → (i j o n : Option (List ℕ)) (pending : List ℕ) (log : Accepted) (done : ℕ) (waiting : List Became) (next : ℕ)
+pub begun_batched : IsTotal → (i j o n : Option (List ℕ)) (pending : List ℕ) (log : Accepted) (done : ℕ) (waiting : List LineOutcome) (next : ℕ)
     → Batched i j o n pending log done waiting next → HasBegunReport i o n pending
 begun_batched total None j o n pending log done waiting next so = tt
 begun_batched total (Some xs) None o n pending log done waiting next so = absurd so
 begun_batched total (Some xs) (Some ys) o n pending log done waiting next so =
     let is = so.1.1 in
     let later = readings total (lines_of ys) in
-    let all : List Reading = is.earlier ++ later.0 in
+    let all : List ParsedLine = is.earlier ++ later.0 in
     let few : places_in is.reported ≤ length log.statements = omega (arith, is.places, is.within) in
     let after : Accepted = record { names = names_after no_names all; statements = log_of no_names all } in
-    let text : List ℕ = log_text after (all_became no_names all) in
-    let report : IsReport xs text = report_is xs after (all_became no_names all) (all, (read_before xs ys is.earlier is.leads later.0 later.1, record { names = refl; statements = refl; each = refl })) in
-    let rest : List ℕ = report_text after.statements after.names.tables (1 + length is.reported) (0 + places_in is.reported) (waiting ++ all_became (names_after no_names is.earlier) later.0) in
+    let text : List ℕ = log_text after (line_outcomes no_names all) in
+    let report : IsReport xs text = report_is xs after (line_outcomes no_names all) (all, (read_before xs ys is.earlier is.leads later.0 later.1, record { names = refl; statements = refl; each = refl })) in
+    let rest : List ℕ = report_text after.statements after.names.tables (1 + length is.reported) (0 + places_in is.reported) (waiting ++ line_outcomes (names_after no_names is.earlier) later.0) in
     let begins : text ≡ lines_text log 1 0 is.reported ++ rest = report-begins log is.earlier later.0 is.reported waiting is.whole is.made few in
     (text, (report, (rest, (so.0, so.1.0, sym (append_assoc so.0 pending rest) ∙ ap (λ (w : List ℕ). w ++ rest) is.text ∙ sym begins))))
 
 -- a line was taken, and waits
-pub batched_taken : (i j k o n : Option (List ℕ)) (pending line : List ℕ) (reading : Reading) (log new : Accepted) (done : ℕ) (waiting : List Became) (next : ℕ)
+pub batched_taken : (i j k o n : Option (List ℕ)) (pending line : List ℕ) (reading : ParsedLine) (log new : Accepted) (done : ℕ) (waiting : List LineOutcome) (next : ℕ)
     → Batched i j o n pending log done waiting next → TookLine j k [] line × HadSome j → ReadsAs line reading → new ≡ with_reading log reading → IsWhole new
-    → done ≤ length new.statements → Batched i k o n pending new done (waiting ++ became log.names reading ∷ []) (next + 1)
+    → done ≤ length new.statements → Batched i k o n pending new done (waiting ++ line_outcome log.names reading ∷ []) (next + 1)
 batched_taken None j k o n pending line reading log new done waiting next so took reads is whole within = tt
 batched_taken (Some xs) None k o n pending line reading log new done waiting next so took reads is whole within = absurd so
 batched_taken (Some xs) (Some ys) None o n pending line reading log new done waiting next so took reads is whole within = absurd took.0
 batched_taken (Some xs) (Some ys) (Some zs) o n pending line reading log new done waiting next so took reads is whole within =
     let was = so.1.1 in
-    let one : Became = became log.names reading in
-    let lines : List Became = was.reported ++ waiting in
+    let one : LineOutcome = line_outcome log.names reading in
+    let lines : List LineOutcome = was.reported ++ waiting in
     let made : IsLogOf (was.earlier ++ reading ∷ []) new (lines ++ one ∷ []) =
     log_step was.earlier reading log new lines (lines ++ one ∷ []) one was.made refl is refl in
     let few : places_in was.reported ≤ length log.statements = omega (arith, was.places, was.within) in
@@ -121,7 +121,7 @@ batched_taken (Some xs) (Some ys) (Some zs) o n pending line reading log new don
           earlier = was.earlier ++ reading ∷ [];
           leads = read_step xs ys zs was.earlier reading took.1 took.0.1 (reads (first_line ys) took.0.0) was.leads;
           reported = was.reported;
-          made = subst (λ (ls : List Became). IsLogOf (was.earlier ++ reading ∷ []) new ls) (append_assoc was.reported waiting (one ∷ [])) made;
+          made = subst (λ (ls : List LineOutcome). IsLogOf (was.earlier ++ reading ∷ []) new ls) (append_assoc was.reported waiting (one ∷ [])) made;
           number = omega (arith, was.number, length-append waiting (one ∷ []));
           places = was.places;
           text = was.text ∙ sym stays;
@@ -132,7 +132,7 @@ batched_taken (Some xs) (Some ys) (Some zs) o n pending line reading log new don
     )
 
 -- the first of the lines that waited are reported after what was pending
-pub batched_reported : (i j o n : Option (List ℕ)) (log : Accepted) (done_old done_new : ℕ) (lines waiting : List Became) (next : ℕ) (pending_old pending_new : List ℕ)
+pub batched_reported : (i j o n : Option (List ℕ)) (log : Accepted) (done_old done_new : ℕ) (lines waiting : List LineOutcome) (next : ℕ) (pending_old pending_new : List ℕ)
     → Batched i j o n pending_old log done_old lines next → ReportsLines log done_old done_new lines waiting next pending_old pending_new
     → done_new ≤ length log.statements → Batched i j o n pending_new log done_new waiting next
 batched_reported None j o n log done_old done_new lines waiting next pending_old pending_new so put within = tt
@@ -140,7 +140,7 @@ batched_reported (Some xs) None o n log done_old done_new lines waiting next pen
 batched_reported (Some xs) (Some ys) o n log done_old done_new lines waiting next pending_old pending_new so put within =
     let was = so.1.1 in
     let sorted : was.reported ++ lines ≡ (was.reported ++ put.out) ++ waiting =
-    ap (λ (ls : List Became). was.reported ++ ls) put.all ∙ sym (append_assoc was.reported put.out waiting) in
+    ap (λ (ls : List LineOutcome). was.reported ++ ls) put.all ∙ sym (append_assoc was.reported put.out waiting) in
     let here : put.first ≡ 1 + length was.reported = omega (arith, put.number, was.number) in
     let place : done_old ≡ 0 + places_in was.reported = omega (arith, was.places) in
     let told : so.0 ++ pending_new ≡ lines_text log 1 0 (was.reported ++ put.out) =
@@ -157,7 +157,7 @@ batched_reported (Some xs) (Some ys) o n log done_old done_new lines waiting nex
           earlier = was.earlier;
           leads = was.leads;
           reported = was.reported ++ put.out;
-          made = subst (λ (ls : List Became). IsLogOf was.earlier log ls) sorted was.made;
+          made = subst (λ (ls : List LineOutcome). IsLogOf was.earlier log ls) sorted was.made;
           number = omega (arith, was.number, length-append was.reported put.out, ap length put.all, length-append put.out waiting);
           places = omega (arith, places-append was.reported put.out, was.places, put.places);
           text = told;
@@ -168,12 +168,12 @@ batched_reported (Some xs) (Some ys) o n log done_old done_new lines waiting nex
     )
 
 -- one more line was dealt with
-pub batched_step : (i j k o n : Option (List ℕ)) (line : List ℕ) (reading : Reading) (old new : Batching)
+pub batched_step : (i j k o n : Option (List ℕ)) (line : List ℕ) (reading : ParsedLine) (old new : Batching)
     → BatchedUpTo i j o n old → TookLine j k [] line × HadSome j → ReadsAs line reading → Deals reading old new → finished old.engine ≤ length old.engine.log.statements
     → IsWithin new → BatchedUpTo i k o n new
 batched_step i j k o n line reading old new so took reads deals before within =
     let log : Accepted = old.engine.log in
-    let lines : List Became = old.waiting.items ++ became log.names reading ∷ [] in
+    let lines : List LineOutcome = old.waiting.items ++ line_outcome log.names reading ∷ [] in
     let longer : length new.engine.log.statements ≡ length log.statements + length (accepted log.names reading) =
     ap (λ (l : Accepted). length l.statements) deals.log ∙ length-append log.statements (accepted log.names reading) in
     let taken : Batched i k o n old.pending.items new.engine.log (finished old.engine) lines (old.number + 1) =

@@ -2,12 +2,12 @@
 use Rattle.std.specs.Prelude.{◌≡◌, ◌≤◌, ◌<◌, ◌+◌, ◌++◌, ◌∷◌, [], ⊤, ℕ, Bool, true, false, IfSome, Result, Ok, List, Option, Some, None, length}
 use Rattle.std.specs.Io.KnownBytes.{Appends, Consumes, prepend_known}
 use Rattle.line_io.specs.declared.limits.TheConstants.{BUFFER_BYTES, MOST_GIVEN_BYTES}
-use Rattle.report.specs.Report.{Reading}
+use Rattle.report.specs.Report.{ParsedLine}
 use Rattle.sequencer.specs.Log.{Accepted, empty_log}
-use Rattle.sequencer.specs.Taken.{IsWhole}
-use Rattle.bohm_base.specs.Collecting.{Collects, IsLogOf, AreReadBefore, became, report_text, with_reading}
+use Rattle.sequencer.specs.Whole.{IsWhole}
+use Rattle.bohm_base.specs.Collecting.{Collects, IsLogOf, AreReadBefore, line_outcome, report_text, with_reading}
 use Rattle.bohm_base.specs.Pending.{HasBegunReport}
-use Rattle.bohm_base.specs.declared.collecting.Became.{Became}
+use Rattle.bohm_base.specs.declared.collecting.LineOutcome.{LineOutcome}
 use Rattle.bohm_base.specs.declared.fault.EngineFault.{EngineFault}
 use Rattle.engine.specs.Engine.{Run, finished}
 use Rattle.batched_text.specs.Places.{places_in}
@@ -18,24 +18,24 @@ use Rattle.batched_text.specs.declared.batching.Batching.{Batching}
 use Rattle.batched_text.specs.declared.history.Plan.{Plan}
 
 -- the report's lines for some lines from this number on, the first of which with a place has this one
-abbrev pub lines_text : Accepted → ℕ → ℕ → List Became → List ℕ
+abbrev pub lines_text : Accepted → ℕ → ℕ → List LineOutcome → List ℕ
 lines_text log number place lines = report_text log.statements log.names.tables number place lines
 
 -- the waiting lines have the places that aren't finished
-abbrev pub IsCounted : Run → List Became → Type 0
+abbrev pub IsCounted : Run → List LineOutcome → Type 0
 IsCounted run lines = finished run + places_in lines ≡ length run.log.statements
 
 -- a line that was read so was taken, and no line of the report was made since
-pub record Takes (reading : Reading) (old new : Batching) : Type 0 where
+pub record Takes (reading : ParsedLine) (old new : Batching) : Type 0 where
   pub engine : new.engine ≡ record old.engine { log = with_reading old.engine.log reading }
-  pub waiting : new.waiting.items ≡ old.waiting.items ++ became old.engine.log.names reading ∷ []
+  pub waiting : new.waiting.items ≡ old.waiting.items ++ line_outcome old.engine.log.names reading ∷ []
   pub number : new.number ≡ old.number + 1
   pub pending : new.pending.items ≡ old.pending.items
 
 -- of some lines, of which the last has the number before this one, the first were reported after what was pending, and the others wait
-pub record ReportsLines (log : Accepted) (done_old done_new : ℕ) (lines waiting : List Became) (next : ℕ)
+pub record ReportsLines (log : Accepted) (done_old done_new : ℕ) (lines waiting : List LineOutcome) (next : ℕ)
     (pending_old pending_new : List ℕ) : Type 0 where
-  pub out : List Became
+  pub out : List LineOutcome
   pub all : lines ≡ out ++ waiting
   pub first : ℕ
   pub number : first + length lines ≡ next
@@ -43,12 +43,12 @@ pub record ReportsLines (log : Accepted) (done_old done_new : ℕ) (lines waitin
   pub places : done_new ≡ done_old + places_in out
 
 -- a line that was read so was dealt with: it waits for the end of its batch, or its batch was run and is reported
-pub record Deals (reading : Reading) (old new : Batching) : Type 0 where
+pub record Deals (reading : ParsedLine) (old new : Batching) : Type 0 where
   pub log : new.engine.log ≡ with_reading old.engine.log reading
   pub number : new.number ≡ old.number + 1
   pub reports :
       ReportsLines new.engine.log (finished old.engine) (finished new.engine) (old.waiting.items
-      ++ became old.engine.log.names reading ∷ [])
+      ++ line_outcome old.engine.log.names reading ∷ [])
       new.waiting.items new.number old.pending.items new.pending.items
 
 -- the lines that wait are counted, what is finished is kept or dropped as it is to be, the batches that are finished are full, but
@@ -85,16 +85,16 @@ pub record IsBatchReady (plan : Plan) (batching : Batching) (ahead given : ℕ) 
   pub numbered : batching.number + ahead ≤ given + 1
 
 -- the lines of the input before what is still to come are read so, wherever after them it ends
-pub record AreReadFirst (input rest : List ℕ) (earlier : List Reading) : Type 0 where
+pub record AreReadFirst (input rest : List ℕ) (earlier : List ParsedLine) : Type 0 where
   pub taken : List ℕ
   pub all : input ≡ taken ++ rest
   pub reads : (more end : List ℕ) → rest ≡ more ++ end → AreReadBefore (taken ++ more) more earlier
 
 -- the lines so far: those that were reported and those that are waiting
-pub record IsBatched (input rest written : List ℕ) (log : Accepted) (done : ℕ) (waiting : List Became) (next : ℕ) : Type 0 where
-  pub earlier : List Reading
+pub record IsBatched (input rest written : List ℕ) (log : Accepted) (done : ℕ) (waiting : List LineOutcome) (next : ℕ) : Type 0 where
+  pub earlier : List ParsedLine
   pub leads : AreReadFirst input rest earlier
-  pub reported : List Became
+  pub reported : List LineOutcome
   pub made : IsLogOf earlier log (reported ++ waiting)
   pub number : 1 + length reported + length waiting ≡ next
   pub places : places_in reported ≡ done
@@ -104,7 +104,7 @@ pub record IsBatched (input rest written : List ℕ) (log : Accepted) (done : �
 
 -- so it is with what the reader had and has, and with what the writer had, has, and has pending
 abbrev pub Batched : Option (List ℕ) → Option (List ℕ) → Option (List ℕ) → Option (List ℕ) → List ℕ → Accepted
-    → ℕ → List Became → ℕ → Type 0
+    → ℕ → List LineOutcome → ℕ → Type 0
 Batched None in_now out_old out_now pending log done waiting next = ⊤
 Batched (Some input) None out_old out_now pending log done waiting next = ⊥
 Batched (Some input) (Some rest) out_old out_now pending log done waiting next =
@@ -180,4 +180,4 @@ pub record EndsBatching (plan : Plan) (result : Result (Unit {0}) EngineFault)
 -- the log is that of the input
 abbrev pub IsLogOfText : Option (List ℕ) → Accepted → Type 0
 IsLogOfText None log = ⊤
-IsLogOfText (Some input) log = (lines : List Became) × Collects input log lines
+IsLogOfText (Some input) log = (lines : List LineOutcome) × Collects input log lines

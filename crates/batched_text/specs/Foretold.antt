@@ -5,7 +5,7 @@ use Rattle.sequencer.specs.Catalog.{Names}
 use Rattle.sequencer.specs.Foretelling.{Begins}
 use Rattle.read_ahead.specs.Ahead.{IsAhead, IsLineAt}
 use Rattle.read_ahead.specs.declared.ahead.Ahead.{Ahead}
-use Rattle.report.specs.Report.{Reading}
+use Rattle.report.specs.Report.{ParsedLine}
 use Rattle.bohm_base.specs.Collecting.{ReadsAs}
 use Rattle.bohm_base.specs.Pending.{HasBegunReport}
 use Rattle.bohm_base.specs.declared.fault.EngineFault.{EngineFault}
@@ -34,7 +34,7 @@ pub record WereReadAhead (now : Names) (bytes : List ℕ) (lines : List Ahead) :
 pub record TakesAt (bytes : List ℕ) (from count : ℕ) (old new : Batching) : Type 0 where
   pub line : List ℕ
   pub at : IsLineAt bytes from count line
-  pub reading : Reading
+  pub reading : ParsedLine
   pub reads : ReadsAs line reading
   pub takes : Takes reading old new
 

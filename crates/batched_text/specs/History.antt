@@ -1,6 +1,6 @@
 -- Of how many places neither statement nor outcome is kept, and which batches may end before they are full.
 use Rattle.std.specs.Prelude.{◌≡◌, ◌≤◌, ⊤, ℕ, List, []}
-use Rattle.bohm_base.specs.declared.collecting.Became.{Became}
+use Rattle.bohm_base.specs.declared.collecting.LineOutcome.{LineOutcome}
 use Rattle.engine.specs.Engine.{Run, finished}
 use Rattle.batched_text.specs.Settings.{IsCut, IsTrimmed, mark_behind}
 use Rattle.batched_text.specs.declared.history.History.{History}
@@ -28,6 +28,6 @@ IsTrimmedBy History.Kept settings run = IsTrimmed settings run
 IsTrimmedBy History.Dropped settings run = ⊤
 
 -- where nothing is kept no line waits, so that each is reported before the reader is asked for the next one
-abbrev pub NoneWait : History → List Became → Type 0
+abbrev pub NoneWait : History → List LineOutcome → Type 0
 NoneWait History.Kept waiting = ⊤
 NoneWait History.Dropped waiting = waiting ≡ []

@@ -6,9 +6,9 @@ use Rattle.model_base.specs.declared.statement.Statement.{Statement}
 use Rattle.line_io.specs.Lines.{lines_of}
 use Rattle.sequencer.specs.Catalog.{no_names}
 use Rattle.sequencer.specs.Log.{Accepted}
-use Rattle.report.specs.Report.{AreReadings, Reading, log_of}
+use Rattle.report.specs.Report.{AreParsedLines, ParsedLine, log_of}
 use Rattle.bohm_base.specs.Collecting.{AreReadBefore, IsLogOf}
-use Rattle.bohm_base.specs.declared.collecting.Became.{Became}
+use Rattle.bohm_base.specs.declared.collecting.LineOutcome.{LineOutcome}
 
 -- the log has the place that is named, if one is
 abbrev pub HasPlace : Option ℕ → List Statement → Type 0
@@ -16,16 +16,16 @@ HasPlace None log = ⊥
 HasPlace (Some place) log = place < length log
 
 -- without the last of these lines the log hasn't the place: none was taken once it had
-abbrev pub AreFewest : Option ℕ → List Reading → Type 0
+abbrev pub AreFewest : Option ℕ → List ParsedLine → Type 0
 AreFewest limit readings =
-    (front : List Reading) (last : Reading) → readings ≡ front ++ last ∷ [] → HasPlace limit (log_of no_names front) → ⊥
+    (front : List ParsedLine) (last : ParsedLine) → readings ≡ front ++ last ∷ [] → HasPlace limit (log_of no_names front) → ⊥
 
 -- the log is that of the first lines of the input, of as few as make a log with the place, or of all of them
 pub record IsLogOfFront (input : List ℕ) (limit : Option ℕ) (log : Accepted) : Type 0 where
-  pub earlier : List Reading
-  pub later : List Reading
-  pub read : AreReadings (lines_of input) (earlier ++ later)
-  pub lines : List Became
+  pub earlier : List ParsedLine
+  pub later : List ParsedLine
+  pub read : AreParsedLines (lines_of input) (earlier ++ later)
+  pub lines : List LineOutcome
   pub made : IsLogOf earlier log lines
   pub fewest : AreFewest limit earlier
   pub enough : HasPlace limit log.statements ⊎ (later ≡ [])
@@ -37,9 +37,9 @@ IsLogUpTo (Some input) limit log = IsLogOfFront input limit log
 
 -- the log is that of the lines of the input before what is still to come, the last of which was taken while the log hadn't the place
 pub record IsFrontTaken (input rest : List ℕ) (place : ℕ) (log : Accepted) : Type 0 where
-  pub earlier : List Reading
+  pub earlier : List ParsedLine
   pub leads : AreReadBefore input rest earlier
-  pub lines : List Became
+  pub lines : List LineOutcome
   pub made : IsLogOf earlier log lines
   pub fewest : AreFewest (Some place) earlier
 

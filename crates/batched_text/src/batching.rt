@@ -10,7 +10,7 @@ ghost use Rattle.batched_text.specs.Settings.{are_within_limits, mark_behind};
 use crate::history::{History, Plan};
 use crate::reporting::put_lines;
 use crate::settings::{Settings, mark_behind};
-use bohm_base::{Became, EngineFault};
+use bohm_base::{EngineFault, LineOutcome};
 use engine::{Crew, Engine, RunFault};
 use model_base::{HashSeed, Place};
 use std::alloc::Global;
@@ -23,7 +23,7 @@ use workers::NoGate;
 pub(crate) struct Batching {
     pub(crate) engine: Engine,
     /// What each of the waiting lines became, in the lines' order.
-    pub(crate) waiting: Vec<Became>,
+    pub(crate) waiting: Vec<LineOutcome>,
     /// The number of the next line.
     pub(crate) number: u64,
     /// The report's lines that weren't written yet.

@@ -10,10 +10,10 @@ ghost use Rattle.batched_text.specs.Foretold.{Runs, TakesAt, WasReadAhead, WereR
 use crate::batching::{Batching, report_early, report_full};
 use crate::history::Plan;
 use crate::lines::take_line;
-use bohm_base::{Became, EngineFault};
+use bohm_base::{EngineFault, LineOutcome};
 use engine::Engine;
 use line_io::cut_line;
-use log_text::{LineFault, RawRoom};
+use log_text::{LineBuffers, LineFault};
 use model_base::{MOST_PLACES, Statement};
 use read_ahead::{Ahead, Found};
 use std::alloc::Global;
@@ -31,7 +31,7 @@ fn take_known(batching: &mut Batching, statement: &mut Statement) -> Result<(), 
     ensures err { IfErr result (λ f. f ≡ EngineFault.NoMemory) }
 {
     batching.engine.push_foretold(statement)?;
-    batching.waiting.push(Became::Accepted)?;
+    batching.waiting.push(LineOutcome::Accepted)?;
     batching.number += 1;
     Ok(())
 }
@@ -43,7 +43,7 @@ fn take_faulty(batching: &mut Batching, fault: LineFault) -> Result<(), EngineFa
     ensures pending { batching.new.pending.items ≡ batching.old.pending.items }
     ensures err { IfErr result (λ f. f ≡ EngineFault.NoMemory) }
 {
-    batching.waiting.push(Became::Faulty(fault))?;
+    batching.waiting.push(LineOutcome::Faulty(fault))?;
     batching.number += 1;
     Ok(())
 }
@@ -54,7 +54,7 @@ fn take_next<'a>(
     batching: &mut Batching,
     bytes: &'a [u8],
     from: usize,
-    raw: &mut RawRoom<'a>,
+    raw: &mut LineBuffers<'a>,
 ) -> Result<Option<usize>, EngineFault>
     requires number { batching.old.number < 2 ^ 64 - 1 }
     requires within { from ≤ length bytes.now }
@@ -76,7 +76,7 @@ fn take_ahead<'a>(
     batching: &mut Batching,
     bytes: &'a [u8],
     ahead: &mut Ahead,
-    raw: &mut RawRoom<'a>,
+    raw: &mut LineBuffers<'a>,
 ) -> Result<Option<usize>, EngineFault>
     requires number { batching.old.number < 2 ^ 64 - 1 }
     requires ahead { WasReadAhead (log_names batching.old) bytes.now ahead.old }
@@ -112,7 +112,7 @@ fn report_next<'a, T: Threads + Wait + Sync>(
     bytes: &'a [u8],
     from: usize,
     given: u64,
-    raw: &mut RawRoom<'a>,
+    raw: &mut LineBuffers<'a>,
 ) -> Result<usize, EngineFault>
     requires within { from < length bytes.now }
     requires ready { IsBatchReady plan.now batching.old (length bytes.now - from) given }
@@ -137,7 +137,7 @@ fn report_one<'a, T: Threads + Wait + Sync>(
     ahead: &mut Ahead,
     from: usize,
     given: u64,
-    raw: &mut RawRoom<'a>,
+    raw: &mut LineBuffers<'a>,
 ) -> Result<usize, EngineFault>
     requires within { from ≤ length bytes.now }
     requires ready { IsBatchReady plan.now batching.old (length bytes.now - from) given }
@@ -165,7 +165,7 @@ pub(crate) fn report_until<'a, T: Threads + Wait + Sync>(
     from: usize,
     to: usize,
     given: u64,
-    raw: &mut RawRoom<'a>,
+    raw: &mut LineBuffers<'a>,
 ) -> Result<usize, EngineFault>
     requires within { from ≤ length bytes.now }
     requires ready { IsBatchReady plan.now batching.old (length bytes.now - from) given }
@@ -208,7 +208,7 @@ fn report_each<'a, T: Threads + Wait + Sync>(
     lines: &mut [Ahead],
     from: usize,
     given: u64,
-    raw: &mut RawRoom<'a>,
+    raw: &mut LineBuffers<'a>,
 ) -> Result<usize, EngineFault>
     requires within { from ≤ length bytes.now }
     requires ready { IsBatchReady plan.now batching.old (length bytes.now - from) given }
@@ -234,7 +234,7 @@ fn report_group<'a, T: Threads + Wait + Sync>(
     lines: &mut [Ahead],
     from: usize,
     given: u64,
-    raw: &mut RawRoom<'a>,
+    raw: &mut LineBuffers<'a>,
 ) -> Result<usize, EngineFault>
     requires within { from ≤ length bytes.now }
     requires ready { IsBatchReady plan.now batching.old (length bytes.now - from) given }
@@ -258,7 +258,7 @@ pub(crate) fn report_foretold<'a, T: Threads + Wait + Sync>(
     lines: &mut [Ahead],
     from: usize,
     given: u64,
-    raw: &mut RawRoom<'a>,
+    raw: &mut LineBuffers<'a>,
 ) -> Result<usize, EngineFault>
     requires within { from ≤ length bytes.now }
     requires ready { IsBatchReady plan.now batching.old (length bytes.now - from) given }

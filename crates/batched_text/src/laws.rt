@@ -4,19 +4,19 @@ ghost use Rattle.std.specs.Prelude.{◌≡◌, ◌≤◌, ◌+◌, ◌++◌, ℕ
 ghost use Rattle.model_base.specs.Growing.{NeedsOwnTables};
 ghost use Rattle.model_base.specs.declared.statement.Statement.{Statement};
 ghost use Rattle.sequencer.specs.Log.{Accepted};
-ghost use Rattle.sequencer.specs.Taken.{IsWhole};
+ghost use Rattle.sequencer.specs.Whole.{IsWhole};
 ghost use Rattle.bohm_base.specs.Collecting.{report_text};
-ghost use Rattle.bohm_base.specs.declared.collecting.Became.{Became};
+ghost use Rattle.bohm_base.specs.declared.collecting.LineOutcome.{LineOutcome};
 ghost use Rattle.batched_text.specs.Places.{places_in};
 
 /// The report's lines for lines whose places a log has are the same when more statements, and more tables, come after it; and the lines of
 /// a report in two parts are those of the one and then those of the other.
 pub fn reports_stand()
-    ensures longer { (log : Accepted) (more : List Statement) (extra : List (List ℕ)) (number place : ℕ) (lines : List Became)
+    ensures longer { (log : Accepted) (more : List Statement) (extra : List (List ℕ)) (number place : ℕ) (lines : List LineOutcome)
         → IsWhole log → place + places_in lines ≤ length log.statements
         → report_text (log.statements ++ more) (log.names.tables ++ extra) number place lines
         ≡ report_text log.statements log.names.tables number place lines }
-    ensures parts { (log : List Statement) (tables : List (List ℕ)) (number place : ℕ) (lines later : List Became)
+    ensures parts { (log : List Statement) (tables : List (List ℕ)) (number place : ℕ) (lines later : List LineOutcome)
         → report_text log tables number place (lines ++ later)
         ≡ report_text log tables number place lines ++ report_text log tables (number + length lines) (place + places_in lines) later }
 {}

@@ -1,10 +1,10 @@
 //! A line, taken into the log of an engine.
 
 ghost use Rattle.std.specs.Prelude.{◌≡◌, ◌≢◌, ◌<◌, ◌-◌, ◌^◌, Err, IfOk, IfErr, OnErr, OnOk, true};
-ghost use Rattle.log_text.specs.Room.{sentence_of};
+ghost use Rattle.log_text.specs.LineBuffers.{sentence_of};
 ghost use Rattle.log_text.specs.Statement.{IsInGrammar};
-ghost use Rattle.report.specs.Report.{Reading, read};
-ghost use Rattle.bohm_base.specs.Collecting.{LineMayLackMemory, ReadsAs, became, with_reading};
+ghost use Rattle.report.specs.Report.{ParsedLine, read};
+ghost use Rattle.bohm_base.specs.Collecting.{LineMayLackMemory, ReadsAs, line_outcome, with_reading};
 ghost use Rattle.engine.specs.Engine.{finished};
 ghost use Rattle.batched_text.specs.Batching.{Deals, IsOpen, Takes};
 ghost use Rattle.batched_text.specs.Faults.{IsOfBatch};
@@ -12,9 +12,9 @@ ghost use Rattle.batched_text.specs.LineRead.{reading_by};
 
 use crate::batching::{Batching, report_full};
 use crate::history::Plan;
-use bohm_base::{Became, EngineFault, faulty_line, refused_line};
+use bohm_base::{EngineFault, LineOutcome, faulty_line, refused_line};
 use engine::Engine;
-use log_text::{LineFault, RawRoom, read_into};
+use log_text::{LineBuffers, LineFault, read_into};
 use std::alloc::Global;
 use std::sync::Wait;
 use std::thread::Threads;
@@ -22,15 +22,15 @@ use std::thread::Threads;
 /// Takes the statement that a line was read as into the log if it is not refused, and says what the line became. After an error the
 /// statement is not refused.
 #[inline(always)]
-fn take_statement(engine: &mut Engine, raw: &RawRoom<'_>) -> Result<Became, EngineFault>
+fn take_statement(engine: &mut Engine, raw: &LineBuffers<'_>) -> Result<LineOutcome, EngineFault>
     requires { IsInGrammar (sentence_of raw.now) }
-    ensures line { IfOk result (λ line. line ≡ became engine.old.log.names (read (sentence_of raw.now))) }
+    ensures line { IfOk result (λ line. line ≡ line_outcome engine.old.log.names (read (sentence_of raw.now))) }
     ensures engine { OnOk result (engine.new ≡ record engine.old { log = with_reading engine.old.log (read (sentence_of raw.now)) }) }
     ensures err { IfErr result (λ f. f ≡ EngineFault.NoMemory) }
-    ensures want { OnErr result (LineMayLackMemory (became engine.old.log.names (read (sentence_of raw.now)))) }
+    ensures want { OnErr result (LineMayLackMemory (line_outcome engine.old.log.names (read (sentence_of raw.now)))) }
 {
     match engine.push_read(raw) {
-        Ok(_) => Ok(Became::Accepted),
+        Ok(_) => Ok(LineOutcome::Accepted),
         Err(refused) => {
             let line = refused_line(refused)?;
             Ok(line)
@@ -44,15 +44,15 @@ fn take_statement(engine: &mut Engine, raw: &RawRoom<'_>) -> Result<Became, Engi
 pub(crate) fn take_read(
     engine: &mut Engine,
     found: Result<(), LineFault>,
-    raw: &RawRoom<'_>,
-) -> Result<Became, EngineFault>
+    raw: &LineBuffers<'_>,
+) -> Result<LineOutcome, EngineFault>
     requires { OnOk found (IsInGrammar (sentence_of raw.now)) }
-    ensures line { IfOk result (λ line. line ≡ became engine.old.log.names (reading_by found (sentence_of raw.now))) }
+    ensures line { IfOk result (λ line. line ≡ line_outcome engine.old.log.names (reading_by found (sentence_of raw.now))) }
     ensures engine { OnOk result (engine.new
         ≡ record engine.old { log = with_reading engine.old.log (reading_by found (sentence_of raw.now)) }) }
     ensures told { OnOk result (found ≢ Err LineFault.NoMemory) }
     ensures err { IfErr result (λ f. f ≡ EngineFault.NoMemory) }
-    ensures want { OnErr result (LineMayLackMemory (became engine.old.log.names (reading_by found (sentence_of raw.now)))) }
+    ensures want { OnErr result (LineMayLackMemory (line_outcome engine.old.log.names (reading_by found (sentence_of raw.now)))) }
 {
     match found {
         Ok(()) => {
@@ -72,10 +72,10 @@ pub(crate) fn take_read(
 pub(crate) fn take_line<'a>(
     batching: &mut Batching,
     line: &'a [u8],
-    raw: &mut RawRoom<'a>,
+    raw: &mut LineBuffers<'a>,
 ) -> Result<(), EngineFault>
     requires { batching.old.number < 2 ^ 64 - 1 }
-    ensures ok { OnOk result ((reading : Reading) × (ReadsAs line.now reading × Takes reading batching.old batching.new)) }
+    ensures ok { OnOk result ((reading : ParsedLine) × (ReadsAs line.now reading × Takes reading batching.old batching.new)) }
     ensures kept { OnOk result ((batching.new.engine.dropped ≡ batching.old.engine.dropped)
         × (finished batching.new.engine ≡ finished batching.old.engine)) }
     ensures pending { batching.new.pending.items ≡ batching.old.pending.items }
@@ -96,11 +96,11 @@ pub(crate) fn deal<'a, T: Threads + Wait + Sync>(
     batching: &mut Batching,
     plan: &Plan,
     line: &'a [u8],
-    raw: &mut RawRoom<'a>,
+    raw: &mut LineBuffers<'a>,
 ) -> Result<(), EngineFault>
     requires room { IsOpen plan.now batching.old }
     requires number { batching.old.number < 2 ^ 64 - 1 }
-    ensures dealt { OnOk result ((reading : Reading) × (ReadsAs line.now reading × Deals reading batching.old batching.new)) }
+    ensures dealt { OnOk result ((reading : ParsedLine) × (ReadsAs line.now reading × Deals reading batching.old batching.new)) }
     ensures room { OnOk result (IsOpen plan.now batching.new) }
     ensures pending { OnErr result (batching.new.pending.items ≡ batching.old.pending.items) }
     ensures err { IfErr result (IsOfBatch plan.now.settings.workers) }

@@ -2,7 +2,7 @@
 
 ghost use Rattle.std.specs.Prelude.{◌≡◌, ◌<◌, ◌≤◌, Err, IfOk, OnOk, length};
 ghost use Rattle.line_io.specs.Known.{raised};
-ghost use Rattle.report.specs.Report.{Reading};
+ghost use Rattle.report.specs.Report.{ParsedLine};
 ghost use Rattle.sequencer.specs.Log.{empty_log};
 ghost use Rattle.bohm_base.specs.Collecting.{ReadsAs, with_reading};
 ghost use Rattle.engine.specs.Engine.{finished};
@@ -12,7 +12,7 @@ use crate::batching::trim_to;
 use crate::lines::take_read;
 use engine::{Crew, Engine, RunFault};
 use line_io::{Counted, LineReader, ReadFault};
-use log_text::{RawRoom, read_into};
+use log_text::{LineBuffers, read_into};
 use model_base::HashSeed;
 use std::alloc::{AllocError, Global};
 use std::io::Read;
@@ -30,10 +30,10 @@ pub(crate) fn take_quietly(
     engine: &mut Engine,
     line: &[u8],
 ) -> Result<(), AllocError>
-    ensures { OnOk result ((reading : Reading) × (ReadsAs line.now reading
+    ensures { OnOk result ((reading : ParsedLine) × (ReadsAs line.now reading
         × (engine.new ≡ record engine.old { log = with_reading engine.old.log reading }))) }
 {
-    let mut raw = RawRoom::new(alloc);
+    let mut raw = LineBuffers::new(alloc);
     let found = read_into(line, &mut raw);
     match take_read(engine, found, &raw) {
         Ok(_line) => Ok(()),

@@ -5,7 +5,7 @@ ghost use Rattle.std.specs.Io.KnownBytes.{prepend_known};
 ghost use Rattle.line_io.specs.Ahead.{ahead};
 ghost use Rattle.line_io.specs.Known.{raised};
 ghost use Rattle.sequencer.specs.Log.{empty_log};
-ghost use Rattle.sequencer.specs.Taken.{IsWhole};
+ghost use Rattle.sequencer.specs.Whole.{IsWhole};
 ghost use Rattle.engine.specs.Engine.{finished};
 ghost use Rattle.batched_text.specs.Reaching.{EndsTaking, HasTaken, IsLogUpTo};
 

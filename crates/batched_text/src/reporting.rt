@@ -2,13 +2,13 @@
 
 ghost use Rattle.std.specs.Prelude.{◌≡◌, ◌<◌, ◌≤◌, ◌+◌, ◌++◌, ◌^◌, OnOk, drop, length};
 ghost use Rattle.report.specs.Report.{place_text};
-ghost use Rattle.bohm_base.specs.Collecting.{became_text, places_of};
+ghost use Rattle.bohm_base.specs.Collecting.{line_outcome_text, places_of};
 ghost use Rattle.engine.specs.Engine.{IsRun, finished};
-ghost use Rattle.sequencer.specs.Taken.{IsWhole};
+ghost use Rattle.sequencer.specs.Whole.{IsWhole};
 ghost use Rattle.batched_text.specs.Batching.{lines_text};
 ghost use Rattle.batched_text.specs.Places.{places_in};
 
-use bohm_base::Became;
+use bohm_base::LineOutcome;
 use engine::Engine;
 use model_base::{Outcome, Place, Statement};
 use report::{put_fault, put_outcome, put_refused};
@@ -77,7 +77,7 @@ fn put_line(
     dropped: Place,
     number: u64,
     place: Place,
-    line: Became,
+    line: LineOutcome,
 ) -> Result<(), AllocError>
     requires run { IsRun engine.now }
     requires whole { IsWhole engine.now.log }
@@ -87,12 +87,12 @@ fn put_line(
     requires kept { engine.now.dropped ≤ place }
     requires within { place + places_of line ≤ finished engine.now }
     ensures { OnOk result (text.new.items
-        ≡ text.old.items ++ became_text engine.now.log.statements engine.now.log.names.tables number place line) }
+        ≡ text.old.items ++ line_outcome_text engine.now.log.statements engine.now.log.names.tables number place line) }
 {
     match line {
-        Became::Accepted => put_kept(text, engine, statements, outcomes, dropped, place),
-        Became::Faulty(fault) => put_fault(text, number, fault),
-        Became::Refused(refused) => put_refused(text, number, refused),
+        LineOutcome::Accepted => put_kept(text, engine, statements, outcomes, dropped, place),
+        LineOutcome::Faulty(fault) => put_fault(text, number, fault),
+        LineOutcome::Refused(refused) => put_refused(text, number, refused),
     }
 }
 
@@ -103,7 +103,7 @@ pub fn put_lines(
     engine: &Engine,
     number: u64,
     place: Place,
-    lines: &[Became],
+    lines: &[LineOutcome],
 ) -> Result<(), AllocError>
     requires kept { engine.now.dropped ≤ place }
     requires places { place + places_in lines.now ≤ finished engine.now }

@@ -22,12 +22,12 @@ use crate::history::{History, Plan};
 use crate::lines::deal;
 use crate::lookahead::{Lookahead, ReadingAhead, report_stretch};
 use crate::settings::{Settings, are_within_limits};
-use bohm_base::{Became, EngineFault as TextFault};
+use bohm_base::{EngineFault as TextFault, LineOutcome};
 use engine::{Engine, EngineFault};
 use line_io::{
     BUFFER_BYTES, Counted, LineReader, MOST_GIVEN_BYTES, ReadFault, flush, write_out, write_pending,
 };
-use log_text::RawRoom;
+use log_text::LineBuffers;
 use model_base::HashSeed;
 use std::alloc::{AllocError, Global};
 use std::io::{Read, Write};
@@ -56,7 +56,7 @@ fn next_line<R: Read>(
     reader: &mut Counted<R>,
     lines: &mut LineReader,
     history: History,
-    waiting: &[Became],
+    waiting: &[LineOutcome],
     pending: &[u8],
 ) -> Result<bool, ReadFault>
     requires none { NoneWait history waiting.now }
@@ -109,7 +109,7 @@ fn report_line<T: Threads + Wait + Sync, R: Read>(
     )? {
         return Ok(false);
     }
-    let mut raw = RawRoom::new(alloc);
+    let mut raw = LineBuffers::new(alloc);
     deal(rt, alloc, batching, plan, lines.line(), &mut raw)?;
     Ok(true)
 }
@@ -133,7 +133,7 @@ fn deal_at_hand<T: Threads + Wait + Sync>(
     if lookahead.is_for(bytes.len()) {
         return report_stretch(rt, alloc, lookahead, batching, plan, bytes, given);
     }
-    let (to, raw) = (bytes.len(), &mut RawRoom::new(alloc));
+    let (to, raw) = (bytes.len(), &mut LineBuffers::new(alloc));
     report_until(rt, alloc, batching, plan, bytes, 0, to, given, raw)
 }
 

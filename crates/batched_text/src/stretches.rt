@@ -10,7 +10,7 @@ use crate::batching::Batching;
 use crate::foretold::{report_foretold, report_until};
 use crate::history::Plan;
 use bohm_base::EngineFault;
-use log_text::RawRoom;
+use log_text::LineBuffers;
 use read_ahead::{Basis, Piece, Stretch};
 use sequencer::Catalog;
 use std::alloc::Global;
@@ -33,7 +33,7 @@ fn report_piece<'a, B: Basis, T: Threads + Wait + Sync>(
     piece: usize,
     from: usize,
     given: u64,
-    raw: &mut RawRoom<'a>,
+    raw: &mut LineBuffers<'a>,
 ) -> Result<usize, EngineFault>
     requires bytes { bytes.now ≡ B.bytes }
     requires names { Begins B.names (log_names batching.old) }
@@ -63,7 +63,7 @@ fn report_pieces<'a, B: Basis, T: Threads + Wait + Sync>(
     bytes: &'a [u8],
     stretch: &Stretch<B>,
     given: u64,
-    raw: &mut RawRoom<'a>,
+    raw: &mut LineBuffers<'a>,
 ) -> Result<usize, EngineFault>
     requires names { names.now ≡ B.names }
     requires bytes { bytes.now ≡ B.bytes }
@@ -110,7 +110,7 @@ fn run_stretch<B: Basis, T: Threads + Wait + Sync>(
     requires ready { IsBatchReady plan.now batching (length bytes.now) given }
     ensures { Runs plan.now bytes.now given 0 batching result.batching result.result }
 {
-    let mut raw = RawRoom::new(alloc);
+    let mut raw = LineBuffers::new(alloc);
     let result = report_pieces(
         rt,
         alloc,

@@ -4,14 +4,14 @@ use std::fmt;
 
 /// How progress is shown on standard error.
 #[derive(Clone, Copy, Debug, PartialEq, Eq)]
-pub struct View {
+pub struct ProgressStyle {
     /// Whether it is one line of a terminal, which is written again each time, and not a line of its own each time.
     pub is_one_line: bool,
     /// Whether it is shown at the end in any case, and not only where it was shown before.
     pub is_asked: bool,
 }
 
-impl View {
+impl ProgressStyle {
     /// After how many milliseconds it is shown next.
     pub fn pause(self) -> u64 {
         if self.is_one_line { 500 } else { 1000 }

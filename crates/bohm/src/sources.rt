@@ -2,7 +2,7 @@
 
 ghost use Rattle.std.specs.Prelude.{None};
 
-use crate::progress::View;
+use crate::progress::ProgressStyle;
 use crate::watched::Watched;
 use command_line::{Source, Sources};
 use std::io::{Eprint, Read};
@@ -28,12 +28,12 @@ impl<I: Read, F: Read> Read for SystemLog<I, F> {
 /// Standard input and the files of the system. How much of the log is read is shown in this way.
 pub struct SystemSources<'a, R> {
     rt: &'a R,
-    view: Option<View>,
+    view: Option<ProgressStyle>,
 }
 
 impl<'a, R> SystemSources<'a, R> {
     /// All sources of the system.
-    pub fn new(rt: &'a R, view: Option<View>) -> Self {
+    pub fn new(rt: &'a R, view: Option<ProgressStyle>) -> Self {
         SystemSources { rt, view }
     }
 }

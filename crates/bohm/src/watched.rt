@@ -2,7 +2,7 @@
 
 ghost use Rattle.std.specs.Prelude.{◌≡◌};
 
-use crate::progress::{Reached, View};
+use crate::progress::{ProgressStyle, Reached};
 use memchr::memchr_iter;
 use std::io;
 use std::io::{Eprint, Read};
@@ -18,7 +18,7 @@ const SAMPLED_READS: u64 = 64;
 pub struct Watched<'a, C: Clock + Eprint, R: Drop> {
     inner: R,
     rt: &'a C,
-    view: Option<View>,
+    view: Option<ProgressStyle>,
     size: Option<u64>,
     reads: u64,
     bytes: u64,
@@ -44,7 +44,7 @@ fn millis_of(rt: &impl Clock) -> u64 {
 
 impl<'a, C: Clock + Eprint, R: Drop> Watched<'a, C, R> {
     /// Begins to watch a reader of this many bytes, where that is known.
-    pub fn new(inner: R, rt: &'a C, view: Option<View>, size: Option<u64>) -> Self
+    pub fn new(inner: R, rt: &'a C, view: Option<ProgressStyle>, size: Option<u64>) -> Self
         ensures { result.inner ≡ inner }
     {
         let begun = if view.is_some() { millis_of(rt) } else { 0 };
@@ -64,7 +64,7 @@ impl<'a, C: Clock + Eprint, R: Drop> Watched<'a, C, R> {
     }
 
     /// Shows what was read until now.
-    fn show(&self, view: View, now: u64, is_end: bool) {
+    fn show(&self, view: ProgressStyle, now: u64, is_end: bool) {
         let reached = Reached {
             bytes: self.bytes,
             sampled_bytes: self.sampled_bytes,
@@ -90,7 +90,7 @@ impl<'a, C: Clock + Eprint, R: Drop> Watched<'a, C, R> {
     }
 
     /// Counts what was read, and shows that where it is due.
-    fn count(&mut self, view: View, bytes: &[u8])
+    fn count(&mut self, view: ProgressStyle, bytes: &[u8])
         ensures { self.new.inner ≡ self.old.inner }
     {
         if self.reads % SAMPLED_READS == 0 {

@@ -8,27 +8,27 @@ use Rattle.line_io.proofs.Written.{appends_none, appends_then, appends_kept, app
 use Rattle.sequencer.specs.Log.{Accepted}
 use Rattle.report.specs.Report.{IsReport}
 use Rattle.report.proofs.Readings.{IsTotal, some_report}
-use Rattle.bohm_base.specs.declared.collecting.Became.{Became}
+use Rattle.bohm_base.specs.declared.collecting.LineOutcome.{LineOutcome}
 use Rattle.bohm_base.specs.declared.fault.EngineFault.{EngineFault}
-use Rattle.bohm_base.specs.Collecting.{Collects, became_text, log_text, places_of, report_text}
+use Rattle.bohm_base.specs.Collecting.{Collects, line_outcome_text, log_text, places_of, report_text}
 use Rattle.bohm_base.proofs.Logs.{report_is}
 
 -- the line of an index of the log's lines is pending too
-pub moves_on : (o n : Option (List ℕ)) (log : Accepted) (lines : List Became) (index place places : ℕ) (d : Became) (pending : List ℕ)
+pub moves_on : (o n : Option (List ℕ)) (log : Accepted) (lines : List LineOutcome) (index place places : ℕ) (d : LineOutcome) (pending : List ℕ)
     → MovesOut o n (log_text log lines) (pending ++ report_text log.statements log.names.tables (index + 1) place (drop index lines))
     → index < length lines → places ≡ places_of (get_or lines index d)
-    → MovesOut o n (log_text log lines) ((pending ++ became_text log.statements log.names.tables (index + 1) place (get_or lines index d))
+    → MovesOut o n (log_text log lines) ((pending ++ line_outcome_text log.statements log.names.tables (index + 1) place (get_or lines index d))
     ++ report_text log.statements log.names.tables (index + 1 + 1) (place + places) (drop (index + 1) lines))
 moves_on o n log lines index place places d pending moves low places_is =
-    let line : Became = get_or lines index d in
-    let text : List ℕ = became_text log.statements log.names.tables (index + 1) place line in
+    let line : LineOutcome = get_or lines index d in
+    let text : List ℕ = line_outcome_text log.statements log.names.tables (index + 1) place line in
     let rest : ℕ → List ℕ = λ next. report_text log.statements log.names.tables (index + 1 + 1) next (drop (index + 1) lines) in
     let split : drop index lines ≡ line ∷ drop (index + 1) lines =
     drop-cons lines index d low ∙ ap (λ (k : ℕ). line ∷ drop k lines) (sym (add-one index)) in
     let same : (pending ++ text) ++ rest (place + places) ≡ pending ++ report_text log.statements log.names.tables (index + 1) place (drop index lines) =
     append_assoc pending text (rest (place + places))
     ∙ ap (λ (k : ℕ). pending ++ (text ++ rest (place + k))) places_is
-    ∙ ap (λ (ls : List Became). pending ++ report_text log.statements log.names.tables (index + 1) place ls) (sym split) in
+    ∙ ap (λ (ls : List LineOutcome). pending ++ report_text log.statements log.names.tables (index + 1) place ls) (sym split) in
     subst (MovesOut o n (log_text log lines)) (sym same) moves
 
 -- a front of what was pending is written
@@ -84,13 +84,13 @@ whole_written o n m k whole pending moves appends keeps =
     subst (Appends o k) moves.2 (appends_kept o m k (moves.0 ++ pending) (appends_then o n m moves.0 pending moves.1 appends) keeps)
 
 -- a beginning of the log's text is a beginning of the report
-pub some_written : (i o m : Option (List ℕ)) (log : Accepted) (lines : List Became) → IfSome i (λ input. Collects input log lines)
+pub some_written : (i o m : Option (List ℕ)) (log : Accepted) (lines : List LineOutcome) → IfSome i (λ input. Collects input log lines)
     → AppendsFront o m (log_text log lines) → IfSome i (λ input. (text : List ℕ) × (IsReport input text × AppendsFront o m text))
 some_written None o m log lines collects front = tt
 some_written (Some input) o m log lines collects front = (log_text log lines, (report_is input log lines collects, front))
 
 -- the log's text is the report, if that was answered
-pub all_written : {A : Type 0} (i o m : Option (List ℕ)) (log : Accepted) (lines : List Became) (result : Result A EngineFault)
+pub all_written : {A : Type 0} (i o m : Option (List ℕ)) (log : Accepted) (lines : List LineOutcome) (result : Result A EngineFault)
     → IfSome i (λ input. Collects input log lines) → OnOk result (Appends o m (log_text log lines))
     → OnOk result (IfSome i (λ input. (text : List ℕ) × (IsReport input text × Appends o m text)))
 all_written i o m log lines (Err fault) collects whole = tt

@@ -12,11 +12,11 @@ use Rattle.log_text.specs.Statement.{Sentence, Reads}
 use Rattle.log_text.specs.Fault.{line_fault}
 use Rattle.line_words.specs.declared.fault.LineFault.{LineFault}
 use Rattle.sequencer.specs.Log.{Accepted, empty_log}
-use Rattle.report.specs.Report.{AreReadings, IsReading, Reading}
-use Rattle.bohm_base.specs.declared.collecting.Became.{Became}
+use Rattle.report.specs.Report.{AreParsedLines, IsParsedLine, ParsedLine}
+use Rattle.bohm_base.specs.declared.collecting.LineOutcome.{LineOutcome}
 use Rattle.bohm_base.specs.declared.fault.EngineFault.{EngineFault}
 use Rattle.bohm_base.specs.Faults.{of_reading, read_errors}
-use Rattle.bohm_base.specs.Collecting.{Collects, CollectsSoFar, AreReadBefore, ReadsAs, became, reading_of, with_reading}
+use Rattle.bohm_base.specs.Collecting.{Collects, CollectsSoFar, AreReadBefore, ReadsAs, line_outcome, reading_of, with_reading}
 use Rattle.bohm_base.proofs.Logs.{log_step}
 
 too_long : (l : List ℕ) → 4096 < length l → line_fault l ≡ Some LineFault.TooLong
@@ -54,25 +54,25 @@ collect_start None bytes none = tt
 collect_start (Some xs) bytes none =
     ([], (subst (λ (w : List ℕ). AreReadBefore xs (w ++ xs) []) (sym none) (λ later reads. reads), record { names = refl; statements = refl; each = refl }))
 
-lead_step : (input ys zs : List ℕ) (earlier : List Reading) (reading : Reading) → 0 < length ys → zs ≡ other_lines ys → IsReading (first_line ys) reading
+lead_step : (input ys zs : List ℕ) (earlier : List ParsedLine) (reading : ParsedLine) → 0 < length ys → zs ≡ other_lines ys → IsParsedLine (first_line ys) reading
     → AreReadBefore input ys earlier → AreReadBefore input zs (earlier ++ reading ∷ [])
 lead_step input [] zs earlier reading some others reads leads = absurd (omega arith)
 lead_step input (b ∷ bs) zs earlier reading some others reads leads = λ later rest.
-    let first : AreReadings (lines_of (b ∷ bs)) (reading ∷ later) =
-    subst (λ (ls : List (List ℕ)). AreReadings ls (reading ∷ later)) (sym (lines_first b bs)) (reads, subst (λ (l : List ℕ). AreReadings (lines_of l) later) others rest) in
-    subst (AreReadings (lines_of input)) (sym (append_assoc earlier (reading ∷ []) later)) (leads (reading ∷ later) first)
+    let first : AreParsedLines (lines_of (b ∷ bs)) (reading ∷ later) =
+    subst (λ (ls : List (List ℕ)). AreParsedLines ls (reading ∷ later)) (sym (lines_first b bs)) (reads, subst (λ (l : List ℕ). AreParsedLines (lines_of l) later) others rest) in
+    subst (AreParsedLines (lines_of input)) (sym (append_assoc earlier (reading ∷ []) later)) (leads (reading ∷ later) first)
 
 -- one more line
-pub collect_step : (i j k : Option (List ℕ)) (log new : Accepted) (lines more : List Became) (known : List ℕ) (line : Became)
+pub collect_step : (i j k : Option (List ℕ)) (log new : Accepted) (lines more : List LineOutcome) (known : List ℕ) (line : LineOutcome)
     → CollectsSoFar i j log lines → TookLine j k [] known × HadSome j
-    → ((reading : Reading) × (ReadsAs known reading × ((line ≡ became log.names reading) × (new ≡ with_reading log reading))))
+    → ((reading : ParsedLine) × (ReadsAs known reading × ((line ≡ line_outcome log.names reading) × (new ≡ with_reading log reading))))
     → more ≡ lines ++ line ∷ [] → CollectsSoFar i k new more
 collect_step None j k log new lines more known line so took dealt is = tt
 collect_step (Some xs) None k log new lines more known line so took dealt is = absurd so
 collect_step (Some xs) (Some ys) None log new lines more known line so took dealt is = absurd took.0
 collect_step (Some xs) (Some ys) (Some zs) log new lines more known line so took dealt is =
-    let earlier : List Reading = so.0 in
-    let reading : Reading = dealt.0 in (
+    let earlier : List ParsedLine = so.0 in
+    let reading : ParsedLine = dealt.0 in (
       earlier ++ reading ∷ [],
       (
         lead_step xs ys zs earlier reading took.1 took.0.1 (dealt.1.0 (first_line ys) took.0.0) so.1.0,
@@ -81,13 +81,13 @@ collect_step (Some xs) (Some ys) (Some zs) log new lines more known line so took
     )
 
 -- at the end of the input all lines are read
-pub collect_end : (i j : Option (List ℕ)) (log : Accepted) (lines : List Became) → CollectsSoFar i j log lines → IsAtEnd j
+pub collect_end : (i j : Option (List ℕ)) (log : Accepted) (lines : List LineOutcome) → CollectsSoFar i j log lines → IsAtEnd j
     → IfSome i (λ input. Collects input log lines)
 collect_end None j log lines so end = tt
 collect_end (Some xs) None log lines so end = absurd so
 collect_end (Some xs) (Some ys) log lines so end =
-    let none : AreReadings (lines_of ys) [] = subst (λ (l : List ℕ). AreReadings (lines_of l) []) (sym end) tt in
-    (so.0, (subst (AreReadings (lines_of xs)) (append-nil so.0) (so.1.0 [] none), so.1.1))
+    let none : AreParsedLines (lines_of ys) [] = subst (λ (l : List ℕ). AreParsedLines (lines_of l) []) (sym end) tt in
+    (so.0, (subst (AreParsedLines (lines_of xs)) (append-nil so.0) (so.1.0 [] none), so.1.1))
 
 -- what a fault of reading says of the reader's failures
 pub fault_told : {A B : Type 0} (fault : ReadFault) (found : Result A ReadFault) (result : Result B EngineFault) (old now : ℕ) → found ≡ Err fault

@@ -7,14 +7,14 @@ use Rattle.sequencer.specs.Catalog.{Names, no_names}
 use Rattle.sequencer.specs.Log.{Accepted}
 use Rattle.sequencer.specs.Refusal.{refusal}
 use Rattle.sequencer.specs.declared.refused.Refused.{Refused}
-use Rattle.report.specs.Report.{IsReport, Reading, read, faulty, accepted, line_text, log_of, names_after, names_if, names_with, report_from, text_if}
+use Rattle.report.specs.Report.{IsReport, ParsedLine, read, faulty, accepted, line_text, log_of, names_after, names_if, names_with, report_from, text_if}
 use Rattle.report.proofs.ReportLemmas.{log_of-append, names_after-append}
-use Rattle.bohm_base.specs.declared.collecting.Became.{Became}
-use Rattle.bohm_base.specs.Collecting.{Collects, IsLogOf, all_became, became, became_if, became_text, log_text, places_of, report_text, with_reading}
+use Rattle.bohm_base.specs.declared.collecting.LineOutcome.{LineOutcome}
+use Rattle.bohm_base.specs.Collecting.{Collects, IsLogOf, line_outcomes, line_outcome, outcome_unless, line_outcome_text, log_text, places_of, report_text, with_reading}
 
-all_became-append : (names : Names) (xs ys : List Reading) → all_became names (xs ++ ys) ≡ all_became names xs ++ all_became (names_after names xs) ys
-all_became-append names [] ys = refl
-all_became-append names (x ∷ xs) ys = ap (λ (lines : List Became). became names x ∷ lines) (all_became-append (names_with names x) xs ys)
+line_outcomes-append : (names : Names) (xs ys : List ParsedLine) → line_outcomes names (xs ++ ys) ≡ line_outcomes names xs ++ line_outcomes (names_after names xs) ys
+line_outcomes-append names [] ys = refl
+line_outcomes-append names (x ∷ xs) ys = ap (λ (lines : List LineOutcome). line_outcome names x ∷ lines) (line_outcomes-append (names_with names x) xs ys)
 
 -- a line that adds nothing
 pub unchanged : (log : Accepted) → log ≡ record { names = log.names; statements = log.statements ++ [] }
@@ -23,8 +23,8 @@ unchanged log =
     ap with_statements (sym (append-nil log.statements))
 
 -- the lines so far, and one more
-pub log_step : (earlier : List Reading) (reading : Reading) (log new : Accepted) (lines more : List Became) (line : Became)
-    → IsLogOf earlier log lines → line ≡ became log.names reading → new ≡ with_reading log reading → more ≡ lines ++ line ∷ []
+pub log_step : (earlier : List ParsedLine) (reading : ParsedLine) (log new : Accepted) (lines more : List LineOutcome) (line : LineOutcome)
+    → IsLogOf earlier log lines → line ≡ line_outcome log.names reading → new ≡ with_reading log reading → more ≡ lines ++ line ∷ []
     → IsLogOf (earlier ++ reading ∷ []) new more
 log_step earlier reading log new lines more line so line_is new_is more_is = record {
   names = ap (λ (l : Accepted). l.names) new_is ∙ ap (λ (n : Names). names_with n reading) so.names ∙ sym (names_after-append no_names earlier (reading ∷ []));
@@ -34,44 +34,44 @@ log_step earlier reading log new lines more line so line_is new_is more_is = rec
       ∙ ap (λ (xs : List Statement). log_of no_names earlier ++ xs) (sym (append-nil (accepted (names_after no_names earlier) reading)))
       ∙ sym (log_of-append no_names earlier (reading ∷ []));
   each = more_is
-      ∙ ap (λ (b : Became). lines ++ b ∷ []) line_is
-      ∙ ap (λ (bs : List Became). bs ++ became log.names reading ∷ []) so.each
-      ∙ ap (λ (n : Names). all_became no_names earlier ++ became n reading ∷ []) so.names
-      ∙ sym (all_became-append no_names earlier (reading ∷ []));
+      ∙ ap (λ (b : LineOutcome). lines ++ b ∷ []) line_is
+      ∙ ap (λ (bs : List LineOutcome). bs ++ line_outcome log.names reading ∷ []) so.each
+      ∙ ap (λ (n : Names). line_outcomes no_names earlier ++ line_outcome n reading ∷ []) so.names
+      ∙ sym (line_outcomes-append no_names earlier (reading ∷ []));
 }
 
 -- how many places there are after a line
-places_if : (names : Names) (sentence : Sentence) (o : Option Refused) → names.places + places_of (became_if o) ≡ (names_if names sentence o).places
+places_if : (names : Names) (sentence : Sentence) (o : Option Refused) → names.places + places_of (outcome_unless o) ≡ (names_if names sentence o).places
 places_if names sentence None = refl
 places_if names sentence (Some refused) = omega arith
 
-places_with : (names : Names) (reading : Reading) → names.places + places_of (became names reading) ≡ (names_with names reading).places
+places_with : (names : Names) (reading : ParsedLine) → names.places + places_of (line_outcome names reading) ≡ (names_with names reading).places
 places_with names (read sentence) = places_if names sentence (refusal names sentence)
 places_with names (faulty fault) = omega arith
 
 -- the report's line for a line, by what it became
-text_same_if : (log : List Statement) (tables : List (List ℕ)) (number place : ℕ) (o : Option Refused) → text_if log tables number place o ≡ became_text log tables number place (became_if o)
+text_same_if : (log : List Statement) (tables : List (List ℕ)) (number place : ℕ) (o : Option Refused) → text_if log tables number place o ≡ line_outcome_text log tables number place (outcome_unless o)
 text_same_if log tables number place None = refl
 text_same_if log tables number place (Some refused) = refl
 
-text_same : (log : List Statement) (tables : List (List ℕ)) (number : ℕ) (names : Names) (reading : Reading) → line_text log tables number names reading ≡ became_text log tables number names.places (became names reading)
+text_same : (log : List Statement) (tables : List (List ℕ)) (number : ℕ) (names : Names) (reading : ParsedLine) → line_text log tables number names reading ≡ line_outcome_text log tables number names.places (line_outcome names reading)
 text_same log tables number names (read sentence) = text_same_if log tables number names.places (refusal names sentence)
 text_same log tables number names (faulty fault) = refl
 
 -- the report of some lines, by what they became
-report_same : (log : List Statement) (tables : List (List ℕ)) (number : ℕ) (names : Names) (readings : List Reading)
-    → report_from log tables number names readings ≡ report_text log tables number names.places (all_became names readings)
+report_same : (log : List Statement) (tables : List (List ℕ)) (number : ℕ) (names : Names) (readings : List ParsedLine)
+    → report_from log tables number names readings ≡ report_text log tables number names.places (line_outcomes names readings)
 report_same log tables number names [] = refl
 report_same log tables number names (reading ∷ readings) =
     ap (λ (t : List ℕ). t ++ report_from log tables (number + 1) (names_with names reading) readings) (text_same log tables number names reading)
-    ∙ ap (λ (t : List ℕ). became_text log tables number names.places (became names reading) ++ t) (report_same log tables (number + 1) (names_with names reading) readings)
-    ∙ ap (λ (p : ℕ). became_text log tables number names.places (became names reading) ++ report_text log tables (number + 1) p (all_became (names_with names reading) readings))
+    ∙ ap (λ (t : List ℕ). line_outcome_text log tables number names.places (line_outcome names reading) ++ t) (report_same log tables (number + 1) (names_with names reading) readings)
+    ∙ ap (λ (p : ℕ). line_outcome_text log tables number names.places (line_outcome names reading) ++ report_text log tables (number + 1) p (line_outcomes (names_with names reading) readings))
     (sym (places_with names reading))
 
 -- the report of a log that was collected is the report of its text
-pub report_is : (input : List ℕ) (log : Accepted) (lines : List Became) → Collects input log lines → IsReport input (log_text log lines)
+pub report_is : (input : List ℕ) (log : Accepted) (lines : List LineOutcome) → Collects input log lines → IsReport input (log_text log lines)
 report_is input log lines collects =
-    let readings : List Reading = collects.0 in
+    let readings : List ParsedLine = collects.0 in
     let so : IsLogOf readings log lines = collects.1.1 in
     let statements : List Statement = log_of no_names readings in (
       readings,
@@ -79,7 +79,7 @@ report_is input log lines collects =
         collects.1.0,
         ap (λ (xs : List Statement). report_text xs log.names.tables 1 0 lines) so.statements
             ∙ ap (λ (n : Names). report_text statements n.tables 1 0 lines) so.names
-            ∙ ap (λ (bs : List Became). report_text statements (names_after no_names readings).tables 1 0 bs) so.each
+            ∙ ap (λ (bs : List LineOutcome). report_text statements (names_after no_names readings).tables 1 0 bs) so.each
             ∙ sym (report_same statements (names_after no_names readings).tables 1 no_names readings),
       ),
     )

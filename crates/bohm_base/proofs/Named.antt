@@ -13,7 +13,7 @@ use Rattle.model_base.specs.declared.statement.Statement.{Statement}
 use Rattle.model_base.specs.Body.{Ending, completed, aborted, undeclared}
 use Rattle.model_base.specs.Outcomes.{World, at_place, ended, judged, missing, needs, outcome, owners, step_form, world_before}
 use Rattle.sequencer.specs.Log.{Accepted}
-use Rattle.sequencer.specs.Taken.{IsTaken, IsWhole}
+use Rattle.sequencer.specs.Whole.{IsAccepted, IsWhole}
 use Rattle.report.specs.Text.{IsNamed}
 
 -- the needs are of no table but the first this many
@@ -68,7 +68,7 @@ pub outcome-named : (log : Accepted) (place : ℕ) (found_is : Outcome) → IsWh
 outcome-named log place found_is whole is =
     let P : Option Outcome → Type 0 = λ o. IfSome o (IsNamed (length log.names.tables)) in
     let within : All (IsWithin (length log.names.tables)) log.statements =
-    All-weaker (IsTaken log.names) (IsWithin (length log.names.tables)) (λ statement taken. taken.needs) log.statements whole.taken in
+    All-weaker (IsAccepted log.names) (IsWithin (length log.names.tables)) (λ statement taken. taken.needs) log.statements whole.taken in
     subst P is
     (some-named (length log.names.tables) (owners log.statements) place (world_before log.statements place) (slice_get log.statements place)
     (got (IsWithin (length log.names.tables)) log.statements place within))

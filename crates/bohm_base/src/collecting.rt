@@ -5,9 +5,9 @@ ghost use Rattle.std.specs.Result.{ForOk};
 ghost use Rattle.log_text.specs.Statement.{IsInGrammar};
 ghost use Rattle.line_io.specs.Ahead.{ahead};
 ghost use Rattle.sequencer.specs.Log.{empty_log};
-ghost use Rattle.report.specs.Report.{Reading, read};
+ghost use Rattle.report.specs.Report.{ParsedLine, read};
 ghost use Rattle.bohm_base.specs.Faults.{read_errors};
-ghost use Rattle.bohm_base.specs.Collecting.{Collects, LineMayLackMemory, ReadsAs, became, places_of, reading_of, with_reading};
+ghost use Rattle.bohm_base.specs.Collecting.{Collects, LineMayLackMemory, ReadsAs, line_outcome, places_of, reading_of, with_reading};
 
 use crate::fault::EngineFault;
 use line_io::{Counted, LineReader};
@@ -19,7 +19,7 @@ use std::io::Read;
 
 /// What a line of the log became.
 #[derive(Clone, Copy, Debug, PartialEq, Eq)]
-pub enum Became {
+pub enum LineOutcome {
     /// The next place of the log.
     Accepted,
     /// A line with this fault, which is no statement.
@@ -28,15 +28,15 @@ pub enum Became {
     Refused(Refused),
 }
 
-impl Became {
+impl LineOutcome {
     /// How many places of the log the line has: one if its statement was accepted.
     pub fn places(self) -> u64
         ensures count { result ≡ places_of self }
         ensures most { result ≤ 1 }
     {
         match self {
-            Became::Accepted => 1,
-            Became::Faulty(_) | Became::Refused(_) => 0,
+            LineOutcome::Accepted => 1,
+            LineOutcome::Faulty(_) | LineOutcome::Refused(_) => 0,
         }
     }
 }
@@ -47,7 +47,7 @@ pub struct Collected {
     /// The accepted statements.
     pub log: Log,
     /// What each line became, in the lines' order.
-    pub lines: Vec<Became>,
+    pub lines: Vec<LineOutcome>,
 }
 
 impl Collected {
@@ -63,38 +63,38 @@ impl Collected {
 }
 
 /// What the line of a refused statement became. Out of memory is no refusal, and ends the run.
-pub fn refused_line(refused: Refused) -> Result<Became, EngineFault>
-    ensures ok { IfOk result (λ line. (line ≡ Became.Refused refused) × (refused ≢ Refused.NoMemory)) }
+pub fn refused_line(refused: Refused) -> Result<LineOutcome, EngineFault>
+    ensures ok { IfOk result (λ line. (line ≡ LineOutcome.Refused refused) × (refused ≢ Refused.NoMemory)) }
     ensures err { IfErr result (λ f. (f ≡ EngineFault.NoMemory) × (refused ≡ Refused.NoMemory)) }
 {
     match refused {
         Refused::NoMemory => Err(EngineFault::NoMemory),
-        other => Ok(Became::Refused(other)),
+        other => Ok(LineOutcome::Refused(other)),
     }
 }
 
 /// What a line with a fault became. Out of memory is no line's fault, and ends the run.
-pub fn faulty_line(fault: LineFault) -> Result<Became, EngineFault>
-    ensures ok { IfOk result (λ line. (line ≡ Became.Faulty fault) × (fault ≢ LineFault.NoMemory)) }
+pub fn faulty_line(fault: LineFault) -> Result<LineOutcome, EngineFault>
+    ensures ok { IfOk result (λ line. (line ≡ LineOutcome.Faulty fault) × (fault ≢ LineFault.NoMemory)) }
     ensures err { IfErr result (λ f. (f ≡ EngineFault.NoMemory) × (fault ≡ LineFault.NoMemory)) }
 {
     match fault {
         LineFault::NoMemory => Err(EngineFault::NoMemory),
-        other => Ok(Became::Faulty(other)),
+        other => Ok(LineOutcome::Faulty(other)),
     }
 }
 
 /// Takes a statement into the log if it is not refused, and says what its line became. After an error the log is as it
 /// was, and the statement is not refused.
-fn take_statement(log: &mut Log, statement: RawStatement<'_>) -> Result<Became, EngineFault>
+fn take_statement(log: &mut Log, statement: RawStatement<'_>) -> Result<LineOutcome, EngineFault>
     requires { IsInGrammar statement }
-    ensures line { IfOk result (λ line. line ≡ became log.old.names (read statement.entry)) }
+    ensures line { IfOk result (λ line. line ≡ line_outcome log.old.names (read statement.entry)) }
     ensures log { OnOk result (log.new ≡ with_reading log.old (read statement.entry)) }
     ensures err { IfErr result (λ f. f ≡ EngineFault.NoMemory) }
-    ensures want { OnErr result (LineMayLackMemory (became log.old.names (read statement.entry))) }
+    ensures want { OnErr result (LineMayLackMemory (line_outcome log.old.names (read statement.entry))) }
 {
     match log.push(&statement) {
-        Ok(_) => Ok(Became::Accepted),
+        Ok(_) => Ok(LineOutcome::Accepted),
         Err(refused) => {
             let line = refused_line(refused)?;
             Ok(line)
@@ -107,13 +107,13 @@ fn take_statement(log: &mut Log, statement: RawStatement<'_>) -> Result<Became, 
 fn take_read(
     log: &mut Log,
     found: Result<RawStatement<'_>, LineFault>,
-) -> Result<Became, EngineFault>
+) -> Result<LineOutcome, EngineFault>
     requires { ForOk found IsInGrammar }
-    ensures line { IfOk result (λ line. line ≡ became log.old.names (reading_of found.entry)) }
+    ensures line { IfOk result (λ line. line ≡ line_outcome log.old.names (reading_of found.entry)) }
     ensures log { OnOk result (log.new ≡ with_reading log.old (reading_of found.entry)) }
     ensures told { OnOk result (found.entry ≢ Err LineFault.NoMemory) }
     ensures err { IfErr result (λ f. f ≡ EngineFault.NoMemory) }
-    ensures want { OnErr result (LineMayLackMemory (became log.old.names (reading_of found.entry))) }
+    ensures want { OnErr result (LineMayLackMemory (line_outcome log.old.names (reading_of found.entry))) }
 {
     match found {
         Ok(statement) => {
@@ -129,9 +129,9 @@ fn take_read(
 
 /// Reads a line, takes its statement into the log if it is one that is not refused, and says what the line became. After
 /// an error the log is as it was.
-fn take_line(alloc: Global, log: &mut Log, line: &[u8]) -> Result<Became, EngineFault>
-    ensures line { IfOk result (λ line'. (reading : Reading) × (ReadsAs line.now reading
-        × ((line' ≡ became log.old.names reading) × (log.new ≡ with_reading log.old reading)))) }
+fn take_line(alloc: Global, log: &mut Log, line: &[u8]) -> Result<LineOutcome, EngineFault>
+    ensures line { IfOk result (λ line'. (reading : ParsedLine) × (ReadsAs line.now reading
+        × ((line' ≡ line_outcome log.old.names reading) × (log.new ≡ with_reading log.old reading)))) }
     ensures err { IfErr result (λ f. f ≡ EngineFault.NoMemory) }
 {
     let found = parse_line(alloc, line);

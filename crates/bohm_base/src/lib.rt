@@ -2,7 +2,7 @@
 //!
 //! `serial_text` reads a text to its end, runs it by `model::serial` and writes its report; it keeps all statements.
 //! After a fault, which comes only if the reader or the writer failed or memory ran out, a beginning of the report was
-//! written. `Became` says what a line became, a statement, a fault or a refusal. `arguments` gives the words with which
+//! written. `LineOutcome` says what a line became, a statement, a fault or a refusal. `arguments` gives the words with which
 //! a program was started.
 #![tactic(auto)]
 
@@ -12,7 +12,7 @@ mod fault;
 mod pending;
 mod serial_run;
 
-pub use collecting::{Became, faulty_line, refused_line};
+pub use collecting::{LineOutcome, faulty_line, refused_line};
 pub use command_line::{ArgumentFault, argument_fault, arguments};
 pub use fault::EngineFault;
 pub use serial_run::{serial_text, serial_text_seeded};

@@ -5,10 +5,10 @@ ghost use Rattle.std.specs.Io.KnownBytes.{Appends};
 ghost use Rattle.line_io.specs.Known.{AppendsFront, HasBegun, MovesOut, raised};
 ghost use Rattle.model_base.specs.Outcomes.{outcome};
 ghost use Rattle.report.specs.Report.{IsReport, place_text};
-ghost use Rattle.bohm_base.specs.Collecting.{MayLackRoom, became_text, log_text};
+ghost use Rattle.bohm_base.specs.Collecting.{MayLackRoom, line_outcome_text, log_text};
 ghost use Rattle.bohm_base.specs.Faults.{write_errors};
 
-use crate::collecting::{Became, Collected, collect_lines};
+use crate::collecting::{Collected, LineOutcome, collect_lines};
 use crate::fault::EngineFault;
 use crate::pending::put_out;
 use line_io::{Counted, PENDING_BYTES, flush, write_out};
@@ -52,16 +52,17 @@ fn put_line(
     outcomes: &[Outcome],
     number: u64,
     place: Place,
-    line: Became,
+    line: LineOutcome,
 ) -> Result<(), AllocError>
     requires outcomes { (place : ℕ) → slice_get outcomes.now place ≡ outcome log.now.statements place }
-    ensures ok { OnOk result (text.new.items ≡ text.old.items ++ became_text log.now.statements log.now.names.tables number place line) }
+    ensures ok { OnOk result
+        (text.new.items ≡ text.old.items ++ line_outcome_text log.now.statements log.now.names.tables number place line) }
     ensures want { OnErr result (MayLackRoom number text.old line) }
 {
     match line {
-        Became::Accepted => put_place(text, log, outcomes, place),
-        Became::Faulty(fault) => put_fault(text, number, fault),
-        Became::Refused(refused) => put_refused(text, number, refused),
+        LineOutcome::Accepted => put_place(text, log, outcomes, place),
+        LineOutcome::Faulty(fault) => put_fault(text, number, fault),
+        LineOutcome::Refused(refused) => put_refused(text, number, refused),
     }
 }
 
@@ -74,13 +75,13 @@ fn report_line<W: Write>(
     outcomes: &[Outcome],
     number: u64,
     place: Place,
-    line: Became,
+    line: LineOutcome,
 ) -> Result<(), EngineFault>
     requires outcomes { (place : ℕ) → slice_get outcomes.now place ≡ outcome log.now.statements place }
     ensures ok { OnOk result (MovesOut (W.contents writer.old.inner) (W.contents writer.new.inner)
-        (pending.old.items ++ became_text log.now.statements log.now.names.tables number place line) pending.new.items) }
+        (pending.old.items ++ line_outcome_text log.now.statements log.now.names.tables number place line) pending.new.items) }
     ensures begun { HasBegun (W.contents writer.old.inner) (W.contents writer.new.inner) pending.new.items
-        (pending.old.items ++ became_text log.now.statements log.now.names.tables number place line) }
+        (pending.old.items ++ line_outcome_text log.now.statements log.now.names.tables number place line) }
     ensures errors { writer.new.errors ≡ write_errors result writer.old.errors }
     ensures flushes { writer.new.flushes ≡ writer.old.flushes }
     ensures err { IfErr result (λ f. f ≢ EngineFault.Read) }

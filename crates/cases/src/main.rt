@@ -34,7 +34,7 @@ use std::thread::Threads;
 
 /// Prints what a case results in: of one that can be read its line and its outcome, of another the fault of its line. Returns whether
 /// it can be read.
-fn tell_line<R: Files + Threads + Wait + Print + AllocGlobal + Sync>(
+fn print_line<R: Files + Threads + Wait + Print + AllocGlobal + Sync>(
     rt: &R,
     path: &str,
     number: usize,
@@ -57,7 +57,7 @@ fn tell_line<R: Files + Threads + Wait + Print + AllocGlobal + Sync>(
 }
 
 /// Runs the cases of a text, and returns whether each can be read.
-fn tell_text<R: Files + Threads + Wait + Print + AllocGlobal + Sync>(
+fn print_text<R: Files + Threads + Wait + Print + AllocGlobal + Sync>(
     rt: &R,
     path: &str,
     text: &str,
@@ -67,18 +67,18 @@ fn tell_text<R: Files + Threads + Wait + Print + AllocGlobal + Sync>(
         if line.is_empty() || line.starts_with('#') {
             continue;
         }
-        is_read &= tell_line(rt, path, index.saturating_add(1), line)?;
+        is_read &= print_line(rt, path, index.saturating_add(1), line)?;
     }
     Ok(is_read)
 }
 
 /// Runs the cases of a file, and returns whether it and each of its lines can be read.
-fn tell_file<R: Files + Threads + Wait + Print + AllocGlobal + Sync>(
+fn print_file<R: Files + Threads + Wait + Print + AllocGlobal + Sync>(
     rt: &R,
     path: &str,
 ) -> Result<bool, TrialFault> {
     match read_file(rt, rt.alloc(), path) {
-        Ok(bytes) => tell_text(rt, path, text_of(bytes.as_slice())?),
+        Ok(bytes) => print_text(rt, path, text_of(bytes.as_slice())?),
         Err(fault) => {
             println!(rt; "cases: {path}: {fault}")?;
             Ok(false)
@@ -93,7 +93,7 @@ fn tell<R: Env + Files + Threads + Wait + Print + AllocGlobal + Sync>(
     let paths = arguments(rt)?;
     let mut is_read = true;
     for path in paths.iter().skip(1) {
-        is_read &= tell_file(rt, path.as_str())?;
+        is_read &= print_file(rt, path.as_str())?;
     }
     if is_read {
         Ok(())

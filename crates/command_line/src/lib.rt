@@ -17,4 +17,4 @@ pub use command_words::{Command, ProgramFault, Request, Source, Usage, ending, r
 pub use options::{Progress, Way};
 pub use running::{Works, do_command};
 pub use sources::Sources;
-pub use work::{Batched, Explained, InOrder, Pictured, Slow, Work, WorkFault};
+pub use work::{Batched, Explained, InOrder, Job, Pictured, Slow, WorkFault};

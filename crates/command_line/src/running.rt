@@ -13,7 +13,7 @@ ghost use Rattle.command_line.specs.Words.{IsWithinLimits};
 use crate::command_words::{Command, ProgramFault};
 use crate::options::{MOST_AHEAD, Way};
 use crate::sources::Sources;
-use crate::work::{Work, WorkFault};
+use crate::work::{Job, WorkFault};
 use audit_text::Question;
 use batched_text::Settings;
 use line_io::Counted;
@@ -67,11 +67,11 @@ fn ahead_by<R: Threads>(rt: &R, told: Option<u64>) -> u64
 
 /// Does the work that a command asks for on a log.
 fn work_on<
-    P: Work<u64>,
-    B: Work<Settings>,
-    S: Work<()>,
-    E: Work<Question>,
-    G: Work<Option<Place>>,
+    P: Job<u64>,
+    B: Job<Settings>,
+    S: Job<()>,
+    E: Job<Question>,
+    G: Job<Option<Place>>,
     T: Threads + Wait + Sync,
     R: Read,
     W: Write,
@@ -147,11 +147,11 @@ fn open_log<L: Sources>(sources: L, command: &Command<'_>) -> Option<Counted<L::
 /// The log is that of the source that the command names, which is opened, and no other: `sources` is used up by that. What is given goes to
 /// the writer, which is flushed at the end. Where the file can't be opened nothing is written.
 pub fn do_command<
-    P: Work<u64>,
-    B: Work<Settings>,
-    S: Work<()>,
-    E: Work<Question>,
-    G: Work<Option<Place>>,
+    P: Job<u64>,
+    B: Job<Settings>,
+    S: Job<()>,
+    E: Job<Question>,
+    G: Job<Option<Place>>,
     L: Sources,
     T: Threads + Wait + Sync,
     W: Write,

@@ -39,7 +39,7 @@ pub enum WorkFault {
 }
 
 /// Work on a log by an order, from the log's bytes to those that it says.
-pub trait Work<O: Copy> {
+pub trait Job<O: Copy> {
     // The orders that it takes.
     ghost takes: { Self → O → Type 0 };
     // What it may answer to an order. Only the work itself can give.
@@ -120,7 +120,7 @@ pub struct InOrder {
     pub seed: HashSeed,
 }
 
-impl Work<u64> for InOrder {
+impl Job<u64> for InOrder {
     ghost takes = { λ _ _. Unit {0} };
 
     ghost answers = { λ _ _ result. (result ≢ Err WorkFault.NoSuchPlace) × (result ≢ Err WorkFault.Spawn) };
@@ -152,7 +152,7 @@ pub struct Slow {
     pub seed: HashSeed,
 }
 
-impl Work<()> for Slow {
+impl Job<()> for Slow {
     ghost takes = { λ _ _. Unit {0} };
 
     ghost answers = { λ _ _ result. (result ≢ Err WorkFault.NoSuchPlace) × (result ≢ Err WorkFault.Spawn) };
@@ -183,7 +183,7 @@ pub struct Batched {
     pub seed: HashSeed,
 }
 
-impl Work<Settings> for Batched {
+impl Job<Settings> for Batched {
     ghost takes = { λ _ settings. are_within_limits settings ≡ true };
 
     ghost answers = { λ _ settings result. (result ≢ Err WorkFault.NoSuchPlace)
@@ -215,7 +215,7 @@ pub struct Explained {
     pub seed: HashSeed,
 }
 
-impl Work<Question> for Explained {
+impl Job<Question> for Explained {
     ghost takes = { λ _ _. Unit {0} };
 
     ghost answers = { λ _ _ result. result ≢ Err WorkFault.Spawn };
@@ -246,7 +246,7 @@ pub struct Pictured {
     pub seed: HashSeed,
 }
 
-impl Work<Option<Place>> for Pictured {
+impl Job<Option<Place>> for Pictured {
     ghost takes = { λ _ _. Unit {0} };
 
     ghost answers = { λ _ _ result. result ≢ Err WorkFault.Spawn };

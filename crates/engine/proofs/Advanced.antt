@@ -15,9 +15,9 @@ use Rattle.grants_base.specs.declared.entries.Creation.{Creation}
 use Rattle.sequencer.specs.Log.{Accepted, empty_log}
 use Rattle.sequencer.specs.Tail.{Tail}
 use Rattle.engine.specs.Known.{AreKnown, AreNamed}
-use Rattle.engine.specs.Stands.{Stands}
+use Rattle.engine.specs.RunState.{IsRunState}
 use Rattle.engine.proofs.Came.{came_at, came_count}
-use Rattle.filling.specs.Span.{AreOutcomes}
+use Rattle.filling.specs.FinishedRange.{AreOutcomes}
 use Rattle.engine.specs.Engine.{IsRunKept, IsRun, Run, finished}
 
 ranges : (first count more : ℕ) → range_with_len first (count + more) ≡ range_with_len first count ++ range_with_len (first + count) more
@@ -56,13 +56,13 @@ module _ (log : Accepted) (outcomes later all : List Outcome) (end : ℕ) (is : 
       (subst (λ (n : ℕ). AreOutcomes log.statements 0 n (outcomes ++ later)) sum
       (both log.statements 0 start (end - start) outcomes later came (subst (λ (n : ℕ). AreOutcomes log.statements n (end - start) later) zero-first next)))
 
-  pub advanced : (store : Store) (book : Entries) (dropped : ℕ) → dropped ≤ length outcomes → end ≤ length log.statements → AreKnown log.statements → AreNamed log.statements → Stands log.statements end store book
+  pub advanced : (store : Store) (book : Entries) (dropped : ℕ) → dropped ≤ length outcomes → end ≤ length log.statements → AreKnown log.statements → AreNamed log.statements → IsRunState log.statements end store book
       → AreOutcomes log.statements 0 (length outcomes) outcomes → IsRun (record { log = log; store = store; book = book; outcomes = all; dropped = dropped })
   advanced store book dropped low within known named stands came = record {
     within = omega (arith, ends_at, within);
     known = known;
     named = named;
-    stands = subst (λ (n : ℕ). Stands log.statements n store book) (sym ends_at) stands;
+    stands = subst (λ (n : ℕ). IsRunState log.statements n store book) (sym ends_at) stands;
     came = subst (λ (n : ℕ). AreOutcomes log.statements 0 n all) (sym ends_at) (came_to came);
     dropped = omega (arith, low, less, ends_at);
   }
@@ -75,8 +75,8 @@ finished_at run is place found less here =
     subst (λ (n : ℕ). outcome run.log.statements n ≡ Some found) same (came_at run.log.statements 0 (finished run) run.outcomes is.came place found less here)
 
 -- versions that were trimmed or swept stand as before
-pub stands_left : (log : List Statement) (place : ℕ) (old new : Store) (book : Entries) → Stands log place old book → new.end ≡ old.end → (IsRight log old → IsRight log new)
-    → Stands log place new book
+pub stands_left : (log : List Statement) (place : ℕ) (old new : Store) (book : Entries) → IsRunState log place old book → new.end ≡ old.end → (IsRight log old → IsRight log new)
+    → IsRunState log place new book
 stands_left log place old new book stands end right = record { ends = end ∙ stands.ends; right = right stands.right; booked = stands.booked }
 
 -- so does a run whose versions were

@@ -40,7 +40,7 @@ use Rattle.own_words.specs.Words.{creates, ended_in, places_ended_by}
 use Rattle.filling.proofs.Ranges.{range_more}
 use Rattle.engine.specs.Changes.{AreChanges, creation_at, creations_at}
 use Rattle.engine.specs.Known.{AreKnown}
-use Rattle.engine.specs.Stands.{BookStands, is_completed, made_of}
+use Rattle.engine.specs.RunState.{IsBookState, is_completed, made_of}
 use Rattle.engine.proofs.Cutting.{cut_ended, cut_granted}
 use Rattle.engine.proofs.Making.{granted_held, made-after, made_none, made_one, only, past-below}
 use Rattle.engine.proofs.Lying.{recorded_at}
@@ -199,7 +199,7 @@ book_of tables entries = record { tables = tables; records = entries }
 
 -- before the first place nothing is changed
 pub none_yet : (log : List Statement) (first : ℕ) (book : Entries) (tables : List Creation) (grants : List Grant) (ends : List End)
-    → BookStands log first book → IsSoundBook book → tables ≡ [] → grants ≡ [] → ends ≡ [] → AreChanges log first 0 book tables grants ends
+    → IsBookState log first book → IsSoundBook book → tables ≡ [] → grants ≡ [] → ends ≡ [] → AreChanges log first 0 book tables grants ends
 none_yet log first book tables grants ends stands sound no_tables no_grants no_ends =
     rw (no_tables, no_grants, no_ends) start
   where
@@ -212,7 +212,7 @@ none_yet log first book tables grants ends stands sound no_tables no_grants no_e
         record {
           created = refl;
           slots = All-nil _;
-          stands = subst (λ (n : ℕ). BookStands log n (extended book [] [] [])) here (subst (BookStands log first) (sym same) stands);
+          stands = subst (λ (n : ℕ). IsBookState log n (extended book [] [] [])) here (subst (IsBookState log first) (sym same) stands);
           sound = subst IsSoundBook (sym same) sound;
           before = ap (cut_book first) same;
         }
@@ -243,13 +243,13 @@ module _ (log : List Statement) (first index : ℕ) (book : Entries) (tables : L
 
   moved : (next : Entries) (more : List Creation) (made : List Grant) (ended : List End) → extended book more made ended ≡ next
       → more ≡ tables ++ creations_at log place → All (λ (end : End). end.slot < length book.records + length made) ended
-      → BookStands log (place + 1) next → IsSoundBook next → cut_book first next ≡ cut_book first so_far → AreChanges log first (index + 1) book more made ended
+      → IsBookState log (place + 1) next → IsSoundBook next → cut_book first next ≡ cut_book first so_far → AreChanges log first (index + 1) book more made ended
   moved next more made ended is tables_are slots stands sound cut =
       let on : place + 1 ≡ first + (index + 1) = omega arith in
       record {
         created = tables_are ∙ ap (λ (cs : List Creation). cs ++ creations_at log place) are.created ∙ sym creations_more;
         slots = slots;
-        stands = subst (λ (n : ℕ). BookStands log n (extended book more made ended)) on (subst (BookStands log (place + 1)) (sym is) stands);
+        stands = subst (λ (n : ℕ). IsBookState log n (extended book more made ended)) on (subst (IsBookState log (place + 1)) (sym is) stands);
         sound = subst IsSoundBook (sym is) sound;
         before = ap (cut_book first) is ∙ cut ∙ are.before;
       }
@@ -374,7 +374,7 @@ module _ (log : List Statement) (first index : ℕ) (book : Entries) (tables : L
 
 -- after all places the book is that after them
 pub all_changed : (log : List Statement) (first last : ℕ) (book now : Entries) (tables : List Creation) (grants : List Grant) (ends : List End)
-    → first ≤ last → AreChanges log first (last - first) book tables grants ends → now ≡ extended book tables grants ends → BookStands log last now
+    → first ≤ last → AreChanges log first (last - first) book tables grants ends → now ≡ extended book tables grants ends → IsBookState log last now
 all_changed log first last book now tables grants ends order are is =
     let whole : first + (last - first) ≡ last = omega arith in
-    subst (λ (n : ℕ). BookStands log n now) whole (subst (BookStands log (first + (last - first))) (sym is) are.stands)
+    subst (λ (n : ℕ). IsBookState log n now) whole (subst (IsBookState log (first + (last - first))) (sym is) are.stands)

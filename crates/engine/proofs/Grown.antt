@@ -14,8 +14,8 @@ use Rattle.grants_base.specs.Book.{Entries, ShowsBook, owners_of}
 use Rattle.model_base.specs.Growing.{NeedsOwnTables}
 use Rattle.model_base.proofs.Growing.{outcome-stands, world-stands, owners-append}
 use Rattle.engine.specs.Known.{AreKnown, AreKnownFrom, IsKnown}
-use Rattle.engine.specs.Stands.{Stands}
-use Rattle.filling.specs.Span.{AreOutcomes}
+use Rattle.engine.specs.RunState.{IsRunState}
+use Rattle.filling.specs.FinishedRange.{AreOutcomes}
 
 take-front : {X : Type 0} (n : ℕ) (xs ys : List X) → n ≤ length xs → take n (xs ++ ys) ≡ take n xs
 take-front zero xs ys less = refl
@@ -45,7 +45,7 @@ module _ (log more : List Statement) (own : NeedsOwnTables log) where
         subst (λ (os : List ℕ). ShowsBook book os (deeds_before (log ++ more) place)) (sym (owners-append log more))
         (subst (λ (ds : List Deed). ShowsBook book (owners log ++ owners more) ds) (sym deeds-same) wider)
 
-    pub stands_grown : (store : Store) (book : Entries) → Stands log place store book → Stands (log ++ more) place store book
+    pub stands_grown : (store : Store) (book : Entries) → IsRunState log place store book → IsRunState (log ++ more) place store book
     stands_grown store book stands = record {
       ends = stands.ends;
       right = λ at key low high.

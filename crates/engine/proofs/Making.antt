@@ -20,7 +20,7 @@ use Rattle.grants_base.specs.declared.entries.Creation.{Creation}
 use Rattle.grants.proofs.LaterLaws.{later_than}
 use Rattle.grants.proofs.SeenLaws.{shows_view}
 use Rattle.grants.proofs.ViewLaws.{held_after}
-use Rattle.engine.specs.Stands.{BookStands}
+use Rattle.engine.specs.RunState.{IsBookState}
 
 -- what holds of all that is listed holds of the one deed
 pub only : (P : Deed → Type 0) (deed : Option Deed) (one : Deed) → deed ≡ Some one → All P (option_to_list deed) → P one
@@ -30,7 +30,7 @@ only P deed one is all = All-head P one [] (subst (λ (d : Option Deed). All P (
 pub owned : (tables : List Creation) (table : ℕ) → table < length tables → is_some (slice_get (owners_of tables) table) ≡ true
 owned tables table less = rw (slice_get-get_or (owners_of tables) table 0 (omega (arith, less, length-map tables (λ (c : Creation). c.owner)))) refl
 
-module _ (log : List Statement) (place : ℕ) (book : Entries) (stands : BookStands log place book) where
+module _ (log : List Statement) (place : ℕ) (book : Entries) (stands : IsBookState log place book) where
   abbrev past : List Deed
   past = deeds_before log place
 
@@ -55,14 +55,14 @@ module _ (log : List Statement) (place : ℕ) (book : Entries) (stands : BookSta
 
   module _ (next-owners : owners (take (place + 1) log) ≡ owners (take place log)) where
     pub made-after : (deeds : List Deed) (after : Entries) → deeds_before log (place + 1) ≡ deeds → ShowsBook after (owners log) deeds → IsLater after (place + 1)
-        → after.tables ≡ book.tables → BookStands log (place + 1) after
+        → after.tables ≡ book.tables → IsBookState log (place + 1) after
     made-after deeds after is shown later tables = record {
       shown = subst (ShowsBook after (owners log)) (sym is) shown;
       later = later;
       owned = ap owners_of tables ∙ stands.owned ∙ sym next-owners;
     }
 
-    pub made_none : (deed : Option Deed) → deed ≡ None → deeds_before log (place + 1) ≡ past ++ option_to_list deed → BookStands log (place + 1) book
+    pub made_none : (deed : Option Deed) → deed ≡ None → deeds_before log (place + 1) ≡ past ++ option_to_list deed → IsBookState log (place + 1) book
     made_none deed is next =
         made-after past book (next ∙ ap (λ (d : Option Deed). past ++ option_to_list d) is ∙ append-nil past)
         stands.shown (later_than book place (place + 1) (omega arith) stands.later) refl
@@ -70,7 +70,7 @@ module _ (log : List Statement) (place : ℕ) (book : Entries) (stands : BookSta
     pub made_one : (deed : Option Deed) (one : Deed) (after : Entries) → deed ≡ Some one → deeds_before log (place + 1) ≡ past ++ option_to_list deed
         → All (λ made. place_of made ≡ place) (option_to_list deed) → after.tables ≡ book.tables
         → ((owned : List ℕ) (deeds : List Deed) → ShowsBook book owned deeds → All (λ d. place_of d < place_of one) deeds → ShowsBook after owned (deeds ++ one ∷ []))
-        → ((later : ℕ) → place_of one < later → IsLater after later) → BookStands log (place + 1) after
+        → ((later : ℕ) → place_of one < later → IsLater after later) → IsBookState log (place + 1) after
     made_one deed one after is next at tables shows later =
         let here : place_of one ≡ place = only (λ made. place_of made ≡ place) deed one is at in
         made-after (past ++ one ∷ []) after (next ∙ ap (λ (d : Option Deed). past ++ option_to_list d) is)

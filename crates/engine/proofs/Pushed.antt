@@ -13,7 +13,7 @@ use Rattle.sequencer.specs.Foretelling.{IsForetold}
 use Rattle.sequencer.specs.Log.{Accepted, with_accepted}
 use Rattle.sequencer.specs.Refusal.{refusal}
 use Rattle.sequencer.specs.Tail.{Tail}
-use Rattle.sequencer.specs.Taken.{IsWhole}
+use Rattle.sequencer.specs.Whole.{IsWhole}
 use Rattle.sequencer.specs.declared.refused.Refused.{Refused}
 use Rattle.engine.specs.Known.{IsKnown}
 use Rattle.engine.specs.Engine.{IsRunKept, IsRun, Run}

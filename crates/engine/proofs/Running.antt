@@ -30,7 +30,7 @@ use Rattle.checker.specs.declared.admission.Admission.{Admission}
 use Rattle.grants_base.specs.Book.{Entries, view_of}
 use Rattle.own_words.specs.Words.{creates}
 use Rattle.engine.specs.Known.{AreKnown, AreNamed, AreNamedFrom}
-use Rattle.engine.specs.Stands.{BookStands, Stands}
+use Rattle.engine.specs.RunState.{IsBookState, IsRunState}
 use Rattle.engine.proofs.Making.{made_none, owned}
 use Rattle.engine.proofs.Stepping.{Leads, at_tables, counted, leads, listed, make_owners}
 
@@ -44,9 +44,9 @@ abbrev PassesRight : Store → Store → Type 0
 PassesRight old new = (other : List Statement) → rows_before other (old.end + 1) ≡ rows_before other old.end → IsRight other old → IsRight other new
 
 -- a place that leaves the rows as they are was passed
-pub pass-stands : (log : List Statement) (place : ℕ) (old new : Store) (book after : Entries) → Stands log place old book → new ≡ record { versions = old.versions; mark = old.mark; end = old.end + 1 }
+pub pass-stands : (log : List Statement) (place : ℕ) (old new : Store) (book after : Entries) → IsRunState log place old book → new ≡ record { versions = old.versions; mark = old.mark; end = old.end + 1 }
     → PassesRight old new
-    → world_before log (place + 1) ≡ world_before log place → BookStands log (place + 1) after → Stands log (place + 1) new after
+    → world_before log (place + 1) ≡ world_before log place → IsBookState log (place + 1) after → IsRunState log (place + 1) new after
 pass-stands log place old new book after stands is right same booked = record {
   ends = ap (λ (store : Store). store.end) is ∙ ap (λ (n : ℕ). n + 1) stands.ends;
   right =
@@ -87,7 +87,7 @@ module _ (log : List Statement) (place : ℕ) (statement : Statement) (at : slic
   Left ran end = ending_of end (with_rows (accesses_of statement.form) ran.rows world.rows) ran.outputs
 
   pub ended-leads : creates statement.form ≡ false → missing own world statement.user statement.form ≡ None → (store : Store) → store.mark ≤ store.end
-      → (book : Entries) → Stands log place store book → (window ran : Window) → WindowShows (accesses_of statement.form) window (rows_at_end store)
+      → (book : Entries) → IsRunState log place store book → (window ran : Window) → WindowShows (accesses_of statement.form) window (rows_at_end store)
       → (found end : BodyEnd) → found ≡ end → ((rows : Rows) → WindowShows (accesses_of statement.form) window rows
       → body rows statement.form ≡ ending_of found (with_rows (accesses_of statement.form) ran.rows rows) ran.outputs)
       → Leads log place statement at (ended own world deed (Left ran end), changed world deed (Left ran end))
@@ -104,8 +104,8 @@ module _ (log : List Statement) (place : ℕ) (statement : Statement) (at : slic
   completed-deeds rows outputs made is same = ap (λ (w : World). w.deeds) is ∙ ap (λ ds. world.deeds ++ ds) (listed deed ∙ ap option_to_list (sym same))
 
   -- where a place makes no deed either, the book is after it too
-  pub same-stands : (old new : Store) (book : Entries) → Stands log place old book → AreKnown log → creates statement.form ≡ false → new ≡ record { versions = old.versions; mark = old.mark; end = old.end + 1 }
-      → PassesRight old new → world_before log (place + 1) ≡ world → Stands log (place + 1) new book
+  pub same-stands : (old new : Store) (book : Entries) → IsRunState log place old book → AreKnown log → creates statement.form ≡ false → new ≡ record { versions = old.versions; mark = old.mark; end = old.end + 1 }
+      → PassesRight old new → world_before log (place + 1) ≡ world → IsRunState log (place + 1) new book
   same-stands old new book stands known other is right same =
       pass-stands log place old new book book stands is right same
       (made_none log place book stands.booked (make_owners log place statement at book stands.booked known other) None refl
@@ -138,7 +138,7 @@ few_accesses (Form.Run accesses steps deed) fits = fits.places
 few_accesses form fits = omega arith
 
 -- the book covers what the place needs
-pub covers-needs : (log : List Statement) (place : ℕ) (statement : Statement) → slice_get log place ≡ Some statement → (book : Entries) → BookStands log place book → AreNamed log
+pub covers-needs : (log : List Statement) (place : ℕ) (statement : Statement) → slice_get log place ≡ Some statement → (book : Entries) → IsBookState log place book → AreNamed log
     → Covers (view_of book place) (needs statement.form)
 covers-needs log place statement at book stands named =
     let low : NeedsWithin (length book.tables) statement =

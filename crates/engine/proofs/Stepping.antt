@@ -18,7 +18,7 @@ use Rattle.grants_base.specs.declared.entries.Creation.{Creation}
 use Rattle.own_words.specs.Words.{creates}
 use Rattle.filling.proofs.CellsTold.{took, world-next}
 use Rattle.engine.specs.Known.{AreKnown, AreKnownFrom, IsKnown}
-use Rattle.engine.specs.Stands.{BookStands, is_completed, made_of}
+use Rattle.engine.specs.RunState.{IsBookState, is_completed, made_of}
 use Rattle.model_base.proofs.Growing.{owners-append}
 
 -- a deed or none, as a list
@@ -60,7 +60,7 @@ at_tables P Are each tables count (first ∷ log) (suc place) statement are at i
     let made = creator first.user first.form in
     at_tables P Are each (tables + length made) count log place statement (each tables first log are).1 at (omega (arith, is, length-append made (owners (take place log))))
 
-pub counted : (log : List Statement) (place : ℕ) (book : Entries) → BookStands log place book → length book.tables ≡ 0 + length (owners (take place log))
+pub counted : (log : List Statement) (place : ℕ) (book : Entries) → IsBookState log place book → length book.tables ≡ 0 + length (owners (take place log))
 counted log place book stands = omega (arith, ap length stands.owned, length-map book.tables (λ (c : Creation). c.owner))
 
 -- the deeds of a form, on known tables
@@ -129,7 +129,7 @@ module _ (log : List Statement) (place : ℕ) (statement : Statement) (at : slic
       ∙ ap (λ (d : Option Deed). deeds_before log place ++ option_to_list d)
       (ap (λ (o : Outcome). made_of (is_completed o) (deed_of place statement.user statement.form)) same ∙ sym made)
 
-  module _ (book : Entries) (stands : BookStands log place book) (known : AreKnown log) where
+  module _ (book : Entries) (stands : IsBookState log place book) (known : AreKnown log) where
     known-here : IsKnown (length book.tables) statement.form
     known-here = at_tables (λ tables one. IsKnown tables one.form) AreKnownFrom (λ tables first rest are. are) 0 (length book.tables) log place statement known at (counted log place book stands)
 
@@ -152,7 +152,7 @@ module _ (log : List Statement) (place : ℕ) (statement : Statement) (at : slic
 
       pub created : (after : Entries) → after ≡ with_table book (record { owner = statement.user; place = place })
           → ((owned more : List ℕ) (deeds : List Deed) → ShowsBook book owned deeds → owned ≡ owners_of after.tables ++ more → ShowsBook after owned deeds)
-          → ((next : ℕ) → place < next → IsLater after next) → BookStands log (place + 1) after
+          → ((next : ℕ) → place < next → IsLater after next) → IsBookState log (place + 1) after
       created after is shows later =
           let owned : owners_of after.tables ≡ owners (take (place + 1) log) =
           ap (λ (b : Entries). owners_of b.tables) is

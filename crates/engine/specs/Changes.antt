@@ -9,7 +9,7 @@ use Rattle.model_base.specs.Outcomes.{creator}
 use Rattle.grants_base.specs.Book.{Entries, IsSoundBook, cut_book, extended}
 use Rattle.grants_base.specs.declared.entries.Creation.{Creation}
 use Rattle.grants_base.specs.declared.entries.End.{End}
-use Rattle.engine.specs.Stands.{BookStands}
+use Rattle.engine.specs.RunState.{IsBookState}
 
 -- the table that a user creates at a place
 abbrev pub creation_at : ℕ → ℕ → Creation
@@ -26,6 +26,6 @@ pub record AreChanges (log : List Statement) (first count : ℕ) (book : Entries
     (ends : List End) : Type 0 where
   pub created : tables ≡ flat_map (creations_at log) (range_with_len first count)
   pub slots : All (λ (end : End). end.slot < length book.records + length grants) ends
-  pub stands : BookStands log (first + count) (extended book tables grants ends)
+  pub stands : IsBookState log (first + count) (extended book tables grants ends)
   pub sound : IsSoundBook (extended book tables grants ends)
   pub before : cut_book first (extended book tables grants ends) ≡ cut_book first book

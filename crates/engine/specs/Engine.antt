@@ -9,8 +9,8 @@ use Rattle.grants_base.specs.Book.{Entries}
 use Rattle.sequencer.specs.Log.{Accepted}
 use Rattle.engine.specs.declared.crew.Crew.{Crew}
 use Rattle.engine.specs.Known.{AreKnown, AreNamed}
-use Rattle.engine.specs.Stands.{Stands}
-use Rattle.filling.specs.Span.{AreOutcomes}
+use Rattle.engine.specs.RunState.{IsRunState}
+use Rattle.filling.specs.FinishedRange.{AreOutcomes}
 
 -- the log, the versions of rows, the book of grants, the outcomes of the places that are finished, and of how many of the first of
 -- these neither statement nor outcome is kept
@@ -31,7 +31,7 @@ pub record IsRun (run : Run) : Type 0 where
   pub within : finished run ≤ length run.log.statements
   pub known : AreKnown run.log.statements
   pub named : AreNamed run.log.statements
-  pub stands : Stands run.log.statements (finished run) run.store run.book
+  pub stands : IsRunState run.log.statements (finished run) run.store run.book
   pub came : AreOutcomes run.log.statements 0 (finished run) run.outcomes
   pub dropped : run.dropped ≤ finished run
 

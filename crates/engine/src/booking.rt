@@ -7,7 +7,7 @@ ghost use Rattle.model_base.specs.Privileges.{place_of};
 ghost use Rattle.grants_base.specs.Book.{cut_book, table_of_deed};
 ghost use Rattle.engine.specs.Known.{AreKnown};
 ghost use Rattle.own_words.specs.Words.{creates};
-ghost use Rattle.engine.specs.Stands.{BookStands};
+ghost use Rattle.engine.specs.RunState.{IsBookState};
 
 use crate::remembering::RememberingBook;
 use model_base::{Deed, DeedDone, Form, Items, Place, Statement};
@@ -23,12 +23,12 @@ pub(crate) fn make(
     place: Place,
     deed: Option<Deed>,
 ) -> Result<DeedDone, AllocError>
-    requires stands { BookStands log.now.log.statements place book.old }
+    requires stands { IsBookState log.now.log.statements place book.old }
     requires next { deeds_before log.now.log.statements (place + 1) ≡ deeds_before log.now.log.statements place ++ option_to_list deed }
     requires owners { owners (take (place + 1) log.now.log.statements) ≡ owners (take place log.now.log.statements) }
     requires at { All (λ made. place_of made ≡ place) (option_to_list deed) }
     requires table { All (λ made. table_of_deed made < length book.old.tables) (option_to_list deed) }
-    ensures ok { OnOk result (BookStands log.now.log.statements (place + 1) book.new) }
+    ensures ok { OnOk result (IsBookState log.now.log.statements (place + 1) book.new) }
     ensures told { IfOk result (λ done. done ≡ deed_done (owners log.now.log.statements) (world_before log.now.log.statements place) deed) }
     ensures cut { (first : ℕ) → first ≤ place → cut_book first book.new ≡ cut_book first book.old }
 {
@@ -52,11 +52,11 @@ pub(crate) fn create(
     place: Place,
     statement: &Statement,
 ) -> Result<(), AllocError>
-    requires stands { BookStands log.now.log.statements place book.old }
+    requires stands { IsBookState log.now.log.statements place book.old }
     requires known { AreKnown log.now.log.statements }
     requires at { slice_get log.now.log.statements place ≡ Some statement.now }
     requires form { creates statement.now.form ≡ true }
-    ensures ok { OnOk result (BookStands log.now.log.statements (place + 1) book.new) }
+    ensures ok { OnOk result (IsBookState log.now.log.statements (place + 1) book.new) }
     ensures cut { (first : ℕ) → first ≤ place → cut_book first book.new ≡ cut_book first book.old }
 {
     book.add_table(statement.user, place)?;

@@ -10,8 +10,8 @@ ghost use Rattle.grants_base.specs.declared.entries.End.{End};
 ghost use Rattle.own_words.specs.Words.{ended_in, places_ended_by};
 ghost use Rattle.engine.specs.Changes.{AreChanges};
 ghost use Rattle.engine.specs.Known.{AreKnown};
-ghost use Rattle.engine.specs.Stands.{BookStands, is_completed, made_of};
-ghost use Rattle.filling.specs.Span.{AreOutcomes};
+ghost use Rattle.engine.specs.RunState.{IsBookState, is_completed, made_of};
+ghost use Rattle.filling.specs.FinishedRange.{AreOutcomes};
 
 use crate::booking::creates;
 use crate::slots::slot_of;
@@ -166,7 +166,7 @@ impl BookChanges {
         requires kept { log.now.dropped ≤ range.start }
         requires within { range.end ≤ length log.now.log.statements }
         requires known { AreKnown log.now.log.statements }
-        requires stands { BookStands log.now.log.statements range.start book.now }
+        requires stands { IsBookState log.now.log.statements range.start book.now }
         requires came { AreOutcomes log.now.log.statements range.start (range.end - range.start) outcomes.now }
         ensures { IfOk result (λ changes. AreChanges log.now.log.statements range.start (range.end - range.start) book.now
             changes.tables.items changes.grants.items changes.ends.items) }

@@ -3,8 +3,8 @@
 ghost use Rattle.std.specs.Prelude.{◌≡◌, ◌≤◌, ◌-◌, OnErr, OnOk, length};
 ghost use Rattle.chains.specs.Store.{versions_between};
 ghost use Rattle.engine.specs.Known.{AreKnown};
-ghost use Rattle.engine.specs.Stands.{Stands};
-ghost use Rattle.filling.specs.Span.{AreOutcomes};
+ghost use Rattle.engine.specs.RunState.{IsRunState};
+ghost use Rattle.filling.specs.FinishedRange.{AreOutcomes};
 
 use crate::changes::BookChanges;
 use crate::remembering::RememberingBook;
@@ -30,10 +30,10 @@ pub fn advance(
     requires kept { log.now.dropped ≤ range.start }
     requires within { range.end ≤ length log.now.log.statements }
     requires known { AreKnown log.now.log.statements }
-    requires stands { Stands log.now.log.statements range.start chains.old book.old }
+    requires stands { IsRunState log.now.log.statements range.start chains.old book.old }
     requires came { AreOutcomes log.now.log.statements range.start (range.end - range.start) outcomes.now }
     requires left { versions.items ≡ versions_between log.now.log.statements range.start range.end }
-    ensures ok { OnOk result (Stands log.now.log.statements range.end chains.new book.new) }
+    ensures ok { OnOk result (IsRunState log.now.log.statements range.end chains.new book.new) }
     ensures mark { OnOk result (chains.new.mark ≡ chains.old.mark) }
     ensures chains { OnErr result (chains.new ≡ chains.old) }
     ensures book { OnErr result (book.new ≡ book.old) }

@@ -15,9 +15,9 @@ use workers::{Gate, RunFault, run_workers};
 
 /// The pass, which knows all places done, and knows from now on that all is placed too.
 fn settled(batch: &Batch<RangeKey<'_>>, pass: Pass) -> Pass
-    requires ours { IsPassOf batch.now pass }
+    requires same_table { IsPassOf batch.now pass }
     requires all { KnowsAll batch.now.key.batch.size pass.view }
-    ensures ours { IsPassOf batch.now result }
+    ensures same_table { IsPassOf batch.now result }
     ensures placed { result.view.placed ≡ true }
 {
     let _partitions = batch.key().batch().partition_count();

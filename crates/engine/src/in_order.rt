@@ -11,8 +11,8 @@ ghost use Rattle.chains.specs.Store.{cut_store};
 ghost use Rattle.grants_base.specs.Book.{cut_book};
 ghost use Rattle.own_words.specs.Words.{creates};
 ghost use Rattle.engine.specs.Known.{AreKnown, AreNamed};
-ghost use Rattle.engine.specs.Stands.{Stands};
-ghost use Rattle.filling.specs.Span.{AreOutcomes};
+ghost use Rattle.engine.specs.RunState.{IsRunState};
+ghost use Rattle.filling.specs.FinishedRange.{AreOutcomes};
 
 use crate::booking::{create, creates, make};
 use crate::remembering::RememberingBook;
@@ -39,7 +39,7 @@ fn run_admitted(
 ) -> Result<(), AllocError>
     requires room { vec_len outcomes.old < vec_capacity outcomes.old }
     requires known { AreKnown log.now.log.statements }
-    requires stands { Stands log.now.log.statements place chains.old book.old }
+    requires stands { IsRunState log.now.log.statements place chains.old book.old }
     requires at { slice_get log.now.log.statements place ≡ Some statement.now }
     requires form { creates statement.now.form ≡ false }
     requires admitted { missing (owners log.now.log.statements) (world_before log.now.log.statements place)
@@ -48,7 +48,7 @@ fn run_admitted(
         × (outcomes.new.items ≡ outcomes.old.items ++ found ∷ [])) }
     ensures none { OnErr result (outcomes.new.items ≡ outcomes.old.items) }
     ensures capacity { vec_capacity outcomes.new ≡ vec_capacity outcomes.old }
-    ensures stands { OnOk result (Stands log.now.log.statements (place + 1) chains.new book.new) }
+    ensures stands { OnOk result (IsRunState log.now.log.statements (place + 1) chains.new book.new) }
     ensures mark { chains.new.mark ≡ chains.old.mark }
     ensures end { chains.old.end ≤ chains.new.end }
     ensures chains { (first : ℕ) → first ≤ place → cut_store first chains.new ≡ cut_store first chains.old }
@@ -96,12 +96,12 @@ fn run_place(
     requires within { place < length log.now.log.statements }
     requires known { AreKnown log.now.log.statements }
     requires named { AreNamed log.now.log.statements }
-    requires stands { Stands log.now.log.statements place chains.old book.old }
+    requires stands { IsRunState log.now.log.statements place chains.old book.old }
     ensures came { OnOk result ((found : Came) × (outcome log.now.log.statements place ≡ Some found)
         × (outcomes.new.items ≡ outcomes.old.items ++ found ∷ [])) }
     ensures none { OnErr result (outcomes.new.items ≡ outcomes.old.items) }
     ensures capacity { vec_capacity outcomes.new ≡ vec_capacity outcomes.old }
-    ensures stands { OnOk result (Stands log.now.log.statements (place + 1) chains.new book.new) }
+    ensures stands { OnOk result (IsRunState log.now.log.statements (place + 1) chains.new book.new) }
     ensures mark { chains.new.mark ≡ chains.old.mark }
     ensures end { chains.old.end ≤ chains.new.end }
     ensures chains { (first : ℕ) → first ≤ place → cut_store first chains.new ≡ cut_store first chains.old }
@@ -143,8 +143,8 @@ fn run_places<G: Gate>(
     requires within { range.end ≤ length log.now.log.statements }
     requires known { AreKnown log.now.log.statements }
     requires named { AreNamed log.now.log.statements }
-    requires stands { Stands log.now.log.statements range.start chains.old book.old }
-    ensures stands { OnOk result (Stands log.now.log.statements range.end chains.new book.new) }
+    requires stands { IsRunState log.now.log.statements range.start chains.old book.old }
+    ensures stands { OnOk result (IsRunState log.now.log.statements range.end chains.new book.new) }
     ensures mark { chains.new.mark ≡ chains.old.mark }
     ensures end { chains.old.end ≤ chains.new.end }
     ensures came { (found : List Came) × (outcomes.new.items ≡ outcomes.old.items ++ found)
@@ -182,8 +182,8 @@ pub fn run_in_order<G: Gate>(
     requires within { range.end ≤ length log.now.log.statements }
     requires known { AreKnown log.now.log.statements }
     requires named { AreNamed log.now.log.statements }
-    requires stands { Stands log.now.log.statements range.start chains.old book.old }
-    ensures stands { OnOk result (Stands log.now.log.statements range.end chains.new book.new) }
+    requires stands { IsRunState log.now.log.statements range.start chains.old book.old }
+    ensures stands { OnOk result (IsRunState log.now.log.statements range.end chains.new book.new) }
     ensures mark { OnOk result (chains.new.mark ≡ chains.old.mark) }
     ensures came { OnOk result ((found : List Came) × (outcomes.new.items ≡ outcomes.old.items ++ found)
         × AreOutcomes log.now.log.statements range.start (range.end - range.start) found) }

@@ -4,8 +4,8 @@ ghost use Rattle.std.specs.Prelude.{◌≡◌, ◌≢◌, ◌<◌, ◌≤◌, �
 ghost use Rattle.model_base.specs.declared.outcome.Outcome.{Outcome as Came};
 ghost use Rattle.chains.specs.Store.{versions_between};
 ghost use Rattle.engine.specs.Known.{AreKnown, AreNamed};
-ghost use Rattle.engine.specs.Stands.{Stands};
-ghost use Rattle.filling.specs.Span.{AreOutcomes};
+ghost use Rattle.engine.specs.RunState.{IsRunState};
+ghost use Rattle.filling.specs.FinishedRange.{AreOutcomes};
 
 use crate::commit::advance;
 use crate::crew::Crew;
@@ -14,10 +14,10 @@ use crate::fault::EngineFault;
 use crate::in_order::run_in_order;
 use crate::remembering::RememberingBook;
 use chains::{BadMark, Chains, Trimmed};
-use filling::{Taken, take};
+use filling::{DecodedBatch, take};
 use grants::Book;
 use log_batch::LogBatch;
-use log_text::{RawRoom, RawStatement};
+use log_text::{LineBuffers, RawStatement};
 use model_base::{
     HashSeed, Key, MOST_BATCH_STATEMENTS, MOST_PARTITIONS, MOST_PLACES, MOST_WORKERS, Outcome,
     Place, Row, Statement,
@@ -75,12 +75,12 @@ fn ran<T: Threads + Wait + Sync, G: Gate + Sync>(
     range: Range<Place>,
     crew: Crew,
     gate: &G,
-) -> Result<Taken, RunFault>
+) -> Result<DecodedBatch, RunFault>
     requires partitions { 0 < crew.partitions }
     requires kept { log.now.dropped ≤ range.start }
     requires order { range.start < range.end }
     requires within { range.end ≤ length log.now.log.statements }
-    requires stands { Stands log.now.log.statements range.start chains.now book.now }
+    requires stands { IsRunState log.now.log.statements range.start chains.now book.now }
     ensures outcomes { IfOk result (λ taken. AreOutcomes log.now.log.statements range.start
         (range.end - range.start) taken.outcomes.items) }
     ensures versions { IfOk result (λ taken. taken.versions.items ≡ versions_between log.now.log.statements range.start range.end) }
@@ -111,8 +111,8 @@ fn run_by_workers<T: Threads + Wait + Sync, G: Gate + Sync>(
     requires kept { log.now.dropped ≤ range.start }
     requires within { range.end ≤ length log.now.log.statements }
     requires known { AreKnown log.now.log.statements }
-    requires stands { Stands log.now.log.statements range.start chains.old book.old }
-    ensures stands { OnOk result (Stands log.now.log.statements range.end chains.new book.new) }
+    requires stands { IsRunState log.now.log.statements range.start chains.old book.old }
+    ensures stands { OnOk result (IsRunState log.now.log.statements range.end chains.new book.new) }
     ensures mark { OnOk result (chains.new.mark ≡ chains.old.mark) }
     ensures came { OnOk result ((found : List Came) × (outcomes.new.items ≡ outcomes.old.items ++ found)
         × AreOutcomes log.now.log.statements range.start (range.end - range.start) found) }
@@ -121,7 +121,7 @@ fn run_by_workers<T: Threads + Wait + Sync, G: Gate + Sync>(
     ensures outcomes { OnErr result (outcomes.new.items ≡ outcomes.old.items) }
 {
     let (start, end) = (range.start, range.end);
-    let Taken {
+    let DecodedBatch {
         outcomes: mut came,
         versions,
     } = ran(rt, alloc, log, chains, book.book(), start..end, crew, gate)?;
@@ -164,8 +164,8 @@ fn run_range<T: Threads + Wait + Sync, G: Gate + Sync>(
     requires within { range.end ≤ length log.now.log.statements }
     requires known { AreKnown log.now.log.statements }
     requires named { AreNamed log.now.log.statements }
-    requires stands { Stands log.now.log.statements range.start chains.old book.old }
-    ensures stands { OnOk result (Stands log.now.log.statements range.end chains.new book.new) }
+    requires stands { IsRunState log.now.log.statements range.start chains.old book.old }
+    ensures stands { OnOk result (IsRunState log.now.log.statements range.end chains.new book.new) }
     ensures mark { OnOk result (chains.new.mark ≡ chains.old.mark) }
     ensures came { OnOk result ((found : List Came) × (outcomes.new.items ≡ outcomes.old.items ++ found)
         × AreOutcomes log.now.log.statements range.start (range.end - range.start) found) }
@@ -189,7 +189,7 @@ impl Engine {
     ghost use Rattle.model_base.specs.Outcomes.{deeds_before, outcome, owners, rows_before};
     ghost use Rattle.chains.specs.Store.{Sweeps, Trims};
     ghost use Rattle.grants_base.specs.Book.{ShowsBook};
-    ghost use Rattle.log_text.specs.Room.{sentence_of};
+    ghost use Rattle.log_text.specs.LineBuffers.{sentence_of};
     ghost use Rattle.log_text.specs.Statement.{IsInGrammar, Sentence};
     ghost use Rattle.sequencer.specs.Foretelling.{IsForetold};
     ghost use Rattle.sequencer.specs.Log.{empty_log, with_accepted};
@@ -274,7 +274,7 @@ impl Engine {
 
     /// Takes the statement that a line was read as, as `push`, from where it stays.
     #[inline(always)]
-    pub fn push_read(&mut self, read: &RawRoom<'_>) -> Result<Place, Refused>
+    pub fn push_read(&mut self, read: &LineBuffers<'_>) -> Result<Place, Refused>
         requires { IsInGrammar (sentence_of read.now) }
         ensures place { IfOk result (λ place. place ≡ length self.old.log.statements) }
         ensures accepted { OnOk result (self.new ≡ record self.old { log = with_accepted self.old.log (sentence_of read.now) }) }
@@ -326,7 +326,7 @@ impl Engine {
         requires order { finished self.old ≤ end }
         requires within { end ≤ length self.old.log.statements }
         ensures ends { OnOk result (finished self.new ≡ end) }
-        ensures stands { OnOk result (Stands self.new.log.statements end self.new.store self.new.book) }
+        ensures stands { OnOk result (IsRunState self.new.log.statements end self.new.store self.new.book) }
         ensures came { OnOk result (AreOutcomes self.new.log.statements 0 end self.new.outcomes) }
         ensures mark { OnOk result (self.new.store.mark ≡ self.old.store.mark) }
         ensures log { self.new.log ≡ self.old.log }
@@ -357,7 +357,7 @@ impl Engine {
         requires order { finished self.old ≤ end }
         requires within { end ≤ length self.old.log.statements }
         ensures ends { OnOk result (finished self.new ≡ end) }
-        ensures stands { OnOk result (Stands self.new.log.statements end self.new.store self.new.book) }
+        ensures stands { OnOk result (IsRunState self.new.log.statements end self.new.store self.new.book) }
         ensures came { OnOk result (AreOutcomes self.new.log.statements 0 end self.new.outcomes) }
         ensures mark { OnOk result (self.new.store.mark ≡ self.old.store.mark) }
         ensures log { self.new.log ≡ self.old.log }
@@ -406,7 +406,7 @@ impl Engine {
         ensures fault { IfErr result (λ f. (f ≡ EngineFault.BadSettings) ⊎ (f ≡ EngineFault.NoMemory) ⊎ (f ≡ EngineFault.Spawn)) }
         ensures alone { crew.workers ≤ 1 → result ≢ Err EngineFault.Spawn }
         ensures ends { OnOk result (finished self.new ≡ range.end) }
-        ensures stands { OnOk result (Stands self.new.log.statements range.end self.new.store self.new.book) }
+        ensures stands { OnOk result (IsRunState self.new.log.statements range.end self.new.store self.new.book) }
         ensures came { OnOk result (AreOutcomes self.new.log.statements 0 range.end self.new.outcomes) }
         ensures mark { OnOk result (self.new.store.mark ≡ self.old.store.mark) }
         ensures log { self.new.log ≡ self.old.log }

@@ -2,7 +2,7 @@
 //! the end the table's owner reads a row and grants in one transaction.
 
 use crate::fault::TrialFault;
-use crate::handed_in::tell_handed_in;
+use crate::handed_in::print_handed_in;
 use crate::stepping::{crew_of, push_lines, run_up_to};
 use audit_text::put_explanation;
 use batched_text::run_quietly;
@@ -38,7 +38,7 @@ fn text_of(alloc: Global, engine: &Engine, place: Place) -> Result<(Vec<u8>, boo
 }
 
 /// Prints why a place was admitted or denied.
-fn tell_place(rt: &impl Print, alloc: Global, engine: &Engine, place: Place) {
+fn print_place(rt: &impl Print, alloc: Global, engine: &Engine, place: Place) {
     let _ = match text_of(alloc, engine, place) {
         Ok((text, accepted)) => {
             let text = str::from_utf8(&text).unwrap_or("no text");
@@ -50,7 +50,7 @@ fn tell_place(rt: &impl Print, alloc: Global, engine: &Engine, place: Place) {
 
 /// Runs the log on, batch by batch, and says of place 8 before it is finished and once it is; then of places that are finished, of one that
 /// isn't there, which lines are accepted, and of a place whose statement is forgotten.
-fn tell_engine<R: Threads + Wait + Print + Sync>(
+fn print_engine<R: Threads + Wait + Print + Sync>(
     rt: &R,
     alloc: Global,
     engine: &mut Engine,
@@ -58,20 +58,20 @@ fn tell_engine<R: Threads + Wait + Print + Sync>(
     push_lines(alloc, engine, &LINES)?;
     for end in [4, 8, 11] {
         run_up_to(rt, alloc, engine, end, crew_of(2, 2))?;
-        tell_place(rt, alloc, engine, 8);
+        print_place(rt, alloc, engine, 8);
     }
     for place in [0, 5, 7, 8, 9, 10, 11] {
-        tell_place(rt, alloc, engine, place);
+        print_place(rt, alloc, engine, place);
     }
-    tell_handed_in(rt, alloc, engine, usize::MAX)?;
+    print_handed_in(rt, alloc, engine, usize::MAX)?;
     engine.forget();
-    tell_place(rt, alloc, engine, 7);
-    tell_handed_in(rt, alloc, engine, 1)?;
+    print_place(rt, alloc, engine, 7);
+    print_handed_in(rt, alloc, engine, 1)?;
     Ok(())
 }
 
 /// Prints how many of two lines a quiet run finishes.
-fn tell_quiet<R: Threads + Wait + Print + Sync>(rt: &R, alloc: Global) {
+fn print_quiet<R: Threads + Wait + Print + Sync>(rt: &R, alloc: Global) {
     let log = b"alice CREATE t 1\nalice RUN t:1:R\n";
     let _ = match run_quietly(rt, alloc, &mut Counted::new(log.as_slice())) {
         Ok(engine) => println!(rt; "run quietly: {} finished", engine.finished()),
@@ -80,11 +80,11 @@ fn tell_quiet<R: Threads + Wait + Print + Sync>(rt: &R, alloc: Global) {
 }
 
 /// Tells of the worked log's places, and of a quiet run.
-pub fn tell_explained_log<R: Threads + Wait + Print + Sync>(
+pub fn print_explained_log<R: Threads + Wait + Print + Sync>(
     rt: &R,
     alloc: Global,
 ) -> Result<(), TrialFault> {
-    tell_engine(rt, alloc, &mut Engine::new(alloc))?;
-    tell_quiet(rt, alloc);
+    print_engine(rt, alloc, &mut Engine::new(alloc))?;
+    print_quiet(rt, alloc);
     Ok(())
 }

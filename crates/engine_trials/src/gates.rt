@@ -111,7 +111,7 @@ fn begin<R: Threads + Wait + Sync>(
 }
 
 /// Prints the outcome of the two statements by two workers, where one is held back.
-fn tell_held<R: Threads + Wait + Print + Sync>(
+fn print_held<R: Threads + Wait + Print + Sync>(
     rt: &R,
     alloc: Global,
     engine: &mut Engine,
@@ -130,7 +130,7 @@ fn tell_held<R: Threads + Wait + Print + Sync>(
 }
 
 /// Reports what this many workers say a gate.
-fn tell_counted<R: Threads + Wait + Print + Sync>(
+fn print_counted<R: Threads + Wait + Print + Sync>(
     rt: &R,
     alloc: Global,
     engine: &mut Engine,
@@ -150,7 +150,7 @@ fn tell_counted<R: Threads + Wait + Print + Sync>(
 }
 
 /// Tells of a new engine's batch in which one is held back.
-fn tell_waiting<R: Threads + Wait + Print + Sync>(
+fn print_waiting<R: Threads + Wait + Print + Sync>(
     rt: &R,
     alloc: Global,
     who: &str,
@@ -158,30 +158,30 @@ fn tell_waiting<R: Threads + Wait + Print + Sync>(
     awaited: Place,
 ) -> Result<(), TrialFault> {
     let mut engine = Engine::new(alloc);
-    tell_held(rt, alloc, &mut engine, who, held, awaited)
+    print_held(rt, alloc, &mut engine, who, held, awaited)
 }
 
 /// Tells of a new engine's batch that is run by this many workers.
-fn tell_counting<R: Threads + Wait + Print + Sync>(
+fn print_counting<R: Threads + Wait + Print + Sync>(
     rt: &R,
     alloc: Global,
     workers: usize,
 ) -> Result<(), TrialFault> {
     let mut engine = Engine::new(alloc);
-    tell_counted(rt, alloc, &mut engine, workers)
+    print_counted(rt, alloc, &mut engine, workers)
 }
 
 /// Tells of gates that hold one back, and of one that doesn't.
-pub fn tell_gates<R: Threads + Wait + Print + Sync>(
+pub fn print_gates<R: Threads + Wait + Print + Sync>(
     rt: &R,
     alloc: Global,
 ) -> Result<(), TrialFault> {
-    tell_waiting(rt, alloc, "place 2", Held::Asker(2), 3)?;
-    tell_waiting(rt, alloc, "place 3", Held::Asker(3), 2)?;
-    tell_waiting(rt, alloc, "the placer of partition 0", Held::Placer(0), 2)?;
-    tell_waiting(rt, alloc, "the placer of partition 1", Held::Placer(1), 2)?;
+    print_waiting(rt, alloc, "place 2", Held::Asker(2), 3)?;
+    print_waiting(rt, alloc, "place 3", Held::Asker(3), 2)?;
+    print_waiting(rt, alloc, "the placer of partition 0", Held::Placer(0), 2)?;
+    print_waiting(rt, alloc, "the placer of partition 1", Held::Placer(1), 2)?;
     for workers in [1, 2, 4, 64] {
-        tell_counting(rt, alloc, workers)?;
+        print_counting(rt, alloc, workers)?;
     }
     Ok(())
 }

@@ -113,7 +113,7 @@ fn line_of(alloc: Global, need: Need, handed: Handed) -> Result<Line, AllocError
 }
 
 /// Prints whether lines are accepted as the explanation of a place.
-fn tell_lines(
+fn print_lines(
     rt: &impl Print,
     alloc: Global,
     engine: &Engine,
@@ -132,14 +132,14 @@ fn tell_lines(
 }
 
 /// Prints which of the first this many are accepted.
-pub fn tell_handed_in(
+pub fn print_handed_in(
     rt: &impl Print,
     alloc: Global,
     engine: &Engine,
     count: usize,
 ) -> Result<(), AllocError> {
     for (what, place, need, lines) in HANDED.iter().take(count) {
-        tell_lines(rt, alloc, engine, what, *place, *need, lines)?;
+        print_lines(rt, alloc, engine, what, *place, *need, lines)?;
     }
     Ok(())
 }

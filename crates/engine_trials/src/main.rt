@@ -13,24 +13,24 @@ mod rows;
 mod stepping;
 mod turns;
 
-use explained::tell_explained_log;
+use explained::print_explained_log;
 use fault::TrialFault;
-use gates::tell_gates;
-use ranges::tell_ranges;
-use rows::tell_trimmed;
+use gates::print_gates;
+use ranges::print_ranges;
+use rows::print_trimmed;
 use std::alloc::Global;
 use std::process::ExitCode;
 use std::sync::Wait;
 use std::thread::Threads;
-use turns::tell_turns;
+use turns::print_turns;
 
 /// Makes the trials in turn.
 fn tell<R: Threads + Wait + Print + Sync>(rt: &R, alloc: Global) -> Result<(), TrialFault> {
-    tell_trimmed(rt, alloc)?;
-    tell_turns(rt, alloc)?;
-    tell_gates(rt, alloc)?;
-    tell_ranges(rt, alloc)?;
-    tell_explained_log(rt, alloc)
+    print_trimmed(rt, alloc)?;
+    print_turns(rt, alloc)?;
+    print_gates(rt, alloc)?;
+    print_ranges(rt, alloc)?;
+    print_explained_log(rt, alloc)
 }
 
 fn main(rt: HostRuntime) -> ExitCode {

@@ -30,7 +30,7 @@ const RANGES: [(Place, Place, usize, usize); 13] = [
 ];
 
 /// Takes one place more than a batch has at most, and reports what running each range answers.
-fn tell_each<R: Threads + Wait + Print + Sync>(
+fn print_each<R: Threads + Wait + Print + Sync>(
     rt: &R,
     alloc: Global,
     engine: &mut Engine,
@@ -51,9 +51,9 @@ fn tell_each<R: Threads + Wait + Print + Sync>(
 }
 
 /// Tells of ranges of a long log.
-pub fn tell_ranges<R: Threads + Wait + Print + Sync>(
+pub fn print_ranges<R: Threads + Wait + Print + Sync>(
     rt: &R,
     alloc: Global,
 ) -> Result<(), TrialFault> {
-    tell_each(rt, alloc, &mut Engine::new(alloc))
+    print_each(rt, alloc, &mut Engine::new(alloc))
 }

@@ -22,7 +22,7 @@ const LINES: [&str; 8] = [
 
 /// What an engine says of a row.
 #[derive(Clone, Copy, Debug, PartialEq, Eq)]
-enum Told {
+enum RowAnswer {
     /// The place isn't finished, nor the next one.
     NotYet,
     /// The place lies below the mark.
@@ -34,20 +34,20 @@ enum Told {
 }
 
 /// What the engine says of a row of the first table before a place.
-fn told_row(engine: &Engine, place: Place, row: RowNumber) -> Told {
+fn told_row(engine: &Engine, place: Place, row: RowNumber) -> RowAnswer {
     if place > engine.finished() {
-        return Told::NotYet;
+        return RowAnswer::NotYet;
     }
     let table = Table(0);
     match engine.row_before(place, Key { table, row }) {
-        Ok(Some(found)) => Told::Holds(found.column(0)),
-        Ok(None) => Told::Absent,
-        Err(_trimmed) => Told::Trimmed,
+        Ok(Some(found)) => RowAnswer::Holds(found.column(0)),
+        Ok(None) => RowAnswer::Absent,
+        Err(_trimmed) => RowAnswer::Trimmed,
     }
 }
 
 /// Reports the two rows before each place up to one after the last.
-fn tell_rows(rt: &impl Print, engine: &Engine) {
+fn print_rows(rt: &impl Print, engine: &Engine) {
     let (mark, finished) = (engine.mark(), engine.finished());
     let _ = println!(rt; "mark {mark}, {finished} finished");
     for place in 0..9 {
@@ -58,7 +58,7 @@ fn tell_rows(rt: &impl Print, engine: &Engine) {
 }
 
 /// Prints the outcome of each place, as far as there is one.
-fn tell_outcomes(rt: &impl Print, engine: &Engine) {
+fn print_outcomes(rt: &impl Print, engine: &Engine) {
     for place in 0..9 {
         let _ = match engine.outcome(place) {
             Some(Outcome::Done { outputs, deed }) => {
@@ -71,19 +71,19 @@ fn tell_outcomes(rt: &impl Print, engine: &Engine) {
 }
 
 /// Trims the engine to marks that may be and to some that may not, and sweeps it. Says how many versions went, and what is left.
-fn tell_marks(rt: &impl Print, engine: &mut Engine) {
+fn print_marks(rt: &impl Print, engine: &mut Engine) {
     for mark in [4, 3, 9, 5, 8] {
         let _ = match engine.trim(mark) {
             Ok(gone) => println!(rt; "trimmed to {mark}: {gone} versions went"),
             Err(_bad) => println!(rt; "not trimmed to {mark}"),
         };
-        tell_rows(rt, engine);
+        print_rows(rt, engine);
     }
     let _ = println!(rt; "swept: {} versions went", engine.sweep());
 }
 
 /// Prints the engine's rows as it runs on and is trimmed.
-fn tell_kept<R: Threads + Wait + Print + Sync>(
+fn print_kept<R: Threads + Wait + Print + Sync>(
     rt: &R,
     alloc: Global,
     engine: &mut Engine,
@@ -91,17 +91,17 @@ fn tell_kept<R: Threads + Wait + Print + Sync>(
     push_lines(alloc, engine, &LINES)?;
     for (end, workers, partitions) in [(3, 2, 2), (8, 4, 1)] {
         run_up_to(rt, alloc, engine, end, crew_of(workers, partitions))?;
-        tell_rows(rt, engine);
-        tell_outcomes(rt, engine);
+        print_rows(rt, engine);
+        print_outcomes(rt, engine);
     }
-    tell_marks(rt, engine);
+    print_marks(rt, engine);
     Ok(())
 }
 
 /// Prints the rows of an engine that is trimmed.
-pub fn tell_trimmed<R: Threads + Wait + Print + Sync>(
+pub fn print_trimmed<R: Threads + Wait + Print + Sync>(
     rt: &R,
     alloc: Global,
 ) -> Result<(), TrialFault> {
-    tell_kept(rt, alloc, &mut Engine::new(alloc))
+    print_kept(rt, alloc, &mut Engine::new(alloc))
 }

@@ -25,7 +25,7 @@ fn push_rows(alloc: Global, engine: &mut Engine, first: u32) -> Result<(), Trial
 }
 
 /// Runs all rows, and says how many versions were trimmed and swept.
-fn tell_rows<R: Threads + Wait + Print + Sync>(
+fn print_rows<R: Threads + Wait + Print + Sync>(
     rt: &R,
     alloc: Global,
     engine: &mut Engine,
@@ -46,9 +46,9 @@ fn tell_rows<R: Threads + Wait + Print + Sync>(
 }
 
 /// Prints how many versions of rows that come and go are trimmed and swept.
-pub fn tell_turns<R: Threads + Wait + Print + Sync>(
+pub fn print_turns<R: Threads + Wait + Print + Sync>(
     rt: &R,
     alloc: Global,
 ) -> Result<(), TrialFault> {
-    tell_rows(rt, alloc, &mut Engine::new(alloc))
+    print_rows(rt, alloc, &mut Engine::new(alloc))
 }

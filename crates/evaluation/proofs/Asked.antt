@@ -7,9 +7,9 @@ use Rattle.grants_base.specs.Index.{AreAsked}
 use Rattle.grants_base.specs.View.{flatten, grant_in}
 use Rattle.bohm_core_base.specs.Batch.{is_listed, batch_slots}
 use Rattle.log_batch.specs.Laws.{IsOfLog}
-use Rattle.log_batch.specs.Supplied.{Ranged, batch_in, range_of}
+use Rattle.log_batch.specs.Supplied.{LogRange, batch_of, range_of}
 use Rattle.evaluation.specs.Seen.{seen_at, seen_view, slots_seen}
-use Rattle.evaluation.specs.Told.{ends_whole, made_whole}
+use Rattle.evaluation.specs.ReadSource.{ends_whole, made_whole}
 use Rattle.evaluation.proofs.Slots.{slots-all}
 
 -- a slot that shows a grant asks for it
@@ -24,9 +24,9 @@ each_asked tables place made (first ∷ grants) (end ∷ ends) zero grant is =
 each_asked tables place made (first ∷ grants) (end ∷ ends) (suc i) grant is = each_asked tables place made grants ends i grant is
 
 -- each slot asks for its grant
-pub asked_seen : (ranged : Ranged) (index : ℕ) → IsOfLog (range_of ranged) → AreAsked (seen_view (seen_at ranged index)) (batch_slots (batch_in ranged))
+pub asked_seen : (ranged : LogRange) (index : ℕ) → IsOfLog (range_of ranged) → AreAsked (seen_view (seen_at ranged index)) (batch_slots (batch_of ranged))
 asked_seen ranged index of_log =
-    let batch = batch_in ranged in
+    let batch = batch_of ranged in
     record {
       long = sym (slots-all ranged of_log index);
       each = each_asked (batch.tables index) (ranged.first + index) (made_whole batch) (batch_slots batch) (ends_whole batch);

@@ -24,13 +24,13 @@ use Rattle.body.specs.Shape.{HasColumns, HaveColumns, IsNumber, IsRowOf}
 use Rattle.body.proofs.Shapes.{logs_have_shape}
 use Rattle.own_words.specs.Places.{own_words, words_at}
 use Rattle.evaluation.specs.Answering.{ended_by_deed}
-use Rattle.sequencer.specs.Taken.{columns_by}
+use Rattle.sequencer.specs.Whole.{columns_by}
 use Rattle.bohm_core_base.specs.Batch.{Batch, is_listed, place_at, batch_slots, was_done}
 use Rattle.bohm_core_base.specs.Serial.{serial_ends, serial_words, batch_world_before}
 use Rattle.bohm_core_base.proofs.Endings.{ends-by}
 use Rattle.bohm_core_base.proofs.Whole.{deeds-proper, serial-at, serial-only}
 use Rattle.log_batch.specs.Laws.{IsOfLog}
-use Rattle.log_batch.specs.Supplied.{Ranged, batch_in, range_of}
+use Rattle.log_batch.specs.Supplied.{LogRange, batch_of, range_of}
 use Rattle.log_batch.proofs.SerialNeeds.{AreOn, needs-listed}
 use Rattle.log_batch.proofs.SerialRuns.{serial_runs_agree}
 use Rattle.log_batch.proofs.Sound.{batches_are_sound}
@@ -44,7 +44,7 @@ pub words-are : (columns : ℕ → ℕ) (log : List Statement) (place : ℕ) (st
 words-are columns log place statement at = rw at refl
 
 -- the rows before a place have the columns of their tables
-pub rows-fit : (ranged : Ranged) → IsOfLog (range_of ranged) → (place : ℕ) → HaveColumns (columns_by ranged.log.names) (rows_before ranged.log.statements place)
+pub rows-fit : (ranged : LogRange) → IsOfLog (range_of ranged) → (place : ℕ) → HaveColumns (columns_by ranged.log.names) (rows_before ranged.log.statements place)
 rows-fit ranged is place table row =
     by_row (rows_before ranged.log.statements place table row) (logs_have_shape (columns_by ranged.log.names) ranged.log.statements place is.fits table row)
   where
@@ -79,9 +79,9 @@ deed-covered owner form all =
         (each tables (λ other there. listed other (or_right (table == other) (is_listed tables other) there)))
 
 -- the records that a place ends which was done
-module _ (ranged : Ranged) (of_log : IsOfLog (range_of ranged)) (index : ℕ) (within : index < ranged.size) (statement : Statement) (at : slice_get ranged.log.statements (ranged.first + index) ≡ Some statement) (done : was_done (serial_words (batch_in ranged) index) ≡ true) where
+module _ (ranged : LogRange) (of_log : IsOfLog (range_of ranged)) (index : ℕ) (within : index < ranged.size) (statement : Statement) (at : slice_get ranged.log.statements (ranged.first + index) ≡ Some statement) (done : was_done (serial_words (batch_of ranged) index) ≡ true) where
   abbrev batch : Batch
-  batch = batch_in ranged
+  batch = batch_of ranged
 
   abbrev place : ℕ
   place = ranged.first + index

@@ -18,12 +18,12 @@ use Rattle.bohm_core_base.specs.Serial.{whole_end}
 use Rattle.bohm_core_base.proofs.Reach.{ends-right}
 use Rattle.log_batch.specs.Earlier.{earlier_count, records_before}
 use Rattle.log_batch.specs.Laws.{IsOfLog}
-use Rattle.log_batch.specs.Supplied.{Ranged, batch_in, range_of}
+use Rattle.log_batch.specs.Supplied.{LogRange, batch_of, range_of}
 use Rattle.log_batch.proofs.AtStart.{Made, count-records, end-before, low-before, made-before, record-before, slot-before}
 use Rattle.log_batch.proofs.Sound.{batches_are_sound}
 use Rattle.evaluation.specs.Seen.{seen_at, seen_view, slot_seen}
 use Rattle.evaluation.specs.Sought.{slot_end}
-use Rattle.evaluation.specs.Told.{made_whole}
+use Rattle.evaluation.specs.ReadSource.{made_whole}
 use Rattle.evaluation.proofs.Slots.{made-early, slot-shown}
 
 and-none : (a : Bool) → (a && false) ≡ false
@@ -33,9 +33,9 @@ and-none false = refl
 below-stays : (place end : ℕ) → end < place → end_below place (Some end) ≡ Some end
 below-stays place end low = rw (lt-ltb end place low) refl
 
-module _ (ranged : Ranged) (of_log : IsOfLog (range_of ranged)) (index : ℕ) where
+module _ (ranged : LogRange) (of_log : IsOfLog (range_of ranged)) (index : ℕ) where
   abbrev batch : Batch
-  batch = batch_in ranged
+  batch = batch_of ranged
 
   abbrev view : View
   view = seen_view (seen_at ranged index)

@@ -5,7 +5,7 @@ use Rattle.std.proofs.lemmas.List.Elements.{All-append, All-get_or, All-map}
 use Rattle.model_base.specs.declared.row.Key.{Key}
 use Rattle.model_base.proofs.Replay.{by_cases}
 use Rattle.bohm_core_base.specs.Batch.{Access, Batch, IsSoundBatch, changes_key, place_has_deed_on, prior_reference, reference_words, words_length, writer_reference}
-use Rattle.evaluation.specs.Told.{IsReferred, Reader}
+use Rattle.evaluation.specs.ReadSource.{IsReferred, Reader}
 
 writer-low : (b : Batch) (n : ℕ) (key : Key) → writer_reference b n key ≤ n
 writer-low b zero key = omega arith

@@ -13,11 +13,11 @@ use Rattle.bohm_core_base.specs.Batch.{Access, Batch, prior_reference, reference
 use Rattle.bohm_core_base.proofs.Rows.{final_row, row-right}
 use Rattle.log_batch.specs.Laws.{IsOfLog}
 use Rattle.log_batch.specs.Shown.{access_of, row_bits, row_numbers}
-use Rattle.log_batch.specs.Supplied.{Ranged, batch_in, range_of}
+use Rattle.log_batch.specs.Supplied.{LogRange, batch_of, range_of}
 use Rattle.log_batch.proofs.Sound.{batches_are_sound}
 use Rattle.log_batch.proofs.SerialNumbers.{numbers-bits}
 use Rattle.log_batch.proofs.SerialRuns.{serial_runs_agree}
-use Rattle.evaluation.specs.Told.{IsReferred, Reader, row_referred}
+use Rattle.evaluation.specs.ReadSource.{IsReferred, Reader, row_referred}
 
 -- what is after the first few words
 pub get_or-drop : (words : List ℕ) (first number : ℕ) → get_or (drop first words) number 0 ≡ get_or words (first + number) 0
@@ -47,16 +47,16 @@ row-final batch key zero = refl
 row-final batch key (suc index) = refl
 
 -- rows before a place of the log have numbers of 64 bits
-pub numbers-told : (ranged : Ranged) → IsOfLog (range_of ranged) → (place : ℕ) (key : Key)
+pub numbers-told : (ranged : LogRange) → IsOfLog (range_of ranged) → (place : ℕ) (key : Key)
     → row_numbers (row_bits (rows_before ranged.log.statements place key.table key.row)) ≡ rows_before ranged.log.statements place key.table key.row
 numbers-told ranged is place key =
     let range = range_of ranged in
     numbers-bits (range.columns key.table) (rows_before range.log place key.table key.row)
     (logs_have_shape range.columns range.log place is.fits key.table key.row)
 
-module _ (ranged : Ranged) (index : ℕ) (statement : Statement) (at : slice_get ranged.log.statements (ranged.first + index) ≡ Some statement) (number : ℕ) (within : number < length (accesses_of statement.form)) (access : Declared) (here : access ≡ get_or (accesses_of statement.form) number access) where
+module _ (ranged : LogRange) (index : ℕ) (statement : Statement) (at : slice_get ranged.log.statements (ranged.first + index) ≡ Some statement) (number : ℕ) (within : number < length (accesses_of statement.form)) (access : Declared) (here : access ≡ get_or (accesses_of statement.form) number access) where
   abbrev batch : Batch
-  batch = batch_in ranged
+  batch = batch_of ranged
 
   -- the references of the machine, first those of the accesses
   pub by_access : (number < length (reference_words batch index)) × (get_or (reference_words batch index) number 0 ≡ writer_reference batch index access.key)

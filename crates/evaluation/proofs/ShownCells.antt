@@ -9,17 +9,17 @@ use Rattle.model_base.specs.Versions.{accesses_of, is_writing}
 use Rattle.own_words.specs.Words.{outputs_of}
 use Rattle.bohm_core_base.specs.Batch.{cell, cell_of, cells_length, is_key, row_from}
 use Rattle.log_batch.specs.Shown.{access_of}
-use Rattle.log_batch.specs.Supplied.{Ranged, batch_in}
+use Rattle.log_batch.specs.Supplied.{LogRange, batch_of}
 
 -- its cell of a key
-pub cell_at : (ranged : Ranged) (index : ℕ) (statement : Statement) (own : List ℕ) (key : Key) → slice_get ranged.log.statements (ranged.first + index) ≡ Some statement
-    → cell (batch_in ranged) index own key ≡ cell_of (batch_in ranged).columns (map access_of (accesses_of statement.form)) (drop (4 + outputs_of statement.form) own) key
+pub cell_at : (ranged : LogRange) (index : ℕ) (statement : Statement) (own : List ℕ) (key : Key) → slice_get ranged.log.statements (ranged.first + index) ≡ Some statement
+    → cell (batch_of ranged) index own key ≡ cell_of (batch_of ranged).columns (map access_of (accesses_of statement.form)) (drop (4 + outputs_of statement.form) own) key
 unfolding cell
 cell_at ranged index statement own key at = rw at refl
 
 -- where there is no statement there is none
-pub cell_past : (ranged : Ranged) (index : ℕ) (own : List ℕ) (key : Key) → slice_get ranged.log.statements (ranged.first + index) ≡ None
-    → cell (batch_in ranged) index own key ≡ None
+pub cell_past : (ranged : LogRange) (index : ℕ) (own : List ℕ) (key : Key) → slice_get ranged.log.statements (ranged.first + index) ≡ None
+    → cell (batch_of ranged) index own key ≡ None
 unfolding cell
 cell_past ranged index own key at = rw at refl
 

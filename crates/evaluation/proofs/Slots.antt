@@ -22,18 +22,18 @@ use Rattle.model_base.proofs.Replay.{by_cases}
 use Rattle.grants_base.specs.View.{IsLawful, ShowsDeeds, covers, end_in, flatten, grant_in, slot_at}
 use Rattle.grants.proofs.LawfulViews.{lawful_shown}
 use Rattle.sequencer.specs.Log.{Accepted}
-use Rattle.sequencer.specs.Taken.{IsTaken, IsWhole}
+use Rattle.sequencer.specs.Whole.{IsAccepted, IsWhole}
 use Rattle.bohm_core_base.specs.Batch.{Batch, place_has_deed_on, is_listed, place_at, records_shown, batch_slots, table_at, was_done}
 use Rattle.bohm_core_base.specs.Deeds.{is_made}
 use Rattle.bohm_core_base.specs.Serial.{serial_words, whole_end}
 use Rattle.bohm_core_base.proofs.View.{shown-same}
 use Rattle.bohm_core_base.proofs.Whole.{no_grant, slots-deed, slots-right}
 use Rattle.log_batch.specs.Laws.{IsOfLog}
-use Rattle.log_batch.specs.Supplied.{Ranged, batch_in, range_of}
+use Rattle.log_batch.specs.Supplied.{LogRange, batch_of, range_of}
 use Rattle.log_batch.proofs.SerialRuns.{serial_runs_agree}
 use Rattle.log_batch.proofs.Sound.{batches_are_sound}
 use Rattle.evaluation.specs.Seen.{Seen, seen_at, seen_view, slot_seen, slots_seen}
-use Rattle.evaluation.specs.Told.{IsDeedBefore, end_whole, ends_whole, made_whole}
+use Rattle.evaluation.specs.ReadSource.{IsDeedBefore, end_whole, ends_whole, made_whole}
 use Rattle.evaluation.proofs.Listed.{listed-holds}
 
 module _ (tables : List ℕ) (place : ℕ) (made : ℕ → Bool) where
@@ -77,9 +77,9 @@ listed-owned seen table there =
     (λ listed. rw (listed, slice_get-get_or seen.owners table 0 (there listed)) refl)
     (λ other. rw other refl)
 
-module _ (ranged : Ranged) (of_log : IsOfLog (range_of ranged)) where
+module _ (ranged : LogRange) (of_log : IsOfLog (range_of ranged)) where
   abbrev batch : Batch
-  batch = batch_in ranged
+  batch = batch_of ranged
 
   abbrev log : List Statement
   log = ranged.log.statements
@@ -217,16 +217,16 @@ pub owners_of_tables : (log : Accepted) (place : ℕ) (statement : Statement) �
 owners_of_tables log place statement whole at =
     let within = slice_get_within log.statements place statement at in
     let here = get_or_from_slice_get log.statements place statement statement at in
-    let taken : IsTaken log.names statement = subst (λ (found : Statement). IsTaken log.names found) here (All-get_or (IsTaken log.names) log.statements place statement within whole.taken) in
+    let taken : IsAccepted log.names statement = subst (λ (found : Statement). IsAccepted log.names found) here (All-get_or (IsAccepted log.names) log.statements place statement within whole.taken) in
     let count : length log.names.tables ≡ length (owners log.statements) = sym whole.owned ∙ ap (λ (users : List ℕ). length users) whole.owners in
     All-weaker (λ table. table < length log.names.tables) (λ table. table < length (owners log.statements)) (λ table less. omega arith) (tables_of statement.form) taken.tables
 
-module _ (ranged : Ranged) (whole : IsWhole ranged.log) (index : ℕ) (statement : Statement) (at : slice_get ranged.log.statements (ranged.first + index) ≡ Some statement) where
-  pub listed : (batch_in ranged).tables index ≡ tables_of statement.form
+module _ (ranged : LogRange) (whole : IsWhole ranged.log) (index : ℕ) (statement : Statement) (at : slice_get ranged.log.statements (ranged.first + index) ≡ Some statement) where
+  pub listed : (batch_of ranged).tables index ≡ tables_of statement.form
   listed = rw at refl
 
   -- a table that is listed has an owner
-  pub listed-there : (table : ℕ) → is_listed ((batch_in ranged).tables index) table ≡ true → table < length (owners ranged.log.statements)
+  pub listed-there : (table : ℕ) → is_listed ((batch_of ranged).tables index) table ≡ true → table < length (owners ranged.log.statements)
   listed-there table on =
       listed-holds (λ number. number < length (owners ranged.log.statements)) (tables_of statement.form) table
       (owners_of_tables ranged.log (ranged.first + index) statement whole at) (sym (ap (λ tables. is_listed tables table) listed) ∙ on)
@@ -240,7 +240,7 @@ module _ (ranged : Ranged) (whole : IsWhole ranged.log) (index : ℕ) (statement
       → (table < length ranged.log.names.tables) × ((seen_view (seen_at ranged index)).owner table ≡ slice_get ranged.log.names.owners table)
   owner-shown table some =
       let count : length ranged.log.names.tables ≡ length (owners ranged.log.statements) = sym whole.owned ∙ ap (λ (users : List ℕ). length users) whole.owners in
-      by_cases (is_listed ((batch_in ranged).tables index) table)
+      by_cases (is_listed ((batch_of ranged).tables index) table)
       (λ yes. let there = listed-there table yes in (omega arith, rw yes (ap (λ users. slice_get users table) (sym whole.owners))))
       (λ no. contrary (covers (seen_view (seen_at ranged index)) table) some (rw no refl))
 

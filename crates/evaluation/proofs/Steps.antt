@@ -14,7 +14,7 @@ use Rattle.grants_base.specs.View.{View, end_in, flatten, grant_in, slot_at}
 use Rattle.bohm_core_base.specs.Batch.{Batch, batch_slots, is_listed}
 use Rattle.log_batch.specs.Earlier.{earlier_count, records_before}
 use Rattle.log_batch.specs.Laws.{IsOfLog}
-use Rattle.log_batch.specs.Supplied.{Ranged, batch_in, range_of}
+use Rattle.log_batch.specs.Supplied.{LogRange, batch_of, range_of}
 use Rattle.log_batch.proofs.NoneBetween.{NoneBetween, one-passed, one-found, none-found}
 use Rattle.evaluation.specs.Seen.{seen_at, seen_view}
 use Rattle.evaluation.specs.Sought.{IsLastEnd, is_sought, is_up_to, is_wanted, open_grant, slot_end, sought_end}
@@ -39,22 +39,22 @@ pub last-same : (passes : Grant → Bool) (view : View) (looked more : ℕ → B
 last-same passes view looked more last is only = record { there = is.there; latest = λ k place seen found. is.latest k place (only k seen) found }
 
 -- whether a slot shows a grant in force that passes, also one from before the batch; and whether one was in force there
-abbrev pub force_in : Ranged → ℕ → (Grant → Bool) → ℕ → Bool
+abbrev pub force_in : LogRange → ℕ → (Grant → Bool) → ℕ → Bool
 force_in ranged index passes k = is_in_force passes (slot_at (seen_view (seen_at ranged index)) k)
 
-abbrev pub early_in : Ranged → ℕ → (Grant → Bool) → ℕ → Bool
-early_in ranged index passes k = nat_lt k (earlier_count (batch_in ranged)) && force_in ranged index passes k
+abbrev pub early_in : LogRange → ℕ → (Grant → Bool) → ℕ → Bool
+early_in ranged index passes k = nat_lt k (earlier_count (batch_of ranged)) && force_in ranged index passes k
 
-abbrev pub was_in : Ranged → (Grant → Bool) → ℕ → Bool
-was_in ranged passes k = is_in_force passes (slice_get (records_before (batch_in ranged)) k)
+abbrev pub was_in : LogRange → (Grant → Bool) → ℕ → Bool
+was_in ranged passes k = is_in_force passes (slice_get (records_before (batch_of ranged)) k)
 
 -- whether a slot from before the batch lies below one, or had no such grant in force
-abbrev pub looked_in : Ranged → (Grant → Bool) → ℕ → ℕ → Bool
-looked_in ranged passes from k = nat_lt k (earlier_count (batch_in ranged)) && (nat_lt k from || not (was_in ranged passes k))
+abbrev pub looked_in : LogRange → (Grant → Bool) → ℕ → ℕ → Bool
+looked_in ranged passes from k = nat_lt k (earlier_count (batch_of ranged)) && (nat_lt k from || not (was_in ranged passes k))
 
-module _ (ranged : Ranged) (of_log : IsOfLog (range_of ranged)) (index : ℕ) where
+module _ (ranged : LogRange) (of_log : IsOfLog (range_of ranged)) (index : ℕ) where
   abbrev batch : Batch
-  batch = batch_in ranged
+  batch = batch_of ranged
 
   abbrev view : View
   view = seen_view (seen_at ranged index)

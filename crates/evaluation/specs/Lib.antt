@@ -1,6 +1,6 @@
 pub mod Answering
 pub mod Judged
 pub mod Keeping
-pub mod Told
+pub mod ReadSource
 pub mod Seen
 pub mod Sought

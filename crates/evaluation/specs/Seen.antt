@@ -6,8 +6,8 @@ use Rattle.model_base.specs.Outcomes.{owners}
 use Rattle.model_base.specs.Records.{end_below}
 use Rattle.grants_base.specs.View.{View}
 use Rattle.bohm_core_base.specs.Batch.{is_listed, batch_slots}
-use Rattle.log_batch.specs.Supplied.{Ranged, batch_in}
-use Rattle.evaluation.specs.Told.{ends_whole, made_whole}
+use Rattle.log_batch.specs.Supplied.{LogRange, batch_of}
+use Rattle.evaluation.specs.ReadSource.{ends_whole, made_whole}
 
 -- the record of a slot as a place is shown it, if its grant is on one of the tables, was made, and is below the place
 abbrev pub slot_seen : List ℕ → ℕ → (ℕ → Bool) → Grant → Option ℕ → Option Record
@@ -39,11 +39,11 @@ seen_view seen = record {
 }
 
 -- what an index of the batch is shown by the serial run
-abbrev pub seen_at : Ranged → ℕ → Seen
+abbrev pub seen_at : LogRange → ℕ → Seen
 seen_at ranged index = record {
   place = ranged.first + index;
-  tables = (batch_in ranged).tables index;
+  tables = (batch_of ranged).tables index;
   owners = owners ranged.log.statements;
-  slots = slots_seen ((batch_in ranged).tables index) (ranged.first + index) (made_whole (batch_in ranged))
-      (batch_slots (batch_in ranged)) (ends_whole (batch_in ranged));
+  slots = slots_seen ((batch_of ranged).tables index) (ranged.first + index) (made_whole (batch_of ranged))
+      (batch_slots (batch_of ranged)) (ends_whole (batch_of ranged));
 }

@@ -7,12 +7,12 @@ ghost use Rattle.grants_base.specs.Index.{IsFirst};
 ghost use Rattle.grants_base.specs.View.{entries, slot_at};
 ghost use Rattle.bohm_core_base.specs.Batch.{batch_slots, is_listed};
 ghost use Rattle.log_batch.specs.Earlier.{earlier_count, records_before};
-ghost use Rattle.log_batch.specs.Supplied.{batch_in};
+ghost use Rattle.log_batch.specs.Supplied.{batch_of};
 ghost use Rattle.evaluation.specs.Seen.{seen_at, seen_view};
 ghost use Rattle.evaluation.specs.Sought.{IsLastEnd, is_sought, is_wanted, open_grant, slot_end, sought_end};
 
+use crate::read_source::ReadSource;
 use crate::records::{end_of_shown, grant_shown};
-use crate::told::Told;
 use grants::{NextBy, is_to};
 use grants_base::later;
 use log_batch::LogBatch;
@@ -82,7 +82,7 @@ fn end_if_sought(sought: &Sought, grant: &Option<Grant>, end: Option<Place>) -> 
 /// The least slot at or above this one of a grant in force as the batch began. None where that isn't known.
 fn next_at_start(batch: &LogBatch, sought: &Sought, from: usize) -> Option<NextBy>
     ensures { IfSome result (λ next.
-        IsFirst (λ k. is_in_force (is_sought sought.now) (slice_get (records_before (batch_in batch.now)) k)) from next.slot) }
+        IsFirst (λ k. is_in_force (is_sought sought.now) (slice_get (records_before (batch_of batch.now)) k)) from next.slot) }
 {
     let (grantee, kind, table) = (sought.grantee, sought.kind, sought.table);
     match &sought.wanted {
@@ -98,7 +98,7 @@ fn next_at_start(batch: &LogBatch, sought: &Sought, from: usize) -> Option<NextB
 
 /// The last end before the batch of such a grant, of those that give something. None where that isn't known.
 pub(crate) fn lost_at_start(batch: &LogBatch, sought: &Sought) -> Option<LastEnd>
-    ensures { IfSome result (λ last. last.place ≡ greatest_end (is_sought sought.now) (records_before (batch_in batch.now))) }
+    ensures { IfSome result (λ last. last.place ≡ greatest_end (is_sought sought.now) (records_before (batch_of batch.now))) }
 {
     let (grantee, kind, table) = (sought.grantee, sought.kind, sought.table);
     match &sought.wanted {
@@ -113,47 +113,53 @@ pub(crate) fn lost_at_start(batch: &LogBatch, sought: &Sought) -> Option<LastEnd
 }
 
 /// Whether the reader is shown one of these grants in a slot, in force.
-fn is_shown_in_force<T: Told>(batch: &LogBatch, told: &mut T, sought: &Sought, slot: usize) -> bool
-    requires batch { (T.told told.old).batch ≡ batch_in batch.now }
-    requires within { slot < length (batch_slots (batch_in batch.now)) }
-    ensures value { result ≡ is_in_force (is_sought sought.now) (slot_at (seen_view (seen_at batch.now (T.told told.old).index)) slot) }
-    ensures same { (T.told told.new ≡ T.told told.old) × (T.kept told.new ≡ T.kept told.old) }
+fn is_shown_in_force<T: ReadSource>(
+    batch: &LogBatch,
+    source: &mut T,
+    sought: &Sought,
+    slot: usize,
+) -> bool
+    requires batch { (T.as_reader source.old).batch ≡ batch_of batch.now }
+    requires within { slot < length (batch_slots (batch_of batch.now)) }
+    ensures value { result ≡ is_in_force (is_sought sought.now)
+        (slot_at (seen_view (seen_at batch.now (T.as_reader source.old).index)) slot) }
+    ensures same { (T.as_reader source.new ≡ T.as_reader source.old) × (T.work source.new ≡ T.work source.old) }
 {
-    let grant = grant_shown(batch, told, slot);
-    let end = end_of_shown(batch, told, slot, &grant);
+    let grant = grant_shown(batch, source, slot);
+    let end = end_of_shown(batch, source, slot, &grant);
     is_open(sought, &grant, end)
 }
 
 /// The end of a slot's record, if the reader is shown one of these grants there and it has ended.
-fn end_sought<T: Told>(
+fn end_sought<T: ReadSource>(
     batch: &LogBatch,
-    told: &mut T,
+    source: &mut T,
     sought: &Sought,
     slot: usize,
 ) -> Option<Place>
-    requires batch { (T.told told.old).batch ≡ batch_in batch.now }
-    requires within { slot < length (batch_slots (batch_in batch.now)) }
-    ensures value { result ≡ slot_end (is_sought sought.now) (slot_at (seen_view (seen_at batch.now (T.told told.old).index)) slot) }
-    ensures same { (T.told told.new ≡ T.told told.old) × (T.kept told.new ≡ T.kept told.old) }
+    requires batch { (T.as_reader source.old).batch ≡ batch_of batch.now }
+    requires within { slot < length (batch_slots (batch_of batch.now)) }
+    ensures value { result ≡ slot_end (is_sought sought.now) (slot_at (seen_view (seen_at batch.now (T.as_reader source.old).index)) slot) }
+    ensures same { (T.as_reader source.new ≡ T.as_reader source.old) × (T.work source.new ≡ T.work source.old) }
 {
-    let grant = grant_shown(batch, told, slot);
-    let end = end_of_shown(batch, told, slot, &grant);
+    let grant = grant_shown(batch, source, slot);
+    let end = end_of_shown(batch, source, slot, &grant);
     end_if_sought(sought, &grant, end)
 }
 
 /// The least slot at or above this one of such a grant from before the batch that the reader is shown in force. It goes through
 /// those in force as the batch began up to it. None where these aren't known.
-fn next_earlier<T: Told>(
+fn next_earlier<T: ReadSource>(
     batch: &LogBatch,
-    told: &mut T,
+    source: &mut T,
     sought: &Sought,
     start: usize,
 ) -> Option<NextBy>
-    requires { (T.told told.old).batch ≡ batch_in batch.now }
+    requires { (T.as_reader source.old).batch ≡ batch_of batch.now }
     ensures next { IfSome result (λ next.
-        IsFirst (λ k. nat_lt k (earlier_count (batch_in batch.now))
-        && is_in_force (is_sought sought.now) (slot_at (seen_view (seen_at batch.now (T.told told.old).index)) k)) start next.slot) }
-    ensures same { (T.told told.new ≡ T.told told.old) × (T.kept told.new ≡ T.kept told.old) }
+        IsFirst (λ k. nat_lt k (earlier_count (batch_of batch.now))
+        && is_in_force (is_sought sought.now) (slot_at (seen_view (seen_at batch.now (T.as_reader source.old).index)) k)) start next.slot) }
+    ensures same { (T.as_reader source.new ≡ T.as_reader source.old) × (T.work source.new ≡ T.work source.old) }
 {
     let _log = batch.log();
     let count = batch.earlier_count();
@@ -165,7 +171,7 @@ fn next_earlier<T: Told>(
         let Some(slot) = next.slot else {
             return Some(NextBy { slot: None });
         };
-        if is_shown_in_force(batch, told, sought, slot) {
+        if is_shown_in_force(batch, source, sought, slot) {
             return Some(NextBy { slot: Some(slot) });
         }
         from = slot + 1;
@@ -175,12 +181,18 @@ fn next_earlier<T: Told>(
 
 /// The least slot at or above this one, which is none of a grant from before the batch, of such a grant that the reader is shown in
 /// force. It goes through the batch's own grants of this kind on this table to the grantee, up to it.
-fn next_own<T: Told>(batch: &LogBatch, told: &mut T, sought: &Sought, start: usize) -> Option<usize>
-    requires batch { (T.told told.old).batch ≡ batch_in batch.now }
-    requires own { earlier_count (batch_in batch.now) ≤ start }
-    ensures next { IsFirst (λ k. is_in_force (is_sought sought.now) (slot_at (seen_view (seen_at batch.now (T.told told.old).index)) k))
+fn next_own<T: ReadSource>(
+    batch: &LogBatch,
+    source: &mut T,
+    sought: &Sought,
+    start: usize,
+) -> Option<usize>
+    requires batch { (T.as_reader source.old).batch ≡ batch_of batch.now }
+    requires own { earlier_count (batch_of batch.now) ≤ start }
+    ensures next { IsFirst
+        (λ k. is_in_force (is_sought sought.now) (slot_at (seen_view (seen_at batch.now (T.as_reader source.old).index)) k))
         start result }
-    ensures same { (T.told told.new ≡ T.told told.old) × (T.kept told.new ≡ T.kept told.old) }
+    ensures same { (T.as_reader source.new ≡ T.as_reader source.old) × (T.work source.new ≡ T.work source.old) }
 {
     let _log = batch.log();
     let count = batch.slot_count();
@@ -189,7 +201,7 @@ fn next_own<T: Told>(batch: &LogBatch, told: &mut T, sought: &Sought, start: usi
         let Some(slot) = batch.next_own_to(&sought.grantee, sought.kind, sought.table, from) else {
             return None;
         };
-        if is_shown_in_force(batch, told, sought, slot) {
+        if is_shown_in_force(batch, source, sought, slot) {
             return Some(slot);
         }
         from = slot + 1;
@@ -199,44 +211,44 @@ fn next_own<T: Told>(batch: &LogBatch, told: &mut T, sought: &Sought, start: usi
 
 /// The least slot at or above this one of such a grant that the reader is shown in force. It goes through those in force as the
 /// batch began and then through the batch's own. None where the former aren't known.
-pub(crate) fn next_shown<T: Told>(
+pub(crate) fn next_shown<T: ReadSource>(
     batch: &LogBatch,
-    told: &mut T,
+    source: &mut T,
     sought: &Sought,
     from: usize,
 ) -> Option<NextBy>
-    requires { (T.told told.old).batch ≡ batch_in batch.now }
+    requires { (T.as_reader source.old).batch ≡ batch_of batch.now }
     ensures next { IfSome result (λ next.
-        IsFirst (λ k. is_in_force (is_sought sought.now) (slot_at (seen_view (seen_at batch.now (T.told told.old).index)) k))
+        IsFirst (λ k. is_in_force (is_sought sought.now) (slot_at (seen_view (seen_at batch.now (T.as_reader source.old).index)) k))
         from next.slot) }
-    ensures same { (T.told told.new ≡ T.told told.old) × (T.kept told.new ≡ T.kept told.old) }
+    ensures same { (T.as_reader source.new ≡ T.as_reader source.old) × (T.work source.new ≡ T.work source.old) }
 {
     let _log = batch.log();
-    let Some(next) = next_earlier(batch, told, sought, from) else {
+    let Some(next) = next_earlier(batch, source, sought, from) else {
         return None;
     };
     if next.slot.is_some() {
         return Some(next);
     }
     let own = from.max(batch.earlier_count());
-    let slot = next_own(batch, told, sought, own);
+    let slot = next_own(batch, source, sought, own);
     Some(NextBy { slot })
 }
 
 /// The last end of such a grant from before the batch that the reader is shown, where that before the batch is known. It goes
 /// through those in force as the batch began. None where these aren't known.
-fn last_earlier<T: Told>(
+fn last_earlier<T: ReadSource>(
     batch: &LogBatch,
-    told: &mut T,
+    source: &mut T,
     sought: &Sought,
     before: Option<Place>,
 ) -> Option<LastEnd>
-    requires batch { (T.told told.old).batch ≡ batch_in batch.now }
-    requires listed { is_listed ((batch_in batch.now).tables (T.told told.old).index) sought.now.table ≡ true }
-    requires before { before ≡ greatest_end (is_sought sought.now) (records_before (batch_in batch.now)) }
-    ensures last { IfSome result (λ last. IsLastEnd (is_sought sought.now) (seen_view (seen_at batch.now (T.told told.old).index))
-        (λ k. nat_lt k (earlier_count (batch_in batch.now))) last.place) }
-    ensures same { (T.told told.new ≡ T.told told.old) × (T.kept told.new ≡ T.kept told.old) }
+    requires batch { (T.as_reader source.old).batch ≡ batch_of batch.now }
+    requires listed { is_listed ((batch_of batch.now).tables (T.as_reader source.old).index) sought.now.table ≡ true }
+    requires before { before ≡ greatest_end (is_sought sought.now) (records_before (batch_of batch.now)) }
+    ensures last { IfSome result (λ last. IsLastEnd (is_sought sought.now) (seen_view (seen_at batch.now (T.as_reader source.old).index))
+        (λ k. nat_lt k (earlier_count (batch_of batch.now))) last.place) }
+    ensures same { (T.as_reader source.new ≡ T.as_reader source.old) × (T.work source.new ≡ T.work source.old) }
 {
     let _log = batch.log();
     let count = batch.earlier_count();
@@ -249,7 +261,7 @@ fn last_earlier<T: Told>(
         let Some(slot) = next.slot else {
             return Some(LastEnd { place });
         };
-        place = later(place, end_sought(batch, told, sought, slot));
+        place = later(place, end_sought(batch, source, sought, slot));
         from = slot + 1;
     }
     Some(LastEnd { place })
@@ -257,19 +269,19 @@ fn last_earlier<T: Told>(
 
 /// The last end of such a grant that the reader is shown, where that of the slots below one is known, with all those of grants
 /// from before the batch. It goes through the batch's own others of this kind on this table to the grantee.
-fn last_own<T: Told>(
+fn last_own<T: ReadSource>(
     batch: &LogBatch,
-    told: &mut T,
+    source: &mut T,
     sought: &Sought,
     before: LastEnd,
     start: usize,
 ) -> Option<Place>
-    requires batch { (T.told told.old).batch ≡ batch_in batch.now }
-    requires own { earlier_count (batch_in batch.now) ≤ start }
-    requires before { IsLastEnd (is_sought sought.now) (seen_view (seen_at batch.now (T.told told.old).index))
+    requires batch { (T.as_reader source.old).batch ≡ batch_of batch.now }
+    requires own { earlier_count (batch_of batch.now) ≤ start }
+    requires before { IsLastEnd (is_sought sought.now) (seen_view (seen_at batch.now (T.as_reader source.old).index))
         (λ k. nat_lt k start) before.place }
-    ensures last { result ≡ greatest_end (is_sought sought.now) (entries (seen_view (seen_at batch.now (T.told told.old).index))) }
-    ensures same { (T.told told.new ≡ T.told told.old) × (T.kept told.new ≡ T.kept told.old) }
+    ensures last { result ≡ greatest_end (is_sought sought.now) (entries (seen_view (seen_at batch.now (T.as_reader source.old).index))) }
+    ensures same { (T.as_reader source.new ≡ T.as_reader source.old) × (T.work source.new ≡ T.work source.old) }
 {
     let _log = batch.log();
     let count = batch.slot_count();
@@ -279,7 +291,7 @@ fn last_own<T: Told>(
         let Some(slot) = batch.next_own_to(&sought.grantee, sought.kind, sought.table, from) else {
             return place;
         };
-        place = later(place, end_sought(batch, told, sought, slot));
+        place = later(place, end_sought(batch, source, sought, slot));
         from = slot + 1;
     }
     place
@@ -287,22 +299,22 @@ fn last_own<T: Told>(
 
 /// The last end of such a grant that the reader is shown, where that before the batch is known. It goes through those in force as
 /// the batch began and then through the batch's own. None where the former aren't known.
-pub(crate) fn last_shown<T: Told>(
+pub(crate) fn last_shown<T: ReadSource>(
     batch: &LogBatch,
-    told: &mut T,
+    source: &mut T,
     sought: &Sought,
     before: Option<Place>,
 ) -> Option<LastEnd>
-    requires batch { (T.told told.old).batch ≡ batch_in batch.now }
-    requires listed { is_listed ((batch_in batch.now).tables (T.told told.old).index) sought.now.table ≡ true }
-    requires before { before ≡ greatest_end (is_sought sought.now) (records_before (batch_in batch.now)) }
+    requires batch { (T.as_reader source.old).batch ≡ batch_of batch.now }
+    requires listed { is_listed ((batch_of batch.now).tables (T.as_reader source.old).index) sought.now.table ≡ true }
+    requires before { before ≡ greatest_end (is_sought sought.now) (records_before (batch_of batch.now)) }
     ensures last { IfSome result (λ last.
-        last.place ≡ greatest_end (is_sought sought.now) (entries (seen_view (seen_at batch.now (T.told told.old).index)))) }
-    ensures same { (T.told told.new ≡ T.told told.old) × (T.kept told.new ≡ T.kept told.old) }
+        last.place ≡ greatest_end (is_sought sought.now) (entries (seen_view (seen_at batch.now (T.as_reader source.old).index)))) }
+    ensures same { (T.as_reader source.new ≡ T.as_reader source.old) × (T.work source.new ≡ T.work source.old) }
 {
-    let Some(last) = last_earlier(batch, told, sought, before) else {
+    let Some(last) = last_earlier(batch, source, sought, before) else {
         return None;
     };
-    let place = last_own(batch, told, sought, last, batch.earlier_count());
+    let place = last_own(batch, source, sought, last, batch.earlier_count());
     Some(LastEnd { place })
 }

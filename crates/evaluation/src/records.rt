@@ -5,14 +5,14 @@ ghost use Rattle.model_base.specs.Records.{end_below};
 ghost use Rattle.grants_base.specs.InForce.{ShowsNextInForce};
 ghost use Rattle.grants_base.specs.View.{end_in, grant_in, slot_at};
 ghost use Rattle.bohm_core_base.specs.Batch.{batch_slots};
-ghost use Rattle.log_batch.specs.Supplied.{batch_in};
+ghost use Rattle.log_batch.specs.Supplied.{batch_of};
 ghost use Rattle.evaluation.specs.Seen.{seen_at, seen_view};
 ghost use Rattle.evaluation.specs.Sought.{is_sought};
-ghost use Rattle.evaluation.specs.Told.{Reader, Work};
+ghost use Rattle.evaluation.specs.ReadSource.{Reader, PassWork};
 
 use crate::in_force::{Sought, Wanted, last_shown, lost_at_start, next_shown};
+use crate::read_source::ReadSource;
 use crate::tables::is_on;
-use crate::told::Told;
 use grants::{NextBy, NextInForce, Records};
 use log_batch::LogBatch;
 use model_base::{Grant, Grantee, Kind, Place, Table, User};
@@ -20,27 +20,27 @@ use std::marker::{Brand, PhantomData};
 
 /// Which reader something is, and what it did itself, whoever has it as `&mut` meanwhile: a call picks both.
 pub(crate) trait Pinned {
-    ghost told: { Option Reader };
+    ghost as_reader: { Option Reader };
 
-    ghost kept: { Option Work };
+    ghost work: { Option PassWork };
 }
 
 impl Pinned for Brand {
-    ghost told = { None };
+    ghost as_reader = { None };
 
-    ghost kept = { None };
+    ghost work = { None };
 }
 
 /// The records of grants that a place of the batch is shown: of the grants on the tables of its needs and of its deed, those
 /// that were made below it, each with its end if that lies below it too. A slot is looked up when it is asked for, and no
 /// memory is taken.
-pub(crate) struct ShownRecords<'a, T: Told, P: Pinned> {
+pub(crate) struct ShownRecords<'a, T: ReadSource, P: Pinned> {
     pub(crate) batch: &'a LogBatch<'a>,
-    pub(crate) told: T,
+    pub(crate) source: T,
     pub(crate) pinned: PhantomData<P>,
-    ghost same: { (T.told told).batch ≡ batch_in batch.now },
-    ghost place: { Some (T.told told) ≡ P.told },
-    ghost kept: { Some (T.kept told) ≡ P.kept },
+    ghost same: { (T.as_reader source).batch ≡ batch_of batch.now },
+    ghost place: { Some (T.as_reader source) ≡ P.as_reader },
+    ghost kept: { Some (T.work source) ≡ P.work },
 }
 
 /// The end, if it lies below the place.
@@ -52,20 +52,24 @@ fn end_below(end: Option<Place>, place: Place) -> Option<Place>
 
 /// The grant of a slot, if the reader is shown it: it is on one of its tables, lies below it, and was made, before the batch
 /// or by a place that was done.
-pub(crate) fn grant_shown<T: Told>(batch: &LogBatch, told: &mut T, slot: usize) -> Option<Grant>
-    requires batch { (T.told told.old).batch ≡ batch_in batch.now }
-    requires within { slot < length (batch_slots (batch_in batch.now)) }
-    ensures value { result ≡ grant_in (slot_at (seen_view (seen_at batch.now (T.told told.old).index)) slot) }
-    ensures same { (T.told told.new ≡ T.told told.old) × (T.kept told.new ≡ T.kept told.old) }
+pub(crate) fn grant_shown<T: ReadSource>(
+    batch: &LogBatch,
+    source: &mut T,
+    slot: usize,
+) -> Option<Grant>
+    requires batch { (T.as_reader source.old).batch ≡ batch_of batch.now }
+    requires within { slot < length (batch_slots (batch_of batch.now)) }
+    ensures value { result ≡ grant_in (slot_at (seen_view (seen_at batch.now (T.as_reader source.old).index)) slot) }
+    ensures same { (T.as_reader source.new ≡ T.as_reader source.old) × (T.work source.new ≡ T.work source.old) }
 {
     let _log = batch.log();
-    let index = told.reader();
+    let index = source.reader();
     let first = batch.first_place();
     let grant = batch.grant(slot);
     if !is_on(batch.statement(index), grant.table) || grant.place >= first + index as u64 {
         return None;
     }
-    if grant.place < first || told.was_done((grant.place - first) as usize) {
+    if grant.place < first || source.was_done((grant.place - first) as usize) {
         Some(grant)
     } else {
         None
@@ -73,65 +77,65 @@ pub(crate) fn grant_shown<T: Told>(batch: &LogBatch, told: &mut T, slot: usize) 
 }
 
 /// The end of the record of a slot whose grant the reader is shown, if it is, and if the end lies below the reader.
-pub(crate) fn end_of_shown<T: Told>(
+pub(crate) fn end_of_shown<T: ReadSource>(
     batch: &LogBatch,
-    told: &mut T,
+    source: &mut T,
     slot: usize,
     grant: &Option<Grant>,
 ) -> Option<Place>
-    requires batch { (T.told told.old).batch ≡ batch_in batch.now }
-    requires within { slot < length (batch_slots (batch_in batch.now)) }
-    requires shown { grant.now ≡ grant_in (slot_at (seen_view (seen_at batch.now (T.told told.old).index)) slot) }
-    ensures value { result ≡ end_in (slot_at (seen_view (seen_at batch.now (T.told told.old).index)) slot) }
-    ensures same { (T.told told.new ≡ T.told told.old) × (T.kept told.new ≡ T.kept told.old) }
+    requires batch { (T.as_reader source.old).batch ≡ batch_of batch.now }
+    requires within { slot < length (batch_slots (batch_of batch.now)) }
+    requires shown { grant.now ≡ grant_in (slot_at (seen_view (seen_at batch.now (T.as_reader source.old).index)) slot) }
+    ensures value { result ≡ end_in (slot_at (seen_view (seen_at batch.now (T.as_reader source.old).index)) slot) }
+    ensures same { (T.as_reader source.new ≡ T.as_reader source.old) × (T.work source.new ≡ T.work source.old) }
 {
     let _log = batch.log();
     let _grant = batch.grant(slot);
     match grant {
         Some(_) => {
-            let place = batch.first_place() + told.reader() as u64;
-            end_below(told.end(slot), place)
+            let place = batch.first_place() + source.reader() as u64;
+            end_below(source.end(slot), place)
         }
         None => None,
     }
 }
 
 /// The end of the record of a slot, if the reader is shown its grant and it lies below the reader.
-fn end_shown<T: Told>(batch: &LogBatch, told: &mut T, slot: usize) -> Option<Place>
-    requires batch { (T.told told.old).batch ≡ batch_in batch.now }
-    requires within { slot < length (batch_slots (batch_in batch.now)) }
-    ensures value { result ≡ end_in (slot_at (seen_view (seen_at batch.now (T.told told.old).index)) slot) }
-    ensures same { (T.told told.new ≡ T.told told.old) × (T.kept told.new ≡ T.kept told.old) }
+fn end_shown<T: ReadSource>(batch: &LogBatch, source: &mut T, slot: usize) -> Option<Place>
+    requires batch { (T.as_reader source.old).batch ≡ batch_of batch.now }
+    requires within { slot < length (batch_slots (batch_of batch.now)) }
+    ensures value { result ≡ end_in (slot_at (seen_view (seen_at batch.now (T.as_reader source.old).index)) slot) }
+    ensures same { (T.as_reader source.new ≡ T.as_reader source.old) × (T.work source.new ≡ T.work source.old) }
 {
-    let grant = grant_shown(batch, told, slot);
-    end_of_shown(batch, told, slot, &grant)
+    let grant = grant_shown(batch, source, slot);
+    end_of_shown(batch, source, slot, &grant)
 }
 
 /// The least slot at or above this one of a grant that the reader is shown in force and that is looked for, and the last end of
 /// such a grant. None where it isn't known what was in force as the batch began, or the table is none of the reader's.
-fn shown_next<T: Told>(
+fn shown_next<T: ReadSource>(
     batch: &LogBatch,
-    told: &mut T,
+    source: &mut T,
     sought: &Sought,
     from: usize,
 ) -> Option<NextInForce>
-    requires batch { (T.told told.old).batch ≡ batch_in batch.now }
+    requires batch { (T.as_reader source.old).batch ≡ batch_of batch.now }
     ensures next { IfSome result (λ next.
-        ShowsNextInForce (is_sought sought.now) (seen_view (seen_at batch.now (T.told told.old).index)) from next) }
-    ensures same { (T.told told.new ≡ T.told told.old) × (T.kept told.new ≡ T.kept told.old) }
+        ShowsNextInForce (is_sought sought.now) (seen_view (seen_at batch.now (T.as_reader source.old).index)) from next) }
+    ensures same { (T.as_reader source.new ≡ T.as_reader source.old) × (T.work source.new ≡ T.work source.old) }
 {
     let _log = batch.log();
-    let statement = batch.statement(told.reader());
+    let statement = batch.statement(source.reader());
     if !is_on(statement, sought.table) {
         return None;
     }
     let Some(lost) = lost_at_start(batch, sought) else {
         return None;
     };
-    let Some(next) = next_shown(batch, told, sought, from) else {
+    let Some(next) = next_shown(batch, source, sought, from) else {
         return None;
     };
-    let Some(last) = last_shown(batch, told, sought, lost.place) else {
+    let Some(last) = last_shown(batch, source, sought, lost.place) else {
         return None;
     };
     Some(NextInForce {
@@ -140,27 +144,27 @@ fn shown_next<T: Told>(
     })
 }
 
-impl<T: Told, P: Pinned> Records for ShownRecords<'_, T, P> {
+impl<T: ReadSource, P: Pinned> Records for ShownRecords<'_, T, P> {
     ghost use Rattle.bohm_core_base.specs.Batch.{batch_slots};
-    ghost use Rattle.log_batch.specs.Supplied.{batch_in};
+    ghost use Rattle.log_batch.specs.Supplied.{batch_of};
     ghost use Rattle.evaluation.specs.Seen.{seen_at, seen_view};
 
-    ghost shown = { λ records. seen_view (seen_at records.batch.now (T.told records.told).index) };
+    ghost shown = { λ records. seen_view (seen_at records.batch.now (T.as_reader records.source).index) };
 
-    ghost asked = { λ records. batch_slots (batch_in records.batch.now) };
+    ghost asked = { λ records. batch_slots (batch_of records.batch.now) };
 
     fn at(&self) -> Place {
         let _log = self.batch.log();
-        self.batch.first_place() + self.told.reader() as u64
+        self.batch.first_place() + self.source.reader() as u64
     }
 
     fn covers(&self, table: Table) -> bool {
         let _log = self.batch.log();
-        is_on(self.batch.statement(self.told.reader()), table)
+        is_on(self.batch.statement(self.source.reader()), table)
     }
 
     fn owner(&self, table: Table) -> User {
-        let _statement = self.batch.statement(self.told.reader());
+        let _statement = self.batch.statement(self.source.reader());
         self.batch.log().owner(table)
     }
 
@@ -171,12 +175,12 @@ impl<T: Told, P: Pinned> Records for ShownRecords<'_, T, P> {
 
     fn grant(&mut self, i: usize) -> Option<Grant> {
         let _log = self.batch.log();
-        grant_shown(self.batch, &mut self.told, i)
+        grant_shown(self.batch, &mut self.source, i)
     }
 
     fn end(&mut self, i: usize) -> Option<Place> {
         let _log = self.batch.log();
-        end_shown(self.batch, &mut self.told, i)
+        end_shown(self.batch, &mut self.source, i)
     }
 
     fn next_to(
@@ -209,7 +213,7 @@ impl<T: Told, P: Pinned> Records for ShownRecords<'_, T, P> {
             table,
             wanted: Wanted::Giving(option),
         };
-        shown_next(self.batch, &mut self.told, &sought, from)
+        shown_next(self.batch, &mut self.source, &sought, from)
     }
 
     fn next_slot_in_force(
@@ -226,7 +230,7 @@ impl<T: Told, P: Pinned> Records for ShownRecords<'_, T, P> {
             table,
             wanted: Wanted::Giving(option),
         };
-        next_shown(self.batch, &mut self.told, &sought, from)
+        next_shown(self.batch, &mut self.source, &sought, from)
     }
 
     fn next_in_force_by(
@@ -243,6 +247,6 @@ impl<T: Told, P: Pinned> Records for ShownRecords<'_, T, P> {
             table,
             wanted: Wanted::By(user),
         };
-        next_shown(self.batch, &mut self.told, &sought, from)
+        next_shown(self.batch, &mut self.source, &sought, from)
     }
 }

@@ -20,7 +20,7 @@ use Rattle.model_base.proofs.Replay.{by_cases}
 use Rattle.explain.specs.declared.line.Line.{Line}
 use Rattle.explain.specs.Lines.{IsSound, holds_before}
 use Rattle.sequencer.specs.Log.{Accepted}
-use Rattle.sequencer.specs.Taken.{IsTaken, IsWhole}
+use Rattle.sequencer.specs.Whole.{IsAccepted, IsWhole}
 use Rattle.explain.specs.ExplainedNeeds.{AreSound, needs_asked, line_of, explaining_lines, tells_held}
 use Rattle.explain.proofs.Asked.{lines-sound}
 use Rattle.explain.proofs.Passing.{held_sound}
@@ -91,7 +91,7 @@ pub needs_named : (log : Accepted) → IsWhole log → (place : ℕ) (statement 
     → All (λ (need : Need). need.table < length log.names.tables) (needs statement.form)
 needs_named log whole place statement there =
     let within = slice_get_within log.statements place statement there in
-    let taken = subst (IsTaken log.names) (get_or_from_slice_get log.statements place statement statement there) (whole.taken place statement within) in
+    let taken = subst (IsAccepted log.names) (get_or_from_slice_get log.statements place statement statement there) (whole.taken place statement within) in
     taken.needs
 
 -- what explains a place is sound

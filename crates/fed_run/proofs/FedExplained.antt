@@ -7,12 +7,12 @@ use Rattle.model_base.specs.declared.statement.Statement.{Statement}
 use Rattle.explain.specs.declared.line.Line.{Line}
 use Rattle.sequencer.specs.Catalog.{Names, no_names}
 use Rattle.sequencer.specs.Log.{Accepted}
-use Rattle.sequencer.specs.Taken.{IsWhole}
-use Rattle.report.specs.Report.{AreReadings, Reading, log_of, names_after, place_text}
+use Rattle.sequencer.specs.Whole.{IsWhole}
+use Rattle.report.specs.Report.{AreParsedLines, ParsedLine, log_of, names_after, place_text}
 use Rattle.report.proofs.ReportLemmas.{log_of-append, names_after-append}
 use Rattle.report.proofs.Readings.{readings}
 use Rattle.bohm_base.specs.Collecting.{IsLogOf}
-use Rattle.bohm_base.specs.declared.collecting.Became.{Became}
+use Rattle.bohm_base.specs.declared.collecting.LineOutcome.{LineOutcome}
 use Rattle.bohm_base.proofs.WholeLogs.{tables_after}
 use Rattle.explain.specs.Explained.{explained}
 use Rattle.audit_text.specs.Explanation.{explanation_text}
@@ -24,8 +24,8 @@ use Rattle.fed_run.specs.Stands.{TextExplains}
 use Rattle.fed_run.specs.declared.fed.FedRun.{FedRun}
 
 -- the answer about the log of the first lines of a text is the answer about the text
-answers_text : (input : List ℕ) (log : Accepted) (earlier later : List Reading) (lines : List Became) (question : Question) (text : List ℕ) → IsWhole log
-    → AreReadings (lines_of input) (earlier ++ later) → IsLogOf earlier log lines → AnswersAccepted log question text → IsExplanation input question text
+answers_text : (input : List ℕ) (log : Accepted) (earlier later : List ParsedLine) (lines : List LineOutcome) (question : Question) (text : List ℕ) → IsWhole log
+    → AreParsedLines (lines_of input) (earlier ++ later) → IsLogOf earlier log lines → AnswersAccepted log question text → IsExplanation input question text
 answers_text input log earlier later lines question text whole reads made answers =
     let names : Names = names_after no_names earlier in
     let longer = tables_after names later in

@@ -4,10 +4,10 @@ use Rattle.std.proofs.lemmas.List.{append-nil, length-append, length-take-le, ta
 use Rattle.log_text.proofs.Total.{total}
 use Rattle.line_io.specs.Lines.{HasLine, first_line, lines_of, other_lines}
 use Rattle.sequencer.specs.Log.{Accepted, empty_log}
-use Rattle.sequencer.specs.Taken.{IsWhole}
-use Rattle.report.specs.Report.{AreReadings, IsReport, Reading, accepted}
-use Rattle.bohm_base.specs.Collecting.{IsLogOf, ReadsAs, became}
-use Rattle.bohm_base.specs.declared.collecting.Became.{Became}
+use Rattle.sequencer.specs.Whole.{IsWhole}
+use Rattle.report.specs.Report.{AreParsedLines, IsReport, ParsedLine, accepted}
+use Rattle.bohm_base.specs.Collecting.{IsLogOf, ReadsAs, line_outcome}
+use Rattle.bohm_base.specs.declared.collecting.LineOutcome.{LineOutcome}
 use Rattle.bohm_base.proofs.Logs.{report_is}
 use Rattle.batched_text.specs.Batching.{Batched, IsBatched, ReportsLines, lines_text}
 use Rattle.batched_text.specs.Places.{places_in}
@@ -19,17 +19,17 @@ use Rattle.fed_run.specs.declared.fed.FedRun.{FedRun}
 use Rattle.fed_run.proofs.Lines.{cut_at, first_through, kept_line, no_line, no_line-append, nothing_begun, other_through}
 
 -- what was written is known, as there is no writer
-from_batched : (i j pending : List ℕ) (log : Accepted) (done : ℕ) (waiting : List Became) (next : ℕ)
+from_batched : (i j pending : List ℕ) (log : Accepted) (done : ℕ) (waiting : List LineOutcome) (next : ℕ)
     → Batched (Some i) (Some j) (Some []) (Some []) pending log done waiting next → IsBatched i j pending log done waiting next
 from_batched i j pending log done waiting next so =
     subst (λ (front : List ℕ). IsBatched i j (front ++ pending) log done waiting next) (sym so.1.0) so.1.1
 
-to_batched : (i j pending : List ℕ) (log : Accepted) (done : ℕ) (waiting : List Became) (next : ℕ)
+to_batched : (i j pending : List ℕ) (log : Accepted) (done : ℕ) (waiting : List LineOutcome) (next : ℕ)
     → IsBatched i j pending log done waiting next → Batched (Some i) (Some j) (Some []) (Some []) pending log done waiting next
 to_batched i j pending log done waiting next is = ([], (refl, is))
 
 -- what was reported begins the report of the whole
-pub begins : (i j pending : List ℕ) (log : Accepted) (done : ℕ) (waiting : List Became) (next : ℕ) → IsBatched i j pending log done waiting next → BeginsReport i pending
+pub begins : (i j pending : List ℕ) (log : Accepted) (done : ℕ) (waiting : List LineOutcome) (next : ℕ) → IsBatched i j pending log done waiting next → BeginsReport i pending
 begins i j pending log done waiting next is =
     let begun = begun_batched total (Some i) (Some j) (Some []) (Some []) pending log done waiting next (to_batched i j pending log done waiting next is) in
     let moved = begun.1.1.1 in
@@ -39,23 +39,23 @@ begins i j pending log done waiting next is =
 
 -- the same by equal parts
 module _ (i j : List ℕ) where
-  same_reported : (p q : List ℕ) (log more : Accepted) (done than : ℕ) (waiting lines : List Became) (next number : ℕ)
+  same_reported : (p q : List ℕ) (log more : Accepted) (done than : ℕ) (waiting lines : List LineOutcome) (next number : ℕ)
       → p ≡ q → log ≡ more → done ≡ than → waiting ≡ lines → next ≡ number → IsBatched i j p log done waiting next → IsBatched i j q more than lines number
   same_reported p q log more done than waiting lines next number a b c d e is =
       subst (λ (x : List ℕ). IsBatched i j x more than lines number) a
       (subst (λ (x : Accepted). IsBatched i j p x than lines number) b
       (subst (λ (x : ℕ). IsBatched i j p log x lines number) c
-      (subst (λ (x : List Became). IsBatched i j p log done x number) d
+      (subst (λ (x : List LineOutcome). IsBatched i j p log done x number) d
       (subst (λ (x : ℕ). IsBatched i j p log done waiting x) e is))))
 
 -- a line was taken, and waits
-line_taken : (i j k pending line : List ℕ) (reading : Reading) (old new : Progress) (next : ℕ)
+line_taken : (i j k pending line : List ℕ) (reading : ParsedLine) (old new : Progress) (next : ℕ)
     → line ≡ take 4097 (first_line j) → k ≡ other_lines j → 0 < length j → ReadsAs line reading → TakesLine reading old new → IsWhole new.run.log
     → IsBatched i j pending old.run.log old.reported old.waiting next → IsBatched i k pending new.run.log new.reported new.waiting (next + 1)
 line_taken i j k pending line reading old new next first others some reads takes whole is =
     let log : Accepted = old.run.log in
     let after : Accepted = new.run.log in
-    let lines : List Became = old.waiting ++ became log.names reading ∷ [] in
+    let lines : List LineOutcome = old.waiting ++ line_outcome log.names reading ∷ [] in
     let longer : length after.statements ≡ length log.statements + length (accepted log.names reading) =
     ap (λ (l : Accepted). length l.statements) takes.log ∙ length-append log.statements (accepted log.names reading) in
     let so : IsBatched i k pending after old.reported lines (next + 1) =
@@ -89,8 +89,8 @@ line_reported i j pending told old new number is same reported within none so =
 -- all lines of the text were reported
 pub report_ended : (input written : List ℕ) (log : Accepted) (done next : ℕ) → IsBatched input [] written log done [] next → IsReport input written
 report_ended input written log done next is =
-    let reads : AreReadings (lines_of input) is.earlier =
-    subst (AreReadings (lines_of input)) (append-nil is.earlier) (read_before input [] is.earlier is.leads [] tt) in
+    let reads : AreParsedLines (lines_of input) is.earlier =
+    subst (AreParsedLines (lines_of input)) (append-nil is.earlier) (read_before input [] is.earlier is.leads [] tt) in
     let made : IsLogOf is.earlier log is.reported = subst (IsLogOf is.earlier log) (append-nil is.reported) is.made in
     subst (IsReport input) (sym is.text) (report_is input log is.reported (is.earlier, (reads, made)))
 
@@ -107,7 +107,7 @@ stands_start run begun nothing log whole reported none lines = record {
         earlier = [];
         leads = read_start future;
         reported = [];
-        made = subst (λ (ls : List Became). IsLogOf [] run.order.run.log ls) (sym none) (subst (λ (l : Accepted). IsLogOf [] l []) (sym log) empty);
+        made = subst (λ (ls : List LineOutcome). IsLogOf [] run.order.run.log ls) (sym none) (subst (λ (l : Accepted). IsLogOf [] l []) (sym log) empty);
         number = omega (arith, lines);
         places = sym reported;
         text = nothing;
@@ -160,7 +160,7 @@ module _ (old new : FedRun) (begun : new.begun.items ≡ []) (ended : new.is_end
       → ((future : List ℕ) → MayCome new future → MayCome old (piece ++ future))
       → ((future : List ℕ) → MayCome new future → (line ≡ take 4097 (first_line (stands.tail ++ (piece ++ future)))) × (other_lines (stands.tail ++ (piece ++ future)) ≡ future)
       × (0 < length (stands.tail ++ (piece ++ future))))
-      → (reading : Reading) → ReadsAs line reading → TakesLine reading old.order new.order → IsFed new (input ++ piece) written
+      → (reading : ParsedLine) → ReadsAs line reading → TakesLine reading old.order new.order → IsFed new (input ++ piece) written
   stands_after input written piece line stands come cut reading reads takes = record {
     tail = [];
     kept = begun;
@@ -168,7 +168,7 @@ module _ (old new : FedRun) (begun : new.begun.items ≡ []) (ended : new.is_end
     reached = λ future may.
         let at = cut future may in
         let count : old.lines + 1 + length old.order.waiting + 1 ≡ new.lines + 1 + length new.order.waiting =
-        omega (arith, lines, ap length takes.waiting, length-append old.order.waiting (became old.order.run.log.names reading ∷ [])) in
+        omega (arith, lines, ap length takes.waiting, length-append old.order.waiting (line_outcome old.order.run.log.names reading ∷ [])) in
         subst (λ (w : List ℕ). IsBatched w future (written ++ unsent new) new.order.run.log new.order.reported new.order.waiting (new.lines + 1 + length new.order.waiting))
         (sym (append_assoc input piece future))
         (same_reported (input ++ (piece ++ future)) future (written ++ unsent old) (written ++ unsent new) new.order.run.log new.order.run.log new.order.reported new.order.reported
@@ -181,7 +181,7 @@ module _ (old new : FedRun) (begun : new.begun.items ≡ []) (ended : new.is_end
   -- an LF among the bytes ends it
   pub stands_line : (bytes end : List ℕ) (count : ℕ) → old.is_ended ≡ false → 0 < count → count ≤ length bytes
       → other_lines (bytes ++ 10 ∷ []) ≡ drop count bytes ++ 10 ∷ [] → end ≡ take 4097 (first_line (bytes ++ 10 ∷ []))
-      → ((line : List ℕ) → old.begun.items ≡ take 4097 line → (reading : Reading) × (ReadsAs (take 4097 (line ++ end)) reading × TakesLine reading old.order new.order))
+      → ((line : List ℕ) → old.begun.items ≡ take 4097 line → (reading : ParsedLine) × (ReadsAs (take 4097 (line ++ end)) reading × TakesLine reading old.order new.order))
       → (input written : List ℕ) → IsFed old input written → IsFed new (input ++ take count bytes) written
   stands_line bytes end count going some less others is took input written stands =
       let read = took stands.tail stands.kept in
@@ -200,7 +200,7 @@ module _ (old new : FedRun) (begun : new.begun.items ≡ []) (ended : new.is_end
 
   -- the end of the text ends it
   pub stands_last : old.is_ended ≡ true → (old.begun.items ≡ [] → ⊥)
-      → ((line : List ℕ) → old.begun.items ≡ take 4097 line → (reading : Reading) × (ReadsAs (take 4097 (line ++ [])) reading × TakesLine reading old.order new.order))
+      → ((line : List ℕ) → old.begun.items ≡ take 4097 line → (reading : ParsedLine) × (ReadsAs (take 4097 (line ++ [])) reading × TakesLine reading old.order new.order))
       → (input written : List ℕ) → IsFed old input written → IsFed new input written
   stands_last told some took input written stands =
       let read = took stands.tail stands.kept in

@@ -1,8 +1,8 @@
 -- How far a log is that is run in order.
 use Rattle.std.specs.Prelude.{◌≡◌, ◌≤◌, ◌+◌, ◌-◌, ◌++◌, ◌∷◌, [], ℕ, List, length}
-use Rattle.report.specs.Report.{Reading}
-use Rattle.bohm_base.specs.Collecting.{became, with_reading}
-use Rattle.bohm_base.specs.declared.collecting.Became.{Became}
+use Rattle.report.specs.Report.{ParsedLine}
+use Rattle.bohm_base.specs.Collecting.{line_outcome, with_reading}
+use Rattle.bohm_base.specs.declared.collecting.LineOutcome.{LineOutcome}
 use Rattle.batched_text.specs.Places.{places_in}
 use Rattle.engine.specs.Engine.{Run, finished}
 
@@ -10,7 +10,7 @@ use Rattle.engine.specs.Engine.{Run, finished}
 -- and outcomes are to be kept
 pub record Progress : Type 0 where
   pub run : Run
-  pub waiting : List Became
+  pub waiting : List LineOutcome
   pub reported : ℕ
   pub keep : ℕ
 
@@ -22,7 +22,7 @@ pub record HasReached (now : Progress) : Type 0 where
   pub dropped : now.run.dropped ≤ now.reported - now.keep
 
 -- a line that was read so was taken, and waits
-pub record TakesLine (reading : Reading) (old new : Progress) : Type 0 where
+pub record TakesLine (reading : ParsedLine) (old new : Progress) : Type 0 where
   pub log : new.run.log ≡ with_reading old.run.log reading
-  pub waiting : new.waiting ≡ old.waiting ++ became old.run.log.names reading ∷ []
+  pub waiting : new.waiting ≡ old.waiting ++ line_outcome old.run.log.names reading ∷ []
   pub reported : new.reported ≡ old.reported

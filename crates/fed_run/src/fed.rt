@@ -2,8 +2,8 @@
 
 ghost use Rattle.std.specs.Prelude.{◌≡◌, ◌≤◌, ◌<◌, ◌+◌, ◌++◌, ◌∷◌, ◌^◌, ◌↔◌, ℕ, [], List, Err, IfErr, IfOk, Ok, OnErr, OnOk, false, true, drop, length, take};
 ghost use Rattle.line_io.specs.declared.limits.TheConstants.{KEPT_BYTES};
-ghost use Rattle.report.specs.Report.{IsReport, Reading};
-ghost use Rattle.sequencer.specs.Taken.{IsWhole};
+ghost use Rattle.report.specs.Report.{IsReport, ParsedLine};
+ghost use Rattle.sequencer.specs.Whole.{IsWhole};
 ghost use Rattle.bohm_base.specs.Collecting.{ReadsAs};
 
 use crate::fault::FeedFault;
@@ -11,7 +11,7 @@ use crate::in_order::InOrder;
 use crate::keeping::keep_more;
 use explain::ExplainFault;
 use line_io::{KEPT_BYTES, cut_line};
-use log_text::RawRoom;
+use log_text::LineBuffers;
 use model_base::Place;
 use std::alloc::Global;
 
@@ -214,11 +214,11 @@ impl FedRun {
         &mut self,
         alloc: Global,
         end: &'a [u8],
-        raw: &mut RawRoom<'a>,
+        raw: &mut LineBuffers<'a>,
     ) -> Result<(), FeedFault>
         requires short { length end.now ≤ KEPT_BYTES }
         ensures ok { OnOk result ((line : List ℕ) → self.old.begun.items ≡ take KEPT_BYTES line
-            → (reading : Reading) × (ReadsAs (take KEPT_BYTES (line ++ end.now)) reading
+            → (reading : ParsedLine) × (ReadsAs (take KEPT_BYTES (line ++ end.now)) reading
             × TakesLine reading self.old.order self.new.order)) }
         ensures whole { OnOk result (IsWhole self.new.order.run.log) }
         ensures begun { OnOk result (self.new.begun.items ≡ []) }
@@ -253,7 +253,7 @@ impl FedRun {
         &mut self,
         alloc: Global,
         bytes: &'a [u8],
-        raw: &mut RawRoom<'a>,
+        raw: &mut LineBuffers<'a>,
     ) -> Result<usize, FeedFault>
         requires some { 0 < length bytes.now }
         requires open { self.old.is_ended ≡ false }
@@ -283,7 +283,7 @@ impl FedRun {
         &mut self,
         alloc: Global,
         input: &'a [u8],
-        raw: &mut RawRoom<'a>,
+        raw: &mut LineBuffers<'a>,
         step: &mut Step,
     ) -> Result<(), FeedFault>
         requires open { self.old.is_ended ≡ false }
@@ -321,7 +321,7 @@ impl FedRun {
         ensures counted { result ≡ Err FeedFault.Full → 2 ^ 64 ≤ self.new.lines + length self.new.order.waiting + 1 }
     {
         self.start(alloc, out, step)?;
-        let mut raw = RawRoom::new(alloc);
+        let mut raw = LineBuffers::new(alloc);
         'lines: while step.used < input.len() && self.waiting() == 0 {
             self.take_lines(alloc, input, &mut raw, step)?;
             step.made = self.make(alloc, out, step.made)?;
@@ -385,7 +385,7 @@ impl FedRun {
         if self.begun.is_empty() {
             return Ok(());
         }
-        let mut raw = RawRoom::new(alloc);
+        let mut raw = LineBuffers::new(alloc);
         self.take_line(alloc, &[], &mut raw)?;
         step.made = self.make(alloc, out, step.made)?;
         Ok(())

@@ -5,22 +5,22 @@
 
 ghost use Rattle.std.specs.Prelude.{◌≡◌, ◌≤◌, ◌<◌, ◌+◌, ◌-◌, ◌^◌, ◌∷◌, ◌++◌, ◌↔◌, [], Err, IfOk, List, false, true, OnErr, OnOk, length};
 ghost use Rattle.explain.specs.declared.line.Line.{Line as Shows};
-ghost use Rattle.report.specs.Report.{Reading, place_text};
+ghost use Rattle.report.specs.Report.{ParsedLine, place_text};
 ghost use Rattle.bohm_base.specs.Collecting.{ReadsAs};
 ghost use Rattle.explain.specs.Explained.{explained};
 ghost use Rattle.audit_text.specs.Explanation.{explanation_text};
 ghost use Rattle.batched_text.specs.Batching.{lines_text};
 ghost use Rattle.batched_text.specs.Places.{places_in};
 ghost use Rattle.sequencer.specs.Log.{empty_log};
-ghost use Rattle.sequencer.specs.Taken.{IsWhole};
+ghost use Rattle.sequencer.specs.Whole.{IsWhole};
 
 use crate::taken_lines::take_read;
 use audit_text::put_explanation;
 use batched_text::{put_lines, put_place};
-use bohm_base::Became;
+use bohm_base::LineOutcome;
 use engine::Engine;
 use explain::{ExplainFault, explain};
-use log_text::{RawRoom, read_into};
+use log_text::{LineBuffers, read_into};
 use model_base::Place;
 use std::alloc::{AllocError, Global};
 use std::marker::Model;
@@ -37,7 +37,7 @@ const SWEPT_PLACES: u64 = 64;
 pub(crate) struct InOrder {
     engine: Engine,
     /// What each of the lines became that weren't reported yet.
-    waiting: Vec<Became>,
+    waiting: Vec<LineOutcome>,
     /// How many places were reported.
     reported: Place,
     /// Of how many of the reported places statements and outcomes are kept at least.
@@ -117,9 +117,9 @@ impl InOrder {
     pub(crate) fn take<'a>(
         &mut self,
         line: &'a [u8],
-        raw: &mut RawRoom<'a>,
+        raw: &mut LineBuffers<'a>,
     ) -> Result<(), AllocError>
-        ensures ok { OnOk result ((reading : Reading) × (ReadsAs line.now reading × TakesLine reading self.old self.new)) }
+        ensures ok { OnOk result ((reading : ParsedLine) × (ReadsAs line.now reading × TakesLine reading self.old self.new)) }
         ensures whole { IsWhole self.new.run.log }
         ensures err { OnErr result (self.new ≡ self.old) }
     {
@@ -134,11 +134,11 @@ impl InOrder {
 
     /// Takes a line, as `take`, with room of its own: it may lie elsewhere than the lines after it, so that they can't share one room.
     pub(crate) fn take_alone(&mut self, alloc: Global, line: &[u8]) -> Result<(), AllocError>
-        ensures ok { OnOk result ((reading : Reading) × (ReadsAs line.now reading × TakesLine reading self.old self.new)) }
+        ensures ok { OnOk result ((reading : ParsedLine) × (ReadsAs line.now reading × TakesLine reading self.old self.new)) }
         ensures whole { IsWhole self.new.run.log }
         ensures err { OnErr result (self.new ≡ self.old) }
     {
-        let mut raw = RawRoom::new(alloc);
+        let mut raw = LineBuffers::new(alloc);
         self.take(line, &mut raw)
     }
 

@@ -1,28 +1,28 @@
 //! A line, taken into the log of an engine.
 
 ghost use Rattle.std.specs.Prelude.{◌≡◌, ◌≢◌, Err, IfOk, OnErr, OnOk};
-ghost use Rattle.log_text.specs.Room.{sentence_of};
+ghost use Rattle.log_text.specs.LineBuffers.{sentence_of};
 ghost use Rattle.log_text.specs.Statement.{IsInGrammar};
 ghost use Rattle.report.specs.Report.{read};
-ghost use Rattle.bohm_base.specs.Collecting.{became, with_reading};
+ghost use Rattle.bohm_base.specs.Collecting.{line_outcome, with_reading};
 ghost use Rattle.batched_text.specs.LineRead.{reading_by};
 
-use bohm_base::{Became, faulty_line, refused_line};
+use bohm_base::{LineOutcome, faulty_line, refused_line};
 use engine::Engine;
-use log_text::{LineFault, RawRoom};
+use log_text::{LineBuffers, LineFault};
 use std::alloc::AllocError;
 
 /// Takes the statement that a line was read as into the log if it is not refused, and says what the line became. After an error the
 /// engine is as it was.
 #[inline(always)]
-fn take_statement(engine: &mut Engine, raw: &RawRoom<'_>) -> Result<Became, AllocError>
+fn take_statement(engine: &mut Engine, raw: &LineBuffers<'_>) -> Result<LineOutcome, AllocError>
     requires { IsInGrammar (sentence_of raw.now) }
-    ensures line { IfOk result (λ line. line ≡ became engine.old.log.names (read (sentence_of raw.now))) }
+    ensures line { IfOk result (λ line. line ≡ line_outcome engine.old.log.names (read (sentence_of raw.now))) }
     ensures engine { OnOk result (engine.new ≡ record engine.old { log = with_reading engine.old.log (read (sentence_of raw.now)) }) }
     ensures err { OnErr result (engine.new ≡ engine.old) }
 {
     match engine.push_read(raw) {
-        Ok(_place) => Ok(Became::Accepted),
+        Ok(_place) => Ok(LineOutcome::Accepted),
         Err(refused) => match refused_line(refused) {
             Ok(line) => Ok(line),
             Err(_fault) => Err(AllocError),
@@ -36,10 +36,10 @@ fn take_statement(engine: &mut Engine, raw: &RawRoom<'_>) -> Result<Became, Allo
 pub(crate) fn take_read(
     engine: &mut Engine,
     found: Result<(), LineFault>,
-    raw: &RawRoom<'_>,
-) -> Result<Became, AllocError>
+    raw: &LineBuffers<'_>,
+) -> Result<LineOutcome, AllocError>
     requires { OnOk found (IsInGrammar (sentence_of raw.now)) }
-    ensures line { IfOk result (λ line. line ≡ became engine.old.log.names (reading_by found (sentence_of raw.now))) }
+    ensures line { IfOk result (λ line. line ≡ line_outcome engine.old.log.names (reading_by found (sentence_of raw.now))) }
     ensures engine { OnOk result (engine.new
         ≡ record engine.old { log = with_reading engine.old.log (reading_by found (sentence_of raw.now)) }) }
     ensures told { OnOk result (found ≢ Err LineFault.NoMemory) }

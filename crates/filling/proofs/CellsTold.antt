@@ -20,7 +20,7 @@ use Rattle.own_words.specs.Places.{cells, words_at}
 use Rattle.own_words.specs.Words.{FitsColumns, header, outputs_of, row_of, row_words}
 use Rattle.own_words.proofs.Undoing.{header_length, row_length, row_told}
 use Rattle.sequencer.specs.Log.{Accepted}
-use Rattle.sequencer.specs.Taken.{IsWhole, columns_by}
+use Rattle.sequencer.specs.Whole.{IsWhole, columns_by}
 use Rattle.chains.specs.declared.version.Version.{Version}
 use Rattle.chains.specs.Store.{versions_at}
 use Rattle.filling.specs.Cells.{versions_told}

@@ -16,11 +16,11 @@ use Rattle.body.specs.Shape.{FormFits}
 use Rattle.body.specs.Steps.{steps_of}
 use Rattle.own_words.specs.Places.{words_at}
 use Rattle.own_words.specs.Words.{done_from, ended_in, numbers_from, outcome_from}
-use Rattle.sequencer.specs.Taken.{IsTaken, columns_by}
+use Rattle.sequencer.specs.Whole.{IsAccepted, columns_by}
 use Rattle.bohm_core_base.specs.Batch.{was_done}
 use Rattle.bohm_core_base.specs.Serial.{serial_words}
 use Rattle.log_batch.specs.Laws.{IsOfLog}
-use Rattle.log_batch.specs.Supplied.{Ranged, batch_in, range_of}
+use Rattle.log_batch.specs.Supplied.{LogRange, batch_of, range_of}
 use Rattle.log_batch.proofs.SerialRuns.{serial_words_are}
 use Rattle.filling.specs.Outcomes.{IsEndedList, outcome_in}
 use Rattle.filling.proofs.Endings.{comes, outcome-there}
@@ -46,12 +46,12 @@ told-any place user form words ended other same =
     (λ otherwise. rw otherwise refl)
 
 -- the words of a place tell its outcome in the log
-pub told-outcome : (ranged : Ranged) (is : IsOfLog (range_of ranged)) (index : ℕ) (within : index < ranged.size) (statement : Statement)
-    (at : slice_get ranged.log.statements (ranged.first + index) ≡ Some statement) → IsTaken ranged.log.names statement → ranged.first + index < 2 ^ 64
+pub told-outcome : (ranged : LogRange) (is : IsOfLog (range_of ranged)) (index : ℕ) (within : index < ranged.size) (statement : Statement)
+    (at : slice_get ranged.log.statements (ranged.first + index) ≡ Some statement) → IsAccepted ranged.log.names statement → ranged.first + index < 2 ^ 64
     → ((columns : ℕ → ℕ) (log : List Statement) (place : ℕ) (statement : Statement) (found : Outcome)
     → slice_get log place ≡ Some statement → outcome log place ≡ Some found → All (λ (one : Statement). FormFits columns one.form) log → IsRunnable statement
     → length (steps_of statement.form) < 2 ^ 64 → place < 2 ^ 64 → outcome_from statement.form (words_at columns log place) (ended_in found) ≡ found)
-    → (own ended : List ℕ) → own ≡ serial_words (batch_in ranged) index → IsEndedList ranged index ended
+    → (own ended : List ℕ) → own ≡ serial_words (batch_of ranged) index → IsEndedList ranged index ended
     → outcome_in ranged index ≡ Some (outcome_from statement.form own ended)
 unfolding was_done
 told-outcome ranged is index within statement at taken small law own ended same right =
@@ -64,5 +64,5 @@ told-outcome ranged is index within statement at taken small law own ended same 
     let told = law (columns_by ranged.log.names) log place statement found at there is.fits taken.runnable (omega arith) small in
     let any = told-any place statement.user statement.form own ended (ended_in found)
     (λ one revocation deed.
-    right found there (eq-eqb (get_or (serial_words (batch_in ranged) index) 0 0) 1 (ap (λ (list : List ℕ). get_or list 0 0) (sym same) ∙ one)) (revocation, rw at deed)) in
+    right found there (eq-eqb (get_or (serial_words (batch_of ranged) index) 0 0) 1 (ap (λ (list : List ℕ). get_or list 0 0) (sym same) ∙ one)) (revocation, rw at deed)) in
     there ∙ ap Some (sym (any ∙ ap (λ (list : List ℕ). outcome_from statement.form list (ended_in found)) words ∙ told))

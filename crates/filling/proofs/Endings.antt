@@ -31,7 +31,7 @@ use Rattle.bohm_core_base.specs.Serial.{serial_ends, serial_words, batch_world_b
 use Rattle.bohm_core_base.proofs.Slots.{made-named, made-split}
 use Rattle.bohm_core_base.proofs.Whole.{deeds-made, part-grants_filter, serial-placed, serial_deeds}
 use Rattle.log_batch.specs.Laws.{IsOfLog}
-use Rattle.log_batch.specs.Supplied.{Ranged, batch_in, range_of}
+use Rattle.log_batch.specs.Supplied.{LogRange, batch_of, range_of}
 use Rattle.log_batch.proofs.SerialRuns.{serial_runs_agree, serial_words_are}
 use Rattle.log_batch.proofs.Sound.{batches_are_sound}
 use Rattle.evaluation.proofs.Comes.{ends-told}
@@ -155,7 +155,7 @@ ended-form owned place world statement (Form.Run accesses steps deed) done =
 ended-form owned place world statement (Form.Deed deed) done =
     ended-judged owned place world statement (missing owned world statement.user (Form.Deed deed)) done
 
-module _ (ranged : Ranged) (is : IsOfLog (range_of ranged)) (index : ℕ) (within : index < ranged.size) (statement : Statement)
+module _ (ranged : LogRange) (is : IsOfLog (range_of ranged)) (index : ℕ) (within : index < ranged.size) (statement : Statement)
     (at : slice_get ranged.log.statements (ranged.first + index) ≡ Some statement) where
   abbrev place : ℕ
   place = ranged.first + index
@@ -171,7 +171,7 @@ module _ (ranged : Ranged) (is : IsOfLog (range_of ranged)) (index : ℕ) (withi
   outcome-there = ap (option_map (λ (s : Statement). (at_place (owners log) place (world_before log place) s).0)) at
 
   -- the serial run says that the place is done if its outcome does
-  done-told : was_done (serial_words (batch_in ranged) index) ≡ (outcome_word comes == 1)
+  done-told : was_done (serial_words (batch_of ranged) index) ≡ (outcome_word comes == 1)
   unfolding was_done
   done-told =
       let words : Option Statement → List ℕ =
@@ -179,11 +179,11 @@ module _ (ranged : Ranged) (is : IsOfLog (range_of ranged)) (index : ℕ) (withi
       ap was_done (serial_words_are (range_of ranged) is index statement at) ∙ ap (λ (one : Option Statement). was_done (words one)) at
 
   -- what a deed ends was granted
-  ended-granted : (deed : Option Deed) (x : ℕ) → In x (ended_by_deed (owners log) (deeds_before log place) deed) → In x (map (λ (grant : Grant). grant.place) (batch_slots (batch_in ranged)))
+  ended-granted : (deed : Option Deed) (x : ℕ) → In x (ended_by_deed (owners log) (deeds_before log place) deed) → In x (map (λ (grant : Grant). grant.place) (batch_slots (batch_of ranged)))
   ended-granted None x has = absurd has
   ended-granted (Some (Granting grant)) x has = absurd has
   ended-granted (Some (Revoking revocation)) x has =
-      let b = batch_in ranged in
+      let b = batch_of ranged in
       let before = deeds_before log place in
       let same : (batch_world_before b index).deeds ≡ before = (serial_runs_agree (range_of ranged) is index).deeds in
       let first = part-kept_grants (owners log) before in
@@ -191,13 +191,13 @@ module _ (ranged : Ranged) (is : IsOfLog (range_of ranged)) (index : ℕ) (withi
       part-in (part-part first second) x (lost-in x (kept (owners log) before) (kept (owners log) (before ++ Revoking revocation ∷ [])) has)
 
   -- so the listed ends that name the place are those of the grants that its outcome says that it ended
-  pub endings-told : (listed : List ℕ) → IsStrictlyIncreasing listed → IsListed (batch_in ranged) listed
-      → ((slot other : ℕ) (grant later : Grant) → slot < other → slice_get (batch_slots (batch_in ranged)) slot ≡ Some grant
-      → slice_get (batch_slots (batch_in ranged)) other ≡ Some later → grant.place < later.place)
-      → was_done (serial_words (batch_in ranged) index) ≡ true → (found : Outcome) → outcome_in ranged index ≡ Some found
-      → ended_places_at (batch_in ranged) listed index ≡ ended_in found
+  pub endings-told : (listed : List ℕ) → IsStrictlyIncreasing listed → IsListed (batch_of ranged) listed
+      → ((slot other : ℕ) (grant later : Grant) → slot < other → slice_get (batch_slots (batch_of ranged)) slot ≡ Some grant
+      → slice_get (batch_slots (batch_of ranged)) other ≡ Some later → grant.place < later.place)
+      → was_done (serial_words (batch_of ranged) index) ≡ true → (found : Outcome) → outcome_in ranged index ≡ Some found
+      → ended_places_at (batch_of ranged) listed index ≡ ended_in found
   endings-told listed rise right order done found told =
-      let b = batch_in ranged in
+      let b = batch_of ranged in
       let deed = deed_of place statement.user statement.form in
       let ends = ended_by_deed (owners log) (deeds_before log place) deed in
       let one : outcome_word comes ≡ 1 = eqb-true (outcome_word comes) 1 (sym done-told ∙ done) in

@@ -11,48 +11,48 @@ use Rattle.bohm_core_base.specs.Serial.{serial_ends, whole_end}
 use Rattle.bohm_core_base.proofs.Reach.{ends-right, unended-stays}
 use Rattle.bohm_core_base.proofs.Whole.{ends-whole, serial-ends-from}
 use Rattle.filling.specs.declared.completion.ends.Ends.{Ends}
-use Rattle.filling.specs.Ends.{AreTold, TellsWord, KeepsTold, TellsOneMore, TellsOf, told_end}
+use Rattle.filling.specs.Ends.{AreSerialEnds, NotesWord, KeepsNoted, NotesOneMore, NotesEndsOf, noted_end}
 
 -- one more end that is the serial run's
-module _ (b : Batch) (old new : Ends) (slot end : ℕ) (told : AreTold b old) (within : slot < length (batch_slots b)) (whole : whole_end b slot ≡ Some end) (changes : TellsOneMore slot end old new) where
-  pub told-here : told_end new slot ≡ Some end
+module _ (b : Batch) (old new : Ends) (slot end : ℕ) (told : AreSerialEnds b old) (within : slot < length (batch_slots b)) (whole : whole_end b slot ≡ Some end) (changes : NotesOneMore slot end old new) where
+  pub told-here : noted_end new slot ≡ Some end
   told-here = let same : (slot == slot) ≡ true = eq-eqb slot slot refl in changes slot ∙ rw same refl
 
-  told-at : (other place : ℕ) → told_end new other ≡ Some place → (other < length (batch_slots b)) × (whole_end b other ≡ Some place)
+  told-at : (other place : ℕ) → noted_end new other ≡ Some place → (other < length (batch_slots b)) × (whole_end b other ≡ Some place)
   told-at other place is =
       by_cases (slot == other)
       (λ same.
       let is-slot : slot ≡ other = eqb-true slot other same in
-      let now : told_end new other ≡ Some end = changes other ∙ rw same refl in
+      let now : noted_end new other ≡ Some end = changes other ∙ rw same refl in
       let both : Some end ≡ Some place = sym now ∙ is in
       (subst (λ k. k < length (batch_slots b)) is-slot within, subst (λ k. whole_end b k ≡ Some place) is-slot (whole ∙ both)))
       (λ differs.
-      let now : told_end new other ≡ told_end old other = changes other ∙ rw differs refl in
-      let before : told_end old other ≡ Some place = sym now ∙ is in
+      let now : noted_end new other ≡ noted_end old other = changes other ∙ rw differs refl in
+      let before : noted_end old other ≡ Some place = sym now ∙ is in
       (told.slots other place before, told.whole other place before))
 
-  pub told-more : AreTold b new
+  pub told-more : AreSerialEnds b new
   told-more = record { slots = λ other place is. (told-at other place is).0; whole = λ other place is. (told-at other place is).1 }
 
-  pub told-keeps : KeepsTold old new
+  pub told-keeps : KeepsNoted old new
   told-keeps other place is =
       by_cases (slot == other)
       (λ same.
       let is-slot : slot ≡ other = eqb-true slot other same in
-      let now : told_end new other ≡ Some end = changes other ∙ rw same refl in
+      let now : noted_end new other ≡ Some end = changes other ∙ rw same refl in
       now ∙ sym whole ∙ ap (whole_end b) is-slot ∙ told.whole other place is)
       (λ differs.
-      let now : told_end new other ≡ told_end old other = changes other ∙ rw differs refl in
+      let now : noted_end new other ≡ noted_end old other = changes other ∙ rw differs refl in
       now ∙ is)
 
 -- what a word says
 pub record Takes (b : Batch) (slot word : ℕ) (old new : Ends) : Type 0 where
-  pub told : AreTold b new
-  pub keeps : KeepsTold old new
-  pub here : (end : ℕ) → word ≡ suc end → told_end new slot ≡ Some end
+  pub told : AreSerialEnds b new
+  pub keeps : KeepsNoted old new
+  pub here : (end : ℕ) → word ≡ suc end → noted_end new slot ≡ Some end
 
-pub taken-word : (b : Batch) (old new : Ends) (slot word : ℕ) → AreTold b old → slot < length (batch_slots b)
-    → ((end : ℕ) → word ≡ suc end → whole_end b slot ≡ Some end) → TellsWord slot word old new → Takes b slot word old new
+pub taken-word : (b : Batch) (old new : Ends) (slot word : ℕ) → AreSerialEnds b old → slot < length (batch_slots b)
+    → ((end : ℕ) → word ≡ suc end → whole_end b slot ≡ Some end) → NotesWord slot word old new → Takes b slot word old new
 taken-word b old new slot zero told within whole is =
     record {
       told = record {
@@ -70,11 +70,11 @@ taken-word b old new slot (suc word) told within whole is =
     }
 
 -- what was told of a place is given still
-pub tells-kept : (b : Batch) (index : ℕ) (old new : Ends) → KeepsTold old new → TellsOf b index old → TellsOf b index new
+pub tells-kept : (b : Batch) (index : ℕ) (old new : Ends) → KeepsNoted old new → NotesEndsOf b index old → NotesEndsOf b index new
 tells-kept b index old new keeps tells slot within ends = keeps slot (b.first + index) (tells slot within ends)
 
 -- where no end is told of a slot, that before the batch is that of the serial run below a place of which all below it is given
-module _ (b : Batch) (sound : IsSoundBatch b) (index : ℕ) (ends : Ends) (all : (earlier : ℕ) → earlier < index → TellsOf b earlier ends) (slot : ℕ) (within : slot < length (batch_slots b)) (none : told_end ends slot ≡ None) where
+module _ (b : Batch) (sound : IsSoundBatch b) (index : ℕ) (ends : Ends) (all : (earlier : ℕ) → earlier < index → NotesEndsOf b earlier ends) (slot : ℕ) (within : slot < length (batch_slots b)) (none : noted_end ends slot ≡ None) where
   abbrev place : ℕ
   place = b.first + index
 
@@ -99,7 +99,7 @@ module _ (b : Batch) (sound : IsSoundBatch b) (index : ℕ) (ends : Ends) (all :
           let low : end < place = grind (arith, nat_tests) in
           let at : b.first + (end - b.first) ≡ end = omega arith in
           let set = serial-ends-from b (end - b.first) slot end whole at in
-          let told : told_end ends slot ≡ Some (b.first + (end - b.first)) = all (end - b.first) (omega arith) slot within set in
+          let told : noted_end ends slot ≡ Some (b.first + (end - b.first)) = all (end - b.first) (omega arith) slot within set in
           let no : None ≡ Some (b.first + (end - b.first)) = sym none ∙ told in
           absurd (cc)
 
@@ -118,11 +118,11 @@ module _ (b : Batch) (sound : IsSoundBatch b) (index : ℕ) (ends : Ends) (all :
       by_start (Some end) set = ap (end_below place) (set ∙ sym (ends-right b sound [] slot end set))
 
 -- an end that is given is that of the serial run at any place
-pub told-below : (b : Batch) (place : ℕ) (ends : Ends) (slot end : ℕ) → AreTold b ends → told_end ends slot ≡ Some end
+pub told-below : (b : Batch) (place : ℕ) (ends : Ends) (slot end : ℕ) → AreSerialEnds b ends → noted_end ends slot ≡ Some end
     → end_below place (Some end) ≡ end_below place (whole_end b slot)
 told-below b place ends slot end told is = ap (end_below place) (sym (told.whole slot end is))
 
 -- a word that isn't 0 tells the place that is one less
-pub taken-some : (slot word : ℕ) (old new : Ends) → word ≢ 0 → TellsOneMore slot (word - 1) old new → TellsWord slot word old new
+pub taken-some : (slot word : ℕ) (old new : Ends) → word ≢ 0 → NotesOneMore slot (word - 1) old new → NotesWord slot word old new
 taken-some slot zero old new some tells = absurd (some refl)
-taken-some slot (suc word) old new some tells = (let one : suc word - 1 ≡ word = omega arith in subst (λ end. TellsOneMore slot end old new) one tells)
+taken-some slot (suc word) old new some tells = (let one : suc word - 1 ≡ word = omega arith in subst (λ end. NotesOneMore slot end old new) one tells)

@@ -11,8 +11,8 @@ use Rattle.words.specs.Closing.{IsSettledBy, ClosedLayout, end_word_in}
 use Rattle.words.specs.Layout.{IsListed, listed_slot_at}
 use Rattle.words.specs.Views.{In}
 use Rattle.filling.specs.declared.completion.ends.Ends.{Ends}
-use Rattle.filling.specs.Ends.{AreTold, TellsWord, told_end}
-use Rattle.filling.specs.Standing.{HasDone, TellsDone}
+use Rattle.filling.specs.Ends.{AreSerialEnds, NotesWord, noted_end}
+use Rattle.filling.specs.BatchProgress.{HasDone, NotesEndsOfDone}
 use Rattle.filling.proofs.EndsTelling.{Takes, taken-word}
 
 -- a number that stands somewhere is among them
@@ -56,10 +56,10 @@ module _ (b : Batch) (listed : List ℕ) (closed : ClosedLayout) (settled : IsSe
 
     -- the ends of this many words are given
     pub record Told (count : ℕ) (ends : Ends) : Type 0 where
-      pub told : AreTold b ends
-      pub taken : (end place : ℕ) → end < count → end_word_in closed end ≡ suc place → told_end ends (listed_slot_at listed end) ≡ Some place
+      pub told : AreSerialEnds b ends
+      pub taken : (end place : ℕ) → end < count → end_word_in closed end ≡ suc place → noted_end ends (listed_slot_at listed end) ≡ Some place
 
-    pub told-next : (n word : ℕ) (old new : Ends) → n < length listed → word ≡ end_word_in closed n → Told n old → TellsWord (listed_slot_at listed n) word old new → Told (n + 1) new
+    pub told-next : (n word : ℕ) (old new : Ends) → n < length listed → word ≡ end_word_in closed n → Told n old → NotesWord (listed_slot_at listed n) word old new → Told (n + 1) new
     told-next n word old new within is before takes =
         let next : Takes b (listed_slot_at listed n) word old new =
         taken-word b old new (listed_slot_at listed n) word before.told (right.within n within) (word-whole n word within is) takes in
@@ -68,14 +68,14 @@ module _ (b : Batch) (listed : List ℕ) (closed : ClosedLayout) (settled : IsSe
           taken = λ end place less set. elim (cases_lt end n) [
             | inl low ↦ next.keeps (listed_slot_at listed end) place (before.taken end place low set)
             | inr last ↦ (let same : n ≡ end = omega arith in
-                subst (λ k. told_end new (listed_slot_at listed k) ≡ Some place) same (next.here place (is ∙ ap (end_word_in closed) same ∙ set)))
+                subst (λ k. noted_end new (listed_slot_at listed k) ≡ Some place) same (next.here place (is ∙ ap (end_word_in closed) same ∙ set)))
           ];
         }
 
     -- so the places that are done are told of
-    pub told-done : (ends : Ends) → Told (length listed) ends → TellsDone b closed ends
+    pub told-done : (ends : Ends) → Told (length listed) ends → NotesEndsOfDone b closed ends
     told-done ends all index within claim slot low sets =
         let at = in-at slot listed (right.every index slot low sets) in
         let here = subst (λ k. serial_ends b index k ≡ true) (sym at.2) sets in
         let set = settled.ended index at.0 within at.1 here claim in
-        subst (λ k. told_end ends k ≡ Some (b.first + index)) at.2 (all.taken at.0 (b.first + index) at.1 set)
+        subst (λ k. noted_end ends k ≡ Some (b.first + index)) at.2 (all.taken at.0 (b.first + index) at.1 set)

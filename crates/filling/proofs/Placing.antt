@@ -18,18 +18,18 @@ use Rattle.placing.proofs.Going.{own-prior-is, own-writer-is, up-to-next}
 use Rattle.bohm_core_base.specs.declared.event.Event.TheVariants.{Place}
 use Rattle.bohm_core_base.specs.Batch.{Batch, reference_words}
 use Rattle.log_batch.specs.Laws.{word_of}
-use Rattle.log_batch.specs.Supplied.{Ranged, batch_in, range_of}
+use Rattle.log_batch.specs.Supplied.{LogRange, batch_of, range_of}
 use Rattle.log_batch.proofs.SoundReferences.{references_same}
 use Rattle.log_batch.specs.Keys.{Key}
-use Rattle.words.specs.declared.view.View.{View}
+use Rattle.words.specs.declared.knowledge.Knowledge.{Knowledge}
 use Rattle.words.specs.Layout.{partition_at, reference_at}
-use Rattle.words.specs.Passes.{Passing, Placing, Words, gone_on, open_pass, placed_on}
-use Rattle.words.specs.Tells.{StoredAll}
+use Rattle.words.specs.Passes.{PassState, PlacerState, Words, gone_on, open_pass, placed_on}
+use Rattle.words.specs.Meanings.{StoredAll}
 use Rattle.words.specs.Views.{In, front_in, with_cut, with_placing, with_stored}
 use Rattle.filling.specs.declared.placer.Placer.{Placer}
 use Rattle.filling.specs.Placers.{AreNewPlacers, IsAt, IsNewPlacer, IsPlacerIn, OnlyStores, StoredBelow, placer_front, storing, with_all_cut}
 
-module _ (ranged : Ranged) (index : ℕ) (statement : Statement) (at : slice_get ranged.log.statements (ranged.first + index) ≡ Some statement) where
+module _ (ranged : LogRange) (index : ℕ) (statement : Statement) (at : slice_get ranged.log.statements (ranged.first + index) ≡ Some statement) where
   abbrev log : List Statement
   log = ranged.log.statements
 
@@ -43,18 +43,18 @@ module _ (ranged : Ranged) (index : ℕ) (statement : Statement) (at : slice_get
   deeds = map (prior log ranged.first place) (tables_of statement.form)
 
   -- the place has a reference for each access, and then one for each of its tables
-  references-are : reference_words (batch_in ranged) index ≡ map (word_of ranged.first) (rows ++ deeds)
+  references-are : reference_words (batch_of ranged) index ≡ map (word_of ranged.first) (rows ++ deeds)
   references-are =
       references_same (range_of ranged) index
       ∙ ap (λ found. map (word_of ranged.first) (option_map_or (references_of log ranged.first place) found [])) at
 
   -- each into the partition of its row, or of the deeds on its table
-  partitions-are : (batch_in ranged).partitions_of index
+  partitions-are : (batch_of ranged).partitions_of index
       ≡ map (λ (slot : Referral). slot.partition) (referrals_of ranged.partitions log ranged.first place statement)
   partitions-are =
       ap (λ found. map (λ (slot : Referral). slot.partition) (option_map_or (referrals_of ranged.partitions log ranged.first place) found [])) at
 
-  pub references-count : length (reference_words (batch_in ranged) index) ≡ length (accesses_of statement.form) + length (tables_of statement.form)
+  pub references-count : length (reference_words (batch_of ranged) index) ≡ length (accesses_of statement.form) + length (tables_of statement.form)
   references-count =
       let all = ap (λ (words : List ℕ). length words) references-are in
       let words = length-map (rows ++ deeds) (word_of ranged.first) in
@@ -64,7 +64,7 @@ module _ (ranged : Ranged) (index : ℕ) (statement : Statement) (at : slice_get
       omega arith
 
   pub row-word : (number : ℕ) (access : Access) → number < length (accesses_of statement.form) → access ≡ get_or (accesses_of statement.form) number access
-      → reference_at (batch_in ranged) index number ≡ word_of ranged.first (writer log ranged.first place access)
+      → reference_at (batch_of ranged) index number ≡ word_of ranged.first (writer log ranged.first place access)
   row-word number access within is =
       let count = length-map (accesses_of statement.form) (writer log ranged.first place) in
       let both = length-append rows deeds in
@@ -76,7 +76,7 @@ module _ (ranged : Ranged) (index : ℕ) (statement : Statement) (at : slice_get
       ∙ ap (writer log ranged.first place) (sym is))
 
   pub table-word : (number table : ℕ) → number < length (tables_of statement.form) → table ≡ get_or (tables_of statement.form) number 0
-      → reference_at (batch_in ranged) index (length (accesses_of statement.form) + number) ≡ word_of ranged.first (prior log ranged.first place table)
+      → reference_at (batch_of ranged) index (length (accesses_of statement.form) + number) ≡ word_of ranged.first (prior log ranged.first place table)
   table-word number table within is =
       let count = length-map (accesses_of statement.form) (writer log ranged.first place) in
       let more = length-map (tables_of statement.form) (prior log ranged.first place) in
@@ -99,7 +99,7 @@ module _ (ranged : Ranged) (index : ℕ) (statement : Statement) (at : slice_get
   none = record { partition = 0; reference = Base }
 
   pub row-partition : (number : ℕ) (access : Access) → number < length (accesses_of statement.form) → access ≡ get_or (accesses_of statement.form) number access
-      → partition_at (batch_in ranged) index number ≡ key_partition ranged.partitions access.key.table access.key.row
+      → partition_at (batch_of ranged) index number ≡ key_partition ranged.partitions access.key.table access.key.row
   row-partition number access within is =
       let count = length-map (accesses_of statement.form) (access_referral ranged.partitions log ranged.first place) in
       let both = length-append row-slots table-slots in
@@ -111,7 +111,7 @@ module _ (ranged : Ranged) (index : ℕ) (statement : Statement) (at : slice_get
       ∙ ap (access_referral ranged.partitions log ranged.first place) (sym is))
 
   pub table-partition : (number table : ℕ) → number < length (tables_of statement.form) → table ≡ get_or (tables_of statement.form) number 0
-      → partition_at (batch_in ranged) index (length (accesses_of statement.form) + number) ≡ table_partition ranged.partitions table
+      → partition_at (batch_of ranged) index (length (accesses_of statement.form) + number) ≡ table_partition ranged.partitions table
   table-partition number table within is =
       let count = length-map (accesses_of statement.form) (access_referral ranged.partitions log ranged.first place) in
       let more = length-map (tables_of statement.form) (table_referral ranged.partitions log ranged.first place) in
@@ -125,18 +125,18 @@ module _ (ranged : Ranged) (index : ℕ) (statement : Statement) (at : slice_get
       ∙ ap (table_referral ranged.partitions log ranged.first place) (sym is))
 
 -- who stores one reference only stores, and so does who stores some and then more
-pub stores-none : (token : Placing) → OnlyStores token token
+pub stores-none : (token : PlacerState) → OnlyStores token token
 stores-none token = refl
 
-pub stores-then : (token middle after : Placing) → OnlyStores token middle → OnlyStores middle after → OnlyStores token after
-stores-then token middle after first second = second ∙ ap (λ (from : Placing). storing from after.view.stored) first
+pub stores-then : (token middle after : PlacerState) → OnlyStores token middle → OnlyStores middle after → OnlyStores token after
+stores-then token middle after first second = second ∙ ap (λ (from : PlacerState). storing from after.view.stored) first
 
 -- where it is stands
-pub at-stays : (words : Words Key) (token after : Placing) (latest : Latest) (statement : Statement) → OnlyStores token after
+pub at-stays : (words : Words Key) (token after : PlacerState) (latest : Latest) (statement : Statement) → OnlyStores token after
     → IsAt words token latest statement → IsAt words after latest statement
 at-stays words token after latest statement only is =
-    subst (λ (t : Placing). IsAt words t latest statement) (sym only) record {
-      ours = is.ours;
+    subst (λ (t : PlacerState). IsAt words t latest statement) (sym only) record {
+      same_table = is.same_table;
       within = is.within;
       at = is.at;
       partition = is.partition;
@@ -145,7 +145,7 @@ at-stays words token after latest statement only is =
     }
 
 -- before any number nothing has to be stored
-pub stored-none : (batch : Batch) (view : View) → StoredBelow batch view 0
+pub stored-none : (batch : Batch) (view : Knowledge) → StoredBelow batch view 0
 stored-none batch view number low within mine = absurd (omega arith)
 
 less-or-last : (number count : ℕ) → number < count + 1 → (number < count) ⊎ (number ≡ count)
@@ -165,10 +165,10 @@ in-last number [] = inl refl
 in-last number (other ∷ stored) = inr (in-last number stored)
 
 -- one reference more is stored
-pub stored-more : (batch : Batch) (token after : Placing) (count : ℕ) → after ≡ placed_on token (with_stored token.view count)
+pub stored-more : (batch : Batch) (token after : PlacerState) (count : ℕ) → after ≡ placed_on token (with_stored token.view count)
     → StoredBelow batch token.view count → StoredBelow batch after.view (count + 1)
 stored-more batch token after count is before =
-    subst (λ (t : Placing). StoredBelow batch t.view (count + 1)) (sym is)
+    subst (λ (t : PlacerState). StoredBelow batch t.view (count + 1)) (sym is)
     (λ number low within mine. by_order number (less-or-last number count low) within mine)
   where
     by_order : (number : ℕ) → (number < count) ⊎ (number ≡ count) → number < length (reference_words batch (front_in token.view))
@@ -177,7 +177,7 @@ stored-more batch token after count is before =
     by_order number (inr same) within mine = rw same (in-last count token.view.stored)
 
 -- or isn't into the partition
-pub stored-other : (batch : Batch) (view : View) (count : ℕ) → (partition_at batch (front_in view) count ≡ view.partition → ⊥)
+pub stored-other : (batch : Batch) (view : Knowledge) (count : ℕ) → (partition_at batch (front_in view) count ≡ view.partition → ⊥)
     → StoredBelow batch view count → StoredBelow batch view (count + 1)
 stored-other batch view count other before number low within mine = by_order (less-or-last number count low)
   where
@@ -186,10 +186,10 @@ stored-other batch view count other before number low within mine = by_order (le
     by_order (inr same) = absurd (other (ap (λ n. partition_at batch (front_in view) n) (sym same) ∙ mine))
 
 -- the word of what a placer found for an access into its partition is that of the batch
-pub found-row : (words : Words Key) (token : Placing) (latest : Latest) (statement : Statement) → IsAt words token latest statement
+pub found-row : (words : Words Key) (token : PlacerState) (latest : Latest) (statement : Statement) → IsAt words token latest statement
     → (number : ℕ) (access : Access) → number < length (accesses_of statement.form) → access ≡ get_or (accesses_of statement.form) number access
     → key_partition words.key.batch.partitions access.key.table access.key.row ≡ token.view.partition
-    → word_of words.key.batch.first (own_writer latest access) ≡ reference_at (batch_in words.key.batch) (front_in token.view) number
+    → word_of words.key.batch.first (own_writer latest access) ≡ reference_at (batch_of words.key.batch) (front_in token.view) number
 found-row words token latest statement is number access within here mine =
     let ranged = words.key.batch in
     let same : key_partition latest.partitions access.key.table access.key.row ≡ latest.partition =
@@ -199,11 +199,11 @@ found-row words token latest statement is number access within here mine =
     ∙ sym (row-word ranged (front_in token.view) statement is.at number access within here)
 
 -- and so is that of what it found for a table
-pub found-table : (words : Words Key) (token : Placing) (latest : Latest) (statement : Statement) → IsAt words token latest statement
+pub found-table : (words : Words Key) (token : PlacerState) (latest : Latest) (statement : Statement) → IsAt words token latest statement
     → (number table : ℕ) → number < length (tables_of statement.form) → table ≡ get_or (tables_of statement.form) number 0
     → table_partition words.key.batch.partitions table ≡ token.view.partition
     → word_of words.key.batch.first (own_prior latest table)
-    ≡ reference_at (batch_in words.key.batch) (front_in token.view) (length (accesses_of statement.form) + number)
+    ≡ reference_at (batch_of words.key.batch) (front_in token.view) (length (accesses_of statement.form) + number)
 found-table words token latest statement is number table within here mine =
     let ranged = words.key.batch in
     let same : table_partition latest.partitions table ≡ latest.partition =
@@ -213,19 +213,19 @@ found-table words token latest statement is number table within here mine =
     ∙ sym (table-word ranged (front_in token.view) statement is.at number table within here)
 
 -- this many references are all of the place
-pub stored-all : (words : Words Key) (token : Placing) (latest : Latest) (statement : Statement) → IsAt words token latest statement
-    → StoredBelow (batch_in words.key.batch) token.view (length (accesses_of statement.form) + length (tables_of statement.form))
-    → StoredAll (batch_in words.key.batch) token.view
+pub stored-all : (words : Words Key) (token : PlacerState) (latest : Latest) (statement : Statement) → IsAt words token latest statement
+    → StoredBelow (batch_of words.key.batch) token.view (length (accesses_of statement.form) + length (tables_of statement.form))
+    → StoredAll (batch_of words.key.batch) token.view
 stored-all words token latest statement is below number within mine =
     below number (let count = references-count words.key.batch (front_in token.view) statement is.at in omega arith) within mine
 
 -- who stores and then goes on has only placed a place
-pub stores-advance : (token middle after : Placing) → OnlyStores token middle → after ≡ placed_on middle (with_placing middle.view)
+pub stores-advance : (token middle after : PlacerState) → OnlyStores token middle → after ≡ placed_on middle (with_placing middle.view)
     → after ≡ placed_on token (with_placing token.view)
-stores-advance token middle after only is = is ∙ ap (λ (t : Placing). placed_on t (with_placing t.view)) only
+stores-advance token middle after only is = is ∙ ap (λ (t : PlacerState). placed_on t (with_placing t.view)) only
 
 -- one place more is placed
-pub front-more : (view : View) → front_in (with_placing view) ≡ suc (front_in view)
+pub front-more : (view : Knowledge) → front_in (with_placing view) ≡ suc (front_in view)
 front-more view = let one = length-append view.placings (Place view.partition ∷ []) in omega arith
 
 pub placer-more : (words : Words Key) (placer after : Placer) → IsPlacerIn words placer → placer_front placer < words.key.batch.size
@@ -233,10 +233,10 @@ pub placer-more : (words : Words Key) (placer after : Placer) → IsPlacerIn wor
     → IsLatest after.finder.latest words.key.batch.log.statements words.key.batch.first (words.key.batch.first + placer_front placer)
     → after.token ≡ placed_on placer.token (with_placing placer.token.view) → IsPlacerIn words after
 placer-more words placer after is low partition partitions latest moved =
-    let mine : after.token.view.partition ≡ placer.token.view.partition = ap (λ (t : Placing). t.view.partition) moved in
-    let front : placer_front after ≡ suc (placer_front placer) = ap (λ (t : Placing). front_in t.view) moved ∙ front-more placer.token.view in
+    let mine : after.token.view.partition ≡ placer.token.view.partition = ap (λ (t : PlacerState). t.view.partition) moved in
+    let front : placer_front after ≡ suc (placer_front placer) = ap (λ (t : PlacerState). front_in t.view) moved ∙ front-more placer.token.view in
     record {
-      ours = ap (λ (t : Placing). t.table) moved ∙ is.ours;
+      same_table = ap (λ (t : PlacerState). t.table) moved ∙ is.same_table;
       within = (let within = is.within in omega arith);
       most = omega arith;
       partition = partition ∙ is.partition ∙ sym mine;
@@ -257,12 +257,12 @@ range-more from (suc count) =
     ap (λ rest. from ∷ rest) (range-more (from + 1) count ∙ ap (λ n. range_with_len (from + 1) count ++ n ∷ []) last)
 
 -- one placer more was cut
-pub cut-more : (pass next last : Passing) (partition : ℕ) → next ≡ gone_on pass (with_all_cut pass.view partition)
+pub cut-more : (pass next last : PassState) (partition : ℕ) → next ≡ gone_on pass (with_all_cut pass.view partition)
     → last ≡ gone_on next (with_cut next.view partition) → last ≡ gone_on pass (with_all_cut pass.view (partition + 1))
 cut-more pass next last partition before is =
     let more : range_with_len 0 partition ++ partition ∷ [] ≡ range_with_len 0 (partition + 1) = range-last partition in
     is
-    ∙ ap (λ (p : Passing). gone_on p (with_cut p.view partition)) before
+    ∙ ap (λ (p : PassState). gone_on p (with_cut p.view partition)) before
     ∙ ap (λ (numbers : List ℕ). gone_on pass (record pass.view { cut = numbers })) more
   where
     range-last : (n : ℕ) → range_with_len 0 n ++ n ∷ [] ≡ range_with_len 0 (n + 1)
@@ -294,8 +294,8 @@ placers-more words placers placer partition are is = record {
     by_cases other found (inl at) = are.each other found at
     by_cases other found (inr last) = rw (last.1, last.0 ∙ are.every) is
 
-pub begin-cut : (words : Words Key) (pass : Passing) → pass ≡ open_pass words → pass ≡ gone_on pass (with_all_cut pass.view 0)
-begin-cut words pass is = subst (λ (p : Passing). p ≡ gone_on p (with_all_cut p.view 0)) (sym is) refl
+pub begin-cut : (words : Words Key) (pass : PassState) → pass ≡ open_pass words → pass ≡ gone_on pass (with_all_cut pass.view 0)
+begin-cut words pass is = subst (λ (p : PassState). p ≡ gone_on p (with_all_cut p.view 0)) (sym is) refl
 
 pub no-placers : (words : Words Key) → AreNewPlacers words 0 []
 no-placers words = record {

@@ -18,7 +18,7 @@ use Rattle.bohm_core_base.proofs.Whole.{is_end-some, no_grant, serial-ends-from}
 use Rattle.log_batch.specs.Laws.{places_that}
 use Rattle.log_batch.proofs.SlotsEnded.{same_test}
 use Rattle.filling.specs.declared.completion.ends.Ends.{Ends}
-use Rattle.filling.specs.Ends.{AreTold, TellsOf, ended_among, told_end}
+use Rattle.filling.specs.Ends.{AreSerialEnds, NotesEndsOf, ended_among, noted_end}
 
 -- one number is found by another where they are the same
 at-is : (x y : ℕ) → is_at (nat_cmp x) y ≡ eqb x y
@@ -131,14 +131,14 @@ module _ (b : Batch) (place : ℕ) (test : ℕ → Bool) where
             (among grants (suc slot) (one ∷ ends) grants-rest (omega arith, rise.1) (subst (λ n. Below n (one ∷ ends)) (sym wide) below) tells-rest))
       ]
 
-module _ (b : Batch) (n : ℕ) (ends : Ends) (told : AreTold b ends) (all : TellsOf b n ends) where
+module _ (b : Batch) (n : ℕ) (ends : Ends) (told : AreSerialEnds b ends) (all : NotesEndsOf b n ends) where
   abbrev place : ℕ
   place = b.first + n
 
-  tells-slot : (k : ℕ) → k < length (batch_slots b) → is_end place (told_end ends k) ≡ serial_ends b n k
+  tells-slot : (k : ℕ) → k < length (batch_slots b) → is_end place (noted_end ends k) ≡ serial_ends b n k
   tells-slot k slot =
-      same_test (is_end place (told_end ends k)) (serial_ends b n k)
-      (λ here. serial-ends-from b n k place (told.whole k place (is_end-some place (told_end ends k) here)) refl)
+      same_test (is_end place (noted_end ends k)) (serial_ends b n k)
+      (λ here. serial-ends-from b n k place (told.whole k place (is_end-some place (noted_end ends k) here)) refl)
       (λ set. ap (is_end place) (all k slot set) ∙ (let same : (place == place) ≡ true = grind (arith, nat_tests) in same))
 
   -- of the place all are given that it ends
@@ -149,4 +149,4 @@ module _ (b : Batch) (n : ℕ) (ends : Ends) (told : AreTold b ends) (all : Tell
       (λ k slot. ap (place_at b) (zero-add k) ∙ get_or-map (λ (grant : Grant). grant.place) (batch_slots b) k no_grant 0 slot)
       (rises 0 ends.places.entries (above-none ends.places.entries) ordered)
       (subst (λ high. Below high ends.places.entries) (sym (zero-add (length (batch_slots b)))) (below-all (length (batch_slots b)) ends.places.entries slots))
-      (λ k slot. ap (λ at. is_end place (told_end ends at)) (zero-add k) ∙ tells-slot k slot ∙ ap (serial_ends b n) (sym (zero-add k)))
+      (λ k slot. ap (λ at. is_end place (noted_end ends at)) (zero-add k) ∙ tells-slot k slot ∙ ap (serial_ends b n) (sym (zero-add k)))

@@ -8,30 +8,30 @@ use Rattle.bohm_core_base.specs.Machine.{end_of, start}
 use Rattle.bohm_core_base.specs.Serial.{is_end, serial_ends, whole_end}
 use Rattle.bohm_core_base.proofs.Whole.{is_end-some}
 use Rattle.log_batch.specs.Keys.{Key}
-use Rattle.evaluation.specs.Told.{IsDeedBefore, IsReferred, Work}
-use Rattle.words.specs.declared.view.View.{View}
+use Rattle.evaluation.specs.ReadSource.{IsDeedBefore, IsReferred, PassWork}
+use Rattle.words.specs.declared.knowledge.Knowledge.{Knowledge}
 use Rattle.words.specs.Layout.{IsListed, end_told}
-use Rattle.words.specs.Passes.{IsPassOf, Passing, Words, gone_on}
-use Rattle.words.specs.Tells.{EndTells, FoundHeld}
+use Rattle.words.specs.Passes.{IsPassOf, PassState, Words, gone_on}
+use Rattle.words.specs.Meanings.{EndMeans, FoundHeld}
 use Rattle.words.specs.Views.{HoldsNone, In, IsSettled, KnowsReferences, with_known, with_sighting}
-use Rattle.filling_base.specs.Goings.{IsSamePass, OnlyLearns}
+use Rattle.filling_base.specs.Extending.{IsSamePass, OnlyLearns}
 use Rattle.filling.specs.Readings.{IsEndBelow, IsReadingPass, KeepsKnown, work_of}
 use Rattle.filling.proofs.Lists.{at-in, in-back, in-front}
 
 -- what a place is referred to is known done
-pub referred-known : (b : Batch) (v : View) (i other : ℕ) → KnowsReferences b v i → IsReferred (record { batch = b; index = i }) other → In other v.known
+pub referred-known : (b : Batch) (v : Knowledge) (i other : ℕ) → KnowsReferences b v i → IsReferred (record { batch = b; index = i }) other → In other v.known
 referred-known b v i other knows is =
     knows other (subst (λ word. In word (reference_words b i)) is.here (at-in (reference_words b i) is.number is.within))
 
 -- an earlier place with a deed on a table of the place is settled
-pub deed-settled : (b : Batch) (v : View) (i other : ℕ) → i < b.size → KnowsReferences b v i → IsDeedBefore (record { batch = b; index = i }) other → IsSettled b v other
+pub deed-settled : (b : Batch) (v : Knowledge) (i other : ℕ) → i < b.size → KnowsReferences b v i → IsDeedBefore (record { batch = b; index = i }) other → IsSettled b v other
 deed-settled b v i other within knows is = (i, is.table, is.before, within, knows, is.listed, is.deed)
 
 -- an end that is known, and one that a word says
-pub end-early : (b : Batch) (v : View) (slot : ℕ) (end : Option ℕ) → whole_end b slot ≡ end → IsEndBelow b v slot end
+pub end-early : (b : Batch) (v : Knowledge) (slot : ℕ) (end : Option ℕ) → whole_end b slot ≡ end → IsEndBelow b v slot end
 end-early b v slot end is index within knows listed = ap (end_below (b.first + index)) (sym is)
 
-pub end-word : (b : Batch) (v : View) (slot at word : ℕ) (end : Option ℕ) → at ≡ slot → EndTells b at v word → end ≡ end_told word → IsEndBelow b v slot end
+pub end-word : (b : Batch) (v : Knowledge) (slot at word : ℕ) (end : Option ℕ) → at ≡ slot → EndMeans b at v word → end ≡ end_told word → IsEndBelow b v slot end
 end-word b v slot at word end same tells is =
     subst (λ s. IsEndBelow b v s end) same
     (λ index within knows listed. ap (end_below (b.first + index)) is ∙ tells.below index within knows listed)
@@ -44,13 +44,13 @@ end-unlisted b listed slot right within keeps out =
     keeps (λ index. by_cases (serial_ends b index slot) (λ ends. absurd (out (right.every index slot within ends))) (λ none. none))
 
 -- a reading goes on where the pass only finds a place done, and where it stays
-pub reading-found : (words : Words Key) (key : Key) (pass after : Passing) (index other : ℕ) (named : Option (Words Key)) (known : List ℕ)
+pub reading-found : (words : Words Key) (key : Key) (pass after : PassState) (index other : ℕ) (named : Option (Words Key)) (known : List ℕ)
     → after ≡ gone_on pass (with_known pass.view other)
     → IsReadingPass words key pass index named known → IsReadingPass words key after index named known
 reading-found words key pass after index other named known is reading =
     subst (λ p. IsReadingPass words key p index named known) (sym is)
     (record {
-      ours = reading.ours;
+      same_table = reading.same_table;
       key = reading.key;
       within = reading.within;
       past = reading.past;
@@ -60,42 +60,42 @@ reading-found words key pass after index other named known is reading =
     })
 
 -- the words that a reading is of are those that were named
-pub named-words : (words words' : Words Key) (named : Option (Words Key)) (pass : Passing) → Some words ≡ named → Some words' ≡ named → IsPassOf words' pass → IsPassOf words pass
-named-words words words' named pass is is' ours =
+pub named-words : (words words' : Words Key) (named : Option (Words Key)) (pass : PassState) → Some words ≡ named → Some words' ≡ named → IsPassOf words' pass → IsPassOf words pass
+named-words words words' named pass is is' same_table =
     let both : Some words' ≡ Some words = is' ∙ sym is in
     let same : words' ≡ words = cc in
-    ours ∙ ap (λ (w : Words Key). w.table) same
+    same_table ∙ ap (λ (w : Words Key). w.table) same
 
 -- a pass of the same work is the same, and it only learnt
-pub same-pass : (words : Words Key) (pass after : Passing) → IsPassOf words pass → IsPassOf words after → work_of after ≡ work_of pass → IsSamePass pass after
-same-pass words pass after ours ours' work =
-    let bodies = ap (λ (w : Work). w.bodies) work in record {
-      table = ours' ∙ sym ours;
-      number = ap (λ (w : Work). w.number) work;
+pub same-pass : (words : Words Key) (pass after : PassState) → IsPassOf words pass → IsPassOf words after → work_of after ≡ work_of pass → IsSamePass pass after
+same-pass words pass after same_table ours' work =
+    let bodies = ap (λ (w : PassWork). w.bodies) work in record {
+      table = ours' ∙ sym same_table;
+      number = ap (λ (w : PassWork). w.number) work;
       bodies = omega arith;
     }
 
-pub only-learns : (pass after : Passing) → KeepsKnown pass.view.known after.view.known → work_of after ≡ work_of pass → OnlyLearns pass.view after.view
+pub only-learns : (pass after : PassState) → KeepsKnown pass.view.known after.view.known → work_of after ≡ work_of pass → OnlyLearns pass.view after.view
 only-learns pass after knows work =
-    let events = ap (λ (w : Work). w.events) work in record {
+    let events = ap (λ (w : PassWork). w.events) work in record {
       goes = record {
         knows = knows;
         events = [];
         adds = events ∙ sym (append-nil pass.view.events);
         gives_back = λ actor index has. absurd has;
-        kept = ap (λ (w : Work). w.taken) work;
-        sole = ap (λ (w : Work). w.sole) work;
+        kept = ap (λ (w : PassWork). w.taken) work;
+        sole = ap (λ (w : PassWork). w.sole) work;
         fronts = (
-          (λ all. ap (λ (w : Work). w.placed) work ∙ all),
-          (λ partition count has. subst (λ (l : List (ℕ × ℕ)). In (partition, count) l) (sym (ap (λ (w : Work). w.fronts) work)) has),
+          (λ all. ap (λ (w : PassWork). w.placed) work ∙ all),
+          (λ partition count has. subst (λ (l : List (ℕ × ℕ)). In (partition, count) l) (sym (ap (λ (w : PassWork). w.fronts) work)) has),
         );
       };
       events = events;
-      sightings = ap (λ (w : Work). w.sightings) work;
+      sightings = ap (λ (w : PassWork). w.sightings) work;
     }
 
 -- whether a place that is known done ended the record, by the end that its word says
-pub record-ended : (b : Batch) (v : View) (slot word index : ℕ) (end : Option ℕ) → EndTells b slot v word → In index v.known → end ≡ end_told word
+pub record-ended : (b : Batch) (v : Knowledge) (slot word index : ℕ) (end : Option ℕ) → EndMeans b slot v word → In index v.known → end ≡ end_told word
     → is_end (b.first + index) end ≡ serial_ends b index slot
 unfolding serial_ends
 record-ended b v slot word index end tells known is =
@@ -110,15 +110,15 @@ record-ended b v slot word index end tells known is =
     tells.none_or
 
 -- and where it finds a place done it only learns that
-pub found-learns : (pass after : Passing) (index : ℕ) → after ≡ gone_on pass (with_known pass.view index) → OnlyLearns pass.view after.view × In index after.view.known
+pub found-learns : (pass after : PassState) (index : ℕ) → after ≡ gone_on pass (with_known pass.view index) → OnlyLearns pass.view after.view × In index after.view.known
 found-learns pass after index is =
-    subst (λ (p : Passing). OnlyLearns pass.view p.view × In index p.view.known) (sym is)
+    subst (λ (p : PassState). OnlyLearns pass.view p.view × In index p.view.known) (sym is)
     (only-learns pass (gone_on pass (with_known pass.view index)) (λ one has. in-front one pass.view.known (index ∷ []) has) refl, in-back index pass.view.known)
 
 -- a pass that holds no place finds one held by another
-pub found-held : (v w : View) (index : ℕ) → HoldsNone v → FoundHeld index v w → w ≡ with_sighting v index
+pub found-held : (v w : Knowledge) (index : ℕ) → HoldsNone v → FoundHeld index v w → w ≡ with_sighting v index
 found-held v w index idle found = ⊎_elim (λ mine. absurd (idle index mine.1.0 mine.1.1 mine.1.2)) (λ other. other.0) found
 
 -- through the steps of a look
-pub looked : (pass begun seen after : Passing) (view : View) → begun ≡ pass → seen ≡ gone_on begun seen.view → seen.view ≡ view → after ≡ seen → after ≡ gone_on pass view
+pub looked : (pass begun seen after : PassState) (view : Knowledge) → begun ≡ pass → seen ≡ gone_on begun seen.view → seen.view ≡ view → after ≡ seen → after ≡ gone_on pass view
 looked pass begun seen after view first goes is last = last ∙ goes ∙ ap (λ p. gone_on p seen.view) first ∙ ap (gone_on pass) is

@@ -13,7 +13,7 @@ use Rattle.own_words.specs.Places.{cells, own_words, words_at}
 use Rattle.own_words.specs.Words.{FitsForm, ended_in, header, outcome_from}
 use Rattle.evaluation.proofs.Fitting.{outcome_fits, words_tell}
 use Rattle.sequencer.specs.Log.{Accepted}
-use Rattle.sequencer.specs.Taken.{IsTaken, IsWhole, columns_by}
+use Rattle.sequencer.specs.Whole.{IsAccepted, IsWhole, columns_by}
 
 pub got : {A : Type 0} (P : A → Type 0) (xs : List A) (i : ℕ) (x : A) → All P xs → slice_get xs i ≡ Some x → P x
 got P [] i x all at = absurd (cc)
@@ -34,10 +34,10 @@ module _ (log : Accepted) (whole : IsWhole log) (place : ℕ) (statement : State
   words-are = ap (λ (s : Option Statement). option_map_or (λ one. own_words (columns_by log.names) one.form (at_place (owners log.statements) place (world_before log.statements place) one)) s []) at
 
   pub all-fit : All (λ (other : Statement). FormFits (columns_by log.names) other.form) log.statements
-  all-fit = All-weaker (IsTaken log.names) (λ (other : Statement). FormFits (columns_by log.names) other.form) (λ other taken. taken.fits) log.statements whole.taken
+  all-fit = All-weaker (IsAccepted log.names) (λ (other : Statement). FormFits (columns_by log.names) other.form) (λ other taken. taken.fits) log.statements whole.taken
 
-  pub taken : IsTaken log.names statement
-  taken = got (IsTaken log.names) log.statements place statement whole.taken at
+  pub taken : IsAccepted log.names statement
+  taken = got (IsAccepted log.names) log.statements place statement whole.taken at
 
   pub short : length (steps_of statement.form) < 2 ^ 64
   short = omega (arith, taken.steps)

@@ -7,7 +7,7 @@ use Rattle.model_base.specs.declared.outcome.Outcome.{Outcome}
 use Rattle.model_base.specs.declared.statement.Form.{Form}
 use Rattle.model_base.specs.declared.statement.Statement.{Statement}
 use Rattle.model_base.specs.Outcomes.{at_place, owners, world_before}
-use Rattle.log_batch.specs.Supplied.{Ranged}
+use Rattle.log_batch.specs.Supplied.{LogRange}
 
 -- whether the statement is a transaction, which alone has a body, with a deed or without
 abbrev pub has_body : Form → Bool
@@ -38,5 +38,5 @@ runs_in log place =
     (at_place (owners log) place (world_before log place) statement).0) (slice_get log place) 0
 
 -- and for an index of a range of a log
-abbrev pub runs_at : Ranged → ℕ → ℕ
+abbrev pub runs_at : LogRange → ℕ → ℕ
 runs_at ranged index = runs_in ranged.log.statements (ranged.first + index)

@@ -14,31 +14,31 @@ abbrev pub ended_lists : List (Vec ℕ Global) → List (List ℕ)
 ended_lists lists = map (λ (list : Vec ℕ Global). list.items) lists
 
 -- the end that is known of the record of a slot
-abbrev pub told_end : Ends → ℕ → Option ℕ
-told_end ends slot = get nat_cmp ends.places slot
+abbrev pub noted_end : Ends → ℕ → Option ℕ
+noted_end ends slot = get nat_cmp ends.places slot
 
 -- what was known still is
-abbrev pub KeepsTold : Ends → Ends → Type 0
-KeepsTold old new = (slot end : ℕ) → told_end old slot ≡ Some end → told_end new slot ≡ Some end
+abbrev pub KeepsNoted : Ends → Ends → Type 0
+KeepsNoted old new = (slot end : ℕ) → noted_end old slot ≡ Some end → noted_end new slot ≡ Some end
 
 -- one more is known
-abbrev pub TellsOneMore : ℕ → ℕ → Ends → Ends → Type 0
-TellsOneMore slot end old new = (other : ℕ) → told_end new other ≡ (if slot == other then Some end else told_end old other)
+abbrev pub NotesOneMore : ℕ → ℕ → Ends → Ends → Type 0
+NotesOneMore slot end old new = (other : ℕ) → noted_end new other ≡ (if slot == other then Some end else noted_end old other)
 
 -- what a word says of a slot is known: of 0 nothing, and else that the record ended at the place that is one less
-abbrev pub TellsWord : ℕ → ℕ → Ends → Ends → Type 0
-TellsWord slot zero old new = (other : ℕ) → told_end new other ≡ told_end old other
-TellsWord slot (suc end) old new = TellsOneMore slot end old new
+abbrev pub NotesWord : ℕ → ℕ → Ends → Ends → Type 0
+NotesWord slot zero old new = (other : ℕ) → noted_end new other ≡ noted_end old other
+NotesWord slot (suc end) old new = NotesOneMore slot end old new
 
 -- each end that is known is that of the serial run of the whole batch
-pub record AreTold (batch : Batch) (ends : Ends) : Type 0 where
-  pub slots : (slot end : ℕ) → told_end ends slot ≡ Some end → slot < length (batch_slots batch)
-  pub whole : (slot end : ℕ) → told_end ends slot ≡ Some end → whole_end batch slot ≡ Some end
+pub record AreSerialEnds (batch : Batch) (ends : Ends) : Type 0 where
+  pub slots : (slot end : ℕ) → noted_end ends slot ≡ Some end → slot < length (batch_slots batch)
+  pub whole : (slot end : ℕ) → noted_end ends slot ≡ Some end → whole_end batch slot ≡ Some end
 
 -- all that a place of the batch ends by the serial run are known
-abbrev pub TellsOf : Batch → ℕ → Ends → Type 0
-TellsOf batch index ends =
-    (slot : ℕ) → slot < length (batch_slots batch) → serial_ends batch index slot ≡ true → told_end ends slot ≡ Some (batch.first + index)
+abbrev pub NotesEndsOf : Batch → ℕ → Ends → Type 0
+NotesEndsOf batch index ends =
+    (slot : ℕ) → slot < length (batch_slots batch) → serial_ends batch index slot ≡ true → noted_end ends slot ≡ Some (batch.first + index)
 
 -- of slots with their ends, the places of the grants whose records ended at a place, in order
 abbrev pub ended_among : Batch → ℕ → List (ℕ × ℕ) → List ℕ

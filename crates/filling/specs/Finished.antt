@@ -4,11 +4,11 @@ use Rattle.model_base.specs.declared.outcome.Outcome.{Outcome}
 use Rattle.model_base.specs.Outcomes.{outcome}
 use Rattle.own_words.specs.Places.{words_at}
 use Rattle.own_words.specs.Words.{ended_in}
-use Rattle.sequencer.specs.Taken.{columns_by}
-use Rattle.filling.specs.Span.{Span}
+use Rattle.sequencer.specs.Whole.{columns_by}
+use Rattle.filling.specs.FinishedRange.{FinishedRange}
 
 -- each of its places has the own words of its place in the log, and the places of the grants that its revocation ended
-pub record AreFinished (span : Span) (words ended : List (List ℕ)) : Type 0 where
+pub record AreFinished (span : FinishedRange) (words ended : List (List ℕ)) : Type 0 where
   pub own : (index : ℕ) → index < span.size
       → slice_index_or words index [] ≡ words_at (columns_by span.log.names) span.log.statements (span.first + index)
   pub ends : (index : ℕ) (found : Outcome) → index < span.size → outcome span.log.statements (span.first + index) ≡ Some found

@@ -6,7 +6,7 @@ pub mod Runs
 pub mod Placers
 pub mod Lists
 pub mod Ends
-pub mod Standing
+pub mod BatchProgress
 pub mod Finished
-pub mod Span
+pub mod FinishedRange
 pub mod Cells

@@ -7,11 +7,11 @@ use Rattle.model_base.specs.declared.statement.Statement.{Statement}
 use Rattle.placing.specs.declared.latest.Latest.{Latest}
 use Rattle.placing.specs.Latest.{IsLatest, IsUpTo}
 use Rattle.bohm_core_base.specs.Batch.{Batch, reference_words}
-use Rattle.log_batch.specs.Supplied.{Ranged}
+use Rattle.log_batch.specs.Supplied.{LogRange}
 use Rattle.log_batch.specs.Keys.{Key}
-use Rattle.words.specs.declared.view.View.{View}
+use Rattle.words.specs.declared.knowledge.Knowledge.{Knowledge}
 use Rattle.words.specs.Layout.{partition_at}
-use Rattle.words.specs.Passes.{IsPlacerOf, Placing, Words, placed_on}
+use Rattle.words.specs.Passes.{IsPlacerOf, PlacerState, Words, placed_on}
 use Rattle.words.specs.Views.{In, front_in, placer_view, with_placing}
 use Rattle.filling.specs.declared.placer.Placer.{Placer}
 use Rattle.filling_base.specs.declared.placer.Advanced.{Advanced}
@@ -23,7 +23,7 @@ placer_front placer = front_in placer.token.view
 
 -- it is a placer of this batch, for one of its partitions, and keeps what it needs for the place at its front
 pub record IsPlacerIn (words : Words Key) (placer : Placer) : Type 0 where
-  pub ours : IsPlacerOf words placer.token
+  pub same_table : IsPlacerOf words placer.token
   pub within : placer.token.view.partition < words.key.batch.partitions
   pub most : placer_front placer ≤ words.key.batch.size
   pub partition : placer.finder.latest.partition ≡ placer.token.view.partition
@@ -40,21 +40,21 @@ pub record AreNewPlacers (words : Words Key) (partitions : ℕ) (placers : List 
   pub each : (partition : ℕ) (placer : Placer) → slice_get placers partition ≡ Some placer → IsNewPlacer words partition placer
 
 -- the placers of the first this many partitions were cut from the pass
-abbrev pub with_all_cut : View → ℕ → View
+abbrev pub with_all_cut : Knowledge → ℕ → Knowledge
 with_all_cut view partitions = record view { cut = range_with_len 0 partitions }
 
 -- the outcome of a step: the place at the front was placed, or there was none any more, or memory was refused, and then neither the words
 -- nor the place at the front are others
-abbrev pub AdvancedTells : Ranged → Placer → Advanced → Placer → Type 0
-AdvancedTells ranged placer (Next place) after =
+abbrev pub AdvancedMeans : LogRange → Placer → Advanced → Placer → Type 0
+AdvancedMeans ranged placer (Next place) after =
     (placer_front placer < ranged.size) × (place ≡ ranged.first + placer_front placer)
     × (after.token ≡ placed_on placer.token (with_placing placer.token.view))
-AdvancedTells ranged placer End after = (placer_front placer ≡ ranged.size) × (after ≡ placer)
-AdvancedTells ranged placer NoMemory after = (placer_front placer < ranged.size) × (after.token ≡ placer.token)
+AdvancedMeans ranged placer End after = (placer_front placer ≡ ranged.size) × (after ≡ placer)
+AdvancedMeans ranged placer NoMemory after = (placer_front placer < ranged.size) × (after.token ≡ placer.token)
 
 -- the place at the front is one of the batch and has this statement, and the placer keeps all places below it
-pub record IsAt (words : Words Key) (token : Placing) (kept : Latest) (statement : Statement) : Type 0 where
-  pub ours : IsPlacerOf words token
+pub record IsAt (words : Words Key) (token : PlacerState) (kept : Latest) (statement : Statement) : Type 0 where
+  pub same_table : IsPlacerOf words token
   pub within : front_in token.view < words.key.batch.size
   pub at : slice_get words.key.batch.log.statements (words.key.batch.first + front_in token.view) ≡ Some statement
   pub partition : kept.partition ≡ token.view.partition
@@ -62,15 +62,15 @@ pub record IsAt (words : Words Key) (token : Placing) (kept : Latest) (statement
   pub latest : IsLatest kept words.key.batch.log.statements words.key.batch.first (words.key.batch.first + front_in token.view)
 
 -- of the references of the place at the front, those below a number that are into the placer's partition are stored
-abbrev pub StoredBelow : Batch → View → ℕ → Type 0
+abbrev pub StoredBelow : Batch → Knowledge → ℕ → Type 0
 StoredBelow batch view count =
     (number : ℕ) → number < count → number < length (reference_words batch (front_in view))
     → partition_at batch (front_in view) number ≡ view.partition → In number view.stored
 
 -- the placer with these stored
-abbrev pub storing : Placing → List ℕ → Placing
+abbrev pub storing : PlacerState → List ℕ → PlacerState
 storing token stored = placed_on token (record token.view { stored = stored })
 
 -- it only stored references
-abbrev pub OnlyStores : Placing → Placing → Type 0
+abbrev pub OnlyStores : PlacerState → PlacerState → Type 0
 OnlyStores token after = after ≡ storing token after.view.stored

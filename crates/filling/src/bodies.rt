@@ -2,9 +2,9 @@
 
 ghost use Rattle.std.specs.Prelude.{◌≡◌, ◌<◌, ◌&&◌, not, if◌then◌else◌};
 ghost use Rattle.bohm_core_base.specs.Serial.{serial_words};
-ghost use Rattle.log_batch.specs.Supplied.{batch_in};
+ghost use Rattle.log_batch.specs.Supplied.{batch_of};
 ghost use Rattle.filling_base.specs.Counting.{counted_more};
-ghost use Rattle.filling_base.specs.Goings.{IsSamePass};
+ghost use Rattle.filling_base.specs.Extending.{IsSamePass};
 ghost use Rattle.filling.specs.Bodies.{has_body, runs_at, says_denied};
 
 use crate::key::RangeKey;
@@ -43,7 +43,7 @@ fn runs_body(form: &Form, own: &[u64]) -> bool
 // Counts the body of a place that has these own words, if one is run for it.
 pub(crate) fn count_run(key: &RangeKey<'_>, holding: &mut Holding, index: usize, own: &[u64])
     requires within { index < key.now.batch.size }
-    requires own { own.now ≡ serial_words (batch_in key.now.batch) index }
+    requires own { own.now ≡ serial_words (batch_of key.now.batch) index }
     ensures same { IsSamePass holding.old holding.new }
     ensures view { holding.new.view ≡ holding.old.view }
     ensures bodies { holding.new.bodies ≡ counted_more holding.old.bodies (runs_at key.now.batch index) }

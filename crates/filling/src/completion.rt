@@ -1,18 +1,18 @@
 //! A batch completed on one thread, and what it leaves: outcomes, versions and ends.
 
+mod batch_progress;
 mod below;
 mod cells;
-mod closed;
+mod completed_batch;
 mod copying;
+mod decoded;
 mod ends;
 mod finished;
 mod lists;
 mod places;
 mod running;
-mod standing;
-mod taken;
 
-pub use closed::Closed;
+pub use completed_batch::CompletedBatch;
+pub use decoded::{DecodedBatch, take};
 pub use finished::Finished;
 pub use running::finish;
-pub use taken::{Taken, take};

@@ -7,10 +7,10 @@ ghost use Rattle.std.specs.Option.{option_to_list};
 ghost use Rattle.model_base.specs.declared.deed.Grant.{Grant};
 ghost use Rattle.bohm_core_base.specs.Batch.{batch_slots, was_done};
 ghost use Rattle.bohm_core_base.specs.Serial.{serial_ends, serial_words};
-ghost use Rattle.log_batch.specs.Supplied.{batch_in};
+ghost use Rattle.log_batch.specs.Supplied.{batch_of};
 ghost use Rattle.words.specs.Passes.{IsPassOf};
 ghost use Rattle.words.specs.Views.{KnowsPast, KnowsReferences};
-ghost use Rattle.filling_base.specs.Goings.{IsSamePass, OnlyLearns};
+ghost use Rattle.filling_base.specs.Extending.{IsSamePass, OnlyLearns};
 ghost use Rattle.filling_base.specs.References.{IsRevocation};
 ghost use Rattle.filling_base.specs.Storing.{IsEnding};
 ghost use Rattle.filling.specs.Numbers.{number_at, numbers_at};
@@ -21,17 +21,17 @@ use crate::reader::{Named, PassReader};
 use bohm_core_base::{
     records_end_by_done_places, records_end_by_revocations, slots_stand_in_order,
 };
-use evaluation::ends_told;
+use evaluation::ends_by_source;
 use log_batch::LogBatch;
 use model_base::{Deed, Place};
 use std::alloc::AllocError;
 use std::marker::{Brand, PhantomData};
-use words::{BatchWords, Holding, Placed};
+use words::{BatchData, BatchWords, Holding};
 
 // The deed that the place may make.
 fn deed_at(batch: &LogBatch, index: usize) -> Option<Deed>
     requires { index < batch.now.size }
-    ensures { result ≡ (batch_in batch.now).deed index }
+    ensures { result ≡ (batch_of batch.now).deed index }
 {
     let place = batch.first_place() + index as u64;
     batch.statement(index).deed_at(place)
@@ -40,8 +40,8 @@ fn deed_at(batch: &LogBatch, index: usize) -> Option<Deed>
 // Whether the place has a revocation.
 pub(crate) fn has_revocation(batch: &LogBatch, index: usize) -> bool
     requires { index < batch.now.size }
-    ensures yes { IsTrue result → IsRevocation (batch_in batch.now) index }
-    ensures no { IsRevocation (batch_in batch.now) index → IsTrue result }
+    ensures yes { IsTrue result → IsRevocation (batch_of batch.now) index }
+    ensures no { IsRevocation (batch_of batch.now) index → IsTrue result }
 {
     match deed_at(batch, index) {
         Some(Deed::Revoking(_)) => true,
@@ -53,10 +53,10 @@ pub(crate) fn has_revocation(batch: &LogBatch, index: usize) -> bool
 // Whether the place was done and has a revocation, where it is known whether it was done.
 fn was_revoking(batch: &LogBatch, index: usize, done: bool) -> bool
     requires within { index < batch.now.size }
-    requires done { done ≡ was_done (serial_words (batch_in batch.now) index) }
-    ensures done { IsTrue result → was_done (serial_words (batch_in batch.now) index) ≡ true }
-    ensures yes { IsTrue result → IsRevocation (batch_in batch.now) index }
-    ensures no { result ≡ false → was_done (serial_words (batch_in batch.now) index) ≡ true → ¬ (IsRevocation (batch_in batch.now) index) }
+    requires done { done ≡ was_done (serial_words (batch_of batch.now) index) }
+    ensures done { IsTrue result → was_done (serial_words (batch_of batch.now) index) ≡ true }
+    ensures yes { IsTrue result → IsRevocation (batch_of batch.now) index }
+    ensures no { result ≡ false → was_done (serial_words (batch_of batch.now) index) ≡ true → ¬ (IsRevocation (batch_of batch.now) index) }
 {
     let revokes = has_revocation(batch, index);
     done && revokes
@@ -64,8 +64,8 @@ fn was_revoking(batch: &LogBatch, index: usize, done: bool) -> bool
 
 // No end, which is what any other place sets.
 fn no_ends(key: &RangeKey<'_>, index: usize) -> Vec<usize>
-    requires { was_done (serial_words (batch_in key.now.batch) index) ≡ true → ¬ (IsRevocation (batch_in key.now.batch) index) }
-    ensures { IsEnding (batch_in key.now.batch) key.now.slots index result.items }
+    requires { was_done (serial_words (batch_of key.now.batch) index) ≡ true → ¬ (IsRevocation (batch_of key.now.batch) index) }
+    ensures { IsEnding (batch_of key.now.batch) key.now.slots index result.items }
 {
     records_end_by_done_places();
     records_end_by_revocations();
@@ -77,7 +77,7 @@ fn no_ends(key: &RangeKey<'_>, index: usize) -> Vec<usize>
 // One more number, if the grant of the place has a listed end.
 fn put_number(key: &RangeKey<'_>, place: Place, numbers: &mut Vec<usize>) -> Result<(), AllocError>
     ensures { OnOk result
-        (numbers.new.items ≡ numbers.old.items ++ option_to_list (number_at (batch_in key.now.batch) key.now.slots place)) }
+        (numbers.new.items ≡ numbers.old.items ++ option_to_list (number_at (batch_of key.now.batch) key.now.slots place)) }
 {
     if let Some(number) = key.number_at(place) {
         numbers.push(number)?;
@@ -87,7 +87,7 @@ fn put_number(key: &RangeKey<'_>, place: Place, numbers: &mut Vec<usize>) -> Res
 
 // The numbers of the listed ends of the grants of these places.
 fn numbers_of(key: &RangeKey<'_>, places: &[Place]) -> Result<Vec<usize>, AllocError>
-    ensures { IfOk result (λ numbers. numbers.items ≡ numbers_at (batch_in key.now.batch) key.now.slots places.now) }
+    ensures { IfOk result (λ numbers. numbers.items ≡ numbers_at (batch_of key.now.batch) key.now.slots places.now) }
 {
     let mut numbers = Vec::new(key.batch().alloc());
     for place in places {
@@ -103,18 +103,18 @@ fn judge_places<'b, 'a, N: Named>(
     holding: Holding,
     index: usize,
 ) -> (Result<Vec<Place>, AllocError>, Holding)
-    requires ours { IsPassOf words.now holding }
+    requires same_table { IsPassOf words.now holding }
     requires key { words.now.key ≡ key.now }
     requires within { index < key.now.batch.size }
-    requires past { KnowsPast (batch_in key.now.batch) holding.view index }
-    requires ready { KnowsReferences (batch_in key.now.batch) holding.view index }
+    requires past { KnowsPast (batch_of key.now.batch) holding.view index }
+    requires ready { KnowsReferences (batch_of key.now.batch) holding.view index }
     requires named { Some words.now ≡ N.words }
     requires knows { KeepsKnown N.known holding.view.known }
-    requires done { was_done (serial_words (batch_in key.now.batch) index) ≡ true }
-    ensures ends { IfOk result.0 (λ places. (slot : ℕ) (grant : Grant) → slice_get (batch_slots (batch_in key.now.batch)) slot ≡ Some grant
-        → list_any (λ place. place == grant.place) places.items ≡ serial_ends (batch_in key.now.batch) index slot) }
+    requires done { was_done (serial_words (batch_of key.now.batch) index) ≡ true }
+    ensures ends { IfOk result.0 (λ places. (slot : ℕ) (grant : Grant) → slice_get (batch_slots (batch_of key.now.batch)) slot ≡ Some grant
+        → list_any (λ place. place == grant.place) places.items ≡ serial_ends (batch_of key.now.batch) index slot) }
     ensures order { IfOk result.0 (λ places. IsStrictlyIncreasing places.items) }
-    ensures ours { IsPassOf words.now result.1 }
+    ensures same_table { IsPassOf words.now result.1 }
     ensures knows { KeepsKnown N.known result.1.view.known }
     ensures work { work_of result.1 ≡ work_of holding }
 {
@@ -125,7 +125,7 @@ fn judge_places<'b, 'a, N: Named>(
         index,
         named: PhantomData,
     };
-    let (places, reader) = ends_told(key.batch().alloc(), key.batch(), reader);
+    let (places, reader) = ends_by_source(key.batch().alloc(), key.batch(), reader);
     let PassReader {
         key: _,
         words: _,
@@ -144,14 +144,14 @@ pub(crate) fn places_told<'b, 'a>(
     holding: Holding,
     index: usize,
 ) -> (Result<Vec<Place>, AllocError>, Holding)
-    requires ours { IsPassOf words.now holding }
+    requires same_table { IsPassOf words.now holding }
     requires key { words.now.key ≡ key.now }
     requires within { index < key.now.batch.size }
-    requires past { KnowsPast (batch_in key.now.batch) holding.view index }
-    requires ready { KnowsReferences (batch_in key.now.batch) holding.view index }
-    requires done { was_done (serial_words (batch_in key.now.batch) index) ≡ true }
-    ensures ends { IfOk result.0 (λ places. (slot : ℕ) (grant : Grant) → slice_get (batch_slots (batch_in key.now.batch)) slot ≡ Some grant
-        → list_any (λ place. place == grant.place) places.items ≡ serial_ends (batch_in key.now.batch) index slot) }
+    requires past { KnowsPast (batch_of key.now.batch) holding.view index }
+    requires ready { KnowsReferences (batch_of key.now.batch) holding.view index }
+    requires done { was_done (serial_words (batch_of key.now.batch) index) ≡ true }
+    ensures ends { IfOk result.0 (λ places. (slot : ℕ) (grant : Grant) → slice_get (batch_slots (batch_of key.now.batch)) slot ≡ Some grant
+        → list_any (λ place. place == grant.place) places.items ≡ serial_ends (batch_of key.now.batch) index slot) }
     ensures order { IfOk result.0 (λ places. IsStrictlyIncreasing places.items) }
     ensures same { IsSamePass holding result.1 }
     ensures bodies { result.1.bodies ≡ holding.bodies }
@@ -167,9 +167,9 @@ fn ends_numbered(
     places: &[Place],
 ) -> Result<Vec<usize>, AllocError>
     requires order { IsStrictlyIncreasing places.now }
-    requires ends { (slot : ℕ) (grant : Grant) → slice_get (batch_slots (batch_in key.now.batch)) slot ≡ Some grant
-        → list_any (λ place. place == grant.place) places.now ≡ serial_ends (batch_in key.now.batch) index slot }
-    ensures { IfOk result (λ ends. IsEnding (batch_in key.now.batch) key.now.slots index ends.items) }
+    requires ends { (slot : ℕ) (grant : Grant) → slice_get (batch_slots (batch_of key.now.batch)) slot ≡ Some grant
+        → list_any (λ place. place == grant.place) places.now ≡ serial_ends (batch_of key.now.batch) index slot }
+    ensures { IfOk result (λ ends. IsEnding (batch_of key.now.batch) key.now.slots index ends.items) }
 {
     slots_stand_in_order();
     let _places = key.places();
@@ -187,14 +187,14 @@ pub(crate) fn ends_of<'b, 'a>(
     index: usize,
     done: bool,
 ) -> (Result<Vec<usize>, AllocError>, Holding)
-    requires ours { IsPassOf words.now holding }
+    requires same_table { IsPassOf words.now holding }
     requires key { words.now.key ≡ key.now }
     requires within { index < key.now.batch.size }
-    requires past { KnowsPast (batch_in key.now.batch) holding.view index }
-    requires ready { KnowsReferences (batch_in key.now.batch) holding.view index }
-    requires done { done ≡ was_done (serial_words (batch_in key.now.batch) index) }
-    ensures ends { IfOk result.0 (λ ends. IsEnding (batch_in key.now.batch) key.now.slots index ends.items) }
-    ensures revokes { OnErr result.0 (IsRevocation (batch_in key.now.batch) index) }
+    requires past { KnowsPast (batch_of key.now.batch) holding.view index }
+    requires ready { KnowsReferences (batch_of key.now.batch) holding.view index }
+    requires done { done ≡ was_done (serial_words (batch_of key.now.batch) index) }
+    ensures ends { IfOk result.0 (λ ends. IsEnding (batch_of key.now.batch) key.now.slots index ends.items) }
+    ensures revokes { OnErr result.0 (IsRevocation (batch_of key.now.batch) index) }
     ensures same { IsSamePass holding result.1 }
     ensures bodies { result.1.bodies ≡ holding.bodies }
     ensures learns { OnlyLearns holding.view result.1.view }

@@ -3,10 +3,10 @@
 ghost use Rattle.std.specs.Prelude.{◌≡◌, ◌<◌, []};
 ghost use Rattle.bohm_core_base.specs.Batch.{was_done};
 ghost use Rattle.bohm_core_base.specs.Serial.{serial_words};
-ghost use Rattle.log_batch.specs.Supplied.{batch_in};
+ghost use Rattle.log_batch.specs.Supplied.{batch_of};
 ghost use Rattle.words.specs.Passes.{IsPassOf};
 ghost use Rattle.words.specs.Views.{Holds, KnowsReferences};
-ghost use Rattle.filling_base.specs.Goings.{Finishes, IsSamePass};
+ghost use Rattle.filling_base.specs.Extending.{Finishes, IsSamePass};
 ghost use Rattle.filling_base.specs.Storing.{IsEnding};
 
 use crate::bodies::count_run;
@@ -16,7 +16,7 @@ use crate::own::own_told;
 use filling_base::{Fills, learning_comes_before_storing, store};
 use own_words::OwnWords;
 use std::alloc::AllocError;
-use words::{BatchWords, Holding, Placed, passes_keep_the_fronts_that_they_know};
+use words::{BatchData, BatchWords, Holding, passes_keep_the_fronts_that_they_know};
 
 // Whether own words say that their place was done.
 #[tactic(auto, unfolding(bohm_core_base::specs::Batch::was_done))]
@@ -38,13 +38,13 @@ fn store_place<'a>(
     own: &OwnWords,
     ends: &[usize],
 ) -> Holding
-    requires ours { IsPassOf words.now holding }
+    requires same_table { IsPassOf words.now holding }
     requires key { words.now.key ≡ key.now }
     requires within { index < key.now.batch.size }
     requires held { Holds holding.view index 0 [] }
-    requires ready { KnowsReferences (batch_in key.now.batch) holding.view index }
-    requires own { own.now ≡ serial_words (batch_in key.now.batch) index }
-    requires ends { IsEnding (batch_in key.now.batch) key.now.slots index ends.now }
+    requires ready { KnowsReferences (batch_of key.now.batch) holding.view index }
+    requires own { own.now ≡ serial_words (batch_of key.now.batch) index }
+    requires ends { IsEnding (batch_of key.now.batch) key.now.slots index ends.now }
     ensures same { IsSamePass holding result }
     ensures bodies { result.bodies ≡ holding.bodies }
     ensures finishes { Finishes index holding.view result.view }

@@ -5,7 +5,7 @@ ghost use Rattle.std.specs.List.Sorted.{IsStrictlyIncreasing};
 ghost use Rattle.std.specs.Option.{MatchOption};
 ghost use Rattle.words.specs.Layout.{listed_slot_at};
 ghost use Rattle.words.specs.Views.{In};
-ghost use Rattle.log_batch.specs.Supplied.{batch_in};
+ghost use Rattle.log_batch.specs.Supplied.{batch_of};
 ghost use Rattle.log_batch.specs.Listing.{listed_slots};
 ghost use Rattle.filling.specs.Numbers.{number_at};
 
@@ -13,7 +13,7 @@ use log_batch::{LogBatch, LogKey, ended_slots};
 use model_base::Place;
 use std::alloc::{AllocError, Global};
 use std::marker::Model;
-use words::Placed;
+use words::BatchData;
 
 /// A range of a log as a batch, and in rising order the slots whose ends have words.
 #[derive(Drop)]
@@ -37,7 +37,7 @@ impl<'a> RangeKey<'a> {
     pub fn of(alloc: Global, batch: LogBatch<'a>) -> Result<RangeKey<'a>, AllocError>
         requires { 0 < batch.size }
         ensures batch { IfOk result (λ key. key.batch ≡ batch.entry) }
-        ensures slots { IfOk result (λ key. key.slots ≡ listed_slots (batch_in batch.entry)) }
+        ensures slots { IfOk result (λ key. key.slots ≡ listed_slots (batch_of batch.entry)) }
     {
         let slots = ended_slots(alloc, &batch)?;
         let key = LogKey::new(batch, slots);
@@ -78,7 +78,7 @@ impl<'a> RangeKey<'a> {
 
     // The number of the listed end of the grant of a place, if there is one, in such a time.
     pub(crate) fn number_at(&self, place: Place) -> Option<usize>
-        ensures { result ≡ number_at (batch_in self.now.batch) self.now.slots place }
+        ensures { result ≡ number_at (batch_of self.now.batch) self.now.slots place }
     {
         let _ends = self.ends();
         match self.batch().slot_of(place) {
@@ -88,8 +88,8 @@ impl<'a> RangeKey<'a> {
     }
 }
 
-impl Placed for RangeKey<'_> {
-    ghost batch = { λ key. batch_in key.batch };
+impl BatchData for RangeKey<'_> {
+    ghost batch = { λ key. batch_of key.batch };
 
     ghost listed = { λ key. key.slots };
 

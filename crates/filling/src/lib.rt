@@ -23,7 +23,7 @@ mod reader;
 mod running;
 mod storing;
 
-pub use completion::{Closed, Finished, Taken, finish, take};
+pub use completion::{CompletedBatch, DecodedBatch, Finished, finish, take};
 pub use filling_base::Advanced;
 pub use key::RangeKey;
 pub use opening::open;

@@ -4,29 +4,29 @@ ghost use Rattle.std.specs.Prelude.{◌≡◌, ◌<◌, ℕ, None, length};
 ghost use Rattle.bohm_core_base.specs.Batch.{batch_slots, was_done};
 ghost use Rattle.bohm_core_base.specs.Machine.{end_of, start};
 ghost use Rattle.bohm_core_base.specs.Serial.{serial_words};
-ghost use Rattle.log_batch.specs.Supplied.{batch_in};
-ghost use Rattle.evaluation.specs.Told.{IsDeedBefore};
+ghost use Rattle.log_batch.specs.Supplied.{batch_of};
+ghost use Rattle.evaluation.specs.ReadSource.{IsDeedBefore};
 ghost use Rattle.words.specs.Layout.{end_told, listed_slot_at};
 ghost use Rattle.words.specs.Passes.{IsPassOf, gone_on};
-ghost use Rattle.words.specs.Tells.{EndTells};
+ghost use Rattle.words.specs.Meanings.{EndMeans};
 ghost use Rattle.words.specs.Views.{KnowsReferences, with_known};
 ghost use Rattle.filling.specs.Readings.{IsEndBelow};
 
 use crate::key::RangeKey;
 use bohm_core_base::{done_places_are_serial, other_records_keep_their_ends};
 use model_base::Place;
-use words::{BatchWords, Holding, Placed, passes_keep_what_they_know};
+use words::{BatchData, BatchWords, Holding, passes_keep_what_they_know};
 
 // Whether a place with a deed on a table of the reader was done, where it lies before the reader. By its claim the pass knows
 // it done from then on.
-pub(crate) fn deed_was_done<K: Placed>(
+pub(crate) fn deed_was_done<K: BatchData>(
     key: &K,
     words: &BatchWords<K>,
     holding: &mut Holding,
     reader: usize,
     index: usize,
 ) -> bool
-    requires ours { IsPassOf words.now holding.old }
+    requires same_table { IsPassOf words.now holding.old }
     requires key { words.now.key ≡ key.now }
     requires within { reader < (K.batch words.now.key).size }
     requires ready { KnowsReferences (K.batch words.now.key) holding.old.view reader }
@@ -41,15 +41,15 @@ pub(crate) fn deed_was_done<K: Placed>(
 }
 
 // A listed end, as its word gives it.
-pub(crate) fn end_loaded<K: Placed>(
+pub(crate) fn end_loaded<K: BatchData>(
     words: &BatchWords<K>,
     holding: &mut Holding,
     end: usize,
 ) -> Option<Place>
-    requires ours { IsPassOf words.now holding.old }
+    requires same_table { IsPassOf words.now holding.old }
     requires listed { end < length (K.listed words.now.key) }
     ensures same { holding.new ≡ holding.old }
-    ensures told { (word : ℕ) × EndTells (K.batch words.now.key) (listed_slot_at (K.listed words.now.key) end) holding.old.view word
+    ensures told { (word : ℕ) × EndMeans (K.batch words.now.key) (listed_slot_at (K.listed words.now.key) end) holding.old.view word
         × (result ≡ end_told word) }
 {
     match words.end(holding, end) {
@@ -66,12 +66,12 @@ fn end_by_word<'a>(
     holding: &mut Holding,
     slot: usize,
 ) -> Option<Place>
-    requires ours { IsPassOf words.now holding.old }
+    requires same_table { IsPassOf words.now holding.old }
     requires key { words.now.key ≡ key.now }
-    requires slot { slot < length (batch_slots (batch_in key.now.batch)) }
-    requires open { end_of (start (batch_in key.now.batch)) slot ≡ None }
+    requires slot { slot < length (batch_slots (batch_of key.now.batch)) }
+    requires open { end_of (start (batch_of key.now.batch)) slot ≡ None }
     ensures same { holding.new ≡ holding.old }
-    ensures told { IsEndBelow (batch_in key.now.batch) holding.old.view slot result }
+    ensures told { IsEndBelow (batch_of key.now.batch) holding.old.view slot result }
 {
     other_records_keep_their_ends();
     let _places = key.places();
@@ -89,11 +89,11 @@ pub(crate) fn end_at<'a>(
     holding: &mut Holding,
     slot: usize,
 ) -> Option<Place>
-    requires ours { IsPassOf words.now holding.old }
+    requires same_table { IsPassOf words.now holding.old }
     requires key { words.now.key ≡ key.now }
-    requires slot { slot < length (batch_slots (batch_in key.now.batch)) }
+    requires slot { slot < length (batch_slots (batch_of key.now.batch)) }
     ensures same { holding.new ≡ holding.old }
-    ensures told { IsEndBelow (batch_in key.now.batch) holding.old.view slot result }
+    ensures told { IsEndBelow (batch_of key.now.batch) holding.old.view slot result }
 {
     done_places_are_serial();
     let _places = key.places();

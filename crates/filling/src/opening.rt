@@ -15,7 +15,7 @@ use words::Pass;
 
 // The placer of a partition, cut off the first pass.
 fn cut_placer(batch: &Batch<RangeKey<'_>>, pass: Pass, partition: usize) -> (Pass, Placer)
-    requires ours { IsPassOf batch.now pass }
+    requires same_table { IsPassOf batch.now pass }
     requires within { partition < batch.now.key.batch.partitions }
     requires sole { pass.view.sole ≡ true }
     requires open { pass.view.placed ≡ false }

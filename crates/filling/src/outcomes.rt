@@ -3,13 +3,13 @@
 ghost use Rattle.std.specs.Prelude.{◌≡◌, ◌<◌, ◌≤◌, ◌++◌, ◌∷◌, [], IfOk, OnErr, OnOk, Some, length, take};
 ghost use Rattle.bohm_core_base.specs.Batch.{words_length};
 ghost use Rattle.bohm_core_base.specs.Serial.{serial_ends, serial_words};
-ghost use Rattle.log_batch.specs.Supplied.{batch_in};
+ghost use Rattle.log_batch.specs.Supplied.{batch_of};
 ghost use Rattle.words.specs.Layout.{listed_slot_at};
 ghost use Rattle.words.specs.Passes.{IsPassOf};
 ghost use Rattle.words.specs.Views.{In};
-ghost use Rattle.filling_base.specs.Goings.{IsSamePass};
+ghost use Rattle.filling_base.specs.Extending.{IsSamePass};
 ghost use Rattle.filling_base.specs.References.{IsRevocation};
-ghost use Rattle.filling.specs.Outcomes.{IsEndedList, OutcomeTells, ended_places_at, outcome_in};
+ghost use Rattle.filling.specs.Outcomes.{IsEndedList, OutcomeMeans, ended_places_at, outcome_in};
 
 use crate::ends::has_revocation;
 use crate::key::RangeKey;
@@ -21,17 +21,17 @@ use log_batch::words_length;
 use model_base::{Items, Outcome, Place};
 use own_words::{MOST_OWN_WORDS, decoded};
 use std::alloc::AllocError;
-use words::{BatchWords, Holding, Pass, Placed, Seen};
+use words::{BatchData, BatchWords, Holding, Pass, Seen};
 
 // The own words of a place that the pass knows done: this many, and 0 after them.
-fn load_own<K: Placed>(
+fn load_own<K: BatchData>(
     key: &K,
     words: &BatchWords<K>,
     holding: &mut Holding,
     index: usize,
     count: usize,
 ) -> [u64; MOST_OWN_WORDS]
-    requires ours { IsPassOf words.now holding.old }
+    requires same_table { IsPassOf words.now holding.old }
     requires key { words.now.key ≡ key.now }
     requires within { index < (K.batch words.now.key).size }
     requires known { In index holding.old.view.known }
@@ -56,13 +56,13 @@ fn ended_record<'a>(
     index: usize,
     number: usize,
 ) -> bool
-    requires ours { IsPassOf words.now holding.old }
+    requires same_table { IsPassOf words.now holding.old }
     requires key { words.now.key ≡ key.now }
     requires within { index < key.now.batch.size }
     requires known { In index holding.old.view.known }
     requires listed { number < length key.now.slots }
     ensures same { holding.new ≡ holding.old }
-    ensures value { result ≡ serial_ends (batch_in key.now.batch) index (listed_slot_at key.now.slots number) }
+    ensures value { result ≡ serial_ends (batch_of key.now.batch) index (listed_slot_at key.now.slots number) }
 {
     let place = key.batch().first_place() + index as u64;
     match end_loaded(words, holding, number) {
@@ -80,14 +80,14 @@ fn put_ended<'a>(
     number: usize,
     places: &mut Vec<Place>,
 ) -> Result<(), AllocError>
-    requires ours { IsPassOf words.now holding.old }
+    requires same_table { IsPassOf words.now holding.old }
     requires key { words.now.key ≡ key.now }
     requires within { index < key.now.batch.size }
     requires known { In index holding.old.view.known }
     requires listed { number < length key.now.slots }
     ensures same { holding.new ≡ holding.old }
     ensures put { OnOk result
-        (places.new.items ≡ places.old.items ++ ended_places_at (batch_in key.now.batch) (listed_slot_at key.now.slots number ∷ []) index) }
+        (places.new.items ≡ places.old.items ++ ended_places_at (batch_of key.now.batch) (listed_slot_at key.now.slots number ∷ []) index) }
 {
     let _ends = key.ends();
     if !ended_record(key, words, holding, index, number) {
@@ -105,12 +105,12 @@ fn ended_places<'a>(
     holding: &mut Holding,
     index: usize,
 ) -> Result<Vec<Place>, AllocError>
-    requires ours { IsPassOf words.now holding.old }
+    requires same_table { IsPassOf words.now holding.old }
     requires key { words.now.key ≡ key.now }
     requires within { index < key.now.batch.size }
     requires known { In index holding.old.view.known }
     ensures same { holding.new ≡ holding.old }
-    ensures value { IfOk result (λ places. places.items ≡ ended_places_at (batch_in key.now.batch) key.now.slots index) }
+    ensures value { IfOk result (λ places. places.items ≡ ended_places_at (batch_of key.now.batch) key.now.slots index) }
 {
     let _ends = key.ends();
     let mut places = Vec::new(key.batch().alloc());
@@ -129,7 +129,7 @@ fn outcome_told<'a>(
     index: usize,
     ended: Items<Place>,
 ) -> Outcome
-    requires ours { IsPassOf words.now holding.old }
+    requires same_table { IsPassOf words.now holding.old }
     requires key { words.now.key ≡ key.now }
     requires within { index < key.now.batch.size }
     requires known { In index holding.old.view.known }
@@ -155,13 +155,13 @@ fn ended_list<'a>(
     holding: &mut Holding,
     index: usize,
 ) -> Result<Items<Place>, AllocError>
-    requires ours { IsPassOf words.now holding.old }
+    requires same_table { IsPassOf words.now holding.old }
     requires key { words.now.key ≡ key.now }
     requires within { index < key.now.batch.size }
     requires known { In index holding.old.view.known }
     ensures same { holding.new ≡ holding.old }
     ensures value { IfOk result (λ ended. IsEndedList key.now.batch index ended) }
-    ensures revokes { OnErr result (IsRevocation (batch_in key.now.batch) index) }
+    ensures revokes { OnErr result (IsRevocation (batch_of key.now.batch) index) }
 {
     slots_stand_in_order();
     let batch = key.batch();
@@ -183,13 +183,13 @@ fn outcome_known<'a>(
     holding: &mut Holding,
     index: usize,
 ) -> Result<Outcome, AllocError>
-    requires ours { IsPassOf words.now holding.old }
+    requires same_table { IsPassOf words.now holding.old }
     requires key { words.now.key ≡ key.now }
     requires within { index < key.now.batch.size }
     requires known { In index holding.old.view.known }
     ensures same { holding.new ≡ holding.old }
     ensures value { IfOk result (λ found. outcome_in key.now.batch index ≡ Some found) }
-    ensures revokes { OnErr result (IsRevocation (batch_in key.now.batch) index) }
+    ensures revokes { OnErr result (IsRevocation (batch_of key.now.batch) index) }
 {
     let ended = ended_list(key, words, holding, index)?;
     Ok(outcome_told(key, words, holding, index, ended))
@@ -204,11 +204,11 @@ pub fn outcome(
     pass: Pass,
     index: usize,
 ) -> (Pass, Result<Option<Outcome>, AllocError>)
-    requires ours { IsPassOf batch.now pass }
+    requires same_table { IsPassOf batch.now pass }
     requires within { index < batch.now.key.batch.size }
     ensures same { IsSamePass pass result.0 }
     ensures bodies { result.0.bodies ≡ pass.bodies }
-    ensures tells { OutcomeTells batch.now.key.batch index pass.view result.1 result.0.view }
+    ensures tells { OutcomeMeans batch.now.key.batch index pass.view result.1 result.0.view }
 {
     let mut holding = Holding::begin(pass);
     match batch.words().look(&mut holding, index) {

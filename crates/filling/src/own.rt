@@ -2,15 +2,15 @@
 
 ghost use Rattle.std.specs.Prelude.{◌≡◌, ◌<◌, Some};
 ghost use Rattle.bohm_core_base.specs.Serial.{serial_words};
-ghost use Rattle.log_batch.specs.Supplied.{batch_in};
+ghost use Rattle.log_batch.specs.Supplied.{batch_of};
 ghost use Rattle.words.specs.Passes.{IsPassOf};
 ghost use Rattle.words.specs.Views.{KnowsPast, KnowsReferences};
-ghost use Rattle.filling_base.specs.Goings.{IsSamePass, OnlyLearns};
+ghost use Rattle.filling_base.specs.Extending.{IsSamePass, OnlyLearns};
 ghost use Rattle.filling.specs.Readings.{KeepsKnown, work_of};
 
 use crate::key::RangeKey;
 use crate::reader::{Named, PassReader};
-use evaluation::words_told;
+use evaluation::words_by_source;
 use own_words::OwnWords;
 use std::marker::{Brand, PhantomData};
 use words::{BatchWords, Holding};
@@ -23,15 +23,15 @@ fn judge_words<'b, 'a, N: Named>(
     index: usize,
     own: &mut OwnWords,
 ) -> Holding
-    requires ours { IsPassOf words.now holding }
+    requires same_table { IsPassOf words.now holding }
     requires key { words.now.key ≡ key.now }
     requires within { index < key.now.batch.size }
-    requires past { KnowsPast (batch_in key.now.batch) holding.view index }
-    requires ready { KnowsReferences (batch_in key.now.batch) holding.view index }
+    requires past { KnowsPast (batch_of key.now.batch) holding.view index }
+    requires ready { KnowsReferences (batch_of key.now.batch) holding.view index }
     requires named { Some words.now ≡ N.words }
     requires knows { KeepsKnown N.known holding.view.known }
-    ensures value { own.new ≡ serial_words (batch_in key.now.batch) index }
-    ensures ours { IsPassOf words.now result }
+    ensures value { own.new ≡ serial_words (batch_of key.now.batch) index }
+    ensures same_table { IsPassOf words.now result }
     ensures knows { KeepsKnown N.known result.view.known }
     ensures work { work_of result ≡ work_of holding }
 {
@@ -42,7 +42,7 @@ fn judge_words<'b, 'a, N: Named>(
         index,
         named: PhantomData,
     };
-    let reader = words_told(key.batch(), reader, own);
+    let reader = words_by_source(key.batch(), reader, own);
     let PassReader {
         key: _,
         words: _,
@@ -62,12 +62,12 @@ pub(crate) fn own_told<'b, 'a>(
     index: usize,
     own: &mut OwnWords,
 ) -> Holding
-    requires ours { IsPassOf words.now holding }
+    requires same_table { IsPassOf words.now holding }
     requires key { words.now.key ≡ key.now }
     requires within { index < key.now.batch.size }
-    requires past { KnowsPast (batch_in key.now.batch) holding.view index }
-    requires ready { KnowsReferences (batch_in key.now.batch) holding.view index }
-    ensures value { own.new ≡ serial_words (batch_in key.now.batch) index }
+    requires past { KnowsPast (batch_of key.now.batch) holding.view index }
+    requires ready { KnowsReferences (batch_of key.now.batch) holding.view index }
+    ensures value { own.new ≡ serial_words (batch_of key.now.batch) index }
     ensures same { IsSamePass holding result }
     ensures bodies { result.bodies ≡ holding.bodies }
     ensures learns { OnlyLearns holding.view result.view }

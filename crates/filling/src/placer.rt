@@ -78,7 +78,7 @@ fn place_statement<'a>(
 
 impl Placer {
     ghost use Rattle.std.specs.Prelude.{◌≡◌};
-    ghost use Rattle.filling.specs.Placers.{AdvancedTells, IsPlacerIn, placer_front};
+    ghost use Rattle.filling.specs.Placers.{AdvancedMeans, IsPlacerIn, placer_front};
 
     /// Its partition.
     pub fn partition(&self) -> usize
@@ -97,9 +97,9 @@ impl Placer {
     /// Places the next place of the batch for the placer's partition, if there is one: it stores the place's references into the
     /// partition, and then the partition's front. After `NoMemory` nothing is stored, and the next call places the same place.
     pub fn place_next(&mut self, batch: &Batch<RangeKey<'_>>) -> Advanced
-        requires ours { IsPlacerIn batch.now self.old }
-        ensures ours { IsPlacerIn batch.now self.new }
-        ensures tells { AdvancedTells batch.now.key.batch self.old result self.new }
+        requires same_table { IsPlacerIn batch.now self.old }
+        ensures same_table { IsPlacerIn batch.now self.new }
+        ensures tells { AdvancedMeans batch.now.key.batch self.old result self.new }
     {
         let key = batch.key();
         let range = key.batch();

@@ -2,15 +2,15 @@
 
 ghost use Rattle.std.specs.Prelude.{◌≡◌, [], ℕ, List, None, Option};
 ghost use Rattle.log_batch.specs.Keys.{Key};
-ghost use Rattle.evaluation.specs.Told.{referred_word};
+ghost use Rattle.evaluation.specs.ReadSource.{referred_word};
 ghost use Rattle.words.specs.Passes.{Words};
 
 use crate::key::RangeKey;
 use crate::loads::{deed_was_done, end_at};
-use evaluation::Told;
+use evaluation::ReadSource;
 use model_base::Place;
 use std::marker::{Brand, Model, PhantomData};
-use words::{BatchWords, Holding, Placed};
+use words::{BatchData, BatchWords, Holding};
 
 /// Which words a pass reads, and what it knew as it began, whoever has it as `&mut` meanwhile: a call picks both.
 pub(crate) trait Named {
@@ -55,12 +55,12 @@ fn index_of(word: u64) -> Option<usize>
     }
 }
 
-impl<N: Named> Told for PassReader<'_, '_, N> {
+impl<N: Named> ReadSource for PassReader<'_, '_, N> {
     ghost use Rattle.filling.specs.Readings.{PlaceReading, reader_in};
 
-    ghost told = { reader_in };
+    ghost as_reader = { reader_in };
 
-    ghost kept = { λ (reading : PlaceReading). reading.work };
+    ghost work = { λ (reading : PlaceReading). reading.work };
 
     fn reader(&self) -> usize {
         let _places = self.key.places();

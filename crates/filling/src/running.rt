@@ -4,9 +4,9 @@ ghost use Rattle.std.specs.Prelude.{◌≡◌, ◌+◌, ◌-◌, ◌<◌, ◌≤
 ghost use Rattle.words.specs.Passes.{IsPassOf};
 ghost use Rattle.words.specs.Views.{In};
 ghost use Rattle.filling_base.specs.Counting.{CountsBodies};
-ghost use Rattle.filling_base.specs.Goings.{IsSamePass};
+ghost use Rattle.filling_base.specs.Extending.{IsSamePass};
 ghost use Rattle.filling.specs.Bodies.{runs_at};
-ghost use Rattle.filling.specs.Runs.{DoneTells, RanTells};
+ghost use Rattle.filling.specs.Runs.{DoneMeans, RanMeans};
 
 use crate::key::RangeKey;
 use crate::outcomes::outcome;
@@ -28,13 +28,13 @@ pub enum Ran {
 }
 
 // What a place resulted in that the pass knows done.
-fn tell_done(batch: &Batch<RangeKey<'_>>, pass: Pass, index: usize) -> (Pass, Ran)
-    requires ours { IsPassOf batch.now pass }
+fn answer_done(batch: &Batch<RangeKey<'_>>, pass: Pass, index: usize) -> (Pass, Ran)
+    requires same_table { IsPassOf batch.now pass }
     requires within { index < batch.now.key.batch.size }
     requires known { In index pass.view.known }
     ensures same { IsSamePass pass result.0 }
     ensures bodies { result.0.bodies ≡ pass.bodies }
-    ensures tells { DoneTells batch.now.key.batch index pass.view result.1 result.0.view }
+    ensures tells { DoneMeans batch.now.key.batch index pass.view result.1 result.0.view }
 {
     let (pass, told) = outcome(batch, pass, index);
     match told {
@@ -49,18 +49,18 @@ fn tell_done(batch: &Batch<RangeKey<'_>>, pass: Pass, index: usize) -> (Pass, Ra
 /// place of the log, at most the one asked for, that another pass held at a step of this call. `NoMemory` is also returned where memory ran
 /// out for the list of what the place's own revocation ended, and then the place is done.
 pub fn run_place(batch: &Batch<RangeKey<'_>>, pass: Pass, place: Place) -> (Pass, Ran)
-    requires ours { IsPassOf batch.now pass }
+    requires same_table { IsPassOf batch.now pass }
     requires begins { batch.now.key.batch.first ≤ place }
     requires within { place < batch.now.key.batch.first + batch.now.key.batch.size }
     ensures same { IsSamePass pass result.0 }
     ensures bodies { CountsBodies (runs_at batch.now.key.batch) pass result.0 }
-    ensures tells { RanTells batch.now.key.batch (place - batch.now.key.batch.first) pass.view result.1 result.0.view }
+    ensures tells { RanMeans batch.now.key.batch (place - batch.now.key.batch.first) pass.view result.1 result.0.view }
 {
     let first = batch.key().batch().first_place();
     let index = (place - first) as usize;
     let (pass, tried) = batch.try_run(pass, index);
     match tried {
-        Tried::Done => tell_done(batch, pass, index),
+        Tried::Done => answer_done(batch, pass, index),
         Tried::Busy(other) => (pass, Ran::Busy(first + other as u64)),
         Tried::NotPlaced(partition) => (pass, Ran::NotPlaced(partition)),
         Tried::NoMemory => (pass, Ran::NoMemory),

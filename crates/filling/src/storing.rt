@@ -5,7 +5,7 @@ ghost use Rattle.bohm_core_base.specs.Batch.{reference_words};
 ghost use Rattle.model_base.specs.References.{tables_of};
 ghost use Rattle.model_base.specs.Versions.{accesses_of};
 ghost use Rattle.log_batch.specs.Laws.{word_of};
-ghost use Rattle.log_batch.specs.Supplied.{batch_in};
+ghost use Rattle.log_batch.specs.Supplied.{batch_of};
 ghost use Rattle.words.specs.Layout.{partition_at, reference_at};
 ghost use Rattle.words.specs.Passes.{IsPlacerOf};
 ghost use Rattle.words.specs.Views.{front_in};
@@ -15,7 +15,7 @@ use crate::key::RangeKey;
 use log_batch::word_of;
 use model_base::{Reference, Statement};
 use placing::{Finder, partition_of, partition_of_table};
-use words::{BatchWords, Placed, Placer};
+use words::{BatchData, BatchWords, Placer};
 
 // Stores a reference of the place at the front, if it is into the placer's partition.
 fn store_reference<'a>(
@@ -27,15 +27,15 @@ fn store_reference<'a>(
     reference: Reference,
 )
     requires key { words.now.key ≡ key.now }
-    requires ours { IsPlacerOf words.now token.old }
+    requires same_table { IsPlacerOf words.now token.old }
     requires within { front_in token.old.view < words.now.key.batch.size }
-    requires number { number < length (reference_words (batch_in words.now.key.batch) (front_in token.old.view)) }
-    requires partition { partition ≡ partition_at (batch_in words.now.key.batch) (front_in token.old.view) number }
+    requires number { number < length (reference_words (batch_of words.now.key.batch) (front_in token.old.view)) }
+    requires partition { partition ≡ partition_at (batch_of words.now.key.batch) (front_in token.old.view) number }
     requires right { partition ≡ token.old.view.partition
-        → word_of words.now.key.batch.first reference ≡ reference_at (batch_in words.now.key.batch) (front_in token.old.view) number }
-    requires before { StoredBelow (batch_in words.now.key.batch) token.old.view number }
+        → word_of words.now.key.batch.first reference ≡ reference_at (batch_of words.now.key.batch) (front_in token.old.view) number }
+    requires before { StoredBelow (batch_of words.now.key.batch) token.old.view number }
     ensures only { OnlyStores token.old token.new }
-    ensures stored { StoredBelow (batch_in words.now.key.batch) token.new.view (number + 1) }
+    ensures stored { StoredBelow (batch_of words.now.key.batch) token.new.view (number + 1) }
 {
     if partition == token.partition() {
         let _places = key.places();
@@ -55,7 +55,7 @@ pub(crate) fn store_rows<'a>(
     requires key { words.now.key ≡ key.now }
     requires at { IsAt words.now token.old finder.now.latest statement.now }
     ensures only { OnlyStores token.old token.new }
-    ensures stored { StoredBelow (batch_in words.now.key.batch) token.new.view (length (accesses_of statement.now.form)) }
+    ensures stored { StoredBelow (batch_of words.now.key.batch) token.new.view (length (accesses_of statement.now.form)) }
 {
     let partitions = key.batch().partition_count();
     for (number, access) in statement.accesses().iter().enumerate() {
@@ -75,9 +75,9 @@ pub(crate) fn store_tables<'a>(
     requires key { words.now.key ≡ key.now }
     requires at { IsAt words.now token.old finder.now.latest statement.now }
     requires tables { finder.now.tables.items ≡ tables_of statement.now.form }
-    requires before { StoredBelow (batch_in words.now.key.batch) token.old.view (length (accesses_of statement.now.form)) }
+    requires before { StoredBelow (batch_of words.now.key.batch) token.old.view (length (accesses_of statement.now.form)) }
     ensures only { OnlyStores token.old token.new }
-    ensures stored { StoredBelow (batch_in words.now.key.batch) token.new.view
+    ensures stored { StoredBelow (batch_of words.now.key.batch) token.new.view
         (length (accesses_of statement.now.form) + length (tables_of statement.now.form)) }
 {
     let partitions = key.batch().partition_count();

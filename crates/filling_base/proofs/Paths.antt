@@ -1,7 +1,7 @@
 -- The places that wait for one another.
 use Rattle.std.proofs.Common.{◌≡◌, ◌⊎◌, ℕ, zero, suc, ◌<◌, ◌≤◌, List, [], ◌∷◌, ◌++◌, length, get_or, refl, sym, ap, ◌∙◌, subst, inl, inr, ⊎_elim, arith}
 use Rattle.bohm_core_base.specs.Batch.{Batch, reference_words}
-use Rattle.words.specs.declared.view.View.{View}
+use Rattle.words.specs.declared.knowledge.Knowledge.{Knowledge}
 use Rattle.words.specs.Views.{In, KnowsReferences}
 use Rattle.filling_base.specs.declared.walk.Frame.{Frame}
 use Rattle.filling_base.specs.References.{reference}
@@ -14,7 +14,7 @@ every [] known all other has = absurd has
 every (x ∷ l) known all other has =
     ⊎_elim (λ is. all 0 other (omega arith) (sym is)) (λ more. every l known (λ m r below is. all (suc m) r (omega arith) is) other more) has
 
-pub knows-all : (b : Batch) (v : View) (i n : ℕ) → length (reference_words b i) ≤ n → KnownTo b v.known i n → KnowsReferences b v i
+pub knows-all : (b : Batch) (v : Knowledge) (i n : ℕ) → length (reference_words b i) ≤ n → KnownTo b v.known i n → KnowsReferences b v i
 knows-all b v i n all ready = every (reference_words b i) v.known (λ m other below is. ready m other (omega arith) is)
 
 pub below-suc : (m n : ℕ) → m < suc n → (m ≡ n) ⊎ (m < n)

@@ -2,14 +2,14 @@
 use Rattle.std.proofs.Common.{◌≡◌, ◌≢◌, ℕ, suc, ◌<◌, List, [], ◌∷◌, ◌++◌, length, refl, sym, ap, ◌∙◌, subst, inl, inr, ⊎_elim, arith}
 use Rattle.bohm_core_base.specs.Batch.{Batch, reference_words}
 use Rattle.bohm_core_base.specs.declared.event.Event.TheVariants.{Claim}
-use Rattle.words.specs.declared.view.View.{View}
-use Rattle.words.specs.Tells.{FoundHeld}
+use Rattle.words.specs.declared.knowledge.Knowledge.{Knowledge}
+use Rattle.words.specs.Meanings.{FoundHeld}
 use Rattle.words.specs.Views.{In, KeepsFronts, with_event, with_known}
 use Rattle.filling_base.specs.declared.walk.Frame.{Frame}
-use Rattle.filling_base.specs.Goings.{Finishes, HoldsJust, NoPlace, OnlyLearns}
+use Rattle.filling_base.specs.Extending.{Finishes, HoldsJust, NoPlace, OnlyLearns}
 use Rattle.filling_base.specs.References.{IsRevocation, reference}
-use Rattle.filling_base.specs.Tries.{HasToWait, IsToldDone}
-use Rattle.filling_base.specs.Walks.{Ended, IsWalk, KnownTo, Lacked, Met, Onward, Spot, Stays, bottom, cost, waiting}
+use Rattle.filling_base.specs.Tries.{HasToWait, IsKnownDone}
+use Rattle.filling_base.specs.Walks.{Ended, IsWalk, KnownTo, LackedMemory, MetHeld, GoesFurther, Spot, Stays, bottom, cost, waiting}
 use Rattle.words.proofs.Known.{keeps-same, past-later}
 use Rattle.filling_base.proofs.Costs.{costs-snoc, less-enter, less-leave, less-next}
 use Rattle.filling_base.proofs.Falling.{falls-at, named}
@@ -17,13 +17,13 @@ use Rattle.filling_base.proofs.Going.{goes-claim, goes-sighting, learns-known, l
 use Rattle.filling_base.proofs.Holding.{frees, met, reorder, same-events, takes}
 use Rattle.filling_base.proofs.Paths.{bottom-snoc, known-more, one-more, path-more, path-over, path-pop, path-push, path-top, to-back, to-front, under}
 
-abbrev pub at-spot : View → ℕ → ℕ → List Frame → Spot
+abbrev pub at-spot : Knowledge → ℕ → ℕ → List Frame → Spot
 at-spot v at n fs = record { view = v; at = at; next = n; frames = fs }
 
 module _ (b : Batch) where
   -- one more reference is known to need nothing
-  pub went-on : (v w : View) (at n m : ℕ) (fs : List Frame) → IsWalk b (at-spot v at n fs) → n < length (reference_words b at) → OnlyLearns v w
-      → ((other : ℕ) → reference b at n ≡ suc other → In other w.known) → m ≡ suc n → Onward b (at-spot v at n fs) (at-spot w at m fs)
+  pub went-on : (v w : Knowledge) (at n m : ℕ) (fs : List Frame) → IsWalk b (at-spot v at n fs) → n < length (reference_words b at) → OnlyLearns v w
+      → ((other : ℕ) → reference b at n ≡ suc other → In other w.known) → m ≡ suc n → GoesFurther b (at-spot v at n fs) (at-spot w at m fs)
   went-on v w at n m fs h short learns here is =
       let g = learns.goes in
       let less = less-next b at n short in
@@ -43,26 +43,26 @@ module _ (b : Batch) where
       }
 
   -- the reference names what stood before the batch
-  pub went-base : (v : View) (at n m : ℕ) (fs : List Frame) → IsWalk b (at-spot v at n fs) → n < length (reference_words b at) → reference b at n ≡ 0
-      → m ≡ suc n → Onward b (at-spot v at n fs) (at-spot v at m fs)
+  pub went-base : (v : Knowledge) (at n m : ℕ) (fs : List Frame) → IsWalk b (at-spot v at n fs) → n < length (reference_words b at) → reference b at n ≡ 0
+      → m ≡ suc n → GoesFurther b (at-spot v at n fs) (at-spot v at m fs)
   went-base v at n m fs h short base is =
       went-on v v at n m fs h short (learns-nothing v) (λ other names. absurd (let both : 0 ≡ suc other = sym base ∙ names in omega arith)) is
 
   -- the place that it names is done
-  pub went-next : (v w : View) (at n m r : ℕ) (fs : List Frame) → IsWalk b (at-spot v at n fs) → n < length (reference_words b at) → reference b at n ≡ suc r
-      → w ≡ with_known v r → m ≡ suc n → Onward b (at-spot v at n fs) (at-spot w at m fs)
+  pub went-next : (v w : Knowledge) (at n m r : ℕ) (fs : List Frame) → IsWalk b (at-spot v at n fs) → n < length (reference_words b at) → reference b at n ≡ suc r
+      → w ≡ with_known v r → m ≡ suc n → GoesFurther b (at-spot v at n fs) (at-spot w at m fs)
   went-next v w at n m r fs h short names is next =
       went-on v w at n m fs h short (learns-known v w r is)
       (λ other other-names. (let both : suc r ≡ suc other = sym names ∙ other-names in let same : r ≡ other = omega arith in
       subst (λ (x : ℕ). In x w.known) same (now-known v w r is))) next
 
   -- a place one of whose references isn't known done has to wait
-  has-to-wait : (v : View) (at n r : ℕ) → n < length (reference_words b at) → reference b at n ≡ suc r → ¬ (IsToldDone b v r) → HasToWait b v at
+  has-to-wait : (v : Knowledge) (at n r : ℕ) → n < length (reference_words b at) → reference b at n ≡ suc r → ¬ (IsKnownDone b v r) → HasToWait b v at
   has-to-wait v at n r short names untold = λ knows. untold (inl (knows r (named b at n r short names)))
 
-  in-at : (v w : View) (a r n : ℕ) (fs : List Frame) (f : Frame) → bottom fs f.index < b.size → IsWalk b (at-spot v f.index n fs) → n < length (reference_words b f.index)
-      → reference b f.index n ≡ suc r → f.next ≡ suc n → ¬ (IsToldDone b v r) → w ≡ with_event v (Claim a r)
-      → Onward b (at-spot v f.index n fs) (at-spot w r 0 (fs ++ f ∷ []))
+  in-at : (v w : Knowledge) (a r n : ℕ) (fs : List Frame) (f : Frame) → bottom fs f.index < b.size → IsWalk b (at-spot v f.index n fs) → n < length (reference_words b f.index)
+      → reference b f.index n ≡ suc r → f.next ≡ suc n → ¬ (IsKnownDone b v r) → w ≡ with_event v (Claim a r)
+      → GoesFurther b (at-spot v f.index n fs) (at-spot w r 0 (fs ++ f ∷ []))
   in-at v w a r n fs f within h short names next untold is =
       let g = goes-claim v w a r is in
       let below = falls-at b f.index n r short names in
@@ -83,7 +83,7 @@ module _ (b : Batch) where
           past = past-later b v w (bottom fs f.index) (bottom (fs ++ f ∷ []) r) g.fronts (let same = bottom-snoc fs f r in omega arith) h.past;
         };
         goes = g;
-        sightings = ap (λ (u : View). u.sightings) is;
+        sightings = ap (λ (u : Knowledge). u.sightings) is;
         for = bottom-snoc fs f r;
         less = omega arith;
         waits = λ i has. ⊎_elim
@@ -92,15 +92,15 @@ module _ (b : Batch) where
       }
 
   -- it was claimed
-  pub went-in : (v w : View) (a at r n m : ℕ) (fs gs : List Frame) → bottom fs at < b.size → IsWalk b (at-spot v at n fs) → n < length (reference_words b at)
-      → reference b at n ≡ suc r → m ≡ suc n → ¬ (IsToldDone b v r) → w ≡ with_event v (Claim a r) → gs ≡ fs ++ record { index = at; next = m } ∷ []
-      → Onward b (at-spot v at n fs) (at-spot w r 0 gs)
+  pub went-in : (v w : Knowledge) (a at r n m : ℕ) (fs gs : List Frame) → bottom fs at < b.size → IsWalk b (at-spot v at n fs) → n < length (reference_words b at)
+      → reference b at n ≡ suc r → m ≡ suc n → ¬ (IsKnownDone b v r) → w ≡ with_event v (Claim a r) → gs ≡ fs ++ record { index = at; next = m } ∷ []
+      → GoesFurther b (at-spot v at n fs) (at-spot w r 0 gs)
   went-in v w a at r n m fs gs within h short names next untold is more =
-      subst (λ (ks : List Frame). Onward b (at-spot v at n fs) (at-spot w r 0 ks)) (sym more)
+      subst (λ (ks : List Frame). GoesFurther b (at-spot v at n fs) (at-spot w r 0 ks)) (sym more)
       (in-at v w a r n fs (record { index = at; next = m }) within h short names next untold is)
 
   -- nothing was claimed, given back or stored
-  stays : (v w : View) (at n : ℕ) (fs gs : List Frame) → IsWalk b (at-spot v at n fs) → ((x : ℕ) → In x v.known → In x w.known) → w.events ≡ v.events
+  stays : (v w : Knowledge) (at n : ℕ) (fs gs : List Frame) → IsWalk b (at-spot v at n fs) → ((x : ℕ) → In x v.known → In x w.known) → w.events ≡ v.events
       → w.kept ≡ v.kept → w.sole ≡ v.sole → KeepsFronts v w → gs ≡ fs → Stays b (at-spot v at n fs) (at-spot w at n gs)
   stays v w at n fs gs h knows events kept sole fronts back =
       subst (λ (ks : List Frame). Stays b (at-spot v at n fs) (at-spot w at n ks)) (sym back) (record {
@@ -117,16 +117,16 @@ module _ (b : Batch) where
         frames = refl;
       })
 
-  pub met-other : (v w : View) (at n r : ℕ) (fs gs : List Frame) → IsWalk b (at-spot v at n fs) → n < length (reference_words b at) → reference b at n ≡ suc r
-      → ¬ (IsToldDone b v r) → FoundHeld r v w → gs ≡ fs → Met r b (at-spot v at n fs) (at-spot w at n gs)
+  pub met-other : (v w : Knowledge) (at n r : ℕ) (fs gs : List Frame) → IsWalk b (at-spot v at n fs) → n < length (reference_words b at) → reference b at n ≡ suc r
+      → ¬ (IsKnownDone b v r) → FoundHeld r v w → gs ≡ fs → MetHeld r b (at-spot v at n fs) (at-spot w at n gs)
   met-other v w at n r fs gs h short names untold found back =
       let out : ¬ (In r (at ∷ waiting fs)) = λ has. (let low = under b v.known fs at n r h.path short names r has in absurd (omega arith)) in
       let m = met v w r (at ∷ waiting fs) h.holds out found in
       let g = goes-sighting NoPlace v w r m.0 in
       let low = falls-at b at n r short names in
       let top = path-top b v.known fs at h.path in record {
-        stays = stays v w at n fs gs h g.knows (ap (λ (u : View). u.events) m.0) g.kept g.sole g.fronts back;
-        sightings = ap (λ (u : View). u.sightings) m.0;
+        stays = stays v w at n fs gs h g.knows (ap (λ (u : Knowledge). u.events) m.0) g.kept g.sole g.fronts back;
+        sightings = ap (λ (u : Knowledge). u.sightings) m.0;
         most = omega arith;
         shared = m.1;
         untold = untold;
@@ -134,8 +134,8 @@ module _ (b : Batch) where
       }
 
   -- there was no memory to wait in
-  pub no-room : (v : View) (at n r : ℕ) (fs gs : List Frame) → IsWalk b (at-spot v at n fs) → n < length (reference_words b at) → reference b at n ≡ suc r
-      → ¬ (IsToldDone b v r) → gs ≡ fs → Lacked b (at-spot v at n fs) (at-spot v at n gs)
+  pub no-room : (v : Knowledge) (at n r : ℕ) (fs gs : List Frame) → IsWalk b (at-spot v at n fs) → n < length (reference_words b at) → reference b at n ≡ suc r
+      → ¬ (IsKnownDone b v r) → gs ≡ fs → LackedMemory b (at-spot v at n fs) (at-spot v at n gs)
   no-room v at n r fs gs h short names untold back = record {
     stays = stays v v at n fs gs h (λ x has. has) refl refl refl (keeps-same v) back;
     sightings = refl;
@@ -143,7 +143,7 @@ module _ (b : Batch) where
   }
 
   -- there was none to revoke
-  pub starved : (v w : View) (at n : ℕ) (fs : List Frame) → IsWalk b (at-spot v at n fs) → OnlyLearns v w → IsRevocation b at → Lacked b (at-spot v at n fs) (at-spot w at n fs)
+  pub starved : (v w : Knowledge) (at n : ℕ) (fs : List Frame) → IsWalk b (at-spot v at n fs) → OnlyLearns v w → IsRevocation b at → LackedMemory b (at-spot v at n fs) (at-spot w at n fs)
   starved v w at n fs h learns revokes =
       let g = learns.goes in record {
         stays = stays v w at n fs fs h g.knows learns.events g.kept g.sole g.fronts refl;
@@ -151,8 +151,8 @@ module _ (b : Batch) where
         lacks = inr revokes;
       }
 
-  out-at : (v w : View) (at n : ℕ) (gs : List Frame) (f : Frame) → IsWalk b (at-spot v at n (gs ++ f ∷ [])) → Finishes at v w
-      → Onward b (at-spot v at n (gs ++ f ∷ [])) (at-spot w f.index f.next gs)
+  out-at : (v w : Knowledge) (at n : ℕ) (gs : List Frame) (f : Frame) → IsWalk b (at-spot v at n (gs ++ f ∷ [])) → Finishes at v w
+      → GoesFurther b (at-spot v at n (gs ++ f ∷ [])) (at-spot w f.index f.next gs)
   out-at v w at n gs f h finishes =
       let g = finishes.goes in
       let popped = path-pop b v.known gs f at h.path in
@@ -183,12 +183,12 @@ module _ (b : Batch) where
       }
 
   -- the place at hand is done, and the one that waits for it goes on
-  pub went-out : (v w : View) (at n : ℕ) (fs gs : List Frame) (f : Frame) → IsWalk b (at-spot v at n fs) → Finishes at v w → fs ≡ gs ++ f ∷ []
-      → Onward b (at-spot v at n fs) (at-spot w f.index f.next gs)
+  pub went-out : (v w : Knowledge) (at n : ℕ) (fs gs : List Frame) (f : Frame) → IsWalk b (at-spot v at n fs) → Finishes at v w → fs ≡ gs ++ f ∷ []
+      → GoesFurther b (at-spot v at n fs) (at-spot w f.index f.next gs)
   went-out v w at n fs gs f h finishes is =
-      (subst (λ (ks : List Frame). IsWalk b (at-spot v at n ks) → Onward b (at-spot v at n ks) (at-spot w f.index f.next gs)) (sym is) (λ k. out-at v w at n gs f k finishes)) h
+      (subst (λ (ks : List Frame). IsWalk b (at-spot v at n ks) → GoesFurther b (at-spot v at n ks) (at-spot w f.index f.next gs)) (sym is) (λ k. out-at v w at n gs f k finishes)) h
 
-  pub ended : (v w : View) (at n : ℕ) (fs gs : List Frame) → IsWalk b (at-spot v at n fs) → Finishes at v w → fs ≡ [] → Ended (at-spot v at n fs) (at-spot w at n gs)
+  pub ended : (v w : Knowledge) (at n : ℕ) (fs gs : List Frame) → IsWalk b (at-spot v at n fs) → Finishes at v w → fs ≡ [] → Ended (at-spot v at n fs) (at-spot w at n gs)
   ended v w at n fs gs h finishes is = record {
     goes = finishes.goes;
     sightings = finishes.sightings;

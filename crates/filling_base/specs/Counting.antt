@@ -4,7 +4,7 @@
 use Rattle.std.specs.Prelude.{◌≡◌, ◌+◌, ◌-◌, ◌^◌, ℕ, zero, suc, min, sum_by, Result, Ok, Err, List, [], ◌∷◌, ◌++◌}
 use Rattle.bohm_core_base.specs.declared.event.Event.{Event}
 use Rattle.bohm_core_base.specs.declared.event.Event.TheVariants.{Place, Claim, Fill, End, Finish, GiveBack}
-use Rattle.words.specs.Passes.{Passing}
+use Rattle.words.specs.Passes.{PassState}
 
 -- the place that an event finishes, if any
 abbrev pub finish_of : Event → List ℕ
@@ -26,7 +26,7 @@ counted_more bodies zero = bodies
 counted_more bodies (suc more) = min (bodies + suc more) (2 ^ 64 - 1)
 
 -- the pass has finished these places meanwhile, and has counted this many bodies for each of them, and none besides
-pub record CountsBodies (runs : ℕ → ℕ) (pass after : Passing) : Type 0 where
+pub record CountsBodies (runs : ℕ → ℕ) (pass after : PassState) : Type 0 where
   pub places : List ℕ
   pub finishes : finished_places after.view.events ≡ finished_places pass.view.events ++ places
   pub bodies : after.bodies ≡ counted_more pass.bodies (sum_by runs places)

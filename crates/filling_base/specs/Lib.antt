@@ -1,6 +1,6 @@
 pub mod Advances
 pub mod Counting
-pub mod Goings
+pub mod Extending
 pub mod References
 pub mod Storing
 pub mod Tries

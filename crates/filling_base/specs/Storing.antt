@@ -2,15 +2,15 @@
 use Rattle.std.specs.Prelude.{◌≡◌, ◌≢◌, ◌<◌, ℕ, zero, suc, true, List, [], ◌∷◌, ◌++◌, length, slice_index_or}
 use Rattle.bohm_core_base.specs.Batch.{Batch, batch_slots}
 use Rattle.bohm_core_base.specs.Serial.{serial_ends}
-use Rattle.words.specs.declared.view.View.{View}
+use Rattle.words.specs.declared.knowledge.Knowledge.{Knowledge}
 use Rattle.words.specs.Layout.{listed_slot_at}
 use Rattle.words.specs.Views.{Holds}
 use Rattle.filling_base.specs.Counting.{finished_places}
-use Rattle.filling_base.specs.Goings.{Goes, HoldsOthers, NoPlace}
+use Rattle.filling_base.specs.Extending.{Extends, HoldsOthers, NoPlace}
 
 -- the pass holds the place, with this many words stored and the ends of these slots, and finished none; of the others it holds the same
-pub record Stores (index : ℕ) (view after : View) (count : ℕ) (ended : List ℕ) : Type 0 where
-  pub goes : Goes NoPlace view after
+pub record Stores (index : ℕ) (view after : Knowledge) (count : ℕ) (ended : List ℕ) : Type 0 where
+  pub goes : Extends NoPlace view after
   pub finishes : finished_places after.events ≡ finished_places view.events
   pub sightings : after.sightings ≡ view.sightings
   pub others : HoldsOthers index view after

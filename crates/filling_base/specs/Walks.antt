@@ -1,15 +1,15 @@
 -- What a call holds, and what a step of it does.
 use Rattle.std.specs.Prelude.{◌≡◌, ◌⊎◌, ℕ, zero, suc, ◌+◌, ◌*◌, ◌-◌, ◌^◌, ◌<◌, ◌≤◌, List, [], ◌∷◌, ◌++◌, length, false}
 use Rattle.bohm_core_base.specs.Batch.{Batch, reference_words}
-use Rattle.words.specs.declared.view.View.{View}
+use Rattle.words.specs.declared.knowledge.Knowledge.{Knowledge}
 use Rattle.words.specs.Views.{In, KnowsPast}
 use Rattle.filling_base.specs.declared.walk.Frame.{Frame}
 use Rattle.filling_base.specs.declared.walk.Walk.{Walk}
 use Rattle.filling_base.specs.declared.walk.Step.{Step}
 use Rattle.filling_base.specs.declared.walk.Step.TheVariants.{Went, Over, Busy, NoMemory}
-use Rattle.filling_base.specs.Goings.{Goes, HoldsJust, NoPlace}
+use Rattle.filling_base.specs.Extending.{Extends, HoldsJust, NoPlace}
 use Rattle.filling_base.specs.References.{reference}
-use Rattle.filling_base.specs.Tries.{HasToWait, IsToldDone, MayLackMemory}
+use Rattle.filling_base.specs.Tries.{HasToWait, IsKnownDone, MayLackMemory}
 
 -- the places that wait
 abbrev pub waiting : List Frame → List ℕ
@@ -41,7 +41,7 @@ IsPath batch known (frame ∷ frames) at = WaitsFor batch known frame (bottom fr
 
 -- what a pass knows, the current place, how many of its references are known done, and the places that wait
 pub record Spot : Type 0 where
-  pub view : View
+  pub view : Knowledge
   pub at : ℕ
   pub next : ℕ
   pub frames : List Frame
@@ -83,9 +83,9 @@ abbrev pub left : Batch → Spot → ℕ
 left batch spot = cost batch spot.at spot.next + costs batch spot.frames
 
 -- the walk goes on; a place begins to wait only where one of its references isn't known done
-pub record Onward (batch : Batch) (spot next : Spot) : Type 0 where
+pub record GoesFurther (batch : Batch) (spot next : Spot) : Type 0 where
   pub walks : IsWalk batch next
-  pub goes : Goes NoPlace spot.view next.view
+  pub goes : Extends NoPlace spot.view next.view
   pub sightings : next.view.sightings ≡ spot.view.sightings
   pub for : asked_place next ≡ asked_place spot
   pub less : left batch next < left batch spot
@@ -93,7 +93,7 @@ pub record Onward (batch : Batch) (spot next : Spot) : Type 0 where
 
 -- the place asked for is done, and none is held
 pub record Ended (spot next : Spot) : Type 0 where
-  pub goes : Goes NoPlace spot.view next.view
+  pub goes : Extends NoPlace spot.view next.view
   pub sightings : next.view.sightings ≡ spot.view.sightings
   pub known : In (asked_place spot) next.view.known
   pub holds : HoldsJust next.view []
@@ -101,33 +101,33 @@ pub record Ended (spot next : Spot) : Type 0 where
 -- the current place and those that wait are the same, and nothing was claimed, given back or stored
 pub record Stays (batch : Batch) (spot next : Spot) : Type 0 where
   pub walks : IsWalk batch next
-  pub goes : Goes NoPlace spot.view next.view
+  pub goes : Extends NoPlace spot.view next.view
   pub events : next.view.events ≡ spot.view.events
   pub at : next.at ≡ spot.at
   pub frames : next.frames ≡ spot.frames
 
 -- a place to which the current one is referred was found held by another pass
-pub record Met (other : ℕ) (batch : Batch) (spot next : Spot) : Type 0 where
+pub record MetHeld (other : ℕ) (batch : Batch) (spot next : Spot) : Type 0 where
   pub stays : Stays batch spot next
   pub sightings : next.view.sightings ≡ spot.view.sightings ++ (other, length spot.view.events) ∷ []
   pub most : other ≤ asked_place spot
   pub shared : spot.view.sole ≡ false
-  pub untold : ¬ (IsToldDone batch spot.view other)
+  pub untold : ¬ (IsKnownDone batch spot.view other)
   pub waits : HasToWait batch spot.view spot.at
 
 -- memory ran out, for the current place to wait or to revoke
-pub record Lacked (batch : Batch) (spot next : Spot) : Type 0 where
+pub record LackedMemory (batch : Batch) (spot next : Spot) : Type 0 where
   pub stays : Stays batch spot next
   pub sightings : next.view.sightings ≡ spot.view.sightings
   pub lacks : MayLackMemory batch spot.view spot.at
 
-abbrev pub Stepped : Batch → Spot → Step → Spot → Type 0
-Stepped batch spot Went next = Onward batch spot next
-Stepped batch spot Over next = Ended spot next
-Stepped batch spot (Busy other) next = Met other batch spot next
-Stepped batch spot NoMemory next = Lacked batch spot next
+abbrev pub StepDone : Batch → Spot → Step → Spot → Type 0
+StepDone batch spot Went next = GoesFurther batch spot next
+StepDone batch spot Over next = Ended spot next
+StepDone batch spot (Busy other) next = MetHeld other batch spot next
+StepDone batch spot NoMemory next = LackedMemory batch spot next
 
 -- it gave back what it held
-pub record Released (held : List ℕ) (view after : View) : Type 0 where
-  pub goes : Goes (λ index. In index held) view after
+pub record Released (held : List ℕ) (view after : Knowledge) : Type 0 where
+  pub goes : Extends (λ index. In index held) view after
   pub sightings : after.sightings ≡ view.sightings

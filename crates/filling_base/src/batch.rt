@@ -1,7 +1,7 @@
 //! A batch beside its words, and how its passes are cut and joined.
 
 ghost use Rattle.std.specs.Prelude.{◌≡◌, IfOk, false, true};
-ghost use Rattle.words.specs.Closing.{TellsReferences, IsSettledBy, LastWith};
+ghost use Rattle.words.specs.Closing.{HasItsReferences, IsSettledBy, LastWith};
 ghost use Rattle.words.specs.Passes.{IsPassOf, cut_first, cut_second, first_pass, joined_pass, open_pass};
 
 use crate::fills::Fills;
@@ -91,7 +91,7 @@ impl<K: Fills> Batch<K> {
         ensures key { result.0 ≡ self.key }
         ensures last { LastWith (K.batch self.key) (K.listed self.key) result.1.words pass.number pass.view }
         ensures settled { IsSettledBy (K.batch self.key) (K.listed self.key) result.1 }
-        ensures references { pass.view.placed ≡ true → TellsReferences (K.batch self.key) result.1 }
+        ensures references { pass.view.placed ≡ true → HasItsReferences (K.batch self.key) result.1 }
     {
         let Batch {
             key,

@@ -5,9 +5,9 @@ ghost use Rattle.std.specs.Option.{MatchOption};
 ghost use Rattle.bohm_core_base.specs.Batch.{reference_words};
 ghost use Rattle.words.specs.Passes.{IsPassOf, gone_on};
 ghost use Rattle.words.specs.Views.{HoldsNone, KnowsPast};
-ghost use Rattle.filling_base.specs.Goings.{IsSamePass, OnlyLearns};
+ghost use Rattle.filling_base.specs.Extending.{IsSamePass, OnlyLearns};
 ghost use Rattle.filling_base.specs.References.{reference, reference_word};
-ghost use Rattle.filling_base.specs.Tries.{MeetsUnplaced, PlacedTells, UnplacedTells};
+ghost use Rattle.filling_base.specs.Tries.{MeetsUnplaced, PlacedMeans, UnplacedMeans};
 
 use crate::batch::Batch;
 use crate::fills::Fills;
@@ -32,7 +32,7 @@ impl<K: Fills> Batch<K> {
         index: usize,
         number: usize,
     ) -> Option<usize>
-        requires ours { IsPassOf self.now holding.old }
+        requires same_table { IsPassOf self.now holding.old }
         requires within { index < (K.batch self.now.key).size }
         requires number { number < length (reference_words (K.batch self.now.key) index) }
         requires past { KnowsPast (K.batch self.now.key) holding.old.view index }
@@ -46,7 +46,7 @@ impl<K: Fills> Batch<K> {
     // A partition that was found not to have placed the place, if any: one load of each front, or none where the pass knows that
     // all is placed.
     pub(crate) fn unplaced(&self, holding: &mut Holding, index: usize) -> Option<usize>
-        requires ours { IsPassOf self.now holding.old }
+        requires same_table { IsPassOf self.now holding.old }
         requires within { index < (K.batch self.now.key).size }
         ensures same { holding.new ≡ gone_on holding.old holding.new.view }
         ensures learns { OnlyLearns holding.old.view holding.new.view }
@@ -67,10 +67,10 @@ impl<K: Fills> Batch<K> {
     /// Whether every partition has placed every place: one load of each front until one is found that hasn't. A pass that found it so knows
     /// it from then on, and looks at no front again. It also returns true if the pass knows the last place done.
     pub fn all_placed(&self, pass: Pass) -> (Pass, bool)
-        requires ours { IsPassOf self.now pass }
+        requires same_table { IsPassOf self.now pass }
         ensures same { IsSamePass pass result.0 }
-        ensures all { result.1 ≡ true → PlacedTells (K.batch self.now.key) pass.view result.0.view }
-        ensures short { result.1 ≡ false → UnplacedTells (K.batch self.now.key) pass.view result.0.view }
+        ensures all { result.1 ≡ true → PlacedMeans (K.batch self.now.key) pass.view result.0.view }
+        ensures short { result.1 ≡ false → UnplacedMeans (K.batch self.now.key) pass.view result.0.view }
     {
         let last = self.key.places() - 1;
         let mut holding = Holding::begin(pass);
@@ -82,7 +82,7 @@ impl<K: Fills> Batch<K> {
 
     // The pass, which knows the fronts past the last place, and knows so from now on without them.
     fn settled(&self, mut holding: Holding, last: usize) -> Pass
-        requires ours { IsPassOf self.now holding }
+        requires same_table { IsPassOf self.now holding }
         requires last { last + 1 ≡ (K.batch self.now.key).size }
         requires idle { HoldsNone holding.view }
         requires past { KnowsPast (K.batch self.now.key) holding.view last }

@@ -32,7 +32,7 @@ pub trait BatchPlacer<K: Fills>: Drop {
     /// Places the next place of the batch, if there is one. After `NoMemory` nothing is placed, and the next call places the
     /// same place.
     fn advance(&mut self, batch: &Batch<K>) -> Advanced
-        requires ours { is_of batch.now self.old }
-        ensures ours { is_of batch.now self.new }
+        requires same_table { is_of batch.now self.old }
+        ensures same_table { is_of batch.now self.new }
         ensures advances { Advances (K.batch batch.now.key) (front self.old) result (front self.new) };
 }

@@ -3,7 +3,7 @@
 ghost use Rattle.std.specs.Prelude.{◌<◌};
 ghost use Rattle.words.specs.Passes.{IsPassOf};
 ghost use Rattle.filling_base.specs.Counting.{CountsBodies};
-ghost use Rattle.filling_base.specs.Goings.{IsSamePass};
+ghost use Rattle.filling_base.specs.Extending.{IsSamePass};
 ghost use Rattle.filling_base.specs.Walks.{IsWalk, Released, asked_place, held, spot};
 
 use crate::batch::Batch;
@@ -14,7 +14,7 @@ use words::Pass;
 impl<K: Fills> Batch<K> {
     // Gives back all that a call holds, from the current place to the one asked for.
     pub(crate) fn release(&self, walk: Walk) -> Pass
-        requires ours { IsPassOf self.now walk.holding }
+        requires same_table { IsPassOf self.now walk.holding }
         requires within { asked_place (spot walk) < (K.batch self.now.key).size }
         requires walks { IsWalk (K.batch self.now.key) (spot walk) }
         ensures same { IsSamePass walk.holding result }

@@ -4,8 +4,8 @@ ghost use Rattle.std.specs.Prelude.{◌≡◌, ◌<◌, [], ◌∷◌, false};
 ghost use Rattle.words.specs.Passes.{IsPassOf};
 ghost use Rattle.words.specs.Views.{HoldsNone, KnowsPast};
 ghost use Rattle.filling_base.specs.Counting.{CountsBodies};
-ghost use Rattle.filling_base.specs.Goings.{HoldsJust, IsSamePass};
-ghost use Rattle.filling_base.specs.Tries.{IsToldDone, TriedTells, is_unplaced};
+ghost use Rattle.filling_base.specs.Extending.{HoldsJust, IsSamePass};
+ghost use Rattle.filling_base.specs.Tries.{IsKnownDone, TriedMeans, is_unplaced};
 
 use crate::batch::Batch;
 use crate::fills::Fills;
@@ -28,13 +28,13 @@ pub enum Tried {
 impl<K: Fills> Batch<K> {
     // Runs a place that the pass holds, and no other, with nothing stored.
     fn run(&self, holding: Holding, index: usize) -> (Pass, Tried)
-        requires ours { IsPassOf self.now holding }
+        requires same_table { IsPassOf self.now holding }
         requires within { index < (K.batch self.now.key).size }
         requires held { HoldsJust holding.view (index ∷ []) }
         requires past { KnowsPast (K.batch self.now.key) holding.view index }
         ensures placed { is_unplaced result.1 ≡ false }
         ensures same { IsSamePass holding result.0 }
-        ensures tells { TriedTells (K.batch self.now.key) index holding.view result.1 result.0.view }
+        ensures tells { TriedMeans (K.batch self.now.key) index holding.view result.1 result.0.view }
         ensures bodies { CountsBodies (K.runs self.now.key) holding result.0 }
     {
         let mut walk = Walk {
@@ -71,15 +71,15 @@ impl<K: Fills> Batch<K> {
 
     // Claims a place that every partition has placed, and runs it.
     fn take(&self, mut holding: Holding, index: usize) -> (Pass, Tried)
-        requires ours { IsPassOf self.now holding }
+        requires same_table { IsPassOf self.now holding }
         requires within { index < (K.batch self.now.key).size }
         requires idle { HoldsNone holding.view }
         requires past { KnowsPast (K.batch self.now.key) holding.view index }
         ensures same { IsSamePass holding result.0 }
-        ensures tells { TriedTells (K.batch self.now.key) index holding.view result.1 result.0.view }
+        ensures tells { TriedMeans (K.batch self.now.key) index holding.view result.1 result.0.view }
         ensures bodies { CountsBodies (K.runs self.now.key) holding result.0 }
         ensures placed { is_unplaced result.1 ≡ false }
-        ensures told { IsToldDone (K.batch self.now.key) holding.view index → result.1 ≡ Tried.Done }
+        ensures told { IsKnownDone (K.batch self.now.key) holding.view index → result.1 ≡ Tried.Done }
     {
         match self.words.claim(&mut holding, index) {
             Claimed::Done => (holding.end(), Tried::Done),
@@ -95,13 +95,13 @@ impl<K: Fills> Batch<K> {
     /// place is given back only if one of its references wasn't known done as the call began, or for lack of memory for a revocation. The
     /// pass counts the bodies of the places that it finishes, whatever is returned.
     pub fn try_run(&self, pass: Pass, index: usize) -> (Pass, Tried)
-        requires ours { IsPassOf self.now pass }
+        requires same_table { IsPassOf self.now pass }
         requires within { index < (K.batch self.now.key).size }
         ensures same { IsSamePass pass result.0 }
-        ensures tells { TriedTells (K.batch self.now.key) index pass.view result.1 result.0.view }
+        ensures tells { TriedMeans (K.batch self.now.key) index pass.view result.1 result.0.view }
         ensures bodies { CountsBodies (K.runs self.now.key) pass result.0 }
         // What the pass knows done is returned so, and what is settled by that.
-        ensures told { IsToldDone (K.batch self.now.key) pass.view index → result.1 ≡ Tried.Done }
+        ensures told { IsKnownDone (K.batch self.now.key) pass.view index → result.1 ≡ Tried.Done }
     {
         let mut holding = Holding::begin(pass);
         match self.words.look(&mut holding, index) {

@@ -4,10 +4,10 @@ ghost use Rattle.std.specs.Prelude.{◌≡◌, ◌<◌, ◌≤◌, suc, length};
 ghost use Rattle.bohm_core_base.specs.Batch.{reference_words};
 ghost use Rattle.words.specs.Passes.{IsPassOf};
 ghost use Rattle.filling_base.specs.Counting.{CountsBodies};
-ghost use Rattle.filling_base.specs.Goings.{IsSamePass};
+ghost use Rattle.filling_base.specs.Extending.{IsSamePass};
 ghost use Rattle.filling_base.specs.References.{reference};
-ghost use Rattle.filling_base.specs.Tries.{IsToldDone};
-ghost use Rattle.filling_base.specs.Walks.{IsWalk, Stepped, asked_place, spot};
+ghost use Rattle.filling_base.specs.Tries.{IsKnownDone};
+ghost use Rattle.filling_base.specs.Walks.{IsWalk, StepDone, asked_place, spot};
 
 use crate::batch::Batch;
 use crate::fills::Fills;
@@ -17,15 +17,15 @@ use words::{Claimed, Seen};
 impl<K: Fills> Batch<K> {
     // Goes on with a place that the current one is referred to, if it can be claimed. Room to wait for it is made first.
     fn enter(&self, walk: &mut Walk, index: usize, next: usize) -> Step
-        requires ours { IsPassOf self.now walk.old.holding }
+        requires same_table { IsPassOf self.now walk.old.holding }
         requires within { asked_place (spot walk.old) < (K.batch self.now.key).size }
         requires walks { IsWalk (K.batch self.now.key) (spot walk.old) }
         requires short { walk.old.next < length (reference_words (K.batch self.now.key) walk.old.at) }
         requires next { next ≡ suc walk.old.next }
         requires names { reference (K.batch self.now.key) walk.old.at walk.old.next ≡ suc index }
-        requires untold { ¬ (IsToldDone (K.batch self.now.key) walk.old.holding.view index) }
+        requires untold { ¬ (IsKnownDone (K.batch self.now.key) walk.old.holding.view index) }
         ensures same { IsSamePass walk.old.holding walk.new.holding }
-        ensures stepped { Stepped (K.batch self.now.key) (spot walk.old) result (spot walk.new) }
+        ensures stepped { StepDone (K.batch self.now.key) (spot walk.old) result (spot walk.new) }
         ensures bodies { CountsBodies (K.runs self.now.key) walk.old.holding walk.new.holding }
     {
         let frame = Frame {
@@ -55,12 +55,12 @@ impl<K: Fills> Batch<K> {
 
     // Fills the current place, and goes back to the one that waits for it.
     pub(crate) fn leave(&self, mut walk: Walk) -> (Walk, Step)
-        requires ours { IsPassOf self.now walk.holding }
+        requires same_table { IsPassOf self.now walk.holding }
         requires within { asked_place (spot walk) < (K.batch self.now.key).size }
         requires walks { IsWalk (K.batch self.now.key) (spot walk) }
         requires all { length (reference_words (K.batch self.now.key) walk.at) ≤ walk.next }
         ensures same { IsSamePass walk.holding result.0.holding }
-        ensures stepped { Stepped (K.batch self.now.key) (spot walk) result.1 (spot result.0) }
+        ensures stepped { StepDone (K.batch self.now.key) (spot walk) result.1 (spot result.0) }
         ensures bodies { CountsBodies (K.runs self.now.key) walk.holding result.0.holding }
     {
         let (holding, filled) = self.key.fill(&self.words, walk.holding, walk.at);
@@ -80,13 +80,13 @@ impl<K: Fills> Batch<K> {
 
     // Looks at the next reference of the current place, after which this one is the next.
     pub(crate) fn step(&self, walk: &mut Walk, next: usize) -> Step
-        requires ours { IsPassOf self.now walk.old.holding }
+        requires same_table { IsPassOf self.now walk.old.holding }
         requires within { asked_place (spot walk.old) < (K.batch self.now.key).size }
         requires walks { IsWalk (K.batch self.now.key) (spot walk.old) }
         requires short { walk.old.next < length (reference_words (K.batch self.now.key) walk.old.at) }
         requires next { next ≡ suc walk.old.next }
         ensures same { IsSamePass walk.old.holding walk.new.holding }
-        ensures stepped { Stepped (K.batch self.now.key) (spot walk.old) result (spot walk.new) }
+        ensures stepped { StepDone (K.batch self.now.key) (spot walk.old) result (spot walk.new) }
         ensures bodies { CountsBodies (K.runs self.now.key) walk.old.holding walk.new.holding }
     {
         match self.referred(&mut walk.holding, walk.at, walk.next) {

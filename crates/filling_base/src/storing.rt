@@ -5,15 +5,20 @@ ghost use Rattle.bohm_core_base.specs.Batch.{words_length};
 ghost use Rattle.bohm_core_base.specs.Serial.{serial_words};
 ghost use Rattle.words.specs.Passes.{IsPassOf};
 ghost use Rattle.words.specs.Views.{Holds, KnowsReferences};
-ghost use Rattle.filling_base.specs.Goings.{Finishes, IsSamePass};
+ghost use Rattle.filling_base.specs.Extending.{Finishes, IsSamePass};
 ghost use Rattle.filling_base.specs.Storing.{IsEnding, Stores, ended_below};
 
 use model_base::Place;
-use words::{BatchWords, Holding, Placed};
+use words::{BatchData, BatchWords, Holding};
 
 // Stores the own words of a place that is held with nothing stored.
-fn store_words<K: Placed>(words: &BatchWords<K>, holding: &mut Holding, index: usize, own: &[u64])
-    requires ours { IsPassOf words.now holding.old }
+fn store_words<K: BatchData>(
+    words: &BatchWords<K>,
+    holding: &mut Holding,
+    index: usize,
+    own: &[u64],
+)
+    requires same_table { IsPassOf words.now holding.old }
     requires within { index < (K.batch words.now.key).size }
     requires held { Holds holding.old.view index 0 [] }
     requires ready { KnowsReferences (K.batch words.now.key) holding.old.view index }
@@ -29,14 +34,14 @@ fn store_words<K: Placed>(words: &BatchWords<K>, holding: &mut Holding, index: u
 }
 
 // Sets ends of a place that is held and has all its own words.
-fn store_ends<K: Placed>(
+fn store_ends<K: BatchData>(
     words: &BatchWords<K>,
     holding: &mut Holding,
     index: usize,
     place: Place,
     ends: &[usize],
 )
-    requires ours { IsPassOf words.now holding.old }
+    requires same_table { IsPassOf words.now holding.old }
     requires within { index < (K.batch words.now.key).size }
     requires held { Holds holding.old.view index (words_length (K.batch words.now.key) index) [] }
     requires ready { KnowsReferences (K.batch words.now.key) holding.old.view index }
@@ -55,7 +60,7 @@ fn store_ends<K: Placed>(
 
 /// Stores the own words of a place that is held with nothing stored, sets the ends of the records that it ends, each by its number in the
 /// list, and finishes the place. It counts no body. `place` is where it is in the log.
-pub fn store<K: Placed>(
+pub fn store<K: BatchData>(
     words: &BatchWords<K>,
     holding: &mut Holding,
     index: usize,
@@ -63,7 +68,7 @@ pub fn store<K: Placed>(
     own: &[u64],
     ends: &[usize],
 )
-    requires ours { IsPassOf words.now holding.old }
+    requires same_table { IsPassOf words.now holding.old }
     requires within { index < (K.batch words.now.key).size }
     requires held { Holds holding.old.view index 0 [] }
     requires ready { KnowsReferences (K.batch words.now.key) holding.old.view index }

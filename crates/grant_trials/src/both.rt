@@ -16,25 +16,25 @@ pub struct Both {
 
 /// What a view says of a user and a need: that it is held, or where it was lost last.
 #[derive(Clone, Copy, PartialEq, Eq, Debug)]
-pub enum Told {
+pub enum NeedAnswer {
     Held,
     Lost(Place),
     Never,
 }
 
-impl Told {
+impl NeedAnswer {
     /// What a denial for this says.
     fn cause(self) -> Option<Cause> {
         match self {
-            Told::Held => None,
-            Told::Lost(place) => Some(Cause::Taken(place)),
-            Told::Never => Some(Cause::Never),
+            NeedAnswer::Held => None,
+            NeedAnswer::Lost(place) => Some(Cause::Taken(place)),
+            NeedAnswer::Never => Some(Cause::Never),
         }
     }
 }
 
 /// What a view says of a need, by each of the calls that do.
-fn find_out<V: Records>(view: &mut V, user: User, need: &Need) -> Result<Told, TrialFault> {
+fn find_out<V: Records>(view: &mut V, user: User, need: &Need) -> Result<NeedAnswer, TrialFault> {
     if !view.covers(need.table) {
         return Err(TrialFault::Deed);
     }
@@ -45,11 +45,11 @@ fn find_out<V: Records>(view: &mut V, user: User, need: &Need) -> Result<Told, T
     };
     let cause = denial(view, user, need);
     let told = if held {
-        Told::Held
+        NeedAnswer::Held
     } else {
         match last_loss(view, user, need) {
-            Some(place) => Told::Lost(place),
-            None => Told::Never,
+            Some(place) => NeedAnswer::Lost(place),
+            None => NeedAnswer::Never,
         }
     };
     expect(cause == told.cause())?;
@@ -119,7 +119,7 @@ impl Both {
     }
 
     /// What the books at a place say of a need.
-    pub fn tell(&self, place: Place, user: User, need: &Need) -> Result<Told, TrialFault> {
+    pub fn tell(&self, place: Place, user: User, need: &Need) -> Result<NeedAnswer, TrialFault> {
         let found = find_out(&mut self.book.at(place), user, need)?;
         let other = find_out(&mut self.plain.at(place), user, need)?;
         expect(found == other)?;

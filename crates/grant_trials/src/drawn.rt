@@ -4,7 +4,7 @@
 //! and revoke them. Then both books are asked for each need of each user at each place, and are cut at a drawn place. It is known how much
 //! was compared.
 
-use crate::both::{Both, Told};
+use crate::both::{Both, NeedAnswer};
 use crate::fault::TrialFault;
 use model_base::{Deed, Grant, Grantee, Kind, Need, Place, Revocation, Table, User};
 use std::alloc::Global;
@@ -51,11 +51,11 @@ impl Counts {
     }
 
     /// Counts what was known of a need.
-    fn add_need(&mut self, told: Told) {
+    fn add_need(&mut self, told: NeedAnswer) {
         match told {
-            Told::Held => self.held = self.held.saturating_add(1),
-            Told::Lost(_) => self.lost = self.lost.saturating_add(1),
-            Told::Never => {}
+            NeedAnswer::Held => self.held = self.held.saturating_add(1),
+            NeedAnswer::Lost(_) => self.lost = self.lost.saturating_add(1),
+            NeedAnswer::Never => {}
         }
     }
 }
@@ -201,7 +201,7 @@ fn try_list(
 }
 
 /// Tries drawn lists, and says how much was compared.
-pub fn tell_drawn(rt: &impl Print, alloc: Global) -> Result<(), TrialFault> {
+pub fn print_drawn(rt: &impl Print, alloc: Global) -> Result<(), TrialFault> {
     let mut generator = Generator::new(17);
     let mut counts = Counts::default();
     for _ in 0..LISTS {

@@ -50,7 +50,7 @@ fn give(both: &mut Both, place: Place, users: (u32, u32), option: bool) -> Resul
 }
 
 /// Makes a revocation on table 0, and says the places that end.
-fn tell_taken(
+fn print_taken(
     rt: &impl Print,
     alloc: Global,
     both: &mut Both,
@@ -77,13 +77,13 @@ fn do_act(rt: &impl Print, alloc: Global, both: &mut Both, act: Act) -> Result<(
         Act::Gives(place, grantor, grantee) => give(both, place, (grantor, grantee), false),
         Act::Lets(place, grantor, grantee) => give(both, place, (grantor, grantee), true),
         Act::Takes(place, grantor, grantee) => {
-            tell_taken(rt, alloc, both, place, (grantor, grantee))
+            print_taken(rt, alloc, both, place, (grantor, grantee))
         }
     }
 }
 
 /// Does what an example does, and says what ends.
-fn tell_acts(
+fn print_acts(
     rt: &impl Print,
     alloc: Global,
     both: &mut Both,
@@ -96,7 +96,7 @@ fn tell_acts(
 }
 
 /// Reports what the books answer to the questions.
-fn tell_answers(rt: &impl Print, both: &Both, questions: &[Question]) -> Result<(), TrialFault> {
+fn print_answers(rt: &impl Print, both: &Both, questions: &[Question]) -> Result<(), TrialFault> {
     for question in questions {
         let (place, user, need) = *question;
         let told = both.tell(place, User(user), &need)?;
@@ -112,7 +112,7 @@ fn tell_answers(rt: &impl Print, both: &Both, questions: &[Question]) -> Result<
 }
 
 /// Prints an example.
-pub fn tell_example(
+pub fn print_example(
     rt: &impl Print,
     alloc: Global,
     name: &str,
@@ -120,11 +120,11 @@ pub fn tell_example(
     questions: &[Question],
 ) -> Result<(), TrialFault> {
     let mut both = Both::new(alloc);
-    tell_in(rt, alloc, &mut both, (name, acts, questions))
+    print_in(rt, alloc, &mut both, (name, acts, questions))
 }
 
 /// Prints an example in books that have no tables yet.
-fn tell_in(
+fn print_in(
     rt: &impl Print,
     alloc: Global,
     both: &mut Both,
@@ -132,6 +132,6 @@ fn tell_in(
 ) -> Result<(), TrialFault> {
     let (name, acts, questions) = example;
     let _ = println!(rt; "{name}");
-    tell_acts(rt, alloc, both, acts)?;
-    tell_answers(rt, both, questions)
+    print_acts(rt, alloc, both, acts)?;
+    print_answers(rt, both, questions)
 }

@@ -11,16 +11,16 @@ mod examples;
 mod fault;
 mod worked;
 
-use drawn::tell_drawn;
+use drawn::print_drawn;
 use fault::TrialFault;
 use std::alloc::Global;
 use std::process::ExitCode;
-use worked::tell_worked;
+use worked::print_worked;
 
 /// Prints the trials one after another.
 fn run(rt: &impl Print, alloc: Global) -> Result<(), TrialFault> {
-    tell_worked(rt, alloc)?;
-    tell_drawn(rt, alloc)
+    print_worked(rt, alloc)?;
+    print_drawn(rt, alloc)
 }
 
 fn main(rt: HostRuntime) -> ExitCode {

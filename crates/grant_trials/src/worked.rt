@@ -1,7 +1,7 @@
 //! Worked examples of grants and revocations.
 
 use crate::examples::Act::{Creates, Gives, Lets, Takes};
-use crate::examples::{OPTION, READ, tell_example};
+use crate::examples::{OPTION, READ, print_example};
 use crate::fault::{TrialFault, first_fault};
 use model_base::{Kind, Need};
 use std::alloc::Global;
@@ -19,8 +19,8 @@ const DAVE: u32 = 4;
 const EVE: u32 = 5;
 
 /// What a grantee granted further falls with the grant that let it.
-fn tell_a_cascade(rt: &impl Print, alloc: Global) -> Result<(), TrialFault> {
-    tell_example(
+fn print_a_cascade(rt: &impl Print, alloc: Global) -> Result<(), TrialFault> {
+    print_example(
         rt,
         alloc,
         "a cascade falls",
@@ -41,12 +41,12 @@ fn tell_a_cascade(rt: &impl Print, alloc: Global) -> Result<(), TrialFault> {
 }
 
 /// A grant without the option lets its grantee read, and not grant that further.
-fn tell_no_option(rt: &impl Print, alloc: Global) -> Result<(), TrialFault> {
+fn print_no_option(rt: &impl Print, alloc: Global) -> Result<(), TrialFault> {
     let update = Need {
         kind: Kind::Update,
         ..READ
     };
-    tell_example(
+    print_example(
         rt,
         alloc,
         "a grant without the option",
@@ -62,8 +62,8 @@ fn tell_no_option(rt: &impl Print, alloc: Global) -> Result<(), TrialFault> {
 }
 
 /// A cycle of options doesn't bear itself.
-fn tell_a_cycle(rt: &impl Print, alloc: Global) -> Result<(), TrialFault> {
-    tell_example(
+fn print_a_cycle(rt: &impl Print, alloc: Global) -> Result<(), TrialFault> {
+    print_example(
         rt,
         alloc,
         "a cycle falls",
@@ -79,8 +79,8 @@ fn tell_a_cycle(rt: &impl Print, alloc: Global) -> Result<(), TrialFault> {
 }
 
 /// What a second way bore at its time stays, and what was granted before it falls.
-fn tell_a_second_way(rt: &impl Print, alloc: Global) -> Result<(), TrialFault> {
-    tell_example(
+fn print_a_second_way(rt: &impl Print, alloc: Global) -> Result<(), TrialFault> {
+    print_example(
         rt,
         alloc,
         "a second way bears",
@@ -98,8 +98,8 @@ fn tell_a_second_way(rt: &impl Print, alloc: Global) -> Result<(), TrialFault> {
 }
 
 /// Each repeated grant counts by itself: R. Fagin's example, in which Xia is 1, Yan 2, Ann 3 and Bob 4.
-fn tell_a_repeated_grant(rt: &impl Print, alloc: Global) -> Result<(), TrialFault> {
-    tell_example(
+fn print_a_repeated_grant(rt: &impl Print, alloc: Global) -> Result<(), TrialFault> {
+    print_example(
         rt,
         alloc,
         "a repeated grant bears",
@@ -118,8 +118,8 @@ fn tell_a_repeated_grant(rt: &impl Print, alloc: Global) -> Result<(), TrialFaul
 }
 
 /// An option that its holder granted to itself falls with what bore it.
-fn tell_an_own_grant(rt: &impl Print, alloc: Global) -> Result<(), TrialFault> {
-    tell_example(
+fn print_an_own_grant(rt: &impl Print, alloc: Global) -> Result<(), TrialFault> {
+    print_example(
         rt,
         alloc,
         "an own grant falls",
@@ -134,13 +134,13 @@ fn tell_an_own_grant(rt: &impl Print, alloc: Global) -> Result<(), TrialFault> {
 }
 
 /// Prints the examples.
-pub fn tell_worked(rt: &impl Print, alloc: Global) -> Result<(), TrialFault> {
+pub fn print_worked(rt: &impl Print, alloc: Global) -> Result<(), TrialFault> {
     first_fault(&[
-        tell_a_cascade(rt, alloc),
-        tell_no_option(rt, alloc),
-        tell_a_cycle(rt, alloc),
-        tell_a_second_way(rt, alloc),
-        tell_a_repeated_grant(rt, alloc),
-        tell_an_own_grant(rt, alloc),
+        print_a_cascade(rt, alloc),
+        print_no_option(rt, alloc),
+        print_a_cycle(rt, alloc),
+        print_a_second_way(rt, alloc),
+        print_a_repeated_grant(rt, alloc),
+        print_an_own_grant(rt, alloc),
     ])
 }

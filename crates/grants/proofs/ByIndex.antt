@@ -23,7 +23,7 @@ use Rattle.grants_base.specs.declared.force.NextBy.{NextBy}
 use Rattle.grants_base.specs.declared.force.NextInForce.{NextInForce}
 use Rattle.grants_base.proofs.Indexing.{code-same, first_as, other_order}
 use Rattle.grants.specs.Loss.{last_end, loss_of, narrowed, only_to, standing_in_slots}
-use Rattle.grants.specs.declared.holding.Standing.TheVariants.{Held, Lost}
+use Rattle.grants.specs.declared.holding.NeedState.TheVariants.{Held, Lost}
 
 and-false : (a : Bool) → (a && false) ≡ false
 and-false true = refl

@@ -16,8 +16,8 @@ use Rattle.grants_base.specs.Index.{AreAsked, is_about, is_to, passes_at}
 use Rattle.grants_base.specs.Force.{later_of}
 use Rattle.grants.specs.Loss.{both, last_end, narrowed, only_to, slot_loss, standing_in_slots}
 use Rattle.grants_base.specs.View.{View, flatten, grant_in, slot_at, slot_gives}
-use Rattle.grants.specs.declared.holding.Standing.{Standing}
-use Rattle.grants.specs.declared.holding.Standing.TheVariants.{Held, Lost}
+use Rattle.grants.specs.declared.holding.NeedState.{NeedState}
+use Rattle.grants.specs.declared.holding.NeedState.TheVariants.{Held, Lost}
 use Rattle.grants_base.proofs.LaterOf.{later-assoc, later-none, later-swap}
 
 later-four : (a b c d : Option ℕ) → later_of (later_of a b) (later_of c d) ≡ later_of (later_of a c) (later_of b d)
@@ -44,7 +44,7 @@ both-parts false true place end = refl
 both-parts false false place end = refl
 
 -- a part that says of no loss
-pub both-lost : (standing : Standing) → both standing (Lost None) ≡ standing
+pub both-lost : (standing : NeedState) → both standing (Lost None) ≡ standing
 both-lost Held = refl
 both-lost (Lost place) = ap (λ (p : Option ℕ). Lost p) (later-none place)
 

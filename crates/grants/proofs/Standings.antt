@@ -4,7 +4,7 @@ use Rattle.std.specs.Prelude.{◌==◌, if◌then◌else◌}
 use Rattle.std.specs.List.{list_any}
 use Rattle.model_base.specs.declared.deed.Need.{Need}
 use Rattle.grants_base.specs.View.{View, holds_in, slot_gives}
-use Rattle.grants.specs.declared.holding.Standing.TheVariants.{Held, Lost}
+use Rattle.grants.specs.declared.holding.NeedState.TheVariants.{Held, Lost}
 use Rattle.grants.proofs.ViewLaws.{told_by}
 
 pub when_held : (given : Bool) (place : Option ℕ) → Held ≡ (if given then Held else Lost place) → given ≡ true

@@ -296,7 +296,7 @@ fn lose<V: Records>(
 /// The slots that are still to be judged; the users who lost an option, each with the slot below which none gives it any more, as
 /// far as it was looked at; and the slots that have ended.
 #[derive(Drop)]
-struct Work {
+struct CascadeWork {
     due: SlotSet,
     asked: BTreeMap<User, usize>,
     ended: Ended,
@@ -310,7 +310,7 @@ fn judge<V: Records>(
     revocation: &Revocation,
     slot: usize,
     next: usize,
-    work: &mut Work,
+    work: &mut CascadeWork,
 ) -> Result<(), AllocError>
     requires within { slot < length (V.shown view.old).slots }
     requires next { next ≡ slot + 1 }
@@ -377,7 +377,7 @@ pub(crate) fn cascade<V: Records>(
     // That there are this many slots bounds the next one.
     let _slots = view.slots();
     let due = named(alloc, view, revocation)?;
-    let mut work = Work {
+    let mut work = CascadeWork {
         due,
         asked: BTreeMap::new(alloc),
         ended: Ended::with_room(alloc)?,

@@ -15,7 +15,7 @@ use Rattle.model_base.proofs.Replay.{by_cases}
 use Rattle.grants_base.specs.Index.{is_about, is_one_of, IsFirst, IsNext, is_to, passes_at}
 use Rattle.grants_base.specs.Sides.{AreAscending, Indexes, IsPopped, IsPushed, by_side, holder_code, is_made_by, kind_code, same_side, side_of, slots_from, slots_under, to_side}
 use Rattle.grants_base.specs.declared.index.Index.{Index}
-use Rattle.grants_base.specs.declared.index.Side.{Side}
+use Rattle.grants_base.specs.declared.index.HolderKey.{HolderKey}
 use Rattle.grants_base.proofs.Indexing.{code-same, first_as, other_order}
 use Rattle.grants_base.proofs.Walks.{length-recorded}
 
@@ -124,7 +124,7 @@ front {X} xs x =
     whole (y ∷ ys) = ap (λ r. y ∷ r) (whole ys)
 
 -- an index that was told of one slot more, and of one less
-module _ (passes : Grantee → Kind → ℕ → Grant → Bool) (side : Grant → Side)
+module _ (passes : Grantee → Kind → ℕ → Grant → Bool) (side : Grant → HolderKey)
     (same : (holder : Grantee) (kind : Kind) (table : ℕ) (grant : Grant) → same_side (side grant) (side_of holder kind table) ≡ passes holder kind table grant) where
   pub indexes_more : (old new : Index) (entries : List Record) (entry : Record) (slot : ℕ) → slot ≡ length entries → Indexes passes old entries
       → IsPushed (side entry.grant) slot old new → Indexes passes new (entries ++ entry ∷ [])
@@ -165,17 +165,17 @@ pub slots_back : (same : Bool) (was told now : List ℕ) (slot : ℕ) → told �
 slots_back true was told now slot more less = less ∙ ap (λ (slots : List ℕ). take (length slots - 1) slots) more ∙ front was slot
 slots_back false was told now slot more less = less ∙ more
 
-abbrev make : ℕ → ℕ → ℕ → Side
+abbrev make : ℕ → ℕ → ℕ → HolderKey
 make u t k = record { holder = u; table = t; kind = k }
 
-pub side_true : (a b : Side) → same_side a b ≡ true → a ≡ b
+pub side_true : (a b : HolderKey) → same_side a b ≡ true → a ≡ b
 side_true a b is =
     let one = and_parts (a.holder == b.holder) ((a.table == b.table) && (a.kind == b.kind)) is in
     let two = and_parts (a.table == b.table) (a.kind == b.kind) one.1 in
     ap (λ u. make u a.table a.kind) (eqb-true a.holder b.holder one.0) ∙ ap (λ t. make b.holder t a.kind) (eqb-true a.table b.table two.0) ∙ ap (λ k. make b.holder b.table k) (eqb-true a.kind b.kind two.1)
 
 -- slots that are changed under one side
-pub put_by : (side other : Side) (change : List ℕ → List ℕ) (value : List ℕ) (at was now : Option (List ℕ)) → value ≡ change (unwrap_or at []) → (same_side side other ≡ true → at ≡ was)
+pub put_by : (side other : HolderKey) (change : List ℕ → List ℕ) (value : List ℕ) (at was now : Option (List ℕ)) → value ≡ change (unwrap_or at []) → (same_side side other ≡ true → at ≡ was)
     → now ≡ (if same_side side other then Some value else was) → unwrap_or now [] ≡ (if same_side side other then change (unwrap_or was []) else unwrap_or was [])
 put_by side other change value at was now is same told =
     by_cases (same_side side other)
@@ -183,7 +183,7 @@ put_by side other change value at was now is same told =
     (λ apart. rw (told, apart) refl)
 
 -- or aren't
-pub put_same : (side other : Side) (value : List ℕ) (at was now : Option (List ℕ)) → value ≡ unwrap_or at [] → (same_side side other ≡ true → at ≡ was)
+pub put_same : (side other : HolderKey) (value : List ℕ) (at was now : Option (List ℕ)) → value ≡ unwrap_or at [] → (same_side side other ≡ true → at ≡ was)
     → now ≡ (if same_side side other then Some value else was) → unwrap_or now [] ≡ unwrap_or was []
 put_same side other value at was now is same told =
     by_cases (same_side side other)

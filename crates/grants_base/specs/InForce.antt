@@ -12,16 +12,16 @@ use Rattle.grants_base.specs.Sides.{same_side, side_of}
 use Rattle.grants_base.specs.View.{View, entries, slot_at}
 use Rattle.grants_base.specs.declared.force.NextInForce.{NextInForce}
 use Rattle.grants_base.specs.declared.in_force.InForceIndex.{InForceIndex}
-use Rattle.grants_base.specs.declared.index.Side.{Side}
+use Rattle.grants_base.specs.declared.index.HolderKey.{HolderKey}
 
 -- what an index keeps under a side
-abbrev pub privilege_under : InForceIndex → Side → Privilege
+abbrev pub privilege_under : InForceIndex → HolderKey → Privilege
 privilege_under index side = unwrap_or (get same_side index.sides side) no_privilege
 
 -- what the index keeps under one side has changed so, and nothing else
-abbrev pub IsChanged : Side → (Privilege → Privilege → Type 0) → InForceIndex → InForceIndex → Type 0
+abbrev pub IsChanged : HolderKey → (Privilege → Privilege → Type 0) → InForceIndex → InForceIndex → Type 0
 IsChanged side Change old new =
-    (other : Side) → OnTrue (same_side side other) (Change (privilege_under old other) (privilege_under new other))
+    (other : HolderKey) → OnTrue (same_side side other) (Change (privilege_under old other) (privilege_under new other))
     × OnFalse (same_side side other) (privilege_under new other ≡ privilege_under old other)
 
 -- what is kept of a grantee, kind and table is what is in force of the records

@@ -10,7 +10,7 @@ use Rattle.model_base.specs.declared.deed.Record.{Record}
 use Rattle.model_base.specs.Privileges.{same_grantee}
 use Rattle.model_base.specs.Records.{recorded}
 use Rattle.grants_base.specs.declared.index.Index.{Index}
-use Rattle.grants_base.specs.declared.index.Side.{Side}
+use Rattle.grants_base.specs.declared.index.HolderKey.{HolderKey}
 use Rattle.grants_base.specs.Index.{is_about}
 
 -- the code of a kind
@@ -26,49 +26,50 @@ holder_code (User user) = user + 1
 holder_code Public = 0
 
 -- what is looked up for a grantee, a kind and a table; a grantor is looked up as the user that it is
-abbrev pub side_of : Grantee → Kind → ℕ → Side
+abbrev pub side_of : Grantee → Kind → ℕ → HolderKey
 side_of holder kind table = record { holder = holder_code holder; table = table; kind = kind_code kind }
 
 -- the side of a grant's grantee
-abbrev pub to_side : Grant → Side
+abbrev pub to_side : Grant → HolderKey
 to_side grant = side_of grant.grantee grant.kind grant.table
 
 -- and that of its grantor
-abbrev pub by_side : Grant → Side
+abbrev pub by_side : Grant → HolderKey
 by_side grant = side_of (User grant.grantor) grant.kind grant.table
 
 -- whether the grant is by this one, of this kind on this table; PUBLIC makes no grant
 abbrev pub is_made_by : Grantee → Kind → ℕ → Grant → Bool
 is_made_by grantor kind table grant = same_grantee (User grant.grantor) grantor && is_about kind table grant
 
-abbrev pub same_side : Side → Side → Bool
+abbrev pub same_side : HolderKey → HolderKey → Bool
 same_side a b = (a.holder == b.holder) && ((a.table == b.table) && (a.kind == b.kind))
 
 -- the number of a side that is hashed
-abbrev pub side_word : Side → ℕ
+abbrev pub side_word : HolderKey → ℕ
 side_word side = bit_xor (bit_xor side.holder (side.table * 2 ^ 34 % 2 ^ 64)) (side.kind * 2 ^ 50 % 2 ^ 64)
 
 -- the slots that an index has under a side
-abbrev pub slots_under : Index → Side → List ℕ
+abbrev pub slots_under : Index → HolderKey → List ℕ
 slots_under index side = unwrap_or (get same_side index.sides side) []
 
 -- the index has no slots
 abbrev pub IsEmpty : Index → Type 0
-IsEmpty index = (side : Side) → slots_under index side ≡ []
+IsEmpty index = (side : HolderKey) → slots_under index side ≡ []
 
 -- the index has under each side what another has
 abbrev pub IsSame : Index → Index → Type 0
-IsSame old new = (other : Side) → slots_under new other ≡ slots_under old other
+IsSame old new = (other : HolderKey) → slots_under new other ≡ slots_under old other
 
 -- and under one side a slot more, which is the last
-abbrev pub IsPushed : Side → ℕ → Index → Index → Type 0
+abbrev pub IsPushed : HolderKey → ℕ → Index → Index → Type 0
 IsPushed side slot old new =
-    (other : Side) → slots_under new other ≡ (if same_side side other then slots_under old other ++ slot ∷ [] else slots_under old other)
+    (other : HolderKey) → slots_under new other
+    ≡ (if same_side side other then slots_under old other ++ slot ∷ [] else slots_under old other)
 
 -- or all but the last under one side
-abbrev pub IsPopped : Side → Index → Index → Type 0
+abbrev pub IsPopped : HolderKey → Index → Index → Type 0
 IsPopped side old new =
-    (other : Side) → slots_under new other
+    (other : HolderKey) → slots_under new other
     ≡ (if same_side side other then take (length (slots_under old other) - 1) (slots_under old other) else slots_under old other)
 
 -- each slot lies below the later ones

@@ -11,7 +11,7 @@ ghost use Rattle.grants_base.specs.Sides.{to_side};
 
 use crate::force::{NextBy, NextInForce, Privilege};
 use crate::grantor_set::Granted;
-use crate::index::{Side, to_side};
+use crate::index::{HolderKey, to_side};
 use model_base::{Grant, HashSeed, Place, Record, User};
 use std::alloc::{AllocError, Global};
 use std::collections::HashMap;
@@ -21,7 +21,7 @@ use std::collections::HashMap;
 #[derive(Drop)]
 pub(crate) struct InForceIndex {
     alloc: Global,
-    sides: HashMap<Side, Privilege, HashSeed>,
+    sides: HashMap<HolderKey, Privilege, HashSeed>,
     is_whole: bool,
 }
 
@@ -67,7 +67,7 @@ impl InForceIndex {
     }
 
     /// Adds the slot of a grant under its side. On `Err`, out of memory.
-    fn put(&mut self, side: Side, granted: Granted, option: bool) -> Result<(), AllocError>
+    fn put(&mut self, side: HolderKey, granted: Granted, option: bool) -> Result<(), AllocError>
         ensures whole { self.new.is_whole ≡ self.old.is_whole }
         ensures ok { OnOk result (IsChanged side (IsGranted granted option) self.old self.new) }
     {
@@ -79,7 +79,7 @@ impl InForceIndex {
     }
 
     /// Takes away the slot of a grant that left force at a place, and returns whether there was anything under its side.
-    fn take(&mut self, side: &Side, granted: &Granted, place: Place, option: bool) -> bool
+    fn take(&mut self, side: &HolderKey, granted: &Granted, place: Place, option: bool) -> bool
         ensures whole { self.new.is_whole ≡ self.old.is_whole }
         ensures taken { result ≡ true → IsChanged side.now (IsWithdrawn granted.now place option) self.old self.new }
     {
@@ -128,7 +128,7 @@ impl InForceIndex {
 
     /// The least slot at or above this one of a grant in force under a side, and the last place at which one of them left force; with the
     /// option, where one is asked for. None where the index isn't whole.
-    pub fn next(&self, side: &Side, option: bool, from: usize) -> Option<NextInForce>
+    pub fn next(&self, side: &HolderKey, option: bool, from: usize) -> Option<NextInForce>
         ensures whole { IfSome result (λ _. self.now.is_whole ≡ true) }
         ensures slot { IfSome result (λ next.
             IsFirst (is_one_of (force_of option (privilege_under self.now side.now)).slots) from next.slot) }
@@ -147,7 +147,7 @@ impl InForceIndex {
     }
 
     /// The least slot at or above this one of a grant in force under a side by a user. None where the index isn't whole.
-    pub fn next_by(&self, side: &Side, grantor: User, from: usize) -> Option<NextBy>
+    pub fn next_by(&self, side: &HolderKey, grantor: User, from: usize) -> Option<NextBy>
         ensures whole { IfSome result (λ _. self.now.is_whole ≡ true) }
         ensures slot { IfSome result (λ next. IsFirst (has_by (privilege_under self.now side.now).by grantor) from next.slot) }
     {

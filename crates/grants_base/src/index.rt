@@ -15,13 +15,13 @@ use std::marker::Model;
 
 /// The code of a grantee, and so of a user, with a table and the code of a kind.
 #[derive(Clone, Copy, PartialEq, Eq, Debug)]
-pub(crate) struct Side {
+pub(crate) struct HolderKey {
     holder: u64,
     table: Table,
     kind: u8,
 }
 
-impl Side {
+impl HolderKey {
     /// The number that is hashed. Those of two sides differ: a holder's code has 33 bits, and a log has at most 2^16 tables.
     #[inline(always)]
     fn word(&self) -> u64
@@ -31,7 +31,7 @@ impl Side {
     }
 }
 
-impl Hash for Side {
+impl Hash for HolderKey {
     ghost hash_input = { λ side. fed.u64 (side_word side) };
 
     ghost respects_eq = { Prim.search (hashing, rules) };
@@ -65,10 +65,10 @@ pub fn holder_code(holder: Grantee) -> u64
 }
 
 /// What is looked up for a grantee, a kind and a table. A grantor is looked up as the user that it is.
-pub(crate) fn side_of(holder: Grantee, kind: Kind, table: Table) -> Side
+pub(crate) fn side_of(holder: Grantee, kind: Kind, table: Table) -> HolderKey
     ensures { result ≡ side_of holder kind table }
 {
-    Side {
+    HolderKey {
         holder: holder_code(holder),
         table,
         kind: kind_code(kind),
@@ -76,7 +76,7 @@ pub(crate) fn side_of(holder: Grantee, kind: Kind, table: Table) -> Side
 }
 
 /// The side of a grant's grantee.
-pub(crate) fn to_side(grant: &Grant) -> Side
+pub(crate) fn to_side(grant: &Grant) -> HolderKey
     ensures { result ≡ to_side grant.now }
 {
     side_of(grant.grantee, grant.kind, grant.table)
@@ -165,7 +165,7 @@ impl Slots {
 #[derive(Drop)]
 pub(crate) struct Index {
     alloc: Global,
-    sides: HashMap<Side, Slots, HashSeed>,
+    sides: HashMap<HolderKey, Slots, HashSeed>,
 }
 
 impl Index {
@@ -180,7 +180,7 @@ impl Index {
     }
 
     /// Adds a slot last under a side. On `Err`, out of memory, the slots are as they were.
-    pub fn push(&mut self, side: Side, slot: usize) -> Result<(), AllocError>
+    pub fn push(&mut self, side: HolderKey, slot: usize) -> Result<(), AllocError>
         ensures ok { OnOk result (IsPushed side slot self.old self.new) }
         ensures err { OnErr result (IsSame self.old self.new) }
     {
@@ -189,7 +189,7 @@ impl Index {
     }
 
     /// Takes the last slot under a side away, if there is one.
-    pub fn pop(&mut self, side: &Side)
+    pub fn pop(&mut self, side: &HolderKey)
         ensures { IsPopped side.now self.old self.new }
     {
         if let Some(slots) = self.sides.get_mut(side) {
@@ -198,7 +198,7 @@ impl Index {
     }
 
     /// The least slot at or above this one, under a side whose slots rise.
-    pub fn next(&self, side: &Side, from: usize) -> Option<usize>
+    pub fn next(&self, side: &HolderKey, from: usize) -> Option<usize>
         requires { AreAscending (slots_under self.now side.now) }
         ensures { IsFirst (is_one_of (slots_under self.now side.now)) from result }
     {

@@ -16,7 +16,7 @@ use crate::endings::{Ending, note, note_by_place, pop_from, reaches};
 use crate::entries::{End, reopen_slot, set_end};
 use crate::force::{NextBy, NextInForce};
 use crate::in_force::InForceIndex;
-use crate::index::{Index, Side, side_of, to_side};
+use crate::index::{HolderKey, Index, side_of, to_side};
 use model_base::{Grant, Grantee, HashSeed, Kind, Place, Record, Table, User};
 use std::alloc::{AllocError, Global};
 use std::marker::Model;
@@ -45,7 +45,7 @@ impl Model for IndexedRecords {
 }
 
 /// The side of a grant's grantor.
-fn by_side(grant: &Grant) -> Side
+fn by_side(grant: &Grant) -> HolderKey
     ensures { result ≡ by_side grant.now }
 {
     side_of(Grantee::User(grant.grantor), grant.kind, grant.table)

@@ -10,7 +10,7 @@ use crate::ranges::{Before, batch_of, log_of, nothing, open_batch};
 use crate::refusal::{print_begun, print_refused};
 use bohm_core::{Machine, State};
 use bohm_core_base::Event;
-use filling::{Closed, Finished, finish};
+use filling::{CompletedBatch, Finished, finish};
 use log_batch::{LogBatch, LogKey, ended_slots};
 use log_machine::OfLog;
 use sequencer::LogTail;

@@ -13,7 +13,7 @@ use filling_base::{Batch, Fills, Tried};
 use model_base::Outcome;
 use sequencer::LogTail;
 use std::alloc::{AllocError, Global};
-use words::{Holding, Pass, Placed, Seen};
+use words::{BatchData, Holding, Pass, Seen};
 
 /// How many places the chain has, after the one that creates its table.
 const CHAIN: usize = 100;
@@ -60,7 +60,7 @@ fn call_try_run(
     pass: Pass,
     index: usize,
 ) -> (Pass, Result<Option<Found>, AllocError>)
-    requires ours { IsPassOf batch.now pass }
+    requires same_table { IsPassOf batch.now pass }
     requires within { index < batch.now.key.batch.size }
     ensures { IsPassOf batch.now result.0 }
 {
@@ -77,7 +77,7 @@ fn call_outcome(
     pass: Pass,
     index: usize,
 ) -> (Pass, Result<Option<Found>, AllocError>)
-    requires ours { IsPassOf batch.now pass }
+    requires same_table { IsPassOf batch.now pass }
     requires within { index < batch.now.key.batch.size }
     ensures { IsPassOf batch.now result.0 }
 {
@@ -94,7 +94,7 @@ fn call_run_place(
     pass: Pass,
     index: usize,
 ) -> (Pass, Result<Option<Found>, AllocError>)
-    requires ours { IsPassOf batch.now pass }
+    requires same_table { IsPassOf batch.now pass }
     requires within { index < batch.now.key.batch.size }
     ensures { IsPassOf batch.now result.0 }
 {

@@ -91,7 +91,7 @@ fn references(
 }
 
 /// Prints what each place of a batch is referred to.
-fn tell_refs(rt: &impl Print, name: &str, refs: &Refs) {
+fn print_refs(rt: &impl Print, name: &str, refs: &Refs) {
     tell(rt, name, &refs.len());
     for index in 0..refs.len() {
         tell(rt, name, &refs.of(index));
@@ -123,7 +123,7 @@ fn put_lines(alloc: Global, log: &mut LogTail) -> Result<(), TrialFault> {
 }
 
 /// Prints the references of the batch that has the places of the log from the first one on.
-fn tell_references(
+fn print_references(
     rt: &impl Print,
     alloc: Global,
     log: &LogTail,
@@ -134,32 +134,32 @@ fn tell_references(
 {
     tell(rt, "first place and partitions", &(first, partitions));
     let refs = references(alloc, log, first, partitions)?;
-    tell_refs(rt, "  places", &refs);
+    print_refs(rt, "  places", &refs);
     Ok(())
 }
 
 /// Prints the references of no batch.
-fn tell_no_part(rt: &impl Print, alloc: Global) -> Result<(), TrialFault> {
+fn print_no_part(rt: &impl Print, alloc: Global) -> Result<(), TrialFault> {
     let refs = merge(alloc, Vec::new(alloc))?;
-    tell_refs(rt, "places of no part", &refs);
+    print_refs(rt, "places of no part", &refs);
     Ok(())
 }
 
 /// Prints the references of batches of the log.
-fn tell_batches(rt: &impl Print, alloc: Global, log: &mut LogTail) -> Result<(), TrialFault> {
+fn print_batches(rt: &impl Print, alloc: Global, log: &mut LogTail) -> Result<(), TrialFault> {
     put_lines(alloc, log)?;
-    tell_references(rt, alloc, log, 1, 1)?;
-    tell_references(rt, alloc, log, 1, 7)?;
-    tell_references(rt, alloc, log, 1, 64)?;
-    tell_references(rt, alloc, log, 5, 3)?;
-    tell_references(rt, alloc, log, 7, 2)
+    print_references(rt, alloc, log, 1, 1)?;
+    print_references(rt, alloc, log, 1, 7)?;
+    print_references(rt, alloc, log, 1, 64)?;
+    print_references(rt, alloc, log, 5, 3)?;
+    print_references(rt, alloc, log, 7, 2)
 }
 
 /// Prints the references, and the partitions of a row and of a table.
-pub fn tell_batch_references(rt: &impl Print, alloc: Global) -> Result<(), TrialFault> {
-    tell_no_part(rt, alloc)?;
+pub fn print_batch_references(rt: &impl Print, alloc: Global) -> Result<(), TrialFault> {
+    print_no_part(rt, alloc)?;
     let rows = (partition_of(KEY, 7), partition_of(KEY, 1));
     tell(rt, "partitions", &(rows, partition_of_table(Table(65), 64)));
     references_are_last();
-    tell_batches(rt, alloc, &mut LogTail::new(alloc))
+    print_batches(rt, alloc, &mut LogTail::new(alloc))
 }

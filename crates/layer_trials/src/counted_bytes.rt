@@ -6,7 +6,7 @@ use std::alloc::Global;
 use std::io::{Read, Write};
 
 /// Reads three times three bytes. Tells how many came each time, and what is counted then.
-fn tell_reads(rt: &impl Print, name: &str, mut reader: Counted<&'static [u8]>) {
+fn print_reads(rt: &impl Print, name: &str, mut reader: Counted<&'static [u8]>) {
     let mut buffer = [0u8; 3];
     for _ in 0..3 {
         let came = reader.read(&mut buffer).ok();
@@ -15,7 +15,7 @@ fn tell_reads(rt: &impl Print, name: &str, mut reader: Counted<&'static [u8]>) {
 }
 
 /// Writes four bytes and then none, and flushes.
-fn tell_writes(rt: &impl Print, alloc: Global) {
+fn print_writes(rt: &impl Print, alloc: Global) {
     let mut writer = Counted::new(Vec::new(alloc));
     let four = writer.write(b"four").ok();
     let none = writer.write(b"").ok();
@@ -29,8 +29,8 @@ fn tell_writes(rt: &impl Print, alloc: Global) {
 }
 
 /// Prints what is counted.
-pub fn tell_counted_bytes(rt: &impl Print, alloc: Global) {
-    tell_reads(rt, "bytes read", Counted::new(b"four".as_slice()));
+pub fn print_counted_bytes(rt: &impl Print, alloc: Global) {
+    print_reads(rt, "bytes read", Counted::new(b"four".as_slice()));
     let full = Counted {
         inner: b"more".as_slice(),
         errors: 0,
@@ -38,6 +38,6 @@ pub fn tell_counted_bytes(rt: &impl Print, alloc: Global) {
         flushes: 0,
         is_flushed: false,
     };
-    tell_reads(rt, "bytes read at the limit", full);
-    tell_writes(rt, alloc);
+    print_reads(rt, "bytes read at the limit", full);
+    print_writes(rt, alloc);
 }

@@ -99,7 +99,7 @@ fn counted(book: &Book, place: Place) -> Counting<BookView<'_>> {
 }
 
 /// Prints whether a user holds a kind, and how many grants and ends were looked at for it.
-fn tell_held(rt: &impl Print, book: &Book, user: u32, kind: Kind) {
+fn print_held(rt: &impl Print, book: &Book, user: u32, kind: Kind) {
     let mut view = counted(book, Place::from(READERS).saturating_add(1));
     if view.covers(TABLE) {
         let held = holds(&mut view, User(user), kind, TABLE);
@@ -108,19 +108,19 @@ fn tell_held(rt: &impl Print, book: &Book, user: u32, kind: Kind) {
 }
 
 /// That the last of many may read is known without a look at any grant, and so is that he holds nothing else.
-fn tell_one_of_many(rt: &impl Print, book: &mut Book) -> Result<(), TrialFault> {
+fn print_one_of_many(rt: &impl Print, book: &mut Book) -> Result<(), TrialFault> {
     enter(book)?;
     for user in 1..=READERS {
         give(book, reading(Place::from(user), (0, user), false))?;
     }
     let _ = println!(rt; "one of {READERS}");
-    tell_held(rt, book, READERS, Kind::Read);
-    tell_held(rt, book, READERS, Kind::Insert);
+    print_held(rt, book, READERS, Kind::Read);
+    print_held(rt, book, READERS, Kind::Insert);
     Ok(())
 }
 
 /// Prints whether user 1 is denied, and how many grants and ends were looked at for it.
-fn tell_denied(rt: &impl Print, book: &Book) {
+fn print_denied(rt: &impl Print, book: &Book) {
     let mut view = counted(book, 100);
     let need = Need {
         table: TABLE,
@@ -138,7 +138,7 @@ fn tell_denied(rt: &impl Print, book: &Book) {
 }
 
 /// A user who lost a privilege over and over is denied without a look at any grant.
-fn tell_a_denial(rt: &impl Print, alloc: Global, book: &mut Book) -> Result<(), TrialFault> {
+fn print_a_denial(rt: &impl Print, alloc: Global, book: &mut Book) -> Result<(), TrialFault> {
     enter(book)?;
     for turn in 1..=TURNS {
         let place = Place::from(turn).saturating_mul(2);
@@ -146,7 +146,7 @@ fn tell_a_denial(rt: &impl Print, alloc: Global, book: &mut Book) -> Result<(), 
         take(alloc, book, &unreading(place.saturating_add(1), (0, 1)))?;
     }
     let _ = println!(rt; "granted and taken {TURNS} times");
-    tell_denied(rt, book);
+    print_denied(rt, book);
     Ok(())
 }
 
@@ -165,7 +165,7 @@ fn put_options(book: &mut Book) -> Result<(), TrialFault> {
 /// Where all options of a user end, his grants and those to him are gone through once, and not once for each of the others:
 /// each of the 40 is judged, and each of the 20 to the user is looked at to find out whether it is named, whether it still stands
 /// when the one before it ends, and that it doesn't any more when it has ended itself.
-fn tell_a_cascade(rt: &impl Print, alloc: Global, book: &mut Book) -> Result<(), TrialFault> {
+fn print_a_cascade(rt: &impl Print, alloc: Global, book: &mut Book) -> Result<(), TrialFault> {
     put_options(book)?;
     let _ = println!(rt; "{TURNS} options, each granted on");
     let revocation = unreading(100, (0, 1));
@@ -178,8 +178,8 @@ fn tell_a_cascade(rt: &impl Print, alloc: Global, book: &mut Book) -> Result<(),
 }
 
 /// Prints how many records each looks at.
-pub fn tell_counts(rt: &impl Print, alloc: Global) -> Result<(), TrialFault> {
-    tell_one_of_many(rt, &mut Book::new(alloc))?;
-    tell_a_denial(rt, alloc, &mut Book::new(alloc))?;
-    tell_a_cascade(rt, alloc, &mut Book::new(alloc))
+pub fn print_counts(rt: &impl Print, alloc: Global) -> Result<(), TrialFault> {
+    print_one_of_many(rt, &mut Book::new(alloc))?;
+    print_a_denial(rt, alloc, &mut Book::new(alloc))?;
+    print_a_cascade(rt, alloc, &mut Book::new(alloc))
 }

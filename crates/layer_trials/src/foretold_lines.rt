@@ -31,7 +31,12 @@ fn found_text(alloc: Global, line: &Ahead) -> Result<String, AllocError> {
 }
 
 /// Prints what is found of the lines of a piece.
-fn tell_piece(rt: &impl Print, alloc: Global, what: &str, piece: &Piece) -> Result<(), AllocError> {
+fn print_piece(
+    rt: &impl Print,
+    alloc: Global,
+    what: &str,
+    piece: &Piece,
+) -> Result<(), AllocError> {
     for line in piece.lines() {
         tell(rt, what, &found_text(alloc, line)?);
     }
@@ -39,16 +44,16 @@ fn tell_piece(rt: &impl Print, alloc: Global, what: &str, piece: &Piece) -> Resu
 }
 
 /// Prints what is found of lines, and once more of the first with the lists of the first time.
-fn tell_read(rt: &impl Print, alloc: Global, catalog: &Catalog) -> Result<(), AllocError> {
+fn print_read(rt: &impl Print, alloc: Global, catalog: &Catalog) -> Result<(), AllocError> {
     let bytes = LINES.as_bytes();
     let piece = foretell_lines(alloc, catalog, bytes, 0, bytes.len(), Piece::new(alloc));
-    tell_piece(rt, alloc, "a line read ahead", &piece)?;
+    print_piece(rt, alloc, "a line read ahead", &piece)?;
     let again = foretell_lines(alloc, catalog, bytes, 0, 60, piece);
-    tell_piece(rt, alloc, "and once more", &again)
+    print_piece(rt, alloc, "and once more", &again)
 }
 
 /// Prints where pieces of the lines begin.
-fn tell_cuts(rt: &impl Print, alloc: Global) -> Result<(), AllocError> {
+fn print_cuts(rt: &impl Print, alloc: Global) -> Result<(), AllocError> {
     let bytes = LINES.as_bytes();
     let cuts = piece_cuts(alloc, bytes, 0, bytes.len(), 3)?;
     tell(rt, "pieces", &cuts.as_slice());
@@ -56,7 +61,7 @@ fn tell_cuts(rt: &impl Print, alloc: Global) -> Result<(), AllocError> {
 }
 
 /// Prints how many users and places names have that catch up.
-fn tell_names(rt: &impl Print, alloc: Global, later: &Catalog) -> Result<(), AllocError> {
+fn print_names(rt: &impl Print, alloc: Global, later: &Catalog) -> Result<(), AllocError> {
     let mut names = Catalog::new(alloc);
     names.catch_up(later)?;
     tell(rt, "users caught up", &names.users().len());
@@ -65,15 +70,15 @@ fn tell_names(rt: &impl Print, alloc: Global, later: &Catalog) -> Result<(), All
 }
 
 /// Takes two lines, and says what is found of later ones by their names.
-fn tell_in(rt: &impl Print, alloc: Global, catalog: &mut Catalog) -> Result<(), TrialFault> {
+fn print_in(rt: &impl Print, alloc: Global, catalog: &mut Catalog) -> Result<(), TrialFault> {
     admit_line(alloc, catalog, "alice CREATE t 2")?;
     admit_line(alloc, catalog, "alice GRANT READ t bob OPTION")?;
-    tell_read(rt, alloc, catalog)?;
-    tell_cuts(rt, alloc)?;
-    Ok(tell_names(rt, alloc, catalog)?)
+    print_read(rt, alloc, catalog)?;
+    print_cuts(rt, alloc)?;
+    Ok(print_names(rt, alloc, catalog)?)
 }
 
 /// Prints what is found of lines by the names of two earlier ones, and what other names catch up.
-pub fn tell_foretold_lines(rt: &impl Print, alloc: Global) -> Result<(), TrialFault> {
-    tell_in(rt, alloc, &mut Catalog::new(alloc))
+pub fn print_foretold_lines(rt: &impl Print, alloc: Global) -> Result<(), TrialFault> {
+    print_in(rt, alloc, &mut Catalog::new(alloc))
 }

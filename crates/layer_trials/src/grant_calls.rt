@@ -20,13 +20,13 @@ const READ: Need = Need {
 };
 
 /// Prints how many tables and records the book has.
-fn tell_lengths(rt: &impl Print, book: &Book) {
+fn print_lengths(rt: &impl Print, book: &Book) {
     tell(rt, "  tables", &book.tables().len());
     tell(rt, "  records", &book.records().len());
 }
 
 /// Reports what a view answers.
-fn tell_view<V: Records>(rt: &impl Print, view: &mut V) {
+fn print_view<V: Records>(rt: &impl Print, view: &mut V) {
     tell(rt, "  place", &view.at());
     tell(rt, "  covers table 0", &view.covers(TABLE));
     tell(rt, "  covers table 1", &view.covers(Table(1)));
@@ -41,7 +41,7 @@ fn tell_view<V: Records>(rt: &impl Print, view: &mut V) {
 }
 
 /// Prints which slot a view finds by a user.
-fn tell_next<V: Records>(rt: &impl Print, view: &mut V) {
+fn print_next<V: Records>(rt: &impl Print, view: &mut V) {
     let to_bob = view.next_to(Grantee::User(BOB), Kind::Read, TABLE, 0);
     let to_bob_later = view.next_to(Grantee::User(BOB), Kind::Read, TABLE, 1);
     let to_olga = view.next_to(Grantee::User(OLGA), Kind::Read, TABLE, 0);
@@ -55,7 +55,7 @@ fn tell_next<V: Records>(rt: &impl Print, view: &mut V) {
 }
 
 /// Prints whether Bob may read, by the book at a place, or where he lost that.
-fn tell_bob(rt: &impl Print, book: &Book, place: Place) {
+fn print_bob(rt: &impl Print, book: &Book, place: Place) {
     let mut view = book.at(place);
     if view.covers(TABLE) {
         let held = holds(&mut view, BOB, Kind::Read, TABLE);
@@ -67,7 +67,12 @@ fn tell_bob(rt: &impl Print, book: &Book, place: Place) {
 }
 
 /// Prints whether the lines that explain Bob's need at a place are sound.
-fn tell_lines(rt: &impl Print, alloc: Global, book: &Book, place: Place) -> Result<(), TrialFault> {
+fn print_lines(
+    rt: &impl Print,
+    alloc: Global,
+    book: &Book,
+    place: Place,
+) -> Result<(), TrialFault> {
     if book.tables().len() > 0 {
         let lines = explain_needs(alloc, book, place, BOB, &[READ])?;
         let sound = are_sound(book, place, BOB, &[READ], &lines);
@@ -77,24 +82,24 @@ fn tell_lines(rt: &impl Print, alloc: Global, book: &Book, place: Place) -> Resu
 }
 
 /// Prints each call of a book: a table, a grant and its revocation, and what is left where the book is cut.
-fn tell_book(rt: &impl Print, alloc: Global, book: &mut Book) -> Result<(), TrialFault> {
+fn print_book(rt: &impl Print, alloc: Global, book: &mut Book) -> Result<(), TrialFault> {
     enter(book)?;
     give(book, reading(1, (0, 2), true))?;
     take(alloc, book, &unreading(2, (0, 2)))?;
-    tell_lengths(rt, book);
-    tell_view(rt, &mut book.at(2));
-    tell_next(rt, &mut book.at(2));
-    tell_lines(rt, alloc, book, 3)?;
-    tell_bob(rt, book, 3);
+    print_lengths(rt, book);
+    print_view(rt, &mut book.at(2));
+    print_next(rt, &mut book.at(2));
+    print_lines(rt, alloc, book, 3)?;
+    print_bob(rt, book, 3);
     book.cut(2);
-    tell_bob(rt, book, 3);
+    print_bob(rt, book, 3);
     book.cut(0);
-    tell_lengths(rt, book);
+    print_lengths(rt, book);
     Ok(())
 }
 
 /// Prints each call of a book.
-pub fn tell_grant_calls(rt: &impl Print, alloc: Global) -> Result<(), TrialFault> {
+pub fn print_grant_calls(rt: &impl Print, alloc: Global) -> Result<(), TrialFault> {
     let _ = println!(rt; "each call");
-    tell_book(rt, alloc, &mut Book::new(alloc))
+    print_book(rt, alloc, &mut Book::new(alloc))
 }

@@ -21,32 +21,32 @@ mod version_marks;
 mod worked_versions;
 mod written_pieces;
 
-use batch_references::tell_batch_references;
-use counted_bytes::tell_counted_bytes;
-use counting::tell_counts;
+use batch_references::print_batch_references;
+use counted_bytes::print_counted_bytes;
+use counting::print_counts;
 use fault::TrialFault;
-use foretold_lines::tell_foretold_lines;
-use grant_calls::tell_grant_calls;
-use many_users::tell_many_users;
-use read_lines::tell_read_lines;
+use foretold_lines::print_foretold_lines;
+use grant_calls::print_grant_calls;
+use many_users::print_many_users;
+use read_lines::print_read_lines;
 use std::alloc::Global;
 use std::process::ExitCode;
-use version_marks::tell_marks;
-use worked_versions::tell_worked;
-use written_pieces::tell_written_pieces;
+use version_marks::print_marks;
+use worked_versions::print_worked;
+use written_pieces::print_written_pieces;
 
 /// Prints the trials one after another.
 fn run(rt: &impl Print, alloc: Global) -> Result<(), TrialFault> {
-    tell_counted_bytes(rt, alloc);
-    tell_read_lines(rt, alloc)?;
-    tell_written_pieces(rt, alloc)?;
-    tell_batch_references(rt, alloc)?;
-    tell_worked(rt, alloc)?;
-    tell_marks(rt, alloc)?;
-    tell_many_users(rt, alloc)?;
-    tell_foretold_lines(rt, alloc)?;
-    tell_grant_calls(rt, alloc)?;
-    tell_counts(rt, alloc)
+    print_counted_bytes(rt, alloc);
+    print_read_lines(rt, alloc)?;
+    print_written_pieces(rt, alloc)?;
+    print_batch_references(rt, alloc)?;
+    print_worked(rt, alloc)?;
+    print_marks(rt, alloc)?;
+    print_many_users(rt, alloc)?;
+    print_foretold_lines(rt, alloc)?;
+    print_grant_calls(rt, alloc)?;
+    print_counts(rt, alloc)
 }
 
 fn main(rt: HostRuntime) -> ExitCode {

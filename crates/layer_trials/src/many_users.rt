@@ -3,7 +3,7 @@
 use crate::telling::tell;
 use log_text::{RawStatement, parse_line};
 use model_base::User;
-use sequencer::{Catalog, NameTable, Refused, Room};
+use sequencer::{Catalog, NameTable, Refused, StatementBuffers};
 use std::alloc::Global;
 
 /// The catalog takes the statement, or refuses it.
@@ -15,7 +15,7 @@ fn admit(
     catalog.test(statement)?;
     let mut kept = Vec::new(alloc);
     kept.reserve(1)?;
-    catalog.admit(statement, &mut Room::new(alloc), &mut kept)?;
+    catalog.admit(statement, &mut StatementBuffers::new(alloc), &mut kept)?;
     Ok(kept[kept.len() - 1].user)
 }
 
@@ -28,7 +28,7 @@ pub fn admit_line(alloc: Global, catalog: &mut Catalog, line: &str) -> Result<Us
 }
 
 /// Reports the catalog's answer to a line, and how many names and places it has then.
-fn tell_line(rt: &impl Print, alloc: Global, catalog: &mut Catalog, line: &str) {
+fn print_line(rt: &impl Print, alloc: Global, catalog: &mut Catalog, line: &str) {
     let answer = admit_line(alloc, catalog, line);
     let (users, tables) = (catalog.users().len(), catalog.tables().len());
     let places = catalog.places();
@@ -45,20 +45,20 @@ const MANY: [&str; 5] = [
 ];
 
 /// Prints what a catalog with many users takes.
-fn tell_many(rt: &impl Print, alloc: Global, catalog: &mut Catalog) -> Result<(), Refused> {
+fn print_many(rt: &impl Print, alloc: Global, catalog: &mut Catalog) -> Result<(), Refused> {
     admit_line(alloc, catalog, "u0 CREATE t 1")?;
     for number in 1..65_535_u32 {
         let line = format!(in alloc; "u{number} RUN t:1:R")?;
         admit_line(alloc, catalog, line.as_str())?;
     }
     for line in MANY {
-        tell_line(rt, alloc, catalog, line);
+        print_line(rt, alloc, catalog, line);
     }
     Ok(())
 }
 
 /// Prints the numbers of names, and of one that is taken out again.
-fn tell_names(rt: &impl Print, names: &mut NameTable) {
+fn print_names(rt: &impl Print, names: &mut NameTable) {
     for name in ["ann", "bea", "ann"] {
         let entered = names.enter(name);
         tell(rt, name, &(entered, names.len()));
@@ -72,8 +72,8 @@ fn tell_names(rt: &impl Print, names: &mut NameTable) {
 }
 
 /// Prints what a catalog with many users takes, and the numbers of names.
-pub fn tell_many_users(rt: &impl Print, alloc: Global) -> Result<(), Refused> {
-    tell_many(rt, alloc, &mut Catalog::new(alloc))?;
-    tell_names(rt, &mut NameTable::new(alloc));
+pub fn print_many_users(rt: &impl Print, alloc: Global) -> Result<(), Refused> {
+    print_many(rt, alloc, &mut Catalog::new(alloc))?;
+    print_names(rt, &mut NameTable::new(alloc));
     Ok(())
 }

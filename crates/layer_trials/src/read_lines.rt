@@ -41,7 +41,7 @@ fn shortened(line: &[u8]) -> &str {
 }
 
 /// Asks for this many lines. Tells of each the answer, and the line that is there then.
-fn tell_calls(
+fn print_calls(
     rt: &impl Print,
     name: &str,
     lines: &mut LineReader,
@@ -62,7 +62,7 @@ fn tell_calls(
 }
 
 /// Reports this many lines of a reader.
-fn tell_lines(
+fn print_lines(
     rt: &impl Print,
     alloc: Global,
     name: &str,
@@ -70,7 +70,7 @@ fn tell_lines(
     calls: usize,
 ) -> Result<(), TrialFault> {
     let mut lines = LineReader::new(alloc)?;
-    tell_calls(rt, name, &mut lines, &mut Counted::new(pieces), calls);
+    print_calls(rt, name, &mut lines, &mut Counted::new(pieces), calls);
     Ok(())
 }
 
@@ -94,7 +94,7 @@ const CROSSING: [(&str, usize); 4] = [
 ];
 
 /// Lines of a text that comes at once.
-fn tell_pieces(
+fn print_pieces(
     rt: &impl Print,
     alloc: Global,
     name: &str,
@@ -102,24 +102,24 @@ fn tell_pieces(
 ) -> Result<(), TrialFault> {
     let text = text_of_pieces(alloc, pieces)?;
     let reader = MemoryReader::new(text.as_slice());
-    tell_lines(rt, alloc, name, reader, 6)
+    print_lines(rt, alloc, name, reader, 6)
 }
 
 /// Prints the lines of several readers.
-pub fn tell_read_lines(rt: &impl Print, alloc: Global) -> Result<(), TrialFault> {
-    tell_pieces(rt, alloc, "long lines", &LONG)?;
-    tell_pieces(rt, alloc, "lines over the buffer's end", &CROSSING)?;
-    tell_pieces(rt, alloc, "lines of an empty text", &[])?;
+pub fn print_read_lines(rt: &impl Print, alloc: Global) -> Result<(), TrialFault> {
+    print_pieces(rt, alloc, "long lines", &LONG)?;
+    print_pieces(rt, alloc, "lines over the buffer's end", &CROSSING)?;
+    print_pieces(rt, alloc, "lines of an empty text", &[])?;
     let slow = MemoryReader {
         left: b"one\n\ntwo",
         most: 1,
         reads: None,
     };
-    tell_lines(rt, alloc, "lines byte by byte", slow, 4)?;
+    print_lines(rt, alloc, "lines byte by byte", slow, 4)?;
     let failing = MemoryReader {
         left: b"one\ntwo",
         most: 5,
         reads: Some(2),
     };
-    tell_lines(rt, alloc, "lines of a reader that fails", failing, 3)
+    print_lines(rt, alloc, "lines of a reader that fails", failing, 3)
 }

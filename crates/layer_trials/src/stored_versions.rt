@@ -54,12 +54,12 @@ pub fn tell(rt: &impl Print, line: &str) {
 }
 
 /// Reports from which mark to which end a store says rows.
-pub fn tell_bounds(rt: &impl Print, chains: &Chains) {
+pub fn print_bounds(rt: &impl Print, chains: &Chains) {
     let _ = println!(rt; "  mark {}, end {}", chains.mark(), chains.end());
 }
 
 /// Prints the row of the key before the place.
-pub fn tell_row(rt: &impl Print, chains: &Chains, place: Place, key: Key) {
+pub fn print_row(rt: &impl Print, chains: &Chains, place: Place, key: Key) {
     let (table, row) = (key.table.0, key.row);
     let _ = if chains.end() < place {
         println!(rt; "  row {row} of table {table} before {place}: past the end")
@@ -76,13 +76,13 @@ pub fn tell_row(rt: &impl Print, chains: &Chains, place: Place, key: Key) {
 }
 
 /// Reports what a store answers where it is to be trimmed to the mark.
-pub fn tell_trim(rt: &impl Print, chains: &mut Chains, mark: Place) {
+pub fn print_trim(rt: &impl Print, chains: &mut Chains, mark: Place) {
     let found = chains.trim(mark);
     let _ = println!(rt; "  trim to {mark}: {found:?}");
 }
 
 /// Prints how many versions a sweep takes out.
-pub fn tell_sweep(rt: &impl Print, chains: &mut Chains) {
+pub fn print_sweep(rt: &impl Print, chains: &mut Chains) {
     let gone = chains.sweep();
     let _ = println!(rt; "  sweep: {gone}");
 }

@@ -4,7 +4,9 @@ ghost use Rattle.std.specs.Prelude.{IfOk};
 ghost use Rattle.chains.specs.Store.{AreBetween};
 
 use crate::fault::TrialFault;
-use crate::stored_versions::{key, tell, tell_bounds, tell_row, tell_sweep, tell_trim, version};
+use crate::stored_versions::{
+    key, print_bounds, print_row, print_sweep, print_trim, tell, version,
+};
 use chains::{Chains, Version};
 use std::alloc::{AllocError, Global};
 
@@ -20,29 +22,29 @@ fn three(alloc: Global) -> Result<Vec<Version>, AllocError>
 }
 
 /// Reports what each mark drops of three versions, and what is known then.
-fn tell_replaced(rt: &impl Print, chains: &mut Chains) {
+fn print_replaced(rt: &impl Print, chains: &mut Chains) {
     for place in 1..5 {
-        tell_row(rt, chains, place, key(1));
+        print_row(rt, chains, place, key(1));
     }
-    tell_trim(rt, chains, 5);
-    tell_trim(rt, chains, 3);
+    print_trim(rt, chains, 5);
+    print_trim(rt, chains, 3);
     for place in 2..5 {
-        tell_row(rt, chains, place, key(1));
+        print_row(rt, chains, place, key(1));
     }
     for mark in 2..5 {
-        tell_trim(rt, chains, mark);
+        print_trim(rt, chains, mark);
     }
-    tell_bounds(rt, chains);
+    print_bounds(rt, chains);
 }
 
 /// Appends three versions of a row to a new store, and says what each mark drops.
-fn tell_three(rt: &impl Print, alloc: Global, chains: &mut Chains) -> Result<(), TrialFault> {
+fn print_three(rt: &impl Print, alloc: Global, chains: &mut Chains) -> Result<(), TrialFault> {
     if chains.end() != 0 {
         return Err(TrialFault::Store);
     }
     chains.append(three(alloc)?, 4)?;
     tell(rt, "marks on three versions of a row");
-    tell_replaced(rt, chains);
+    print_replaced(rt, chains);
     Ok(())
 }
 
@@ -54,21 +56,21 @@ fn two(alloc: Global) -> Result<Vec<Version>, AllocError>
 }
 
 /// Appends two versions of a row to a new store, and says what each mark drops.
-fn tell_two(rt: &impl Print, alloc: Global, chains: &mut Chains) -> Result<(), TrialFault> {
+fn print_two(rt: &impl Print, alloc: Global, chains: &mut Chains) -> Result<(), TrialFault> {
     if chains.end() != 0 {
         return Err(TrialFault::Store);
     }
     chains.append(two(alloc)?, 4)?;
     tell(rt, "marks on a row that is inserted and changed");
-    tell_bounds(rt, chains);
-    tell_row(rt, chains, 1, key(7));
-    tell_row(rt, chains, 2, key(7));
-    tell_trim(rt, chains, 3);
-    tell_row(rt, chains, 2, key(7));
-    tell_row(rt, chains, 3, key(7));
-    tell_trim(rt, chains, 4);
-    tell_row(rt, chains, 3, key(7));
-    tell_row(rt, chains, 4, key(7));
+    print_bounds(rt, chains);
+    print_row(rt, chains, 1, key(7));
+    print_row(rt, chains, 2, key(7));
+    print_trim(rt, chains, 3);
+    print_row(rt, chains, 2, key(7));
+    print_row(rt, chains, 3, key(7));
+    print_trim(rt, chains, 4);
+    print_row(rt, chains, 3, key(7));
+    print_row(rt, chains, 4, key(7));
     Ok(())
 }
 
@@ -85,27 +87,27 @@ fn coming_and_going(alloc: Global) -> Result<Vec<Version>, AllocError>
 }
 
 /// Appends rows that come and go to a new store, and says which absent ones are swept out.
-fn tell_absent(rt: &impl Print, alloc: Global, chains: &mut Chains) -> Result<(), TrialFault> {
+fn print_absent(rt: &impl Print, alloc: Global, chains: &mut Chains) -> Result<(), TrialFault> {
     if chains.end() != 0 {
         return Err(TrialFault::Store);
     }
     chains.append(coming_and_going(alloc)?, 5)?;
     tell(rt, "absent rows");
-    tell_sweep(rt, chains);
-    tell_trim(rt, chains, 3);
-    tell_sweep(rt, chains);
-    tell_trim(rt, chains, 5);
-    tell_sweep(rt, chains);
-    tell_sweep(rt, chains);
+    print_sweep(rt, chains);
+    print_trim(rt, chains, 3);
+    print_sweep(rt, chains);
+    print_trim(rt, chains, 5);
+    print_sweep(rt, chains);
+    print_sweep(rt, chains);
     for row in 1..4 {
-        tell_row(rt, chains, 5, key(row));
+        print_row(rt, chains, 5, key(row));
     }
     Ok(())
 }
 
 /// Prints what marks do.
-pub fn tell_marks(rt: &impl Print, alloc: Global) -> Result<(), TrialFault> {
-    tell_three(rt, alloc, &mut Chains::new(alloc))?;
-    tell_two(rt, alloc, &mut Chains::new(alloc))?;
-    tell_absent(rt, alloc, &mut Chains::new(alloc))
+pub fn print_marks(rt: &impl Print, alloc: Global) -> Result<(), TrialFault> {
+    print_three(rt, alloc, &mut Chains::new(alloc))?;
+    print_two(rt, alloc, &mut Chains::new(alloc))?;
+    print_absent(rt, alloc, &mut Chains::new(alloc))
 }

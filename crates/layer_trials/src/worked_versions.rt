@@ -4,7 +4,7 @@ ghost use Rattle.std.specs.Prelude.{IfOk};
 ghost use Rattle.chains.specs.Store.{AreBetween};
 
 use crate::fault::TrialFault;
-use crate::stored_versions::{put, tell, tell_bounds, tell_row, version};
+use crate::stored_versions::{print_bounds, print_row, put, tell, version};
 use chains::{Chains, Version, versions_have_the_cells, versions_of_logs_are_in_order};
 use model_base::{Key, Place, Table};
 use std::alloc::{AllocError, Global};
@@ -25,20 +25,20 @@ const OTHER_TABLE: Key = Key {
 };
 
 /// Prints what a store has that is new.
-fn tell_new(rt: &impl Print, alloc: Global) {
+fn print_new(rt: &impl Print, alloc: Global) {
     let chains = Chains::new(alloc);
     tell(rt, "a new store");
-    tell_bounds(rt, &chains);
-    tell_row(rt, &chains, 0, KEY);
+    print_bounds(rt, &chains);
+    print_row(rt, &chains, 0, KEY);
 }
 
 /// Prints what the store has of the worked row, and of a row and a table beside it, before each place.
-fn tell_worked_rows(rt: &impl Print, chains: &Chains) {
-    tell_bounds(rt, chains);
+fn print_worked_rows(rt: &impl Print, chains: &Chains) {
+    print_bounds(rt, chains);
     for place in 0..5 {
-        tell_row(rt, chains, place, KEY);
-        tell_row(rt, chains, place, OTHER_ROW);
-        tell_row(rt, chains, place, OTHER_TABLE);
+        print_row(rt, chains, place, KEY);
+        print_row(rt, chains, place, OTHER_ROW);
+        print_row(rt, chains, place, OTHER_TABLE);
     }
 }
 
@@ -61,12 +61,12 @@ fn three(alloc: Global) -> Result<Vec<Version>, AllocError>
 }
 
 /// Prints the worked rows where each version is appended by itself.
-fn tell_one_by_one(rt: &impl Print, alloc: Global, chains: &mut Chains) -> Result<(), TrialFault> {
+fn print_one_by_one(rt: &impl Print, alloc: Global, chains: &mut Chains) -> Result<(), TrialFault> {
     for (place, value, new_end) in [(1, 5, 2), (2, 6, 3), (3, 7, 4)] {
         put(alloc, chains, &version(place, KEY, Some(value)), new_end)?;
     }
     tell(rt, "three versions, one by one");
-    tell_worked_rows(rt, chains);
+    print_worked_rows(rt, chains);
     Ok(())
 }
 
@@ -80,51 +80,55 @@ fn put_two_batches(alloc: Global, chains: &mut Chains) -> Result<(), TrialFault>
 }
 
 /// Prints the worked rows where the versions are appended in two batches.
-fn tell_two_batches(rt: &impl Print, alloc: Global, chains: &mut Chains) -> Result<(), TrialFault> {
+fn print_two_batches(
+    rt: &impl Print,
+    alloc: Global,
+    chains: &mut Chains,
+) -> Result<(), TrialFault> {
     put_two_batches(alloc, chains)?;
     tell(rt, "three versions, in two batches");
-    tell_worked_rows(rt, chains);
+    print_worked_rows(rt, chains);
     Ok(())
 }
 
 /// Prints the worked rows where the versions are appended to a new store in one batch.
-fn tell_one_batch(rt: &impl Print, alloc: Global, chains: &mut Chains) -> Result<(), TrialFault> {
+fn print_one_batch(rt: &impl Print, alloc: Global, chains: &mut Chains) -> Result<(), TrialFault> {
     if chains.end() != 0 {
         return Err(TrialFault::Store);
     }
     chains.append(three(alloc)?, 4)?;
     tell(rt, "three versions, in one batch");
-    tell_worked_rows(rt, chains);
+    print_worked_rows(rt, chains);
     Ok(())
 }
 
 /// Prints the rows where a version without a row hides the older one.
-fn tell_deleted(rt: &impl Print, alloc: Global, chains: &mut Chains) -> Result<(), TrialFault> {
+fn print_deleted(rt: &impl Print, alloc: Global, chains: &mut Chains) -> Result<(), TrialFault> {
     for (place, value, new_end) in [(1, Some(5), 2), (2, None, 3), (4, Some(7), 6)] {
         put(alloc, chains, &version(place, KEY, value), new_end)?;
     }
     tell(rt, "a row that is deleted");
-    tell_bounds(rt, chains);
+    print_bounds(rt, chains);
     for place in 2..7 {
-        tell_row(rt, chains, place, KEY);
+        print_row(rt, chains, place, KEY);
     }
     Ok(())
 }
 
 /// Calls each law of versions.
-fn tell_laws(rt: &impl Print) {
+fn print_laws(rt: &impl Print) {
     versions_of_logs_are_in_order();
     versions_have_the_cells();
     tell(rt, "the laws of versions were called");
 }
 
 /// Prints the worked rows.
-pub fn tell_worked(rt: &impl Print, alloc: Global) -> Result<(), TrialFault> {
-    tell_new(rt, alloc);
-    tell_one_by_one(rt, alloc, &mut Chains::new(alloc))?;
-    tell_two_batches(rt, alloc, &mut Chains::new(alloc))?;
-    tell_one_batch(rt, alloc, &mut Chains::new(alloc))?;
-    tell_deleted(rt, alloc, &mut Chains::new(alloc))?;
-    tell_laws(rt);
+pub fn print_worked(rt: &impl Print, alloc: Global) -> Result<(), TrialFault> {
+    print_new(rt, alloc);
+    print_one_by_one(rt, alloc, &mut Chains::new(alloc))?;
+    print_two_batches(rt, alloc, &mut Chains::new(alloc))?;
+    print_one_batch(rt, alloc, &mut Chains::new(alloc))?;
+    print_deleted(rt, alloc, &mut Chains::new(alloc))?;
+    print_laws(rt);
     Ok(())
 }

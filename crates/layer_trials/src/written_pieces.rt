@@ -6,42 +6,42 @@ use line_io::{Counted, MemoryWriter, PIECE_LEN, flush, write_much, write_out, wr
 use std::alloc::{AllocError, Global};
 
 /// Prints what a writer took, how many writes it has left, and how many failures were counted.
-fn tell_taken(rt: &impl Print, writer: &Counted<MemoryWriter>) {
+fn print_taken(rt: &impl Print, writer: &Counted<MemoryWriter>) {
     let (writes, errors) = (writer.inner.writes.unwrap_or(0), writer.errors);
     let taken = text_of(writer.inner.taken.as_slice());
     let _ = println!(rt; "  taken: '{taken}', writes left: {writes}, failures: {errors}");
 }
 
 /// Writes a piece and flushes. Tells each answer, and what was taken.
-fn tell_piece(rt: &impl Print, name: &str, writer: &mut Counted<MemoryWriter>) {
+fn print_piece(rt: &impl Print, name: &str, writer: &mut Counted<MemoryWriter>) {
     let written = write_out(writer, b"four");
     tell(rt, name, &written);
-    tell_taken(rt, writer);
+    print_taken(rt, writer);
     let flushed = flush(writer);
     tell(rt, "  flushed", &flushed);
-    tell_taken(rt, writer);
+    print_taken(rt, writer);
 }
 
 /// Prints what a writer takes of a piece.
-fn tell_writer(rt: &impl Print, name: &str, writer: MemoryWriter) {
-    tell_piece(rt, name, &mut Counted::new(writer));
+fn print_writer(rt: &impl Print, name: &str, writer: MemoryWriter) {
+    print_piece(rt, name, &mut Counted::new(writer));
 }
 
 /// Writes what is pending, and flushes. Tells each answer, and what was taken.
-fn tell_pending(rt: &impl Print, writer: &mut Counted<MemoryWriter>, pending: &mut Vec<u8>) {
+fn print_pending(rt: &impl Print, writer: &mut Counted<MemoryWriter>, pending: &mut Vec<u8>) {
     let written = write_pending(writer, pending);
     tell(rt, "what is pending", &(written, pending.len()));
-    tell_taken(rt, writer);
+    print_taken(rt, writer);
     let flushed = flush(writer);
     tell(rt, "  flushed", &flushed);
-    tell_taken(rt, writer);
+    print_taken(rt, writer);
 }
 
 /// Writes what is pending into a writer that takes three bytes once, and can't flush.
-fn tell_failing(rt: &impl Print, alloc: Global) -> Result<(), TrialFault> {
+fn print_failing(rt: &impl Print, alloc: Global) -> Result<(), TrialFault> {
     let mut pending = Vec::from_slice(alloc, b"four")?;
     let mut writer = Counted::new(writer_of(alloc, 3, 1, Some(0)));
-    tell_pending(rt, &mut writer, &mut pending);
+    print_pending(rt, &mut writer, &mut pending);
     Ok(())
 }
 
@@ -65,7 +65,7 @@ fn bytes(alloc: Global, count: usize) -> Result<Vec<u8>, AllocError> {
 }
 
 /// Writes what is pending if it is much: a byte less than a piece, a piece, and three bytes more, which are written at last.
-fn tell_much(
+fn print_much(
     rt: &impl Print,
     writer: &mut Counted<Vec<u8>>,
     pending: &mut Vec<u8>,
@@ -82,19 +82,19 @@ fn tell_much(
 }
 
 /// Prints what is written of bytes that become much.
-fn tell_growing(rt: &impl Print, alloc: Global) -> Result<(), TrialFault> {
+fn print_growing(rt: &impl Print, alloc: Global) -> Result<(), TrialFault> {
     let mut pending = bytes(alloc, PIECE_LEN - 1)?;
-    tell_much(rt, &mut Counted::new(Vec::new(alloc)), &mut pending)
+    print_much(rt, &mut Counted::new(Vec::new(alloc)), &mut pending)
 }
 
 /// Prints what several writers take.
-pub fn tell_written_pieces(rt: &impl Print, alloc: Global) -> Result<(), TrialFault> {
-    tell_writer(rt, "a piece byte by byte", writer_of(alloc, 1, 100, None));
-    tell_writer(
+pub fn print_written_pieces(rt: &impl Print, alloc: Global) -> Result<(), TrialFault> {
+    print_writer(rt, "a piece byte by byte", writer_of(alloc, 1, 100, None));
+    print_writer(
         rt,
         "a piece of which nothing is taken",
         writer_of(alloc, 0, 100, None),
     );
-    tell_failing(rt, alloc)?;
-    tell_growing(rt, alloc)
+    print_failing(rt, alloc)?;
+    print_growing(rt, alloc)
 }

@@ -11,7 +11,7 @@ use Rattle.model_base.specs.Versions.{accesses_of}
 use Rattle.log_batch.specs.declared.referred.References.TheVariants.{Found, Counted}
 use Rattle.log_batch.specs.Referred.{AreAtHand, AreCounts}
 use Rattle.bohm_core_base.specs.Batch.{reference_words}
-use Rattle.log_batch.specs.Supplied.{Ranged, batch_in}
+use Rattle.log_batch.specs.Supplied.{LogRange, batch_of}
 use Rattle.log_batch.proofs.Counted.{references_counted}
 use Rattle.log_batch.proofs.Before.{reference-count, reference-list}
 
@@ -76,8 +76,8 @@ counted-at-hand log first size counts is = record {
 }
 
 -- an index counts as many references as the machine's batch has at it
-pub count-is : (ranged : Ranged) (index : ℕ) (counts : List ℕ) → AreCounts ranged.log.statements ranged.first ranged.size counts
-    → index < ranged.size → get_or counts index 0 ≡ length (reference_words (batch_in ranged) index)
+pub count-is : (ranged : LogRange) (index : ℕ) (counts : List ℕ) → AreCounts ranged.log.statements ranged.first ranged.size counts
+    → index < ranged.size → get_or counts index 0 ≡ length (reference_words (batch_of ranged) index)
 count-is ranged index counts are within =
     are.each index within
     ∙ references_counted ranged index (references ranged.log.statements ranged.first (ranged.first + index)) refl

@@ -30,7 +30,7 @@ use Rattle.bohm_core_base.specs.Batch.{batch_slots}
 use Rattle.bohm_core_base.specs.Machine.{end_of, start}
 use Rattle.bohm_core_base.proofs.Whole.{no_grant}
 use Rattle.log_batch.specs.Earlier.{earlier_count, records_before}
-use Rattle.log_batch.specs.LogBatch.{Range, batch_of}
+use Rattle.log_batch.specs.LogBatch.{StatementRange, batch_of_statements}
 use Rattle.log_batch.specs.Named.{grants_named}
 use Rattle.log_batch.proofs.Before.{first-end}
 use Rattle.log_batch.proofs.Named.{slots-split}
@@ -131,31 +131,31 @@ made-at users deeds (grant ∷ grants) zero entry is =
 made-at users deeds (grant ∷ grants) (suc k) entry is =
     let rest = made-at users deeds grants k entry is in record { at = rest.at; end = rest.end }
 
-module _ (range : Range) where
+module _ (range : StatementRange) where
   -- there is a record for each slot from before the batch
-  pub count-records : length (records_before (batch_of range)) ≡ earlier_count (batch_of range)
+  pub count-records : length (records_before (batch_of_statements range)) ≡ earlier_count (batch_of_statements range)
   count-records = length-map (grants_of (deeds_before range.log range.first)) (record_of (owners range.log) (deeds_before range.log range.first))
 
   -- the record of a slot has its grant, and the end that it has at first
-  module _ (k : ℕ) (entry : Record) (at : slice_get (records_before (batch_of range)) k ≡ Some entry) where
+  module _ (k : ℕ) (entry : Record) (at : slice_get (records_before (batch_of_statements range)) k ≡ Some entry) where
     pub made-before : Made (owners range.log) (deeds_before range.log range.first) (grants_of (deeds_before range.log range.first)) k entry
     made-before = made-at (owners range.log) (deeds_before range.log range.first) (grants_of (deeds_before range.log range.first)) k entry at
 
-    pub slot-before : slice_get (batch_slots (batch_of range)) k ≡ Some entry.grant
+    pub slot-before : slice_get (batch_slots (batch_of_statements range)) k ≡ Some entry.grant
     slot-before =
         ap (λ (grants : List Grant). slice_get grants k) (slots-split range)
         ∙ get_more (grants_of (deeds_before range.log range.first)) (grants_named range.log range.first range.size) k entry.grant made-before.at
 
-    pub low-before : k < length (records_before (batch_of range))
-    low-before = slice_get_within (records_before (batch_of range)) k entry at
+    pub low-before : k < length (records_before (batch_of_statements range))
+    low-before = slice_get_within (records_before (batch_of_statements range)) k entry at
 
-    pub end-before : entry.end ≡ end_of (start (batch_of range)) k
+    pub end-before : entry.end ≡ end_of (start (batch_of_statements range)) k
     end-before =
         first-end range k entry low-before
-        (sym (get_or_from_slice_get (records_before (batch_of range)) k entry entry at))
+        (sym (get_or_from_slice_get (records_before (batch_of_statements range)) k entry entry at))
 
   -- there is a record below their count
-  pub record-before : (k : ℕ) → k < earlier_count (batch_of range)
-      → slice_get (records_before (batch_of range)) k ≡ Some (get_or (records_before (batch_of range)) k (record { grant = no_grant; end = None }))
+  pub record-before : (k : ℕ) → k < earlier_count (batch_of_statements range)
+      → slice_get (records_before (batch_of_statements range)) k ≡ Some (get_or (records_before (batch_of_statements range)) k (record { grant = no_grant; end = None }))
   record-before k less =
-      slice_get-get_or (records_before (batch_of range)) k (record { grant = no_grant; end = None }) (let count = count-records in omega arith)
+      slice_get-get_or (records_before (batch_of_statements range)) k (record { grant = no_grant; end = None }) (let count = count-records in omega arith)

@@ -13,7 +13,7 @@ use Rattle.model_base.specs.Outcomes.{needs_of_access}
 use Rattle.model_base.specs.References.{deed_tables, references, table_of, tables_of}
 use Rattle.model_base.specs.Versions.{accesses_of}
 use Rattle.sequencer.specs.Log.{Accepted}
-use Rattle.sequencer.specs.Taken.{IsWhole}
+use Rattle.sequencer.specs.Whole.{IsWhole}
 use Rattle.placing.specs.Tables.{has_need, with_number, with_numbers}
 use Rattle.placing.proofs.Few.{few_accesses}
 use Rattle.placing.proofs.Once.{access_needs, tables_found}

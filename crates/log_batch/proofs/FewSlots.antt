@@ -11,7 +11,7 @@ use Rattle.model_base.specs.Privileges.{place_of}
 use Rattle.model_base.specs.Records.{grants_of}
 use Rattle.model_base.proofs.Growth.{deeds_before-grows}
 use Rattle.bohm_core_base.specs.Batch.{batch_slots}
-use Rattle.log_batch.specs.LogBatch.{Range, batch_of}
+use Rattle.log_batch.specs.LogBatch.{StatementRange, batch_of_statements}
 use Rattle.log_batch.specs.Named.{deed_named, grants_named}
 use Rattle.log_batch.proofs.Named.{slots-split}
 
@@ -42,7 +42,7 @@ few-named log first (suc count) =
     let here = option_to_list (deed_named log (first + count)) in
     omega (arith, length-append (grants_named log first count) (grants_of here), few-named log first count, few-grants here, one-deed (deed_named log (first + count)))
 
-pub few-slots : (range : Range) → length (batch_slots (batch_of range)) ≤ range.first + range.size
+pub few-slots : (range : StatementRange) → length (batch_slots (batch_of_statements range)) ≤ range.first + range.size
 few-slots range =
     let before = deeds_before range.log range.first in
     let named = grants_named range.log range.first range.size in

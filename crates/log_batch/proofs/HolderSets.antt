@@ -15,7 +15,7 @@ use Rattle.model_base.specs.declared.deed.Kind.{Kind}
 use Rattle.model_base.specs.declared.deed.Kind.TheVariants.{Read, Insert, Update, Delete}
 use Rattle.model_base.specs.Privileges.{same_grantee, same_kind}
 use Rattle.grants_base.specs.Index.{is_by}
-use Rattle.log_batch.specs.declared.holders.Holder.{Holder}
+use Rattle.log_batch.specs.declared.holders.HolderKey.{HolderKey}
 use Rattle.log_batch.specs.Holders.{grantor_of, holder_cmp, holder_of, same_holder}
 use Rattle.grants_base.specs.Sides.{holder_code, kind_code}
 use Rattle.grants_base.proofs.SideLaws.{holder_code-same}
@@ -37,7 +37,7 @@ pub is_eq-pair : (x y : ℕ) (o : Ordering) (rest : Bool) → is_eq o ≡ rest �
 is_eq-pair x y o rest is =
     is_eq-ordering_then (nat_cmp x y) o ∙ ap (λ b. is_eq (nat_cmp x y) && b) is ∙ ap (λ b. b && rest) (is_eq-nat_cmp x y)
 
-pub at_holder : (a b : Holder) → is_at (holder_cmp a) b ≡ same_holder a b
+pub at_holder : (a b : HolderKey) → is_at (holder_cmp a) b ≡ same_holder a b
 at_holder a b = is_eq-pair a.holder b.holder _ _ (is_eq-pair a.table b.table _ _ (is_eq-nat_cmp a.kind b.kind))
 
 pub cond-or : (b rest : Bool) → cond b true rest ≡ (b || rest)
@@ -45,17 +45,17 @@ cond-or true rest = refl
 cond-or false rest = refl
 
 -- a set with one more
-pub holder_added : (old new : BTreeSet Holder) (holder other : Holder)
+pub holder_added : (old new : BTreeSet HolderKey) (holder other : HolderKey)
     → contains holder_cmp new other ≡ cond (is_at (holder_cmp holder) other) true (contains holder_cmp old other)
     → contains holder_cmp new other ≡ (same_holder holder other || contains holder_cmp old other)
 holder_added old new holder other updates =
     updates ∙ ap (λ b. cond b true (contains holder_cmp old other)) (at_holder holder other) ∙ cond-or (same_holder holder other) (contains holder_cmp old other)
 
-abbrev make : ℕ → ℕ → ℕ → Holder
+abbrev make : ℕ → ℕ → ℕ → HolderKey
 make holder table kind = record { holder = holder; table = table; kind = kind }
 
 -- only one itself is the same
-pub same_holder-true : (a b : Holder) → same_holder a b ≡ true → a ≡ b
+pub same_holder-true : (a b : HolderKey) → same_holder a b ≡ true → a ≡ b
 same_holder-true a b same =
     let one = and_parts (a.holder == b.holder) ((a.table == b.table) && (a.kind == b.kind)) same in
     let two = and_parts (a.table == b.table) (a.kind == b.kind) one.1 in

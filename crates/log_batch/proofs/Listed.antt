@@ -15,7 +15,7 @@ use Rattle.bohm_core_base.specs.Batch.{Batch, IsSoundBatch, batch_slots, words_b
 use Rattle.bohm_core_base.specs.Cascades.{EndsByCascade}
 use Rattle.bohm_core_base.specs.Machine.{end_of, own_of, reach, start}
 use Rattle.bohm_core_base.specs.Serial.{records_in, rows_at, serial_ends, serial_words, whole_end, batch_world_before}
-use Rattle.log_batch.specs.Supplied.{Ranged, batch_in}
+use Rattle.log_batch.specs.Supplied.{LogRange, batch_of}
 use Rattle.words.specs.Layout.{IsListed, listed_slot_at}
 use Rattle.words.specs.Views.{In}
 use Rattle.log_batch.specs.Listing.{is_against, is_lent, is_open, is_reached, is_revoked, lends, listed_below, listed_slots}
@@ -41,9 +41,9 @@ unfolding serial_ends
 end-place b index slot q ends whole = let is : (q == b.first + index) ≡ true = rw whole at ends in eqb-true q (b.first + index) is
 
 -- the deed of a place, by its statement
-pub noted : (ranged : Ranged) (index : ℕ) (statement : Statement) (deed : Option Deed)
+pub noted : (ranged : LogRange) (index : ℕ) (statement : Statement) (deed : Option Deed)
     → slice_get ranged.log.statements (ranged.first + index) ≡ Some statement
-    → deed ≡ deed_of (ranged.first + index) statement.user statement.form → deed ≡ (batch_in ranged).deed index
+    → deed ≡ deed_of (ranged.first + index) statement.user statement.form → deed ≡ (batch_of ranged).deed index
 noted ranged index statement deed at is = rw at is
 
 -- whether there is no end

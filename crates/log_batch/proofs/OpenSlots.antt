@@ -10,31 +10,31 @@ use Rattle.grants_base.specs.Index.{IsFirst, passes_at}
 use Rattle.bohm_core_base.specs.Batch.{batch_slots}
 use Rattle.bohm_core_base.proofs.Whole.{no_grant}
 use Rattle.log_batch.specs.Earlier.{earlier_count, records_before}
-use Rattle.log_batch.specs.LogBatch.{Range, batch_of}
+use Rattle.log_batch.specs.LogBatch.{StatementRange, batch_of_statements}
 use Rattle.log_batch.proofs.AtStart.{count-records, end-before, low-before, record-before, slot-before}
 use Rattle.log_batch.specs.Listing.{is_open}
 use Rattle.log_batch.specs.Reach.{IsNextOpen}
 use Rattle.log_batch.proofs.Reaching.{passes-earlier}
 
 -- it lies before those whose records have no end at first
-module _ (range : Range) (passes : Grant → Bool) where
+module _ (range : StatementRange) (passes : Grant → Bool) where
   abbrev within : ℕ → Bool
-  within k = is_in_force passes (slice_get (records_before (batch_of range)) k)
+  within k = is_in_force passes (slice_get (records_before (batch_of_statements range)) k)
 
   -- a slot with an open record that doesn't pass
-  open-out : (k : ℕ) → k < earlier_count (batch_of range) → is_open (batch_of range) k ≡ true → within k ≡ false → passes_at passes (batch_slots (batch_of range)) k ≡ false
+  open-out : (k : ℕ) → k < earlier_count (batch_of_statements range) → is_open (batch_of_statements range) k ≡ true → within k ≡ false → passes_at passes (batch_slots (batch_of_statements range)) k ≡ false
   open-out k less open_k out =
       let at = record-before range k less in
-      let entry = get_or (records_before (batch_of range)) k (record { grant = no_grant; end = None }) in
+      let entry = get_or (records_before (batch_of_statements range)) k (record { grant = no_grant; end = None }) in
       let end : is_none entry.end ≡ true = ap is_none (end-before range k entry at) ∙ open_k in
       ap (λ found. option_map_or passes found false) (slot-before range k entry at)
       ∙ sym (ap (λ b. b && passes entry.grant) end) ∙ sym (ap (is_in_force passes) at) ∙ out
 
-  within-low : (k : ℕ) → within k ≡ true → (k < earlier_count (batch_of range)) × (passes_at passes (batch_slots (batch_of range)) k ≡ true)
-  within-low k is = by_record (slice_get (records_before (batch_of range)) k) refl
+  within-low : (k : ℕ) → within k ≡ true → (k < earlier_count (batch_of_statements range)) × (passes_at passes (batch_slots (batch_of_statements range)) k ≡ true)
+  within-low k is = by_record (slice_get (records_before (batch_of_statements range)) k) refl
     where
-      by_record : (found : Option Record) → slice_get (records_before (batch_of range)) k ≡ found
-          → (k < earlier_count (batch_of range)) × (passes_at passes (batch_slots (batch_of range)) k ≡ true)
+      by_record : (found : Option Record) → slice_get (records_before (batch_of_statements range)) k ≡ found
+          → (k < earlier_count (batch_of_statements range)) × (passes_at passes (batch_slots (batch_of_statements range)) k ≡ true)
       by_record None none = absurd (true≢false (sym is ∙ ap (is_in_force passes) none))
       by_record (Some entry) some =
           let low = low-before range k entry some in
@@ -42,13 +42,13 @@ module _ (range : Range) (passes : Grant → Bool) where
           let both = and_parts (is_none entry.end) (passes entry.grant) (sym (ap (is_in_force passes) some) ∙ is) in
           (omega arith, ap (λ found. option_map_or passes found false) (slot-before range k entry some) ∙ both.1)
 
-  pub open-first : (from : ℕ) (found : Option ℕ) → IsFirst within from found → IsNextOpen (batch_of range) passes from found
+  pub open-first : (from : ℕ) (found : Option ℕ) → IsFirst within from found → IsNextOpen (batch_of_statements range) passes from found
   open-first from None first = record {
     there = tt;
     passed = λ k low less before open_k. open-out k less open_k (first k low);
   }
   open-first from (Some i) first =
       let found = within-low i first.1 in record {
-        there = (first.0, passes-earlier (batch_of range) passes i found.0 ∙ found.1);
+        there = (first.0, passes-earlier (batch_of_statements range) passes i found.0 ∙ found.1);
         passed = λ k low less before open_k. open-out k less open_k (first.2 k low before);
       }

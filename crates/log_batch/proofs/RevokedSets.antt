@@ -12,7 +12,7 @@ use Rattle.grants_base.specs.Force.{gives_by}
 use Rattle.grants_base.specs.Index.{is_to}
 use Rattle.grants_base.specs.Sides.{holder_code, kind_code}
 use Rattle.grants_base.proofs.SideLaws.{holder_code-same}
-use Rattle.log_batch.specs.declared.holders.Holder.{Holder}
+use Rattle.log_batch.specs.declared.holders.HolderKey.{HolderKey}
 use Rattle.log_batch.specs.declared.revoked.Named.{Named}
 use Rattle.log_batch.specs.Holders.{same_holder}
 use Rattle.log_batch.specs.Revoked.{named_by, named_cmp, named_with, same_named}
@@ -21,7 +21,7 @@ use Rattle.log_batch.proofs.HolderSets.{and-turned, at_holder, cond-or, eqb-turn
 at_named : (a b : Named) → is_at (named_cmp a) b ≡ same_named a b
 at_named a b = is_eq-pair a.grantor b.grantor _ _ (at_holder a.holder b.holder)
 
-abbrev make : ℕ → Holder → Named
+abbrev make : ℕ → HolderKey → Named
 make grantor holder = record { grantor = grantor; holder = holder }
 
 -- only one itself is the same

@@ -20,7 +20,7 @@ use Rattle.bohm_core_base.specs.Batch.{Batch, IsSoundBatch, place_at, batch_slot
 use Rattle.bohm_core_base.specs.Serial.{serial_ends, serial_words, batch_world_before}
 use Rattle.bohm_core_base.proofs.Whole.{IsEnder, no_grant, serial-at, serial-only}
 use Rattle.log_batch.specs.Laws.{IsOfLog, places_that}
-use Rattle.log_batch.specs.LogBatch.{Range, batch_of}
+use Rattle.log_batch.specs.LogBatch.{StatementRange, batch_of_statements}
 use Rattle.log_batch.proofs.LogsEnded.{ended-form, ended_of}
 use Rattle.log_batch.proofs.SerialRuns.{serial_runs_agree, serial_words_are}
 use Rattle.log_batch.proofs.SlotsEnded.{same_test, slots-lost}
@@ -87,12 +87,12 @@ module _ (b : Batch) (sound : IsSoundBatch b) (n : ℕ) where
           revoking-same : (other : Revocation) → Some (Revoking other) ≡ Some (Revoking revocation) → other ≡ revocation
           revoking-same other same = cc
 
-module _ (range : Range) (is : IsOfLog range) (index : ℕ) (within : index < range.size) where
+module _ (range : StatementRange) (is : IsOfLog range) (index : ℕ) (within : index < range.size) where
   abbrev place : ℕ
   place = range.first + index
 
   abbrev seen : List ℕ
-  seen = places_that (serial_ends (batch_of range) index) 0 (batch_slots (batch_of range))
+  seen = places_that (serial_ends (batch_of_statements range) index) 0 (batch_slots (batch_of_statements range))
 
   module _ (statement : Statement) (at : slice_get range.log place ≡ Some statement) where
     abbrev found : Outcome
@@ -102,7 +102,7 @@ module _ (range : Range) (is : IsOfLog range) (index : ℕ) (within : index < ra
     made = deed_of place statement.user statement.form
 
     -- the serial run says that the place is done if its outcome does
-    done-told : was_done (serial_words (batch_of range) index) ≡ (outcome_word found == 1)
+    done-told : was_done (serial_words (batch_of_statements range) index) ≡ (outcome_word found == 1)
     unfolding was_done
     done-told =
         let words : Option Statement → List ℕ =
@@ -110,20 +110,20 @@ module _ (range : Range) (is : IsOfLog range) (index : ℕ) (within : index < ra
         ap was_done (serial_words_are range is index statement at) ∙ ap (λ (one : Option Statement). was_done (words one)) at
 
     -- its deed is the statement's
-    deed-told : (batch_of range).deed index ≡ made
+    deed-told : (batch_of_statements range).deed index ≡ made
     deed-told = ap (λ (one : Option Statement). option_map_or (λ (s : Statement). deed_of place s.user s.form) one None) at
 
     -- the ends are those of its deed
     by_deed : (deed : Option Deed) → made ≡ deed → (outcome_word found == 1) ≡ true
         → seen ≡ ended_of (owners range.log) (world_before range.log place).deeds deed
     by_deed None same counts =
-        none-ended (batch_of range) (batches_are_sound range is) index
+        none-ended (batch_of_statements range) (batches_are_sound range is) index
         (λ k ender. let no : None ≡ Some (Revoking ender.revocation) = sym (deed-told ∙ same) ∙ ender.deed in absurd (cc))
     by_deed (Some (Granting grant)) same counts =
-        none-ended (batch_of range) (batches_are_sound range is) index
+        none-ended (batch_of_statements range) (batches_are_sound range is) index
         (λ k ender. let no : Some (Granting grant) ≡ Some (Revoking ender.revocation) = sym (deed-told ∙ same) ∙ ender.deed in absurd (cc))
     by_deed (Some (Revoking revocation)) same counts =
-        revoked-ended (batch_of range) (batches_are_sound range is) index revocation within (done-told ∙ counts) (deed-told ∙ same)
+        revoked-ended (batch_of_statements range) (batches_are_sound range is) index revocation within (done-told ∙ counts) (deed-told ∙ same)
         ∙ ap (λ (deeds : List Deed). ended_by (owners range.log) deeds revocation) (serial_runs_agree range is index).deeds
 
     ends_tell : seen ≡ ended_in found
@@ -132,7 +132,7 @@ module _ (range : Range) (is : IsOfLog range) (index : ℕ) (within : index < ra
         by_cases (outcome_word found == 1)
         (λ counts. by_deed made refl counts ∙ sym (told ∙ rw counts refl))
         (λ not_done.
-        none-ended (batch_of range) (batches_are_sound range is) index
+        none-ended (batch_of_statements range) (batches_are_sound range is) index
         (λ k ender. true≢false (sym ender.done ∙ done-told ∙ not_done))
         ∙ sym (told ∙ rw not_done refl))
 

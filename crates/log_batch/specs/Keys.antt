@@ -1,13 +1,13 @@
 -- The constant data of a batch of a log: the range, and the slots whose ends have words.
 use Rattle.std.specs.Prelude.{◌<◌, ℕ, List}
-use Rattle.log_batch.specs.Supplied.{Ranged, batch_in}
+use Rattle.log_batch.specs.Supplied.{LogRange, batch_of}
 use Rattle.words.specs.Layout.{IsListed}
 
 pub record Key : Type 0 where
-  pub batch : Ranged
+  pub batch : LogRange
   pub slots : List ℕ
 
 -- the range has a place, and the slots may have the words of its ends
-pub record IsKey (batch : Ranged) (slots : List ℕ) : Type 0 where
+pub record IsKey (batch : LogRange) (slots : List ℕ) : Type 0 where
   pub some : 0 < batch.size
-  pub listed : IsListed (batch_in batch) slots
+  pub listed : IsListed (batch_of batch) slots

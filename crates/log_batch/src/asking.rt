@@ -6,7 +6,7 @@ ghost use Rattle.model_base.specs.declared.deed.Grant.{Grant};
 ghost use Rattle.grants_base.specs.Index.{IsNext, is_by, is_to};
 ghost use Rattle.bohm_core_base.specs.Batch.{batch_slots};
 ghost use Rattle.log_batch.specs.Earlier.{earlier_count};
-ghost use Rattle.log_batch.specs.Supplied.{batch_in};
+ghost use Rattle.log_batch.specs.Supplied.{batch_of};
 
 use crate::batch::LogBatch;
 use bohm_core_base::slots_stand_in_order;
@@ -17,9 +17,9 @@ impl LogBatch<'_> {
     /// number of slots.
     fn slot_from(&self, place: Place) -> usize
         ensures below { (slot : ℕ) (grant : Grant)
-            → slot < result → slice_get (batch_slots (batch_in self.now)) slot ≡ Some grant → grant.place < place }
+            → slot < result → slice_get (batch_slots (batch_of self.now)) slot ≡ Some grant → grant.place < place }
         ensures from { (slot : ℕ) (grant : Grant)
-            → result ≤ slot → slice_get (batch_slots (batch_in self.now)) slot ≡ Some grant → place ≤ grant.place }
+            → result ≤ slot → slice_get (batch_slots (batch_of self.now)) slot ≡ Some grant → place ≤ grant.place }
     {
         slots_stand_in_order();
         let _log = self.log();
@@ -40,10 +40,10 @@ impl LogBatch<'_> {
     /// of slots.
     pub fn slot_of(&self, place: Place) -> Option<usize>
         ensures found { MatchOption result
-            ((slot : ℕ) (grant : Grant) → slice_get (batch_slots (batch_in self.now)) slot ≡ Some grant → grant.place ≢ place)
-            (λ slot. (grant : Grant) × (slice_get (batch_slots (batch_in self.now)) slot ≡ Some grant) × (grant.place ≡ place)) }
+            ((slot : ℕ) (grant : Grant) → slice_get (batch_slots (batch_of self.now)) slot ≡ Some grant → grant.place ≢ place)
+            (λ slot. (grant : Grant) × (slice_get (batch_slots (batch_of self.now)) slot ≡ Some grant) × (grant.place ≡ place)) }
         ensures only { (slot : ℕ) (grant : Grant)
-            → slice_get (batch_slots (batch_in self.now)) slot ≡ Some grant
+            → slice_get (batch_slots (batch_of self.now)) slot ≡ Some grant
             → grant.place ≡ place → result ≡ Some slot }
     {
         slots_stand_in_order();
@@ -59,7 +59,7 @@ impl LogBatch<'_> {
     /// The least slot at or above this one whose grant, made or not, is to this grantee, of this kind on this table, in force or not. It
     /// doesn't allocate, and takes a time that grows with the logarithm of the number of such grants.
     pub fn next_to(&self, grantee: &Grantee, kind: Kind, table: Table, from: usize) -> Option<usize>
-        ensures { IsNext (is_to grantee.now kind table) (batch_slots (batch_in self.now)) from result }
+        ensures { IsNext (is_to grantee.now kind table) (batch_slots (batch_of self.now)) from result }
     {
         if let Some(slot) = self.earlier_to(grantee, kind, table, from) {
             return Some(slot);
@@ -81,8 +81,8 @@ impl LogBatch<'_> {
         table: Table,
         from: usize,
     ) -> Option<usize>
-        requires { earlier_count (batch_in self.now) ≤ from }
-        ensures { IsNext (is_to grantee.now kind table) (batch_slots (batch_in self.now)) from result }
+        requires { earlier_count (batch_of self.now) ≤ from }
+        ensures { IsNext (is_to grantee.now kind table) (batch_slots (batch_of self.now)) from result }
     {
         let earlier = self.earlier_count();
         match self.own_to(grantee, kind, table, from - earlier) {
@@ -94,7 +94,7 @@ impl LogBatch<'_> {
     /// The least slot at or above this one whose grant, made or not, is by this user, of this kind on this table, in force or not. It
     /// doesn't allocate, and takes a time that grows with the logarithm of the number of such grants.
     pub fn next_by(&self, user: User, kind: Kind, table: Table, from: usize) -> Option<usize>
-        ensures { IsNext (is_by user kind table) (batch_slots (batch_in self.now)) from result }
+        ensures { IsNext (is_by user kind table) (batch_slots (batch_of self.now)) from result }
     {
         if let Some(slot) = self.earlier_by(user, kind, table, from) {
             return Some(slot);

@@ -10,7 +10,7 @@ ghost use Rattle.grants_base.specs.Force.{gives_by, gives_to, is_in_force};
 ghost use Rattle.grants_base.specs.InForce.{IsNextInForce};
 ghost use Rattle.grants_base.specs.Index.{IsFirst, IsNext, is_by, is_to};
 ghost use Rattle.chains.specs.Store.{IsRight};
-ghost use Rattle.sequencer.specs.Taken.{IsTaken, IsWhole};
+ghost use Rattle.sequencer.specs.Whole.{IsAccepted, IsWhole};
 ghost use Rattle.bohm_core_base.specs.Batch.{batch_slots, reference_words};
 ghost use Rattle.bohm_core_base.specs.Machine.{end_of, start};
 ghost use Rattle.log_batch.specs.Laws.{IsOfLog};
@@ -47,9 +47,9 @@ pub struct LogBatch<'a> {
 
 impl<'a> Model for LogBatch<'a> {
     ghost use Rattle.log_batch.specs.Referred.{is_found};
-    ghost use Rattle.log_batch.specs.Supplied.{IsSupplied, Ranged};
+    ghost use Rattle.log_batch.specs.Supplied.{IsSupplied, LogRange};
 
-    ghost Value = { Ranged };
+    ghost Value = { LogRange };
 
     ghost view = { λ batch. record {
       log = batch.log.now.log;
@@ -100,7 +100,7 @@ fn named_grants(
 
 impl<'a> LogBatch<'a> {
     ghost use Rattle.log_batch.specs.Referred.{AreAtHand, is_found};
-    ghost use Rattle.log_batch.specs.Supplied.{batch_in, range_of};
+    ghost use Rattle.log_batch.specs.Supplied.{batch_of, range_of};
 
     // The places of the range as a batch, with what is available of their references.
     fn of(
@@ -254,7 +254,7 @@ impl<'a> LogBatch<'a> {
     pub fn statement(&self, index: usize) -> &Statement
         requires { index < self.now.size }
         ensures at { slice_get self.now.log.statements (self.now.first + index) ≡ Some result.now }
-        ensures taken { IsTaken self.now.log.names result.now }
+        ensures taken { IsAccepted self.now.log.names result.now }
         ensures of_log { IsOfLog (range_of self.now) }
     {
         self.log.statement(self.first + index as u64)
@@ -264,7 +264,7 @@ impl<'a> LogBatch<'a> {
     pub fn find(&self, index: usize) -> Option<&Statement>
         ensures { MatchOption result (slice_get self.now.log.statements (self.now.first + index) ≡ None)
             (λ found. (slice_get self.now.log.statements (self.now.first + index) ≡ Some found.now)
-            × IsTaken self.now.log.names found.now) }
+            × IsAccepted self.now.log.names found.now) }
     {
         let behind = self.log.len() - self.first;
         if (index as u64) < behind {
@@ -290,7 +290,7 @@ impl<'a> LogBatch<'a> {
     /// one for that of the deed.
     pub fn references_length(&self, index: usize) -> usize
         requires { index < self.now.size }
-        ensures value { result ≡ length (reference_words (batch_in self.now) index) }
+        ensures value { result ≡ length (reference_words (batch_of self.now) index) }
         ensures few { result ≤ 2 * MOST_ACCESSES + 1 }
     {
         self.references.count(index)
@@ -308,15 +308,15 @@ impl<'a> LogBatch<'a> {
 
     /// How many slots there are: one for each grant that was made before the batch, and then for each that it may make.
     pub fn slot_count(&self) -> usize
-        ensures { result ≡ length (batch_slots (batch_in self.now)) }
+        ensures { result ≡ length (batch_slots (batch_of self.now)) }
     {
         self.book.records().len() + self.named.len()
     }
 
     /// The grant of a slot.
     pub fn grant(&self, slot: usize) -> Grant
-        requires { slot < length (batch_slots (batch_in self.now)) }
-        ensures { slice_get (batch_slots (batch_in self.now)) slot ≡ Some result }
+        requires { slot < length (batch_slots (batch_of self.now)) }
+        ensures { slice_get (batch_slots (batch_of self.now)) slot ≡ Some result }
     {
         let records = self.book.records();
         if slot < records.len() {
@@ -328,8 +328,8 @@ impl<'a> LogBatch<'a> {
 
     /// The end before the batch of the record of a slot, if it has one.
     pub fn end_at_first(&self, slot: usize) -> Option<Place>
-        requires { slot < length (batch_slots (batch_in self.now)) }
-        ensures { result ≡ end_of (start (batch_in self.now)) slot }
+        requires { slot < length (batch_slots (batch_of self.now)) }
+        ensures { result ≡ end_of (start (batch_of self.now)) slot }
     {
         let records = self.book.records();
         if slot < records.len() {
@@ -341,8 +341,8 @@ impl<'a> LogBatch<'a> {
 
     /// How many slots there are of grants that were made before the batch. They come first.
     pub fn earlier_count(&self) -> usize
-        ensures value { result ≡ earlier_count (batch_in self.now) }
-        ensures within { result ≤ length (batch_slots (batch_in self.now)) }
+        ensures value { result ≡ earlier_count (batch_of self.now) }
+        ensures within { result ≤ length (batch_slots (batch_of self.now)) }
     {
         self.book.records().len()
     }
@@ -356,7 +356,7 @@ impl<'a> LogBatch<'a> {
         table: Table,
         from: usize,
     ) -> Option<usize>
-        ensures { IsNext (is_to grantee.now kind table) (earlier_grants (batch_in self.now)) from result }
+        ensures { IsNext (is_to grantee.now kind table) (earlier_grants (batch_of self.now)) from result }
     {
         let mut view = self.book.at(self.first);
         view.next_to(*grantee, kind, table, from)
@@ -365,7 +365,7 @@ impl<'a> LogBatch<'a> {
     /// The least slot at or above this one whose grant was made before the batch and is by the user, of the kind on the table, in force or
     /// not. It doesn't allocate, and takes what the book's index takes: the logarithm of the number of such grants.
     pub fn earlier_by(&self, user: User, kind: Kind, table: Table, from: usize) -> Option<usize>
-        ensures { IsNext (is_by user kind table) (earlier_grants (batch_in self.now)) from result }
+        ensures { IsNext (is_by user kind table) (earlier_grants (batch_of self.now)) from result }
     {
         let mut view = self.book.at(self.first);
         view.next_by(user, kind, table, from)
@@ -383,7 +383,7 @@ impl<'a> LogBatch<'a> {
         from: usize,
     ) -> Option<NextInForce>
         ensures { IfSome result (λ next.
-            IsNextInForce (gives_to grantee kind table option) (records_before (batch_in self.now)) from next) }
+            IsNextInForce (gives_to grantee kind table option) (records_before (batch_of self.now)) from next) }
     {
         let mut view = self.book.at(self.first);
         view.next_in_force(grantee, kind, table, option, from)
@@ -400,7 +400,8 @@ impl<'a> LogBatch<'a> {
         from: usize,
     ) -> Option<NextBy>
         ensures { IfSome result (λ next.
-            IsFirst (λ k. is_in_force (gives_by user grantee kind table) (slice_get (records_before (batch_in self.now)) k)) from next.slot) }
+            IsFirst (λ k. is_in_force (gives_by user grantee kind table)
+            (slice_get (records_before (batch_of self.now)) k)) from next.slot) }
     {
         let mut view = self.book.at(self.first);
         view.next_in_force_by(user, grantee, kind, table, from)
@@ -415,8 +416,8 @@ impl<'a> LogBatch<'a> {
         table: Table,
         from: usize,
     ) -> Option<usize>
-        ensures next { IsNext (is_to grantee.now kind table) (own_grants (batch_in self.now)) from result }
-        ensures within { IfSome result (λ slot. earlier_count (batch_in self.now) + slot < 2 ^ 64) }
+        ensures next { IsNext (is_to grantee.now kind table) (own_grants (batch_of self.now)) from result }
+        ensures within { IfSome result (λ slot. earlier_count (batch_of self.now) + slot < 2 ^ 64) }
     {
         let _count = self.slot_count();
         self.named.next_to(*grantee, kind, table, from)
@@ -425,8 +426,8 @@ impl<'a> LogBatch<'a> {
     /// The least of the grants that the batch may make, counted from 0, at or above this one that is by the user, of the kind on the table.
     /// It doesn't allocate, and takes the logarithm of the number of such grants.
     pub(crate) fn own_by(&self, user: User, kind: Kind, table: Table, from: usize) -> Option<usize>
-        ensures next { IsNext (is_by user kind table) (own_grants (batch_in self.now)) from result }
-        ensures within { IfSome result (λ slot. earlier_count (batch_in self.now) + slot < 2 ^ 64) }
+        ensures next { IsNext (is_by user kind table) (own_grants (batch_of self.now)) from result }
+        ensures within { IfSome result (λ slot. earlier_count (batch_of self.now) + slot < 2 ^ 64) }
     {
         let _count = self.slot_count();
         self.named.next_by(user, kind, table, from)

@@ -2,7 +2,7 @@
 
 ghost use Rattle.std.specs.Prelude.{◌≡◌, IfOk};
 ghost use Rattle.words.specs.Layout.{IsListed};
-ghost use Rattle.log_batch.specs.Supplied.{batch_in};
+ghost use Rattle.log_batch.specs.Supplied.{batch_of};
 ghost use Rattle.log_batch.specs.Listing.{listed_slots};
 
 use crate::batch::LogBatch;
@@ -18,8 +18,8 @@ use std::alloc::{AllocError, Global};
 /// force or not. Each costs a time that grows with the logarithm of the number of grants. Where the book doesn't know which grants are in
 /// force, it looks for each grantor and grantee of its revocations at all to the grantee.
 pub fn ended_slots(alloc: Global, batch: &LogBatch<'_>) -> Result<Vec<usize>, AllocError>
-    ensures value { IfOk result (λ slots. slots.items ≡ listed_slots (batch_in batch.now)) }
-    ensures listed { IfOk result (λ slots. IsListed (batch_in batch.now) slots.items) }
+    ensures value { IfOk result (λ slots. slots.items ≡ listed_slots (batch_of batch.now)) }
+    ensures listed { IfOk result (λ slots. IsListed (batch_of batch.now) slots.items) }
 {
     done_places_are_serial();
     records_end_by_cascades();

@@ -3,14 +3,14 @@
 ghost use Rattle.std.specs.Prelude.{◌≡◌, ◌<◌, ◌^◌, length, slice_index_or, true};
 ghost use Rattle.model_base.specs.declared.reference.Reference.TheVariants.{Base};
 ghost use Rattle.log_batch.specs.Laws.{word_of};
-ghost use Rattle.log_batch.specs.Supplied.{batch_in};
+ghost use Rattle.log_batch.specs.Supplied.{batch_of};
 
 use crate::batch::LogBatch;
 use crate::laws::batches_of_logs_are_sound;
 use crate::own_length::words_length;
 use model_base::{Place, Reference};
 use std::marker::Model;
-use words::Placed;
+use words::BatchData;
 
 /// A range of a log as a batch, and the slots whose ends have words.
 #[derive(Drop)]
@@ -84,8 +84,8 @@ pub fn word_of(first: Place, reference: Reference) -> u64
     }
 }
 
-impl Placed for LogKey<'_> {
-    ghost batch = { λ key. batch_in key.batch };
+impl BatchData for LogKey<'_> {
+    ghost batch = { λ key. batch_of key.batch };
 
     ghost listed = { λ key. key.slots };
 

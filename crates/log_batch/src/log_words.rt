@@ -1,8 +1,8 @@
 //! The words of a batch of a log, beside the batch.
 
 ghost use Rattle.std.specs.Prelude.{◌≡◌, true, IfOk};
-ghost use Rattle.log_batch.specs.Supplied.{batch_in};
-ghost use Rattle.words.specs.Closing.{TellsReferences, IsSettledBy};
+ghost use Rattle.log_batch.specs.Supplied.{batch_of};
+ghost use Rattle.words.specs.Closing.{HasItsReferences, IsSettledBy};
 ghost use Rattle.words.specs.Passes.{IsPassOf, first_pass};
 
 use crate::key::LogKey;
@@ -59,8 +59,8 @@ impl<'a> LogWords<'a> {
     pub fn close(self, pass: Pass) -> (LogKey<'a>, Closed)
         requires { IsPassOf self pass }
         ensures key { result.0 ≡ self.entry.key }
-        ensures settled { IsSettledBy (batch_in self.entry.key.batch) self.entry.key.slots result.1 }
-        ensures references { pass.view.placed ≡ true → TellsReferences (batch_in self.entry.key.batch) result.1 }
+        ensures settled { IsSettledBy (batch_of self.entry.key.batch) self.entry.key.slots result.1 }
+        ensures references { pass.view.placed ≡ true → HasItsReferences (batch_of self.entry.key.batch) result.1 }
     {
         let LogWords { key, words } = self;
         (key, words.close(pass))

@@ -3,10 +3,10 @@
 ghost use Rattle.std.specs.Prelude.{◌≡◌, ◌<◌, ◌≤◌, ◌+◌, length, map};
 ghost use Rattle.body.specs.Premises.{IsRunnable};
 ghost use Rattle.own_words.specs.Words.{outputs_of};
-ghost use Rattle.sequencer.specs.Taken.{columns_by};
+ghost use Rattle.sequencer.specs.Whole.{columns_by};
 ghost use Rattle.bohm_core_base.specs.Batch.{cells_length, words_length};
 ghost use Rattle.log_batch.specs.Shown.{access_of};
-ghost use Rattle.log_batch.specs.Supplied.{batch_in};
+ghost use Rattle.log_batch.specs.Supplied.{batch_of};
 
 use crate::batch::LogBatch;
 use model_base::{Access, MOST_ACCESSES, MOST_COLUMNS, Statement, Table};
@@ -39,7 +39,7 @@ pub fn header_length(statement: &Statement) -> usize
 /// column.
 fn cells_length(batch: &LogBatch, accesses: &[Access]) -> usize
     requires { length accesses.now ≤ MOST_ACCESSES }
-    ensures value { result ≡ cells_length (batch_in batch.now).columns (map access_of accesses.now) }
+    ensures value { result ≡ cells_length (batch_of batch.now).columns (map access_of accesses.now) }
     ensures few { result ≤ 144 }
 {
     let mut length = 0;
@@ -56,7 +56,7 @@ fn cells_length(batch: &LogBatch, accesses: &[Access]) -> usize
 #[tactic(auto, using(crate::proofs::OwnLength::length_at))]
 pub fn words_length(batch: &LogBatch, index: usize) -> usize
     requires { index < batch.now.size }
-    ensures value { result ≡ words_length (batch_in batch.now) index }
+    ensures value { result ≡ words_length (batch_of batch.now) index }
     ensures few { result ≤ MOST_OWN_WORDS }
 {
     let statement = batch.statement(index);

@@ -7,7 +7,7 @@ ghost use Rattle.grants_base.specs.Index.{IsFirst, IsNext, is_by};
 ghost use Rattle.model_base.specs.Privileges.{option_holder};
 ghost use Rattle.bohm_core_base.specs.Batch.{batch_slots};
 ghost use Rattle.log_batch.specs.Earlier.{earlier_count, earlier_grants, records_before};
-ghost use Rattle.log_batch.specs.Supplied.{batch_in};
+ghost use Rattle.log_batch.specs.Supplied.{batch_of};
 ghost use Rattle.log_batch.specs.Holders.{grantor_of, has_holder, new_holder};
 ghost use Rattle.log_batch.specs.Listing.{is_open, is_reached, lends};
 ghost use Rattle.log_batch.specs.Reach.{Adds, AreSeeds, IsDue, IsNextOpen, IsReach, has_party};
@@ -47,7 +47,7 @@ fn next_between(
     table: Table,
     start: usize,
 ) -> Option<usize>
-    ensures { IsNext (gives_by user grantee.now kind table) (earlier_grants (batch_in batch.now)) start result }
+    ensures { IsNext (gives_by user grantee.now kind table) (earlier_grants (batch_of batch.now)) start result }
 {
     let _count = batch.earlier_count();
     let mut from = start;
@@ -69,7 +69,7 @@ fn next_made(
     table: Table,
     from: usize,
 ) -> Option<usize>
-    ensures { IsNext (has_party party.now kind table) (earlier_grants (batch_in batch.now)) from result }
+    ensures { IsNext (has_party party.now kind table) (earlier_grants (batch_of batch.now)) from result }
 {
     match party {
         Party::Between(user, grantee) => next_between(batch, *user, grantee, kind, table, from),
@@ -87,7 +87,7 @@ fn next_in_force(
     from: usize,
 ) -> Option<NextBy>
     ensures { IfSome result (λ next.
-        IsFirst (λ k. is_in_force (has_party party.now kind table) (slice_get (records_before (batch_in batch.now)) k)) from next.slot) }
+        IsFirst (λ k. is_in_force (has_party party.now kind table) (slice_get (records_before (batch_of batch.now)) k)) from next.slot) }
 {
     match party {
         Party::Between(user, grantee) => {
@@ -107,7 +107,7 @@ fn next_of(
     table: Table,
     from: usize,
 ) -> Option<usize>
-    ensures { IsNextOpen (batch_in batch.now) (has_party party.now kind table) from result }
+    ensures { IsNextOpen (batch_of batch.now) (has_party party.now kind table) from result }
 {
     let _log = batch.log();
     match next_in_force(batch, party, kind, table, from) {
@@ -118,9 +118,9 @@ fn next_of(
 
 /// The slot is due, if its record has no end before the batch.
 fn add_slot(batch: &LogBatch<'_>, slot: usize, due: &mut BTreeSet<usize>) -> Result<(), AllocError>
-    requires { slot < length (batch_slots (batch_in batch.now)) }
+    requires { slot < length (batch_slots (batch_of batch.now)) }
     ensures { OnOk result ((j : ℕ) → is_one_of due.new.keys j
-        ≡ ((is_open (batch_in batch.now) slot && (slot == j)) || is_one_of due.old.keys j)) }
+        ≡ ((is_open (batch_of batch.now) slot && (slot == j)) || is_one_of due.old.keys j)) }
 {
     let unended = batch.end_at_first(slot).is_none();
     if unended {
@@ -139,8 +139,8 @@ fn add_grants(
     start: usize,
     due: &mut BTreeSet<usize>,
 ) -> Result<(), AllocError>
-    ensures { OnOk result (Adds (batch_in batch.now) (has_party party.now kind table) start
-        (earlier_count (batch_in batch.now)) due.old.keys due.new.keys) }
+    ensures { OnOk result (Adds (batch_of batch.now) (has_party party.now kind table) start
+        (earlier_count (batch_of batch.now)) due.old.keys due.new.keys) }
 {
     let end = batch.earlier_count();
     let mut from = start;
@@ -163,9 +163,9 @@ fn put_deed(
     revoked: &mut Revoked,
     due: &mut BTreeSet<usize>,
 ) -> Result<(), AllocError>
-    requires deed { deed ≡ (batch_in batch.now).deed index }
-    requires seeds { AreSeeds (batch_in batch.now) index revoked.old due.old.keys }
-    ensures { OnOk result (AreSeeds (batch_in batch.now) (suc index) revoked.new due.new.keys) }
+    requires deed { deed ≡ (batch_of batch.now).deed index }
+    requires seeds { AreSeeds (batch_of batch.now) index revoked.old due.old.keys }
+    ensures { OnOk result (AreSeeds (batch_of batch.now) (suc index) revoked.new due.new.keys) }
 {
     let Some(Deed::Revoking(revocation)) = deed else {
         return Ok(());
@@ -183,8 +183,8 @@ fn put_deeds(
     revoked: &mut Revoked,
     due: &mut BTreeSet<usize>,
 ) -> Result<(), AllocError>
-    requires { AreSeeds (batch_in batch.now) 0 revoked.old due.old.keys }
-    ensures { OnOk result (AreSeeds (batch_in batch.now) batch.now.size revoked.new due.new.keys) }
+    requires { AreSeeds (batch_of batch.now) 0 revoked.old due.old.keys }
+    ensures { OnOk result (AreSeeds (batch_of batch.now) batch.now.size revoked.new due.new.keys) }
 {
     let first = batch.first_place();
     for index in 0..batch.size() {
@@ -235,13 +235,13 @@ impl Reach {
         next: usize,
         due: &mut BTreeSet<usize>,
     ) -> Result<(), AllocError>
-        requires within { slot < earlier_count (batch_in batch.now) }
+        requires within { slot < earlier_count (batch_of batch.now) }
         requires next { next ≡ suc slot }
-        requires reached { is_reached (batch_in batch.now) self.old.slots.items slot ≡ true }
-        requires reach { IsReach (batch_in batch.now) slot self.old }
-        requires due { IsDue (batch_in batch.now) next self.old.slots.items due.old.keys }
-        ensures reach { OnOk result (IsReach (batch_in batch.now) next self.new) }
-        ensures due { OnOk result (IsDue (batch_in batch.now) next self.new.slots.items due.new.keys) }
+        requires reached { is_reached (batch_of batch.now) self.old.slots.items slot ≡ true }
+        requires reach { IsReach (batch_of batch.now) slot self.old }
+        requires due { IsDue (batch_of batch.now) next self.old.slots.items due.old.keys }
+        ensures reach { OnOk result (IsReach (batch_of batch.now) next self.new) }
+        ensures due { OnOk result (IsDue (batch_of batch.now) next self.new.slots.items due.new.keys) }
     {
         let _slots = batch.earlier_count();
         let grant = batch.grant(slot);
@@ -258,9 +258,9 @@ impl Reach {
         batch: &LogBatch<'_>,
         due: &mut BTreeSet<usize>,
     ) -> Result<(), AllocError>
-        requires reach { IsReach (batch_in batch.now) 0 self.old }
-        requires due { IsDue (batch_in batch.now) 0 self.old.slots.items due.old.keys }
-        ensures { OnOk result (IsReach (batch_in batch.now) (earlier_count (batch_in batch.now)) self.new) }
+        requires reach { IsReach (batch_of batch.now) 0 self.old }
+        requires due { IsDue (batch_of batch.now) 0 self.old.slots.items due.old.keys }
+        ensures { OnOk result (IsReach (batch_of batch.now) (earlier_count (batch_of batch.now)) self.new) }
     {
         let _slots = batch.earlier_count();
         let mut low = 0;
@@ -273,9 +273,9 @@ impl Reach {
 
     /// A slot of a grant that the batch may make, if it may reach it.
     fn judge_own(&mut self, batch: &LogBatch<'_>, slot: usize) -> Result<(), AllocError>
-        requires within { slot < length (batch_slots (batch_in batch.now)) }
-        requires reach { IsReach (batch_in batch.now) slot self.old }
-        ensures { OnOk result (IsReach (batch_in batch.now) (suc slot) self.new) }
+        requires within { slot < length (batch_slots (batch_of batch.now)) }
+        requires reach { IsReach (batch_of batch.now) slot self.old }
+        ensures { OnOk result (IsReach (batch_of batch.now) (suc slot) self.new) }
     {
         let grant = batch.grant(slot);
         let is_open = batch.end_at_first(slot).is_none();
@@ -293,7 +293,7 @@ impl Reach {
 
     /// All slots that the batch may reach. An error means out of memory.
     pub(crate) fn of(alloc: Global, batch: &LogBatch<'_>) -> Result<Reach, AllocError>
-        ensures { IfOk result (λ reach. IsReach (batch_in batch.now) (length (batch_slots (batch_in batch.now))) reach) }
+        ensures { IfOk result (λ reach. IsReach (batch_of batch.now) (length (batch_slots (batch_of batch.now))) reach) }
     {
         let mut revoked = Revoked::new(alloc);
         let mut due = BTreeSet::new(alloc);

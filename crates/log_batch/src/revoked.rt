@@ -5,7 +5,7 @@ ghost use Rattle.model_base.specs.declared.deed.Grant.{Grant};
 ghost use Rattle.model_base.specs.Privileges.{names};
 ghost use Rattle.log_batch.specs.Revoked.{has_named, is_named_by, named_by, named_with};
 
-use crate::holders::{Holder, holder_of};
+use crate::holders::{HolderKey, holder_of};
 use model_base::{Grant, Revocation, User};
 use std::alloc::{AllocError, Global};
 use std::collections::BTreeSet;
@@ -14,7 +14,7 @@ use std::collections::BTreeSet;
 #[derive(Clone, Copy, PartialEq, Eq, PartialOrd, Ord)]
 pub(crate) struct Named {
     grantor: User,
-    holder: Holder,
+    holder: HolderKey,
 }
 
 /// The grants that a revocation names.

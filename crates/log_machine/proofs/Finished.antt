@@ -12,7 +12,7 @@ use Rattle.body.specs.Steps.{steps_of}
 use Rattle.own_words.specs.Places.{words_at}
 use Rattle.own_words.specs.Words.{ended_in, outcome_from}
 use Rattle.evaluation.proofs.Fitting.{words_tell}
-use Rattle.sequencer.specs.Taken.{IsTaken, columns_by}
+use Rattle.sequencer.specs.Whole.{IsAccepted, columns_by}
 use Rattle.bohm_core_base.specs.declared.hold.Hold.{Hold}
 use Rattle.bohm_core_base.specs.declared.hold.Hold.TheVariants.{Done, Free}
 use Rattle.bohm_core_base.specs.Batch.{batch_slots}
@@ -23,7 +23,7 @@ use Rattle.bohm_core.specs.Running.{IsReached}
 use Rattle.log_batch.specs.Laws.{IsOfLog, ended_places}
 use Rattle.log_batch.proofs.LogsEnded.{ended_tells}
 use Rattle.log_batch.proofs.LogsRight.{done_tells}
-use Rattle.log_batch.specs.Supplied.{Ranged, batch_in, range_of}
+use Rattle.log_batch.specs.Supplied.{LogRange, batch_of, range_of}
 
 -- a place below the length is there
 some-there : {A : Type 0} (xs : List A) (index : ℕ) → index < length xs → slice_get xs index ≢ None
@@ -35,26 +35,26 @@ some-there (x ∷ xs) (suc index) low = some-there xs index (omega arith)
 done-busy : (hold : Hold) → hold ≡ Done → hold ≢ Free
 done-busy hold is = λ free. let both : Done ≡ Free = sym is ∙ free in cc
 
-module _ (ranged : Ranged) (is : IsOfLog (range_of ranged)) (within : ranged.first + ranged.size ≤ length ranged.log.statements) (state : State) (reached : IsReached (batch_in ranged) state) where
+module _ (ranged : LogRange) (is : IsOfLog (range_of ranged)) (within : ranged.first + ranged.size ≤ length ranged.log.statements) (state : State) (reached : IsReached (batch_of ranged) state) where
   -- it is in the batch
   pub done-within : (index : ℕ) → hold_of state index ≡ Done → index < ranged.size
   done-within index done =
-      let there : hold_of (reach (batch_in ranged) reached.events) index ≡ Done = subst (λ s. hold_of s index ≡ Done) reached.reached done in
-      (has-references (batch_in ranged) reached.sound reached.events index (done-busy _ there)).within
+      let there : hold_of (reach (batch_of ranged) reached.events) index ≡ Done = subst (λ s. hold_of s index ≡ Done) reached.reached done in
+      (has-references (batch_of ranged) reached.sound reached.events index (done-busy _ there)).within
 
   -- the places of slots whose records ended at it are those that its revocation ended
   pub ends-done : (index : ℕ) (found : Outcome) → hold_of state index ≡ Done → outcome ranged.log.statements (ranged.first + index) ≡ Some found
-      → ended_places (batch_slots (batch_in ranged)) state.ends (ranged.first + index) ≡ ended_in found
+      → ended_places (batch_slots (batch_of ranged)) state.ends (ranged.first + index) ≡ ended_in found
   ends-done index found done comes =
-      let there : hold_of (reach (batch_in ranged) reached.events) index ≡ Done = subst (λ s. hold_of s index ≡ Done) reached.reached done in
-      ap (λ (s : State). ended_places (batch_slots (batch_in ranged)) s.ends (ranged.first + index)) reached.reached
+      let there : hold_of (reach (batch_of ranged) reached.events) index ≡ Done = subst (λ s. hold_of s index ≡ Done) reached.reached done in
+      ap (λ (s : State). ended_places (batch_slots (batch_of ranged)) s.ends (ranged.first + index)) reached.reached
       ∙ ended_tells (range_of ranged) is reached.events index there found comes
 
   -- its own words are those of its place in the log
   pub words-done : (index : ℕ) → hold_of state index ≡ Done
       → own_of state index ≡ words_at (columns_by ranged.log.names) ranged.log.statements (ranged.first + index)
   words-done index done =
-      let batch = batch_in ranged in
+      let batch = batch_of ranged in
       let there : hold_of (reach batch reached.events) index ≡ Done = subst (λ s. hold_of s index ≡ Done) reached.reached done in
       let placed = has-references batch reached.sound reached.events index (done-busy _ there) in
       let size = placed.within in
@@ -62,12 +62,12 @@ module _ (ranged : Ranged) (is : IsOfLog (range_of ranged)) (within : ranged.fir
       ap (λ s. own_of s index) reached.reached ∙ by_statement (slice_get ranged.log.statements (ranged.first + index)) refl low there
     where
       by_statement : (found : Option Statement) → slice_get ranged.log.statements (ranged.first + index) ≡ found → ranged.first + index < length ranged.log.statements
-          → hold_of (reach (batch_in ranged) reached.events) index ≡ Done
-          → own_of (reach (batch_in ranged) reached.events) index ≡ words_at (columns_by ranged.log.names) ranged.log.statements (ranged.first + index)
+          → hold_of (reach (batch_of ranged) reached.events) index ≡ Done
+          → own_of (reach (batch_of ranged) reached.events) index ≡ words_at (columns_by ranged.log.names) ranged.log.statements (ranged.first + index)
       by_statement None at low there = absurd (some-there ranged.log.statements (ranged.first + index) low at)
       by_statement (Some statement) at low there =
           done_tells (range_of ranged) is reached.events index statement
-          (done-right (batch_in ranged) reached.sound reached.events index there) at
+          (done-right (batch_of ranged) reached.sound reached.events index there) at
 
   -- it has an outcome
   outcome-there : (index : ℕ) → hold_of state index ≡ Done → (found : Outcome) × (outcome ranged.log.statements (ranged.first + index) ≡ Some found)
@@ -84,7 +84,7 @@ module _ (ranged : Ranged) (is : IsOfLog (range_of ranged)) (within : ranged.fir
       )
 
   -- where some slot's record ended at it, its revocation ended some
-  pub ended-done : (index : ℕ) → hold_of state index ≡ Done → ended_places (batch_slots (batch_in ranged)) state.ends (ranged.first + index) ≢ []
+  pub ended-done : (index : ℕ) → hold_of state index ≡ Done → ended_places (batch_slots (batch_of ranged)) state.ends (ranged.first + index) ≢ []
       → (found : Outcome) × (outcome ranged.log.statements (ranged.first + index) ≡ Some found) × (ended_in found ≢ [])
   ended-done index done some =
       let there = outcome-there index done in
@@ -92,7 +92,7 @@ module _ (ranged : Ranged) (is : IsOfLog (range_of ranged)) (within : ranged.fir
 
   -- and its own words, with the places that its revocation ended, tell its outcome
   pub outcome-done : (index : ℕ) (statement : Statement) (ended : List ℕ) → hold_of state index ≡ Done
-      → slice_get ranged.log.statements (ranged.first + index) ≡ Some statement → IsTaken ranged.log.names statement → ranged.first + ranged.size ≤ 4294967295
+      → slice_get ranged.log.statements (ranged.first + index) ≡ Some statement → IsAccepted ranged.log.names statement → ranged.first + ranged.size ≤ 4294967295
       → ((found : Outcome) → outcome ranged.log.statements (ranged.first + index) ≡ Some found → ended ≡ ended_in found)
       → outcome ranged.log.statements (ranged.first + index) ≡ Some (outcome_from statement.form (own_of state index) ended)
   outcome-done index statement ended done at taken few ends =

@@ -6,12 +6,12 @@ ghost use Rattle.model_base.specs.Outcomes.{outcome};
 ghost use Rattle.model_base.specs.declared.outcome.Outcome.{Outcome};
 ghost use Rattle.own_words.specs.Places.{words_at};
 ghost use Rattle.own_words.specs.Words.{ended_in};
-ghost use Rattle.sequencer.specs.Taken.{columns_by};
+ghost use Rattle.sequencer.specs.Whole.{columns_by};
 ghost use Rattle.bohm_core_base.specs.Batch.{batch_slots};
 ghost use Rattle.bohm_core_base.specs.Machine.{hold_of};
 ghost use Rattle.bohm_core_base.specs.declared.hold.Hold.TheVariants.{Done};
 ghost use Rattle.log_batch.specs.Laws.{ended_places};
-ghost use Rattle.log_batch.specs.Supplied.{batch_in};
+ghost use Rattle.log_batch.specs.Supplied.{batch_of};
 
 use crate::of_log::OfLog;
 use bohm_core::{Hold, Machine, State};
@@ -52,8 +52,8 @@ fn ended_at(
     state: &State,
     place: Place,
 ) -> Result<Vec<Place>, AllocError>
-    ensures value { IfOk result (λ places. places.items ≡ ended_places (batch_slots (batch_in batch.now)) state.now.ends place) }
-    ensures memory { OnErr result (ended_places (batch_slots (batch_in batch.now)) state.now.ends place ≢ []) }
+    ensures value { IfOk result (λ places. places.items ≡ ended_places (batch_slots (batch_of batch.now)) state.now.ends place) }
+    ensures memory { OnErr result (ended_places (batch_slots (batch_of batch.now)) state.now.ends place ≢ []) }
 {
     let mut places = Vec::new(alloc);
     for slot in 0..batch.slot_count().min(state.slots()) {

@@ -6,7 +6,7 @@ ghost use Rattle.model_base.specs.declared.statement.Access.{Access};
 ghost use Rattle.placing.specs.Parts.{key_partition, table_partition};
 ghost use Rattle.bohm_core_base.specs.Machine.{front_of, placed_references, stored};
 ghost use Rattle.log_batch.specs.Laws.{word_of};
-ghost use Rattle.log_batch.specs.Supplied.{batch_in};
+ghost use Rattle.log_batch.specs.Supplied.{batch_of};
 
 use bohm_core::State;
 use log_batch::LogBatch;
@@ -63,7 +63,7 @@ fn partitions_at(
     index: usize,
 ) -> Result<Vec<usize>, AllocError>
     requires { index < batch.now.size }
-    ensures { IfOk result (λ partitions. partitions.items ≡ (batch_in batch.now).partitions_of index) }
+    ensures { IfOk result (λ partitions. partitions.items ≡ (batch_of batch.now).partitions_of index) }
 {
     let statement = batch.statement(index);
     let partitions = batch.partition_count();
@@ -113,7 +113,7 @@ pub(crate) fn stored_references(
     requires placed { batch.now.placed ≡ true }
     requires within { front_of state.now partition < batch.now.size }
     ensures { IfOk result (λ references. references.items
-        ≡ placed_references (batch_in batch.now) state.now partition (front_of state.now partition)) }
+        ≡ placed_references (batch_of batch.now) state.now partition (front_of state.now partition)) }
 {
     let index = state.front(partition);
     let partitions = partitions_at(alloc, batch, index)?;

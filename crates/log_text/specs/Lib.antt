@@ -1,4 +1,4 @@
 pub mod Statement
 pub mod Fault
 pub mod Parsing
-pub mod Room
+pub mod LineBuffers

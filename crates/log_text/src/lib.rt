@@ -1,6 +1,6 @@
 //! Lines read as statements with names, and printed back.
 //!
-//! `read_into` reads a line into a `RawRoom`, or returns the line's fault, the first from left to right. `read_line`
+//! `read_into` reads a line into a `LineBuffers`, or returns the line's fault, the first from left to right. `read_line`
 //! and `parse_line` return the statement; `print_statement` gives the one line that reads as it. No line reads as two
 //! statements (`one_spelling`), and each without a fault reads as one (`every_line_reads`).
 //!
@@ -10,15 +10,15 @@
 
 mod kind;
 mod laws;
+mod line_buffers;
 mod parsing;
 mod printing;
-mod raw_room;
 mod statement;
 
 pub use kind::kind_word;
 pub use laws::every_line_reads;
+pub use line_buffers::LineBuffers;
 pub use line_words::{LineFault, Name, RawAccess};
 pub use parsing::{one_spelling, parse_line, read_into, read_line};
 pub use printing::print_statement;
-pub use raw_room::RawRoom;
 pub use statement::{RawDeed, RawForm, RawGrantee, RawStatement, RawStep};

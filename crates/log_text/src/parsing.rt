@@ -3,9 +3,9 @@
 mod accesses;
 mod computing;
 mod deeds;
+mod fields;
 mod form;
 mod line;
-mod places;
 mod steps;
 mod touching;
 

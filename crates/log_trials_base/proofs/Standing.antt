@@ -9,15 +9,15 @@ use Rattle.model_base.specs.Outcomes.{owners}
 use Rattle.chains.specs.Store.{IsRight, Store}
 use Rattle.grants_base.specs.Book.{Entries, table_of_deed}
 use Rattle.grants_base.specs.declared.entries.Creation.{Creation}
-use Rattle.engine.specs.Stands.{Stands}
+use Rattle.engine.specs.RunState.{IsRunState}
 
 -- no version of a row and no deed are before any log
 pub empty_stands : (log : List Statement) (store : Store) (book : Entries) → store.end ≡ 0 → IsRight log store → book.tables ≡ [] → book.records ≡ []
-    → Stands log 0 store book
+    → IsRunState log 0 store book
 empty_stands log store book ends right tables records =
     let empty : Entries = record { tables = []; records = [] } in
     let book_is : book ≡ empty = ap (λ (ts : List Creation). record { tables = ts; records = book.records }) tables ∙ ap (λ (rs : List Record). record { tables = []; records = rs }) records in
-    let P : Entries → Type 0 = λ b. Stands log 0 store b in
+    let P : Entries → Type 0 = λ b. IsRunState log 0 store b in
     subst P (sym book_is) (record {
       ends = ends;
       right = right;

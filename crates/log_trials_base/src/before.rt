@@ -1,7 +1,7 @@
 //! What is before a place of a log once the places before it are run.
 
 ghost use Rattle.std.specs.Prelude.{◌≡◌, ◌≤◌, IfOk, OnOk, length};
-ghost use Rattle.engine.specs.Stands.{Stands};
+ghost use Rattle.engine.specs.RunState.{IsRunState};
 
 use crate::fault::TrialFault;
 use crate::known::are_known;
@@ -21,7 +21,7 @@ pub struct Before {
 
 /// Nothing is before a log.
 fn nothing(alloc: Global, log: &WholeLog) -> Before
-    ensures { Stands log.now.statements 0 result.chains result.book }
+    ensures { IsRunState log.now.statements 0 result.chains result.book }
 {
     let _log = log;
     Before {
@@ -37,9 +37,9 @@ fn run_first(
     before: &mut Before,
     place: Place,
 ) -> Result<(), TrialFault>
-    requires before { Stands log.now.statements 0 before.old.chains before.old.book }
+    requires before { IsRunState log.now.statements 0 before.old.chains before.old.book }
     requires within { place ≤ length log.now.statements }
-    ensures { OnOk result (Stands log.now.statements place before.new.chains before.new.book) }
+    ensures { OnOk result (IsRunState log.now.statements place before.new.chains before.new.book) }
 {
     if !are_known(log.statements()) {
         return Err(TrialFault::Unknown);
@@ -61,7 +61,7 @@ fn run_first(
 /// table that no earlier one creates.
 pub fn before_place(alloc: Global, log: &WholeLog, place: Place) -> Result<Before, TrialFault>
     requires within { place ≤ length log.now.statements }
-    ensures { IfOk result (λ before. Stands log.now.statements place before.chains before.book) }
+    ensures { IfOk result (λ before. IsRunState log.now.statements place before.chains before.book) }
 {
     let mut before = nothing(alloc, log);
     match run_first(alloc, log, &mut before, place) {

@@ -3,7 +3,7 @@
 ghost use Rattle.std.specs.Prelude.{◌≡◌, ◌<◌, ◌≤◌, ◌-◌, IfOk, length, map, true};
 ghost use Rattle.std.specs.List.{range_with_len};
 ghost use Rattle.placing.specs.Parts.{part_of};
-ghost use Rattle.engine.specs.Stands.{Stands};
+ghost use Rattle.engine.specs.RunState.{IsRunState};
 
 use log_batch::LogBatch;
 use log_trials_base::{Before, WholeLog};
@@ -33,7 +33,7 @@ fn parts_of(
 }
 
 /// A range of the log as a batch that this many partitions place.
-pub fn batch_of<'a>(
+pub fn new_batch<'a>(
     alloc: Global,
     log: &'a WholeLog,
     before: &'a Before,
@@ -44,7 +44,7 @@ pub fn batch_of<'a>(
     requires few { partitions ≤ MOST_PARTITIONS }
     requires order { range.start ≤ range.end }
     requires within { range.end ≤ length log.now.statements }
-    requires before { Stands log.now.statements range.start before.now.chains before.now.book }
+    requires before { IsRunState log.now.statements range.start before.now.chains before.now.book }
     ensures { IfOk result (λ batch. batch ≡ record {
       log = log.now;
       first = range.start;

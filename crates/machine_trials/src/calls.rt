@@ -13,7 +13,7 @@ const KEY: Key = Key {
 };
 
 /// Prints who asks for what.
-fn tell_form(rt: &impl Print, form: &Form) -> Result<(), TrialFault> {
+fn print_form(rt: &impl Print, form: &Form) -> Result<(), TrialFault> {
     match form {
         Form::Create { columns, .. } => println!(rt; "creates a table, columns: {columns}")?,
         Form::Run {
@@ -30,7 +30,7 @@ fn tell_form(rt: &impl Print, form: &Form) -> Result<(), TrialFault> {
 }
 
 /// Prints the statement of each index and what it is referred to.
-fn tell_statements(rt: &impl Print, batch: &LogBatch<'_>) -> Result<(), TrialFault>
+fn print_statements(rt: &impl Print, batch: &LogBatch<'_>) -> Result<(), TrialFault>
     requires { batch.now.placed ≡ true }
 {
     for index in 0..batch.size() {
@@ -38,13 +38,13 @@ fn tell_statements(rt: &impl Print, batch: &LogBatch<'_>) -> Result<(), TrialFau
         let statement = batch.statement(index);
         let user = statement.user;
         print!(rt; "index {index} refers to {references:?}: {user:?} ")?;
-        tell_form(rt, &statement.form)?;
+        print_form(rt, &statement.form)?;
     }
     Ok(())
 }
 
 /// Prints the grant of each slot and its end before the batch.
-fn tell_grants(rt: &impl Print, batch: &LogBatch<'_>) -> Result<(), TrialFault> {
+fn print_grants(rt: &impl Print, batch: &LogBatch<'_>) -> Result<(), TrialFault> {
     for slot in 0..batch.slot_count() {
         let grant = batch.grant(slot);
         let end = batch.end_at_first(slot);
@@ -54,13 +54,13 @@ fn tell_grants(rt: &impl Print, batch: &LogBatch<'_>) -> Result<(), TrialFault> 
 }
 
 /// Reports all that the calls of a batch answer.
-pub fn tell_batch(rt: &impl Print, batch: &LogBatch<'_>) -> Result<(), TrialFault>
+pub fn print_batch(rt: &impl Print, batch: &LogBatch<'_>) -> Result<(), TrialFault>
     requires { batch.now.placed ≡ true }
 {
     let (first, size) = (batch.first_place(), batch.size());
     let (len, partitions) = (batch.log().len(), batch.partition_count());
     println!(rt; "places: {size} of {len}, from {first} on; partitions: {partitions}")?;
-    tell_statements(rt, batch)?;
+    print_statements(rt, batch)?;
     match batch.row_before(KEY) {
         Some(row) => {
             let row = row.as_slice();
@@ -68,5 +68,5 @@ pub fn tell_batch(rt: &impl Print, batch: &LogBatch<'_>) -> Result<(), TrialFaul
         }
         None => println!(rt; "no row before")?,
     }
-    tell_grants(rt, batch)
+    print_grants(rt, batch)
 }

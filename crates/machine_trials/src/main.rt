@@ -17,7 +17,7 @@ use rows::{ONE, THREE};
 use std::alloc::Global;
 use std::process::ExitCode;
 use trials::{Trial, try_lines};
-use two_words::tell_two_words;
+use two_words::print_two_words;
 
 /// The worked log: a reader, and after it the revocation of the grant by which it reads.
 const WORKED: [&str; 5] = [
@@ -72,7 +72,7 @@ fn run(rt: &impl Print, alloc: Global) -> Result<(), TrialFault> {
     try_lines(rt, alloc, middle, &WORKED, 3, 1, Trial::Middle)?;
     let calls = "the calls of a batch\n";
     try_lines(rt, alloc, calls, &GRANTING, 0, 3, Trial::Calls)?;
-    tell_two_words(rt, alloc, &WORKED)?;
+    print_two_words(rt, alloc, &WORKED)?;
     try_lines(rt, alloc, "", &REACHED, 0, 1, Trial::Ended)?;
     let finished = "finished behind words of which nothing is stored\n";
     try_lines(rt, alloc, finished, &BORNE, 0, 1, Trial::Finished)

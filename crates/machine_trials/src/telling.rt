@@ -31,7 +31,7 @@ fn concerned(alloc: Global, state: &State, event: Event) -> Result<String, Alloc
 }
 
 /// Makes the event, and says what it asked for, and what is stored of that now if it is something else.
-fn tell_event(
+fn print_event(
     rt: &impl Print,
     alloc: Global,
     machine: &mut Machine<OfLog<'_>>,
@@ -49,20 +49,20 @@ fn tell_event(
 }
 
 /// Makes the events, and says each.
-pub fn tell_events(
+pub fn print_events(
     rt: &impl Print,
     alloc: Global,
     machine: &mut Machine<OfLog<'_>>,
     events: &[Event],
 ) -> Result<(), TrialFault> {
     for event in events {
-        tell_event(rt, alloc, machine, *event)?;
+        print_event(rt, alloc, machine, *event)?;
     }
     Ok(())
 }
 
 /// Prints an outcome.
-fn tell_outcome(rt: &impl Print, outcome: &Outcome) -> Result<(), TrialFault> {
+fn print_outcome(rt: &impl Print, outcome: &Outcome) -> Result<(), TrialFault> {
     match outcome {
         Outcome::Created => println!(rt; "created")?,
         Outcome::Done { outputs, deed } => {
@@ -82,7 +82,7 @@ fn tell_outcome(rt: &impl Print, outcome: &Outcome) -> Result<(), TrialFault> {
 }
 
 /// Reports what a place resulted in, if it is done.
-fn tell_place(
+fn print_place(
     rt: &impl Print,
     alloc: Global,
     machine: &Machine<OfLog<'_>>,
@@ -94,11 +94,11 @@ fn tell_place(
     let references = machine.state().references(index);
     let own = done_words(machine, index).unwrap_or(&[]);
     print!(rt; "index {index} refers to {references:?} and has {own:?}: ")?;
-    tell_outcome(rt, &outcome)
+    print_outcome(rt, &outcome)
 }
 
 /// Prints where the record of each slot ended.
-fn tell_slots(rt: &impl Print, machine: &Machine<OfLog<'_>>) -> Result<(), TrialFault> {
+fn print_slots(rt: &impl Print, machine: &Machine<OfLog<'_>>) -> Result<(), TrialFault> {
     for slot in 0..machine.statements().batch().slot_count() {
         let place = machine.statements().batch().grant(slot).place;
         let end = machine.state().end(slot);
@@ -108,13 +108,13 @@ fn tell_slots(rt: &impl Print, machine: &Machine<OfLog<'_>>) -> Result<(), Trial
 }
 
 /// Reports what all places and records resulted in.
-pub fn tell_found(
+pub fn print_found(
     rt: &impl Print,
     alloc: Global,
     machine: &Machine<OfLog<'_>>,
 ) -> Result<(), TrialFault> {
     for index in 0..machine.statements().batch().size() {
-        tell_place(rt, alloc, machine, index)?;
+        print_place(rt, alloc, machine, index)?;
     }
-    tell_slots(rt, machine)
+    print_slots(rt, machine)
 }

@@ -1,12 +1,12 @@
 //! Trials of a range of a log as a batch of which all is placed.
 
 ghost use Rattle.std.specs.Prelude.{◌≡◌, ◌<◌, ◌≤◌, ◌-◌, IfOk, length, true};
-ghost use Rattle.engine.specs.Stands.{Stands};
+ghost use Rattle.engine.specs.RunState.{IsRunState};
 
-use crate::batches::batch_of;
-use crate::calls::tell_batch;
+use crate::batches::new_batch;
+use crate::calls::print_batch;
 use crate::rows::{FIRST, LAST, MIDDLE};
-use crate::telling::{tell_events, tell_found};
+use crate::telling::{print_events, print_found};
 use bohm_core::Machine;
 use bohm_core_base::Event;
 use filling::{Finished, finish, take};
@@ -32,30 +32,30 @@ pub enum Trial {
 }
 
 /// Prints the events of the whole log.
-fn tell_whole(
+fn print_whole(
     rt: &impl Print,
     alloc: Global,
     machine: &mut Machine<OfLog<'_>>,
     placing: &[Event],
 ) -> Result<(), TrialFault> {
     for _ in 0..4 {
-        tell_events(rt, alloc, machine, placing)?;
+        print_events(rt, alloc, machine, placing)?;
     }
-    tell_events(rt, alloc, machine, &FIRST)?;
-    tell_events(rt, alloc, machine, placing)?;
-    tell_events(rt, alloc, machine, &LAST)?;
-    tell_found(rt, alloc, machine)
+    print_events(rt, alloc, machine, &FIRST)?;
+    print_events(rt, alloc, machine, placing)?;
+    print_events(rt, alloc, machine, &LAST)?;
+    print_found(rt, alloc, machine)
 }
 
 /// Prints the calls of the batch in the middle of the log, and its events.
-fn tell_middle(
+fn print_middle(
     rt: &impl Print,
     alloc: Global,
     machine: &mut Machine<OfLog<'_>>,
 ) -> Result<(), TrialFault> {
-    tell_batch(rt, machine.statements().batch())?;
-    tell_events(rt, alloc, machine, &MIDDLE)?;
-    tell_found(rt, alloc, machine)
+    print_batch(rt, machine.statements().batch())?;
+    print_events(rt, alloc, machine, &MIDDLE)?;
+    print_found(rt, alloc, machine)
 }
 
 /// Finishes a batch after words of which nothing is stored.
@@ -73,7 +73,7 @@ fn finish_unstored<'a>(alloc: Global, batch: LogBatch<'a>) -> Result<Finished<'a
 }
 
 /// Prints the outcomes of a log that is finished after words of which nothing is stored.
-fn tell_finished(
+fn print_finished(
     rt: &impl Print,
     alloc: Global,
     log: &WholeLog,
@@ -94,7 +94,7 @@ fn tell_finished(
 }
 
 /// Prints the slots of the grants that the batch may end.
-fn tell_ended(rt: &impl Print, alloc: Global, batch: &LogBatch<'_>) -> Result<(), TrialFault> {
+fn print_ended(rt: &impl Print, alloc: Global, batch: &LogBatch<'_>) -> Result<(), TrialFault> {
     let slots = ended_slots(alloc, batch)?;
     let slots = slots.as_slice();
     println!(rt; "of six grants the batch may end those of the slots {slots:?}")?;
@@ -112,8 +112,8 @@ fn try_machine(
 {
     let mut machine = Machine::new(alloc, OfLog::new(batch))?;
     match trial {
-        Trial::Whole(placing) => tell_whole(rt, alloc, &mut machine, placing),
-        _ => tell_middle(rt, alloc, &mut machine),
+        Trial::Whole(placing) => print_whole(rt, alloc, &mut machine, placing),
+        _ => print_middle(rt, alloc, &mut machine),
     }
 }
 
@@ -130,10 +130,10 @@ fn try_batch(
     requires all { batch.size ≡ length log.now.statements - batch.first }
 {
     match trial {
-        Trial::Calls => tell_batch(rt, &batch),
-        Trial::Ended => tell_ended(rt, alloc, &batch),
+        Trial::Calls => print_batch(rt, &batch),
+        Trial::Ended => print_ended(rt, alloc, &batch),
         Trial::Finished if batch.first_place() == 0 && batch.size() > 0 => {
-            tell_finished(rt, alloc, log, batch)
+            print_finished(rt, alloc, log, batch)
         }
         other => try_machine(rt, alloc, batch, other),
     }
@@ -152,9 +152,9 @@ fn try_range(
     requires partitions { 0 < partitions }
     requires few { partitions ≤ MOST_PARTITIONS }
     requires within { first ≤ length log.now.statements }
-    requires before { Stands log.now.statements first before.now.chains before.now.book }
+    requires before { IsRunState log.now.statements first before.now.chains before.now.book }
 {
-    let batch = batch_of(alloc, log, before, first..log.len(), partitions)?;
+    let batch = new_batch(alloc, log, before, first..log.len(), partitions)?;
     try_batch(rt, alloc, log, batch, trial)
 }
 

@@ -7,20 +7,20 @@ ghost use Rattle.bohm_core_base.specs.declared.hold.Hold.TheVariants.{Done};
 ghost use Rattle.bohm_core_base.specs.Batch.{reference_words};
 ghost use Rattle.bohm_core_base.specs.Machine.{hold_of};
 ghost use Rattle.bohm_core_base.specs.Serial.{serial_words};
-ghost use Rattle.log_batch.specs.Supplied.{batch_in};
+ghost use Rattle.log_batch.specs.Supplied.{batch_of};
 ghost use Rattle.words.specs.Passes.{IsPassOf};
 ghost use Rattle.words.specs.Views.{Holds, In};
-ghost use Rattle.engine.specs.Stands.{Stands};
+ghost use Rattle.engine.specs.RunState.{IsRunState};
 
-use crate::batches::batch_of;
+use crate::batches::new_batch;
 use bohm_core::{Hold, Machine, done_places_are_serial};
 use bohm_core_base::Event;
-use filling::{Closed, Finished, finish};
+use filling::{CompletedBatch, Finished, finish};
 use log_batch::{LogBatch, LogKey, LogWords, ended_slots};
 use log_machine::OfLog;
 use log_trials_base::{Before, TrialFault, WholeLog, before_place, log_of};
 use std::alloc::{AllocError, Global};
-use words::{Claimed, Holding, Pass, Placed, own_events_tell_what_is_held};
+use words::{BatchData, Claimed, Holding, Pass, own_events_tell_what_is_held};
 
 /// The reader is done by the machine before anything else.
 const READING: [Event; 8] = [
@@ -47,7 +47,7 @@ fn is_done(machine: &Machine<OfLog<'_>>, index: usize) -> bool
 /// The own words of a place that the machine has done: those of the serial run.
 fn serial_own<'a>(machine: &'a Machine<OfLog<'_>>, index: usize) -> &'a [u64]
     requires { hold_of machine.now.state index ≡ Done }
-    ensures { result.now ≡ serial_words (batch_in machine.now.statements) index }
+    ensures { result.now ≡ serial_words (batch_of machine.now.statements) index }
 {
     done_places_are_serial();
     machine.state().own(index)
@@ -63,7 +63,7 @@ fn are_base(references: &[usize]) -> bool
 /// Whether a place that the machine has done refers to none of the batch.
 fn refers_to_none(machine: &Machine<OfLog<'_>>, index: usize) -> bool
     requires { hold_of machine.now.state index ≡ Done }
-    ensures { IsTrue result → (other : ℕ) → ¬ (In (suc other) (reference_words (batch_in machine.now.statements) index)) }
+    ensures { IsTrue result → (other : ℕ) → ¬ (In (suc other) (reference_words (batch_of machine.now.statements) index)) }
 {
     done_places_are_serial();
     are_base(machine.state().references(index))
@@ -81,8 +81,8 @@ fn store_two(machine: &Machine<OfLog<'_>>, words: &LogWords<'_>, holding: &mut H
     requires same { machine.now.statements ≡ words.now.key.batch }
     requires size { words.now.key.batch.size ≡ 2 }
     requires done { hold_of machine.now.state 0 ≡ Done }
-    requires none { (other : ℕ) → ¬ (In (suc other) (reference_words (batch_in words.now.key.batch) 0)) }
-    requires ours { IsPassOf words.now holding.old }
+    requires none { (other : ℕ) → ¬ (In (suc other) (reference_words (batch_of words.now.key.batch) 0)) }
+    requires same_table { IsPassOf words.now holding.old }
     requires held { Holds holding.old.view 0 0 [] }
     ensures { IsPassOf words.now holding.new }
 {
@@ -95,7 +95,7 @@ fn store_two(machine: &Machine<OfLog<'_>>, words: &LogWords<'_>, holding: &mut H
 }
 
 /// Takes the reader by one pass, which stores two words and is dropped, and reports what another finds.
-fn tell_dropped(
+fn print_dropped(
     rt: &impl Print,
     machine: &Machine<OfLog<'_>>,
     words: &LogWords<'_>,
@@ -104,8 +104,8 @@ fn tell_dropped(
     requires same { machine.now.statements ≡ words.now.key.batch }
     requires size { words.now.key.batch.size ≡ 2 }
     requires done { hold_of machine.now.state 0 ≡ Done }
-    requires none { (other : ℕ) → ¬ (In (suc other) (reference_words (batch_in words.now.key.batch) 0)) }
-    requires ours { IsPassOf words.now pass }
+    requires none { (other : ℕ) → ¬ (In (suc other) (reference_words (batch_of words.now.key.batch) 0)) }
+    requires same_table { IsPassOf words.now pass }
 {
     let (first, second) = words.words().split(pass);
     let mut one = Holding::begin(first);
@@ -127,7 +127,7 @@ fn tell_dropped(
 }
 
 /// Reports what each of the two places is when the batch is finished.
-fn tell_finished(rt: &impl Print, done: &Finished<'_>) -> Result<(), TrialFault>
+fn print_finished(rt: &impl Print, done: &Finished<'_>) -> Result<(), TrialFault>
     requires { done.now.size ≡ 2 }
 {
     let (reader, revocation) = (done.own(0), done.own(1));
@@ -137,13 +137,13 @@ fn tell_finished(rt: &impl Print, done: &Finished<'_>) -> Result<(), TrialFault>
 }
 
 /// Reports the claims of the two places when the words are closed, and what each is when the batch is finished after them.
-fn tell_closed(
+fn print_closed(
     rt: &impl Print,
     alloc: Global,
     words: LogWords<'_>,
     pass: Pass,
 ) -> Result<(), TrialFault>
-    requires ours { IsPassOf words pass }
+    requires same_table { IsPassOf words pass }
     requires size { words.key.batch.size ≡ 2 }
 {
     if !pass.knows_placed() {
@@ -153,7 +153,7 @@ fn tell_closed(
     let (reader, revocation) = (closed.claim(0), closed.claim(1));
     println!(rt; "closed, the claims of 3 and 4 are {reader} and {revocation}")?;
     let done = finish(alloc, key, &closed)?;
-    tell_finished(rt, &done)
+    print_finished(rt, &done)
 }
 
 /// The key of a batch.
@@ -166,7 +166,7 @@ fn key_of<'a>(alloc: Global, batch: LogBatch<'a>) -> Result<LogKey<'a>, AllocErr
 }
 
 /// Reports the words of a batch of two places, of which a machine has done the first.
-fn tell_batch_words(
+fn print_batch_words(
     rt: &impl Print,
     alloc: Global,
     machine: &Machine<OfLog<'_>>,
@@ -176,17 +176,17 @@ fn tell_batch_words(
     requires placed { batch.placed ≡ true }
     requires size { batch.size ≡ 2 }
     requires done { hold_of machine.now.state 0 ≡ Done }
-    requires none { (other : ℕ) → ¬ (In (suc other) (reference_words (batch_in machine.now.statements) 0)) }
+    requires none { (other : ℕ) → ¬ (In (suc other) (reference_words (batch_of machine.now.statements) 0)) }
 {
     let key = key_of(alloc, batch)?;
     let (words, pass) = LogWords::new(alloc, key)?;
     let (pass, last) = words.words().split(pass);
-    tell_dropped(rt, machine, &words, pass)?;
-    tell_closed(rt, alloc, words, last)
+    print_dropped(rt, machine, &words, pass)?;
+    print_closed(rt, alloc, words, last)
 }
 
 /// Reports the reader beside a machine that has done it.
-fn tell_beside(
+fn print_beside(
     rt: &impl Print,
     alloc: Global,
     log: &WholeLog,
@@ -194,7 +194,7 @@ fn tell_beside(
     machine: &Machine<OfLog<'_>>,
 ) -> Result<(), TrialFault>
     requires within { 5 ≤ length log.now.statements }
-    requires before { Stands log.now.statements 3 before.now.chains before.now.book }
+    requires before { IsRunState log.now.statements 3 before.now.chains before.now.book }
     requires same { machine.now.statements ≡ record { log = log.now; first = 3; size = 2; partitions = 1; placed = true } }
 {
     if !is_done(machine, 0) {
@@ -203,8 +203,8 @@ fn tell_beside(
     if !refers_to_none(machine, 0) {
         return Ok(println!(rt; "3 refers to a place of the batch")?);
     }
-    let batch = batch_of(alloc, log, before, 3..5, 1)?;
-    tell_batch_words(rt, alloc, machine, batch)
+    let batch = new_batch(alloc, log, before, 3..5, 1)?;
+    print_batch_words(rt, alloc, machine, batch)
 }
 
 /// The machine over the reader and the revocation, which has done the reader.
@@ -214,36 +214,36 @@ fn machine_of<'a>(
     before: &'a Before,
 ) -> Result<Machine<OfLog<'a>>, AllocError>
     requires within { 5 ≤ length log.now.statements }
-    requires before { Stands log.now.statements 3 before.now.chains before.now.book }
+    requires before { IsRunState log.now.statements 3 before.now.chains before.now.book }
     ensures { IfOk result (λ machine. machine.statements
         ≡ record { log = log.now; first = 3; size = 2; partitions = 1; placed = true }) }
 {
-    let batch = batch_of(alloc, log, before, 3..5, 1)?;
+    let batch = new_batch(alloc, log, before, 3..5, 1)?;
     let mut machine = Machine::new(alloc, OfLog::new(batch))?;
     machine.run_events(&READING)?;
     Ok(machine)
 }
 
 /// Reports the reader, with what is before it.
-fn tell_reader(
+fn print_reader(
     rt: &impl Print,
     alloc: Global,
     log: &WholeLog,
     before: &Before,
 ) -> Result<(), TrialFault>
     requires within { 5 ≤ length log.now.statements }
-    requires before { Stands log.now.statements 3 before.now.chains before.now.book }
+    requires before { IsRunState log.now.statements 3 before.now.chains before.now.book }
 {
     let machine = machine_of(alloc, log, before)?;
-    tell_beside(rt, alloc, log, before, &machine)
+    print_beside(rt, alloc, log, before, &machine)
 }
 
 /// Reports the reader, at place 3 of the log of these lines.
-pub fn tell_two_words(rt: &impl Print, alloc: Global, lines: &[&str]) -> Result<(), TrialFault> {
+pub fn print_two_words(rt: &impl Print, alloc: Global, lines: &[&str]) -> Result<(), TrialFault> {
     let log = log_of(alloc, lines)?;
     if log.len() < 5 {
         return Err(TrialFault::Short);
     }
     let before = before_place(alloc, &log, 3)?;
-    tell_reader(rt, alloc, &log, &before)
+    print_reader(rt, alloc, &log, &before)
 }

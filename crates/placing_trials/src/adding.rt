@@ -11,7 +11,7 @@ use filling::{RangeKey, outcome};
 use filling_base::Batch;
 use model_base::{DeedDone, Outcome, Place};
 use std::alloc::Global;
-use words::{Pass, Placed};
+use words::{BatchData, Pass};
 
 /// A log that creates a table, puts 0 into this many of its rows, and then adds 1 to each in turn, at this many places.
 pub fn adding_log(alloc: Global, places: usize, rows: usize) -> Result<WholeLog, TrialFault> {

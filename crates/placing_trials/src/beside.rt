@@ -90,7 +90,7 @@ fn run_adding<R: Threads + Wait + Sync>(
 }
 
 /// Reports the outcome of a chain, after what is before it.
-fn tell_links<R: Threads + Wait + Print + Sync>(
+fn print_links<R: Threads + Wait + Print + Sync>(
     rt: &R,
     alloc: Global,
     log: &WholeLog,
@@ -113,23 +113,23 @@ fn tell_links<R: Threads + Wait + Print + Sync>(
 }
 
 /// Runs what is before a chain, and says the outcome of the chain.
-fn tell_chain_of<R: Threads + Wait + Print + Sync>(
+fn print_chain_of<R: Threads + Wait + Print + Sync>(
     rt: &R,
     alloc: Global,
     log: &WholeLog,
 ) -> Result<(), TrialFault> {
     let (before, first) = before_adding(alloc, log, 1)?;
-    tell_links(rt, alloc, log, &before, first)
+    print_links(rt, alloc, log, &before, first)
 }
 
 /// Prints the outcome of a chain of places, each of which adds 1 to what the one before it wrote: each of 64 threads has a placer
 /// and a pass.
-pub fn tell_chain<R: Threads + Wait + Print + Sync>(
+pub fn print_chain<R: Threads + Wait + Print + Sync>(
     rt: &R,
     alloc: Global,
 ) -> Result<(), TrialFault> {
     let log = adding_log(alloc, PLACES, 1)?;
-    tell_chain_of(rt, alloc, &log)
+    print_chain_of(rt, alloc, &log)
 }
 
 /// Runs the places that add to rows this many times, each time as a new batch. Returns in how many rounds all came out right.
@@ -154,7 +154,7 @@ fn count_rounds<R: Threads + Wait + Sync>(
 }
 
 /// Reports of the rounds, after what is before them.
-fn tell_right<R: Threads + Wait + Print + Sync>(
+fn print_right<R: Threads + Wait + Print + Sync>(
     rt: &R,
     alloc: Global,
     log: &WholeLog,
@@ -172,20 +172,20 @@ fn tell_right<R: Threads + Wait + Print + Sync>(
 }
 
 /// Runs what is before the rounds, and says of them.
-fn tell_rounds_of<R: Threads + Wait + Print + Sync>(
+fn print_rounds_of<R: Threads + Wait + Print + Sync>(
     rt: &R,
     alloc: Global,
     log: &WholeLog,
 ) -> Result<(), TrialFault> {
     let (before, first) = before_adding(alloc, log, ROWS)?;
-    tell_right(rt, alloc, log, &before, first)
+    print_right(rt, alloc, log, &before, first)
 }
 
 /// Prints the outcome of many rounds over some rows: each of 32 threads has a placer or a pass.
-pub fn tell_rounds<R: Threads + Wait + Print + Sync>(
+pub fn print_rounds<R: Threads + Wait + Print + Sync>(
     rt: &R,
     alloc: Global,
 ) -> Result<(), TrialFault> {
     let log = adding_log(alloc, PLACES, ROWS)?;
-    tell_rounds_of(rt, alloc, &log)
+    print_rounds_of(rt, alloc, &log)
 }

@@ -17,7 +17,7 @@ use model_base::Place;
 use std::alloc::Global;
 use std::sync::Wait;
 use std::thread::Threads;
-use words::{Pass, Placed};
+use words::{BatchData, Pass};
 
 /// How many places there are, and over how many rows.
 const PLACES: usize = 256;
@@ -104,7 +104,7 @@ fn run_left<R: Threads + Wait + Sync>(
 }
 
 /// Reports the outcome of a batch that is left midway, after what is before it.
-fn tell_left<R: Threads + Wait + Print + Sync>(
+fn print_left<R: Threads + Wait + Print + Sync>(
     rt: &R,
     alloc: Global,
     log: &WholeLog,
@@ -135,20 +135,20 @@ fn tell_left<R: Threads + Wait + Print + Sync>(
 }
 
 /// Runs what is before the places, and says the outcome of them.
-fn tell_dropped_of<R: Threads + Wait + Print + Sync>(
+fn print_dropped_of<R: Threads + Wait + Print + Sync>(
     rt: &R,
     alloc: Global,
     log: &WholeLog,
 ) -> Result<(), TrialFault> {
     let (before, first) = before_adding(alloc, log, ROWS)?;
-    tell_left(rt, alloc, log, &before, first)
+    print_left(rt, alloc, log, &before, first)
 }
 
 /// Tells of placers and passes that are dropped midway.
-pub fn tell_dropped<R: Threads + Wait + Print + Sync>(
+pub fn print_dropped<R: Threads + Wait + Print + Sync>(
     rt: &R,
     alloc: Global,
 ) -> Result<(), TrialFault> {
     let log = adding_log(alloc, PLACES, ROWS)?;
-    tell_dropped_of(rt, alloc, &log)
+    print_dropped_of(rt, alloc, &log)
 }

@@ -12,9 +12,9 @@ use words::{Claimed, Holding, Pass};
 
 /// Whether every partition has placed a place: one load of each front.
 fn is_past<K: Fills>(batch: &Batch<K>, holding: &mut Holding, index: usize) -> bool
-    requires ours { IsPassOf batch.now holding.old }
+    requires same_table { IsPassOf batch.now holding.old }
     requires within { index < (K.batch batch.now.key).size }
-    ensures ours { IsPassOf batch.now holding.new }
+    ensures same_table { IsPassOf batch.now holding.new }
     ensures past { IsTrue result → KnowsPast (K.batch batch.now.key) holding.new.view index }
 {
     for partition in 0..batch.key().partitions() {
@@ -27,7 +27,7 @@ fn is_past<K: Fills>(batch: &Batch<K>, holding: &mut Holding, index: usize) -> b
 
 /// Claims a place, if every partition has placed it. Returns whether the pass holds it now, or nothing if it isn't placed.
 fn try_hold<K: Fills>(batch: &Batch<K>, holding: &mut Holding, index: usize) -> Option<bool>
-    requires ours { IsPassOf batch.now holding.old }
+    requires same_table { IsPassOf batch.now holding.old }
     requires within { index < (K.batch batch.now.key).size }
     ensures { IsPassOf batch.now holding.new }
 {

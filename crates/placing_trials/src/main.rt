@@ -20,27 +20,27 @@ mod placers;
 mod row;
 mod stopped;
 
-use beside::{tell_chain, tell_rounds};
-use dropped::tell_dropped;
+use beside::{print_chain, print_rounds};
+use dropped::print_dropped;
 use fault::TrialFault;
-use row::tell_opened;
+use row::print_opened;
 use std::alloc::Global;
 use std::process::ExitCode;
 use std::sync::Wait;
 use std::thread::Threads;
-use stopped::tell_stopped;
+use stopped::print_stopped;
 
 /// Makes the trials one after another.
-fn tell_all<R: Threads + Wait + Print + Sync>(rt: &R, alloc: Global) -> Result<(), TrialFault> {
-    tell_opened(rt, alloc)?;
-    tell_stopped(rt, alloc)?;
-    tell_dropped(rt, alloc)?;
-    tell_chain(rt, alloc)?;
-    tell_rounds(rt, alloc)
+fn print_all<R: Threads + Wait + Print + Sync>(rt: &R, alloc: Global) -> Result<(), TrialFault> {
+    print_opened(rt, alloc)?;
+    print_stopped(rt, alloc)?;
+    print_dropped(rt, alloc)?;
+    print_chain(rt, alloc)?;
+    print_rounds(rt, alloc)
 }
 
 fn main(rt: HostRuntime) -> ExitCode {
-    let Err(fault) = tell_all(&rt, rt.alloc()) else {
+    let Err(fault) = print_all(&rt, rt.alloc()) else {
         return ExitCode::SUCCESS;
     };
     let _ = eprintln!(rt; "placing_trials: {fault}");

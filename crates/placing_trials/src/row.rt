@@ -25,7 +25,7 @@ const LINES: [&str; 5] = [
 ];
 
 /// Asks for a place, and says the outcome of it.
-pub fn tell_run(
+pub fn print_run(
     rt: &impl Print,
     batch: &Batch<RangeKey<'_>>,
     pass: Pass,
@@ -42,7 +42,7 @@ pub fn tell_run(
 }
 
 /// Prints whether all is placed.
-pub fn tell_placed(
+pub fn print_placed(
     rt: &impl Print,
     batch: &Batch<RangeKey<'_>>,
     pass: Pass,
@@ -56,7 +56,7 @@ pub fn tell_placed(
 }
 
 /// Reports this many steps of a placer.
-pub fn tell_steps(
+pub fn print_steps(
     rt: &impl Print,
     batch: &Batch<RangeKey<'_>>,
     placer: &mut Placer,
@@ -73,7 +73,7 @@ pub fn tell_steps(
 }
 
 /// Prints the row of calls: one partition places both places before the other places any.
-fn tell_row(
+fn print_row(
     rt: &impl Print,
     batch: &Batch<RangeKey<'_>>,
     pass: Pass,
@@ -86,22 +86,22 @@ fn tell_row(
     requires first { IsPlacerIn batch.now first.old }
     requires second { IsPlacerIn batch.now second.old }
 {
-    let pass = tell_run(rt, batch, pass, 3)?;
-    tell_steps(rt, batch, first, 3)?;
-    let pass = tell_run(rt, batch, pass, 3)?;
-    tell_steps(rt, batch, second, 1)?;
-    let pass = tell_run(rt, batch, pass, 3)?;
-    let pass = tell_run(rt, batch, pass, 4)?;
-    let pass = tell_placed(rt, batch, pass)?;
-    tell_steps(rt, batch, second, 1)?;
-    let pass = tell_placed(rt, batch, pass)?;
-    let _pass = tell_run(rt, batch, pass, 4)?;
+    let pass = print_run(rt, batch, pass, 3)?;
+    print_steps(rt, batch, first, 3)?;
+    let pass = print_run(rt, batch, pass, 3)?;
+    print_steps(rt, batch, second, 1)?;
+    let pass = print_run(rt, batch, pass, 3)?;
+    let pass = print_run(rt, batch, pass, 4)?;
+    let pass = print_placed(rt, batch, pass)?;
+    print_steps(rt, batch, second, 1)?;
+    let pass = print_placed(rt, batch, pass)?;
+    let _pass = print_run(rt, batch, pass, 4)?;
     Ok(())
 }
 
 /// Prints the row of calls, with the two placers of the batch.
 #[tactic(auto, using(crate::proofs::Opened::last_in, crate::proofs::Opened::rest_in))]
-fn tell_placers(
+fn print_placers(
     rt: &impl Print,
     batch: &Batch<RangeKey<'_>>,
     pass: Pass,
@@ -118,11 +118,11 @@ fn tell_placers(
     let Some(mut first) = placers.pop() else {
         return Err(TrialFault::Short);
     };
-    tell_row(rt, batch, pass, &mut first, &mut second)
+    print_row(rt, batch, pass, &mut first, &mut second)
 }
 
 /// Reports the row of calls on the last two places of the log, with what is before them.
-fn tell_last(
+fn print_last(
     rt: &impl Print,
     alloc: Global,
     log: &WholeLog,
@@ -132,22 +132,22 @@ fn tell_last(
     requires before { StandsBefore before.now log.now.statements 3 }
 {
     let (batch, pass, placers) = opened(alloc, log, before, 3..5, 2)?;
-    tell_placers(rt, &batch, pass, placers)
+    print_placers(rt, &batch, pass, placers)
 }
 
 /// Runs the first three places, and says the row of calls on the other two.
-fn tell_log(rt: &impl Print, alloc: Global, log: &WholeLog) -> Result<(), TrialFault> {
+fn print_log(rt: &impl Print, alloc: Global, log: &WholeLog) -> Result<(), TrialFault> {
     if log.len() < 5 {
         return Err(TrialFault::Short);
     }
     let mut before = nothing(alloc, log);
     run_first(alloc, log, &mut before, 3)?;
-    tell_last(rt, alloc, log, &before)
+    print_last(rt, alloc, log, &before)
 }
 
 /// Prints the row of calls on the reader and the revocation, which are asked for while they are placed.
-pub fn tell_opened(rt: &impl Print, alloc: Global) -> Result<(), TrialFault> {
+pub fn print_opened(rt: &impl Print, alloc: Global) -> Result<(), TrialFault> {
     println!(rt; "a reader and a revocation, asked for while they are placed")?;
     let log = log_of(alloc, &LINES)?;
-    tell_log(rt, alloc, &log)
+    print_log(rt, alloc, &log)
 }

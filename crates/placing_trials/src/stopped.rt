@@ -9,7 +9,7 @@ use crate::fault::TrialFault;
 use crate::logs::{WholeLog, log_of};
 use crate::opening::opened;
 use crate::placers::place_each;
-use crate::row::{tell_placed, tell_run, tell_steps};
+use crate::row::{print_placed, print_run, print_steps};
 use filling::{Placer, RangeKey};
 use filling_base::Batch;
 use std::alloc::Global;
@@ -28,28 +28,28 @@ const LINES: [&str; 5] = [
 const STEPS: usize = 3;
 
 /// Prints the outcome of each place.
-fn tell_each(rt: &impl Print, batch: &Batch<RangeKey<'_>>, pass: Pass) -> Result<(), TrialFault>
-    requires ours { IsPassOf batch.now pass }
+fn print_each(rt: &impl Print, batch: &Batch<RangeKey<'_>>, pass: Pass) -> Result<(), TrialFault>
+    requires same_table { IsPassOf batch.now pass }
     requires first { batch.now.key.batch.first ≡ 0 }
     requires size { batch.now.key.batch.size ≡ 5 }
 {
     let mut last = pass;
     for place in 0..5 {
-        last = tell_run(rt, batch, last, place)?;
+        last = print_run(rt, batch, last, place)?;
     }
-    let _pass = tell_placed(rt, batch, last)?;
+    let _pass = print_placed(rt, batch, last)?;
     Ok(())
 }
 
 /// Prints the outcome of the places, of which one partition places some, and the others all.
 #[tactic(auto, using(crate::proofs::Opened::last_in, crate::proofs::Opened::rest_in))]
-fn tell_some(
+fn print_some(
     rt: &impl Print,
     batch: &Batch<RangeKey<'_>>,
     pass: Pass,
     mut placers: Vec<Placer>,
 ) -> Result<(), TrialFault>
-    requires ours { IsPassOf batch.now pass }
+    requires same_table { IsPassOf batch.now pass }
     requires first { batch.now.key.batch.first ≡ 0 }
     requires size { batch.now.key.batch.size ≡ 5 }
     requires placers { All (IsPlacerIn batch.now) placers.items }
@@ -57,25 +57,25 @@ fn tell_some(
     let Some(mut dropped) = placers.pop() else {
         return Err(TrialFault::Short);
     };
-    tell_steps(rt, batch, &mut dropped, STEPS)?;
+    print_steps(rt, batch, &mut dropped, STEPS)?;
     drop(dropped);
     place_each(batch, placers);
-    tell_each(rt, batch, pass)
+    print_each(rt, batch, pass)
 }
 
 /// Tells of a log of five places.
-fn tell_log(rt: &impl Print, alloc: Global, log: &WholeLog) -> Result<(), TrialFault> {
+fn print_log(rt: &impl Print, alloc: Global, log: &WholeLog) -> Result<(), TrialFault> {
     if log.len() != 5 {
         return Err(TrialFault::Short);
     }
     let before = nothing(alloc, log);
     let (batch, pass, placers) = opened(alloc, log, &before, 0..5, 2)?;
-    tell_some(rt, &batch, pass, placers)
+    print_some(rt, &batch, pass, placers)
 }
 
 /// Tells of a placer that is dropped for good.
-pub fn tell_stopped(rt: &impl Print, alloc: Global) -> Result<(), TrialFault> {
+pub fn print_stopped(rt: &impl Print, alloc: Global) -> Result<(), TrialFault> {
     println!(rt; "a placer is dropped after {STEPS} places, and the other places all")?;
     let log = log_of(alloc, &LINES)?;
-    tell_log(rt, alloc, &log)
+    print_log(rt, alloc, &log)
 }

@@ -9,7 +9,7 @@ use Rattle.model_base.specs.Outcomes.{owners}
 use Rattle.chains.specs.Store.{IsRight, Store}
 use Rattle.grants_base.specs.Book.{Entries, ShowsBook, owners_of, table_of_deed}
 use Rattle.grants_base.specs.declared.entries.Creation.{Creation}
-use Rattle.engine.specs.Stands.{Stands}
+use Rattle.engine.specs.RunState.{IsRunState}
 
 -- an empty book shows that no deed was made, whatever tables are created later
 pub empty_book : (book : Entries) (owners : List ℕ) → book.tables ≡ [] → book.records ≡ [] → ShowsBook book owners []
@@ -23,11 +23,11 @@ empty_book book owners no_table no_record = record {
 
 -- no version of a row and no deed are before any log
 pub empty_stands : (log : List Statement) (store : Store) (book : Entries) → store.end ≡ 0 → IsRight log store → book.tables ≡ [] → book.records ≡ []
-    → Stands log 0 store book
+    → IsRunState log 0 store book
 empty_stands log store book ends right tables records =
     let empty : Entries = record { tables = []; records = [] } in
     let book_is : book ≡ empty = ap (λ (ts : List Creation). record { tables = ts; records = book.records }) tables ∙ ap (λ (rs : List Record). record { tables = []; records = rs }) records in
-    let P : Entries → Type 0 = λ b. Stands log 0 store b in
+    let P : Entries → Type 0 = λ b. IsRunState log 0 store b in
     subst P (sym book_is) (record {
       ends = ends;
       right = right;

@@ -4,7 +4,7 @@ use Rattle.model_base.specs.declared.statement.Statement.{Statement}
 use Rattle.model_base.specs.Outcomes.{deeds_before, owners}
 use Rattle.chains.specs.Store.{IsRight}
 use Rattle.grants_base.specs.Book.{ShowsBook}
-use Rattle.log_batch.specs.Supplied.{Ranged}
+use Rattle.log_batch.specs.Supplied.{LogRange}
 use Rattle.sequencer.specs.Log.{Accepted}
 use Rattle.range_trials.specs.declared.batches.Before.{Before}
 
@@ -15,5 +15,5 @@ pub record IsNothing (before : Before) (log : List Statement) : Type 0 where
   pub book : ShowsBook before.book (owners log) (deeds_before log 0)
 
 -- all places of the log, which this many partitions are to place
-abbrev pub whole : Accepted → ℕ → Ranged
+abbrev pub whole : Accepted → ℕ → LogRange
 whole log partitions = record { log = log; first = 0; size = length log.statements; partitions = partitions; placed = false }

@@ -48,7 +48,7 @@ fn count_told(batch: &Batch<RangeKey<'_>>, pass: Pass) -> (Pass, usize)
 }
 
 /// Prints the outcome of all places, asked for once more.
-fn tell_again(rt: &impl Print, batch: &Batch<RangeKey<'_>>, pass: Pass) -> Result<(), TrialFault>
+fn print_again(rt: &impl Print, batch: &Batch<RangeKey<'_>>, pass: Pass) -> Result<(), TrialFault>
     requires { IsPassOf batch.now pass }
 {
     let (pass, counts) = ask_round(batch, pass, 0);
@@ -60,7 +60,7 @@ fn tell_again(rt: &impl Print, batch: &Batch<RangeKey<'_>>, pass: Pass) -> Resul
 }
 
 /// Prints the outcome of the last place, asked for before any other.
-fn tell_last(rt: &impl Print, batch: &Batch<RangeKey<'_>>, pass: Pass) -> Result<(), TrialFault>
+fn print_last(rt: &impl Print, batch: &Batch<RangeKey<'_>>, pass: Pass) -> Result<(), TrialFault>
     requires { IsPassOf batch.now pass }
 {
     let (pass, before) = count_told(batch, pass);
@@ -71,7 +71,7 @@ fn tell_last(rt: &impl Print, batch: &Batch<RangeKey<'_>>, pass: Pass) -> Result
     println!(rt;
         "of {PLACES} places in a chain {before} are done; asked for the last: {tried:?}, {found:?}, and {bodies} bodies were run; then {after} are done"
     )?;
-    tell_again(rt, batch, pass)
+    print_again(rt, batch, pass)
 }
 
 /// A log that is asked for from its end.
@@ -87,12 +87,12 @@ impl Trial for FromItsEnd {
         pass: Pass,
         _wanted: &[String],
     ) -> Result<(), TrialFault> {
-        tell_last(rt, batch, pass)
+        print_last(rt, batch, pass)
     }
 }
 
 /// Tells of a long chain that is asked for from its end.
-pub fn tell_chain<R: Threads + Print + Sync>(rt: &R, alloc: Global) -> Result<(), TrialFault> {
+pub fn print_chain<R: Threads + Print + Sync>(rt: &R, alloc: Global) -> Result<(), TrialFault> {
     let mut log = WholeLog::new(alloc);
     push_chain(alloc, &mut log)?;
     try_words(rt, alloc, &log, 1, &[], &mut FromItsEnd)

@@ -9,7 +9,7 @@ use crate::batches::{Before, finished, nothing, words_of};
 use crate::drawn_logs::push_drawn;
 use crate::fault::TrialFault;
 use crate::logs::WholeLog;
-use filling::{Closed, Finished, take};
+use filling::{CompletedBatch, Finished, take};
 use filling_base::{Batch, Fills};
 use std::alloc::Global;
 use trials_base::Generator;
@@ -183,7 +183,7 @@ fn compare_drawn(
 }
 
 /// Prints the outcome of drawn logs of which a pass held some places when it was dropped.
-pub fn tell_dropped(rt: &impl Print, alloc: Global) -> Result<(), TrialFault> {
+pub fn print_dropped(rt: &impl Print, alloc: Global) -> Result<(), TrialFault> {
     let mut generator = Generator::new(2015);
     let mut counts = Counts::default();
     for number in 0..LOGS {

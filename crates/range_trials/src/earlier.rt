@@ -1,7 +1,7 @@
 //! What is before a place of a log once the places before it are finished.
 
 ghost use Rattle.std.specs.Prelude.{◌≡◌, ◌≤◌, IfOk, OnOk, length};
-ghost use Rattle.engine.specs.Stands.{Stands};
+ghost use Rattle.engine.specs.RunState.{IsRunState};
 
 use crate::fault::TrialFault;
 use crate::known::are_known;
@@ -21,7 +21,7 @@ pub struct Earlier {
 
 /// Nothing is before a log.
 fn none_earlier(alloc: Global, log: &WholeLog) -> Earlier
-    ensures { Stands log.now.statements 0 result.chains result.book }
+    ensures { IsRunState log.now.statements 0 result.chains result.book }
 {
     let _log = log;
     Earlier {
@@ -37,9 +37,9 @@ fn run_first(
     earlier: &mut Earlier,
     place: Place,
 ) -> Result<(), TrialFault>
-    requires before { Stands log.now.statements 0 earlier.old.chains earlier.old.book }
+    requires before { IsRunState log.now.statements 0 earlier.old.chains earlier.old.book }
     requires within { place ≤ length log.now.statements }
-    ensures { OnOk result (Stands log.now.statements place earlier.new.chains earlier.new.book) }
+    ensures { OnOk result (IsRunState log.now.statements place earlier.new.chains earlier.new.book) }
 {
     if !are_known(log.statements()) {
         return Err(TrialFault::Line);
@@ -60,7 +60,7 @@ fn run_first(
 /// What is before a place of a log: the places before it are run in order.
 pub fn earlier_than(alloc: Global, log: &WholeLog, place: Place) -> Result<Earlier, TrialFault>
     requires within { place ≤ length log.now.statements }
-    ensures { IfOk result (λ earlier. Stands log.now.statements place earlier.chains earlier.book) }
+    ensures { IfOk result (λ earlier. IsRunState log.now.statements place earlier.chains earlier.book) }
 {
     let mut earlier = none_earlier(alloc, log);
     match run_first(alloc, log, &mut earlier, place) {

@@ -3,7 +3,7 @@
 ghost use Rattle.words.specs.Passes.{IsPassOf};
 
 use crate::fault::TrialFault;
-use crate::telling::{tell_asked, tell_outcome};
+use crate::telling::{print_asked, print_outcome};
 use crate::trial::{Trial, try_lines};
 use filling::RangeKey;
 use filling_base::Batch;
@@ -32,7 +32,7 @@ const LINES: [&str; 13] = [
 const ORDER: [usize; 8] = [9, 12, 11, 10, 8, 7, 6, 0];
 
 /// Prints the outcomes of all places that are done.
-fn tell_outcomes(
+fn print_outcomes(
     rt: &impl Print,
     alloc: Global,
     batch: &Batch<RangeKey<'_>>,
@@ -43,13 +43,13 @@ fn tell_outcomes(
 {
     let mut last = pass;
     for (index, wanted) in wanted.iter().enumerate() {
-        last = tell_outcome(rt, alloc, batch, last, index, wanted.as_str())?;
+        last = print_outcome(rt, alloc, batch, last, index, wanted.as_str())?;
     }
     Ok(())
 }
 
 /// Asks for the places in such an order that the later revocation comes first, and says the outcomes of all.
-fn tell_order(
+fn print_order(
     rt: &impl Print,
     alloc: Global,
     batch: &Batch<RangeKey<'_>>,
@@ -60,9 +60,9 @@ fn tell_order(
 {
     let mut last = pass;
     for index in ORDER {
-        last = tell_asked(rt, batch, last, index)?;
+        last = print_asked(rt, batch, last, index)?;
     }
-    tell_outcomes(rt, alloc, batch, last, wanted)
+    print_outcomes(rt, alloc, batch, last, wanted)
 }
 
 /// A revocation that is run before earlier readers.
@@ -78,12 +78,12 @@ impl Trial for EarlyRevocation {
         pass: Pass,
         wanted: &[String],
     ) -> Result<(), TrialFault> {
-        tell_order(rt, alloc, batch, pass, wanted)
+        print_order(rt, alloc, batch, pass, wanted)
     }
 }
 
 /// Tells of a revocation that is run before earlier readers.
-pub fn tell_early<R: Threads + Print + Sync>(rt: &R, alloc: Global) -> Result<(), TrialFault> {
+pub fn print_early<R: Threads + Print + Sync>(rt: &R, alloc: Global) -> Result<(), TrialFault> {
     println!(rt; "a revocation first, and then who reads behind it and before it")?;
     try_lines(rt, alloc, &LINES, 2, &mut EarlyRevocation)
 }

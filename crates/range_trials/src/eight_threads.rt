@@ -105,7 +105,7 @@ impl Trial for Found {
 }
 
 /// Reports what the places of the drawn logs resulted in.
-fn tell_kinds(rt: &impl Print, kinds: Kinds) -> Result<(), TrialFault> {
+fn print_kinds(rt: &impl Print, kinds: Kinds) -> Result<(), TrialFault> {
     let Kinds {
         created,
         done,
@@ -152,7 +152,7 @@ fn run_drawn<R: Threads + Print + Sync>(
 }
 
 /// Prints how the drawn logs come out; how often a place was found held, on standard error, since that differs from run to run.
-pub fn tell_drawn<R: Threads + Print + Eprint + Sync>(
+pub fn print_drawn<R: Threads + Print + Eprint + Sync>(
     rt: &R,
     alloc: Global,
 ) -> Result<(), TrialFault> {
@@ -167,5 +167,5 @@ pub fn tell_drawn<R: Threads + Print + Eprint + Sync>(
         "{LOGS} drawn logs, each run by eight threads in orders of their own: of {places} places {same} have the outcomes of the serial run"
     )?;
     eprintln!(rt; "a place was found held {busy} times")?;
-    tell_kinds(rt, kinds)
+    print_kinds(rt, kinds)
 }

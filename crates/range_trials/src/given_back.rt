@@ -5,13 +5,13 @@ ghost use Rattle.words.specs.Passes.{IsPassOf};
 ghost use Rattle.words.specs.Views.{Holds};
 
 use crate::fault::TrialFault;
-use crate::telling::{tell_asked, tell_outcome};
+use crate::telling::{print_asked, print_outcome};
 use crate::trial::{Trial, try_lines};
 use filling::RangeKey;
 use filling_base::Batch;
 use std::alloc::Global;
 use std::thread::Threads;
-use words::{Claimed, Holding, Pass, Placed, Seen};
+use words::{BatchData, Claimed, Holding, Pass, Seen};
 
 /// A row, a place that changes it, and one that reads it.
 const LINES: [&str; 4] = [
@@ -28,20 +28,20 @@ const HELD: usize = 2;
 const LAST: usize = 3;
 
 /// Prints the outcome of both places while one is held, and of the last once the other was given back.
-fn tell_holding(
+fn print_holding(
     rt: &impl Print,
     batch: &Batch<RangeKey<'_>>,
     mut holding: Holding,
     asker: Pass,
 ) -> Result<Pass, TrialFault>
-    requires ours { IsPassOf batch.now holding }
+    requires same_table { IsPassOf batch.now holding }
     requires asker { IsPassOf batch.now asker }
     requires held { Holds holding.view 2 0 [] }
     requires within { 3 < batch.now.key.batch.size }
     ensures { IfOk result (λ asker. IsPassOf batch.now asker) }
 {
-    let asker = tell_asked(rt, batch, asker, LAST)?;
-    let asker = tell_asked(rt, batch, asker, HELD)?;
+    let asker = print_asked(rt, batch, asker, LAST)?;
+    let asker = print_asked(rt, batch, asker, HELD)?;
     match batch.words().look(&mut holding, LAST) {
         Seen::Free => {
             batch.words().give_back(&mut holding, HELD);
@@ -49,11 +49,11 @@ fn tell_holding(
         }
         Seen::Held | Seen::Done => println!(rt; "  who holds {HELD} finds {LAST} taken")?,
     }
-    tell_asked(rt, batch, asker, LAST)
+    print_asked(rt, batch, asker, LAST)
 }
 
 /// Takes a place by one pass, and says what another finds.
-fn tell_calls(
+fn print_calls(
     rt: &impl Print,
     batch: &Batch<RangeKey<'_>>,
     holder: Pass,
@@ -69,13 +69,13 @@ fn tell_calls(
         return Ok(asker);
     }
     match batch.words().claim(&mut holding, HELD) {
-        Claimed::Won => tell_holding(rt, batch, holding, asker),
+        Claimed::Won => print_holding(rt, batch, holding, asker),
         Claimed::Held | Claimed::Done => Err(TrialFault::Taken),
     }
 }
 
 /// Runs the places before both, and goes on by two passes; a third says their outcomes.
-fn tell_parts(
+fn print_parts(
     rt: &impl Print,
     alloc: Global,
     batch: &Batch<RangeKey<'_>>,
@@ -87,13 +87,13 @@ fn tell_parts(
     if batch.key().places() <= LAST {
         return Err(TrialFault::Short);
     }
-    let pass = tell_asked(rt, batch, pass, 0)?;
-    let pass = tell_asked(rt, batch, pass, 1)?;
+    let pass = print_asked(rt, batch, pass, 0)?;
+    let pass = print_asked(rt, batch, pass, 1)?;
     let (pass, holder) = batch.split(pass);
     let (mut last, asker) = batch.split(pass);
-    let _asker = tell_calls(rt, batch, holder, asker)?;
+    let _asker = print_calls(rt, batch, holder, asker)?;
     for (index, wanted) in wanted.iter().enumerate() {
-        last = tell_outcome(rt, alloc, batch, last, index, wanted.as_str())?;
+        last = print_outcome(rt, alloc, batch, last, index, wanted.as_str())?;
     }
     Ok(())
 }
@@ -111,12 +111,15 @@ impl Trial for GivenBack {
         pass: Pass,
         wanted: &[String],
     ) -> Result<(), TrialFault> {
-        tell_parts(rt, alloc, batch, pass, wanted)
+        print_parts(rt, alloc, batch, pass, wanted)
     }
 }
 
 /// Tells of a place that is given back, and then run by the pass that found it held.
-pub fn tell_given_back<R: Threads + Print + Sync>(rt: &R, alloc: Global) -> Result<(), TrialFault> {
+pub fn print_given_back<R: Threads + Print + Sync>(
+    rt: &R,
+    alloc: Global,
+) -> Result<(), TrialFault> {
     println!(rt; "a place is found held, given back, and run by who found it held")?;
     try_lines(rt, alloc, &LINES, 1, &mut GivenBack)
 }

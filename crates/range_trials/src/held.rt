@@ -4,13 +4,13 @@ ghost use Rattle.std.specs.Prelude.{◌≡◌, ◌<◌, IfOk};
 ghost use Rattle.words.specs.Passes.{IsPassOf};
 
 use crate::fault::TrialFault;
-use crate::telling::tell_asked;
+use crate::telling::print_asked;
 use crate::trial::{Trial, try_lines};
 use filling::RangeKey;
 use filling_base::Batch;
 use std::alloc::Global;
 use std::thread::Threads;
-use words::{Claimed, Holding, Pass, Placed};
+use words::{BatchData, Claimed, Holding, Pass};
 
 /// A row that each place after it doubles.
 const LINES: [&str; 5] = [
@@ -28,13 +28,13 @@ const HELD: usize = 2;
 const LAST: usize = 4;
 
 /// Prints what a pass finds when it claims a place. What it won it gives back.
-fn tell_claim(
+fn print_claim(
     rt: &impl Print,
     batch: &Batch<RangeKey<'_>>,
     holding: &mut Holding,
     index: usize,
 ) -> Result<(), TrialFault>
-    requires ours { IsPassOf batch.now holding.old }
+    requires same_table { IsPassOf batch.now holding.old }
     requires within { index < batch.now.key.batch.size }
     ensures { IsPassOf batch.now holding.new }
 {
@@ -53,18 +53,18 @@ fn tell_claim(
 }
 
 /// Prints what a pass that holds none finds when it claims each place in turn.
-fn tell_claims(rt: &impl Print, batch: &Batch<RangeKey<'_>>, pass: Pass) -> Result<(), TrialFault>
+fn print_claims(rt: &impl Print, batch: &Batch<RangeKey<'_>>, pass: Pass) -> Result<(), TrialFault>
     requires { IsPassOf batch.now pass }
 {
     let mut holding = Holding::begin(pass);
     for index in 0..batch.key().places() {
-        tell_claim(rt, batch, &mut holding, index)?;
+        print_claim(rt, batch, &mut holding, index)?;
     }
     Ok(())
 }
 
 /// Prints the outcome of the last place while another is held, and what a further pass finds.
-fn tell_waiting(
+fn print_waiting(
     rt: &impl Print,
     batch: &Batch<RangeKey<'_>>,
     asker: Pass,
@@ -75,13 +75,13 @@ fn tell_waiting(
     ensures { IfOk result (λ asker. IsPassOf batch.now asker) }
 {
     println!(rt; "a pass holds {HELD}")?;
-    let asker = tell_asked(rt, batch, asker, LAST)?;
-    tell_claims(rt, batch, other)?;
+    let asker = print_asked(rt, batch, asker, LAST)?;
+    print_claims(rt, batch, other)?;
     Ok(asker)
 }
 
 /// Prints the outcome of a place that was given back, and of the last.
-fn tell_given_back(
+fn print_given_back(
     rt: &impl Print,
     batch: &Batch<RangeKey<'_>>,
     asker: Pass,
@@ -91,13 +91,13 @@ fn tell_given_back(
     requires finisher { IsPassOf batch.now finisher }
 {
     println!(rt; "it gives {HELD} back, and another runs it")?;
-    let _finisher = tell_asked(rt, batch, finisher, HELD)?;
-    let _asker = tell_asked(rt, batch, asker, LAST)?;
+    let _finisher = print_asked(rt, batch, finisher, HELD)?;
+    let _asker = print_asked(rt, batch, asker, LAST)?;
     Ok(())
 }
 
 /// A pass takes a place. Tells the outcome of the last place meanwhile, and once the other was given back and run.
-fn tell_calls(
+fn print_calls(
     rt: &impl Print,
     batch: &Batch<RangeKey<'_>>,
     holder: Pass,
@@ -117,16 +117,16 @@ fn tell_calls(
     }
     match batch.words().claim(&mut holding, HELD) {
         Claimed::Won => {
-            let asker = tell_waiting(rt, batch, asker, other)?;
+            let asker = print_waiting(rt, batch, asker, other)?;
             batch.words().give_back(&mut holding, HELD);
-            tell_given_back(rt, batch, asker, finisher)
+            print_given_back(rt, batch, asker, finisher)
         }
         Claimed::Held | Claimed::Done => Err(TrialFault::Taken),
     }
 }
 
 /// Cuts a pass in four, for the trial.
-fn tell_parts(rt: &impl Print, batch: &Batch<RangeKey<'_>>, pass: Pass) -> Result<(), TrialFault>
+fn print_parts(rt: &impl Print, batch: &Batch<RangeKey<'_>>, pass: Pass) -> Result<(), TrialFault>
     requires { IsPassOf batch.now pass }
 {
     if batch.key().places() <= HELD {
@@ -135,7 +135,7 @@ fn tell_parts(rt: &impl Print, batch: &Batch<RangeKey<'_>>, pass: Pass) -> Resul
     let (pass, asker) = batch.split(pass);
     let (pass, other) = batch.split(pass);
     let (holder, finisher) = batch.split(pass);
-    tell_calls(rt, batch, holder, asker, other, finisher)
+    print_calls(rt, batch, holder, asker, other, finisher)
 }
 
 /// A place that another pass holds.
@@ -151,11 +151,11 @@ impl Trial for HeldPlace {
         pass: Pass,
         _wanted: &[String],
     ) -> Result<(), TrialFault> {
-        tell_parts(rt, batch, pass)
+        print_parts(rt, batch, pass)
     }
 }
 
 /// Tells of a place that another pass holds.
-pub fn tell_held<R: Threads + Print + Sync>(rt: &R, alloc: Global) -> Result<(), TrialFault> {
+pub fn print_held<R: Threads + Print + Sync>(rt: &R, alloc: Global) -> Result<(), TrialFault> {
     try_lines(rt, alloc, &LINES, 1, &mut HeldPlace)
 }

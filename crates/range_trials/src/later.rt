@@ -3,7 +3,7 @@
 ghost use Rattle.std.specs.Prelude.{◌≡◌, ◌<◌, ◌≤◌, ◌+◌, ◌-◌, All, IfOk, false, length};
 ghost use Rattle.words.specs.Passes.{IsPassOf};
 ghost use Rattle.filling.specs.Placers.{IsPlacerIn};
-ghost use Rattle.engine.specs.Stands.{Stands};
+ghost use Rattle.engine.specs.RunState.{IsRunState};
 
 use crate::batches::placed;
 use crate::earlier::Earlier;
@@ -26,7 +26,7 @@ fn range_of<'a>(
 ) -> Result<LogBatch<'a>, AllocError>
     requires order { range.start ≤ range.end }
     requires within { range.end ≤ length log.now.statements }
-    requires before { Stands log.now.statements range.start earlier.now.chains earlier.now.book }
+    requires before { IsRunState log.now.statements range.start earlier.now.chains earlier.now.book }
     ensures { IfOk result (λ batch. batch ≡ record {
       log = log.now;
       first = range.start;
@@ -48,7 +48,7 @@ fn opened_range<'a>(
 ) -> Result<(Batch<RangeKey<'a>>, Pass, Vec<Placer>), TrialFault>
     requires order { range.start < range.end }
     requires within { range.end ≤ length log.now.statements }
-    requires before { Stands log.now.statements range.start earlier.now.chains earlier.now.book }
+    requires before { IsRunState log.now.statements range.start earlier.now.chains earlier.now.book }
     ensures first { IfOk result (λ made. made.0.key.batch.first ≡ range.start) }
     ensures size { IfOk result (λ made. made.0.key.batch.size ≡ range.end - range.start) }
     ensures pass { IfOk result (λ made. IsPassOf made.0 made.1) }
@@ -67,7 +67,7 @@ pub fn placed_range<'a>(
 ) -> Result<(Batch<RangeKey<'a>>, Pass), TrialFault>
     requires order { range.start < range.end }
     requires within { range.end ≤ length log.now.statements }
-    requires before { Stands log.now.statements range.start earlier.now.chains earlier.now.book }
+    requires before { IsRunState log.now.statements range.start earlier.now.chains earlier.now.book }
     ensures first { IfOk result (λ made. made.0.key.batch.first ≡ range.start) }
     ensures size { IfOk result (λ made. made.0.key.batch.size ≡ range.end - range.start) }
     ensures pass { IfOk result (λ made. IsPassOf made.0 made.1) }
@@ -78,7 +78,7 @@ pub fn placed_range<'a>(
 }
 
 /// Asks for a place of the log, and says the outcome of it.
-pub fn tell_run(
+pub fn print_run(
     rt: &impl Print,
     batch: &Batch<RangeKey<'_>>,
     pass: Pass,

@@ -25,15 +25,15 @@ mod refused;
 mod telling;
 mod trial;
 
-use chain::tell_chain;
-use dropped_pass::tell_dropped;
-use early::tell_early;
-use eight_threads::tell_drawn;
+use chain::print_chain;
+use dropped_pass::print_dropped;
+use early::print_early;
+use eight_threads::print_drawn;
 use fault::TrialFault;
-use given_back::tell_given_back;
-use held::tell_held;
-use places::tell_places;
-use refused::tell_refused;
+use given_back::print_given_back;
+use held::print_held;
+use places::print_places;
+use refused::print_refused;
 use std::alloc::Global;
 use std::env;
 use std::process::ExitCode;
@@ -41,15 +41,15 @@ use std::rt::Env;
 use std::thread::Threads;
 
 /// Makes the trials one after another.
-fn tell_all<R: Threads + Print + Eprint + Sync>(rt: &R, alloc: Global) -> Result<(), TrialFault> {
-    tell_held(rt, alloc)?;
-    tell_given_back(rt, alloc)?;
-    tell_early(rt, alloc)?;
-    tell_chain(rt, alloc)?;
-    tell_places(rt, alloc)?;
-    tell_drawn(rt, alloc)?;
-    tell_dropped(rt, alloc)?;
-    tell_refused(rt, alloc)
+fn print_all<R: Threads + Print + Eprint + Sync>(rt: &R, alloc: Global) -> Result<(), TrialFault> {
+    print_held(rt, alloc)?;
+    print_given_back(rt, alloc)?;
+    print_early(rt, alloc)?;
+    print_chain(rt, alloc)?;
+    print_places(rt, alloc)?;
+    print_drawn(rt, alloc)?;
+    print_dropped(rt, alloc)?;
+    print_refused(rt, alloc)
 }
 
 /// Makes the trials that the words of the command line name: all, or that of refused growths.
@@ -57,8 +57,8 @@ fn tell<R: Env + Threads + Print + Eprint + AllocGlobal + Sync>(rt: &R) -> Resul
     let alloc = rt.alloc();
     let words = env::args(rt)?.collect::<Vec<String>>(alloc)?;
     match words.as_slice() {
-        [_] => tell_all(rt, alloc),
-        [_, word] if word.as_str() == "refused" => tell_refused(rt, alloc),
+        [_] => print_all(rt, alloc),
+        [_, word] if word.as_str() == "refused" => print_refused(rt, alloc),
         _ => Err(TrialFault::Words),
     }
 }

@@ -3,17 +3,17 @@
 ghost use Rattle.std.specs.Prelude.{◌≡◌, ◌<◌, ◌≤◌, [], IfOk, length};
 ghost use Rattle.words.specs.Passes.{IsPassOf};
 ghost use Rattle.words.specs.Views.{Holds};
-ghost use Rattle.engine.specs.Stands.{Stands};
+ghost use Rattle.engine.specs.RunState.{IsRunState};
 
 use crate::earlier::{Earlier, earlier_than};
 use crate::fault::TrialFault;
-use crate::later::{placed_range, tell_run};
+use crate::later::{placed_range, print_run};
 use crate::logs::{WholeLog, log_of};
 use crate::telling::told;
 use filling::RangeKey;
 use filling_base::Batch;
 use std::alloc::Global;
-use words::{Claimed, Holding, Pass, Placed, Seen};
+use words::{BatchData, Claimed, Holding, Pass, Seen};
 
 /// A reader, and the revocation of the grant by which it reads. The last two lines are the batch.
 const READ_AND_REVOKED: [&str; 5] = [
@@ -36,37 +36,37 @@ const CHANGED_AND_READ: [&str; 4] = [
 const PLACES: u64 = 65_536;
 
 /// Asks for the revocation first, and then for the reader.
-fn tell_revoked(
+fn print_revoked(
     rt: &impl Print,
     alloc: Global,
     log: &WholeLog,
     earlier: &Earlier,
 ) -> Result<(), TrialFault>
     requires within { 5 ≤ length log.now.statements }
-    requires before { Stands log.now.statements 3 earlier.now.chains earlier.now.book }
+    requires before { IsRunState log.now.statements 3 earlier.now.chains earlier.now.book }
 {
     let (batch, pass) = placed_range(alloc, log, earlier, 3..5)?;
-    let pass = tell_run(rt, &batch, pass, 4)?;
-    let _pass = tell_run(rt, &batch, pass, 3)?;
+    let pass = print_run(rt, &batch, pass, 4)?;
+    let _pass = print_run(rt, &batch, pass, 3)?;
     Ok(())
 }
 
 /// Prints the outcome of both places while the first is held, and of the second once the first was given back.
-fn tell_holding(
+fn print_holding(
     rt: &impl Print,
     batch: &Batch<RangeKey<'_>>,
     mut holding: Holding,
     asker: Pass,
 ) -> Result<Pass, TrialFault>
-    requires ours { IsPassOf batch.now holding }
+    requires same_table { IsPassOf batch.now holding }
     requires asker { IsPassOf batch.now asker }
     requires held { Holds holding.view 0 0 [] }
     requires first { batch.now.key.batch.first ≡ 2 }
     requires size { batch.now.key.batch.size ≡ 2 }
     ensures { IfOk result (λ asker. IsPassOf batch.now asker) }
 {
-    let asker = tell_run(rt, batch, asker, 3)?;
-    let asker = tell_run(rt, batch, asker, 2)?;
+    let asker = print_run(rt, batch, asker, 3)?;
+    let asker = print_run(rt, batch, asker, 2)?;
     match batch.words().look(&mut holding, 1) {
         Seen::Free => {
             batch.words().give_back(&mut holding, 0);
@@ -74,11 +74,11 @@ fn tell_holding(
         }
         Seen::Held | Seen::Done => println!(rt; "  who holds 2 finds 3 taken")?,
     }
-    tell_run(rt, batch, asker, 3)
+    print_run(rt, batch, asker, 3)
 }
 
 /// Takes the first place by one pass, and says what another finds.
-fn tell_taken(
+fn print_taken(
     rt: &impl Print,
     batch: &Batch<RangeKey<'_>>,
     holder: Pass,
@@ -95,7 +95,7 @@ fn tell_taken(
     }
     match batch.words().claim(&mut holding, 0) {
         Claimed::Won => {
-            let _asker = tell_holding(rt, batch, holding, asker)?;
+            let _asker = print_holding(rt, batch, holding, asker)?;
             Ok(())
         }
         Claimed::Held | Claimed::Done => Err(TrialFault::Taken),
@@ -103,36 +103,36 @@ fn tell_taken(
 }
 
 /// A place is held while the one after it is asked for; a third pass says its outcome then.
-fn tell_held_place(
+fn print_held_place(
     rt: &impl Print,
     alloc: Global,
     log: &WholeLog,
     earlier: &Earlier,
 ) -> Result<(), TrialFault>
     requires within { 4 ≤ length log.now.statements }
-    requires before { Stands log.now.statements 2 earlier.now.chains earlier.now.book }
+    requires before { IsRunState log.now.statements 2 earlier.now.chains earlier.now.book }
 {
     let (batch, pass) = placed_range(alloc, log, earlier, 2..4)?;
     let (pass, holder) = batch.split(pass);
     let (pass, asker) = batch.split(pass);
-    tell_taken(rt, &batch, holder, asker)?;
+    print_taken(rt, &batch, holder, asker)?;
     let (_pass, found) = told(&batch, pass, 0);
     println!(rt; "  outcome of 2: {found:?}")?;
     Ok(())
 }
 
 /// Asks for the last place of a chain first.
-fn tell_long_chain(
+fn print_long_chain(
     rt: &impl Print,
     alloc: Global,
     log: &WholeLog,
     earlier: &Earlier,
 ) -> Result<(), TrialFault>
     requires within { 65538 ≤ length log.now.statements }
-    requires before { Stands log.now.statements 2 earlier.now.chains earlier.now.book }
+    requires before { IsRunState log.now.statements 2 earlier.now.chains earlier.now.book }
 {
     let (batch, pass) = placed_range(alloc, log, earlier, 2..65_538)?;
-    let pass = tell_run(rt, &batch, pass, 65_537)?;
+    let pass = print_run(rt, &batch, pass, 65_537)?;
     println!(rt; "  {} bodies were run", pass.bodies())?;
     Ok(())
 }
@@ -149,45 +149,53 @@ fn push_chain(alloc: Global, log: &mut WholeLog) -> Result<(), TrialFault> {
 }
 
 /// Tells of the reader and the revocation.
-fn tell_read_and_revoked(rt: &impl Print, alloc: Global, log: &WholeLog) -> Result<(), TrialFault> {
+fn print_read_and_revoked(
+    rt: &impl Print,
+    alloc: Global,
+    log: &WholeLog,
+) -> Result<(), TrialFault> {
     if log.len() < 5 {
         return Err(TrialFault::Short);
     }
     let earlier = earlier_than(alloc, log, 3)?;
-    tell_revoked(rt, alloc, log, &earlier)
+    print_revoked(rt, alloc, log, &earlier)
 }
 
 /// Tells of the place that is held.
-fn tell_changed_and_read(rt: &impl Print, alloc: Global, log: &WholeLog) -> Result<(), TrialFault> {
+fn print_changed_and_read(
+    rt: &impl Print,
+    alloc: Global,
+    log: &WholeLog,
+) -> Result<(), TrialFault> {
     if log.len() < 4 {
         return Err(TrialFault::Short);
     }
     let earlier = earlier_than(alloc, log, 2)?;
-    tell_held_place(rt, alloc, log, &earlier)
+    print_held_place(rt, alloc, log, &earlier)
 }
 
 /// Tells of the chain.
-fn tell_chain_of(rt: &impl Print, alloc: Global, log: &WholeLog) -> Result<(), TrialFault> {
+fn print_chain_of(rt: &impl Print, alloc: Global, log: &WholeLog) -> Result<(), TrialFault> {
     if log.len() < 65_538 {
         return Err(TrialFault::Short);
     }
     let earlier = earlier_than(alloc, log, 2)?;
-    tell_long_chain(rt, alloc, log, &earlier)
+    print_long_chain(rt, alloc, log, &earlier)
 }
 
 /// Tells of a chain that fills a batch.
-fn tell_full_batch(rt: &impl Print, alloc: Global) -> Result<(), TrialFault> {
+fn print_full_batch(rt: &impl Print, alloc: Global) -> Result<(), TrialFault> {
     let mut log = WholeLog::new(alloc);
     push_chain(alloc, &mut log)?;
     println!(rt; "a chain of {PLACES} places after two finished ones, the last asked for first")?;
-    tell_chain_of(rt, alloc, &log)
+    print_chain_of(rt, alloc, &log)
 }
 
 /// Tells of the reader and the revocation, of the place that is held, and of the chain.
-pub fn tell_places(rt: &impl Print, alloc: Global) -> Result<(), TrialFault> {
+pub fn print_places(rt: &impl Print, alloc: Global) -> Result<(), TrialFault> {
     println!(rt; "a revocation after finished places, and then the reader before it")?;
-    tell_read_and_revoked(rt, alloc, &log_of(alloc, &READ_AND_REVOKED)?)?;
+    print_read_and_revoked(rt, alloc, &log_of(alloc, &READ_AND_REVOKED)?)?;
     println!(rt; "a place after finished ones is held while the next is asked for")?;
-    tell_changed_and_read(rt, alloc, &log_of(alloc, &CHANGED_AND_READ)?)?;
-    tell_full_batch(rt, alloc)
+    print_changed_and_read(rt, alloc, &log_of(alloc, &CHANGED_AND_READ)?)?;
+    print_full_batch(rt, alloc)
 }

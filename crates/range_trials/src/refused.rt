@@ -11,7 +11,7 @@ use filling_base::{Batch, Tried};
 use model_base::Outcome;
 use std::alloc::Global;
 use std::thread::Threads;
-use words::{Pass, Placed};
+use words::{BatchData, Pass};
 
 /// A chain of updates, and a revocation that ends two grants, with readers on either side.
 const LINES: [&str; 9] = [
@@ -103,7 +103,7 @@ fn count_told(
 }
 
 /// Asks for all places, and says how many have the outcomes that are wanted, and how often memory ran out.
-fn tell_told(
+fn print_told(
     rt: &impl Print,
     alloc: Global,
     batch: &Batch<RangeKey<'_>>,
@@ -134,11 +134,11 @@ impl Trial for RefusedOnce {
         pass: Pass,
         wanted: &[String],
     ) -> Result<(), TrialFault> {
-        tell_told(rt, alloc, batch, pass, wanted)
+        print_told(rt, alloc, batch, pass, wanted)
     }
 }
 
 /// Runs the log.
-pub fn tell_refused<R: Threads + Print + Sync>(rt: &R, alloc: Global) -> Result<(), TrialFault> {
+pub fn print_refused<R: Threads + Print + Sync>(rt: &R, alloc: Global) -> Result<(), TrialFault> {
     try_lines(rt, alloc, &LINES, 1, &mut RefusedOnce)
 }

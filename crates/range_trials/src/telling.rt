@@ -10,7 +10,7 @@ use filling::{RangeKey, outcome};
 use filling_base::Batch;
 use model_base::Outcome;
 use std::alloc::{AllocError, Global};
-use words::{Pass, Placed};
+use words::{BatchData, Pass};
 
 /// The outcomes of a log by the serial run, as text.
 pub fn wanted(alloc: Global, log: &WholeLog) -> Result<Vec<String>, TrialFault> {
@@ -66,7 +66,7 @@ pub fn count_wanted(
 }
 
 /// Asks for a place and says the outcome of it.
-pub fn tell_asked(
+pub fn print_asked(
     rt: &impl Print,
     batch: &Batch<RangeKey<'_>>,
     pass: Pass,
@@ -84,7 +84,7 @@ pub fn tell_asked(
 }
 
 /// Prints the outcome of a place, and whether it is the one that is wanted.
-pub fn tell_outcome(
+pub fn print_outcome(
     rt: &impl Print,
     alloc: Global,
     batch: &Batch<RangeKey<'_>>,

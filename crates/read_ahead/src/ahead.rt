@@ -5,9 +5,9 @@ ghost use Rattle.log_text.specs.Fault.{line_fault};
 ghost use Rattle.sequencer.specs.Catalog.{Names};
 ghost use Rattle.read_ahead.specs.Ahead.{IsFoundOf};
 
-use log_text::{LineFault, RawRoom, read_line};
+use log_text::{LineBuffers, LineFault, read_line};
 use model_base::Statement;
-use sequencer::{Catalog, Recent, Room};
+use sequencer::{Catalog, Recent, StatementBuffers};
 use std::alloc::Global;
 
 /// What was found of a line.
@@ -48,8 +48,8 @@ pub(crate) fn found_of<'a>(
     catalog: &Catalog,
     recent: &mut Recent,
     line: &'a [u8],
-    room: &mut Room,
-    raw: &mut RawRoom<'a>,
+    room: &mut StatementBuffers,
+    raw: &mut LineBuffers<'a>,
 ) -> Found
     ensures { IsFoundOf catalog.now line.now result }
 {

@@ -6,8 +6,8 @@ ghost use Rattle.read_ahead.specs.Ahead.{IsAhead};
 use crate::ahead::{Ahead, Found, found_of};
 use crate::piece::Piece;
 use line_io::cut_line;
-use log_text::RawRoom;
-use sequencer::{Catalog, Recent, Room};
+use log_text::LineBuffers;
+use sequencer::{Catalog, Recent, StatementBuffers};
 use std::alloc::Global;
 
 /// How many lines of a piece are read before their turn, at most: what they become is kept until then.
@@ -21,8 +21,8 @@ fn read_next<'a>(
     bytes: &'a [u8],
     at: usize,
     recent: &mut Recent,
-    room: &mut Room,
-    raw: &mut RawRoom<'a>,
+    room: &mut StatementBuffers,
+    raw: &mut LineBuffers<'a>,
     piece: &mut Piece,
 ) -> Option<usize>
     requires { at ≤ length bytes.now }
@@ -51,7 +51,7 @@ fn read_lines<'a>(
     bytes: &'a [u8],
     from: usize,
     to: usize,
-    raw: &mut RawRoom<'a>,
+    raw: &mut LineBuffers<'a>,
     piece: &mut Piece,
 )
     requires { from ≤ length bytes.now }
@@ -59,7 +59,7 @@ fn read_lines<'a>(
 {
     piece.clear();
     let mut recent = Recent::new();
-    let mut room = Room::new(alloc);
+    let mut room = StatementBuffers::new(alloc);
     let mut at = from;
     'lines: while at < to && piece.len() < MOST_LINES_AHEAD {
         match read_next(
@@ -90,7 +90,7 @@ pub fn foretell_lines(
     requires { from ≤ length bytes.now }
     ensures { All (IsAhead catalog.now bytes.now) result }
 {
-    let mut raw = RawRoom::new(alloc);
+    let mut raw = LineBuffers::new(alloc);
     read_lines(alloc, catalog, bytes, from, to, &mut raw, &mut piece);
     piece.drop_spare();
     piece

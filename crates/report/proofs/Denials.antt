@@ -19,29 +19,29 @@ use Rattle.sequencer.specs.Catalog.{Names, no_names, numbered}
 use Rattle.sequencer.specs.Refusal.{refusal}
 use Rattle.sequencer.specs.declared.refused.Refused.{Refused}
 use Rattle.report.specs.Text.{cause_text, deed_text, done_text, ending_text, need_text, numbers_text, outcome_text}
-use Rattle.report.specs.Report.{IsReport, Reading, read, faulty, accepted, line_text, log_of, names_after, names_if, names_with, place_text, report_from, text_of, report_of, statement_if}
+use Rattle.report.specs.Report.{IsReport, ParsedLine, read, faulty, accepted, line_text, log_of, names_after, names_if, names_with, place_text, report_from, text_of, report_of, statement_if}
 use Rattle.report.specs.Denials.{HasLineFor, IsTakenAt, SaysDenied, TellsPrivileges, denial_text, lines_told, names_ahead, report_lines}
 use Rattle.report.proofs.ReportLemmas.{log_of-append, place_spelled}
 
 -- the report is its lines, one after another
-told-report : (log : List Statement) (tables : List (List ℕ)) (number : ℕ) (names : Names) (readings : List Reading)
+told-report : (log : List Statement) (tables : List (List ℕ)) (number : ℕ) (names : Names) (readings : List ParsedLine)
     → report_from log tables number names readings ≡ flat_map (λ line. line) (lines_told log tables number names readings)
 told-report log tables number names [] = refl
 told-report log tables number names (reading ∷ readings) =
     ap (λ (rest : List ℕ). line_text log tables number names reading ++ rest) (told-report log tables (number + 1) (names_with names reading) readings)
 
-pub report-lines : (readings : List Reading) → report_of readings ≡ flat_map (λ line. line) (report_lines readings)
+pub report-lines : (readings : List ParsedLine) → report_of readings ≡ flat_map (λ line. line) (report_lines readings)
 report-lines readings = told-report (log_of no_names readings) (names_after no_names readings).tables 1 no_names readings
 
 -- a line of the text has one of the report
-told-at : (log : List Statement) (tables : List (List ℕ)) (number : ℕ) (names : Names) (readings : List Reading) (index : ℕ) (reading : Reading)
+told-at : (log : List Statement) (tables : List (List ℕ)) (number : ℕ) (names : Names) (readings : List ParsedLine) (index : ℕ) (reading : ParsedLine)
     → slice_get readings index ≡ Some reading
     → slice_get (lines_told log tables number names readings) index ≡ Some (line_text log tables (number + index) (names_after names (take index readings)) reading)
 told-at log tables number names [] index reading is = absurd (cc)
 told-at log tables number names (first ∷ readings) zero reading is =
     let same : first ≡ reading = cc in
     let at : number ≡ number + 0 = omega arith in
-    ap (λ (r : Reading). Some (line_text log tables number names r)) same
+    ap (λ (r : ParsedLine). Some (line_text log tables number names r)) same
     ∙ ap (λ (n : ℕ). Some (line_text log tables n names reading)) at
 told-at log tables number names (first ∷ readings) (suc index) reading is =
     let at : (number + 1) + index ≡ number + suc index = omega arith in
@@ -54,33 +54,33 @@ places-if : (names : Names) (sentence : Sentence) (refused : Option Refused)
 places-if names sentence None = refl
 places-if names sentence (Some refused) = omega arith
 
-places-with : (names : Names) (reading : Reading) → (names_with names reading).places ≡ names.places + length (accepted names reading)
+places-with : (names : Names) (reading : ParsedLine) → (names_with names reading).places ≡ names.places + length (accepted names reading)
 places-with names (read sentence) = places-if names sentence (refusal names sentence)
 places-with names (faulty fault) = omega arith
 
-places-after : (names : Names) (readings : List Reading) → (names_after names readings).places ≡ names.places + length (log_of names readings)
+places-after : (names : Names) (readings : List ParsedLine) → (names_after names readings).places ≡ names.places + length (log_of names readings)
 places-after names [] = omega arith
 places-after names (reading ∷ readings) =
     omega (arith, places-after (names_with names reading) readings, places-with names reading, length-append (accepted names reading) (log_of (names_with names reading) readings))
 
 -- the readings before one, that one, and those after it
-split-at : (readings : List Reading) (index : ℕ) (reading : Reading) → slice_get readings index ≡ Some reading
+split-at : (readings : List ParsedLine) (index : ℕ) (reading : ParsedLine) → slice_get readings index ≡ Some reading
     → readings ≡ take index readings ++ reading ∷ drop (suc index) readings
 split-at [] index reading is = absurd (cc)
-split-at (first ∷ readings) zero reading is = let same : first ≡ reading = cc in ap (λ (r : Reading). r ∷ readings) same
-split-at (first ∷ readings) (suc index) reading is = ap (λ (rs : List Reading). first ∷ rs) (split-at readings index reading is)
+split-at (first ∷ readings) zero reading is = let same : first ≡ reading = cc in ap (λ (r : ParsedLine). r ∷ readings) same
+split-at (first ∷ readings) (suc index) reading is = ap (λ (rs : List ParsedLine). first ∷ rs) (split-at readings index reading is)
 
 behind : {X : Type 0} (xs ys : List X) (x : X) → slice_get (xs ++ x ∷ ys) (length xs) ≡ Some x
 behind [] ys x = refl
 behind (y ∷ xs) ys x = behind xs ys x
 
 -- what the log takes of a line and those after it begins with the statement of the line
-taken-first : (names : Names) (sentence : Sentence) (later : List Reading) → refusal names sentence ≡ None
+taken-first : (names : Names) (sentence : Sentence) (later : List ParsedLine) → refusal names sentence ≡ None
     → log_of names (read sentence ∷ later) ≡ numbered names sentence ∷ log_of (names_with names (read sentence)) later
 taken-first names sentence later taken =
     ap (λ (refused : Option Refused). statement_if names sentence refused ++ log_of (names_with names (read sentence)) later) taken
 
-logged-behind : (earlier later : List Reading) (sentence : Sentence) → refusal (names_after no_names earlier) sentence ≡ None
+logged-behind : (earlier later : List ParsedLine) (sentence : Sentence) → refusal (names_after no_names earlier) sentence ≡ None
     → slice_get (log_of no_names (earlier ++ read sentence ∷ later)) (names_after no_names earlier).places
     ≡ Some (numbered (names_after no_names earlier) sentence)
 logged-behind earlier later sentence taken =
@@ -94,11 +94,11 @@ logged-behind earlier later sentence taken =
     ∙ behind (log_of no_names earlier) (log_of (names_with (names_after no_names earlier) (read sentence)) later) (numbered (names_after no_names earlier) sentence)
 
 -- the statement that the log takes is at its place
-logged-at : (readings : List Reading) (index : ℕ) (sentence : Sentence) → slice_get readings index ≡ Some (read sentence)
+logged-at : (readings : List ParsedLine) (index : ℕ) (sentence : Sentence) → slice_get readings index ≡ Some (read sentence)
     → refusal (names_ahead readings index) sentence ≡ None
     → slice_get (log_of no_names readings) (names_ahead readings index).places ≡ Some (numbered (names_ahead readings index) sentence)
 logged-at readings index sentence is taken =
-    ap (λ (all : List Reading). slice_get (log_of no_names all) (names_ahead readings index).places) (split-at readings index (read sentence) is)
+    ap (λ (all : List ParsedLine). slice_get (log_of no_names all) (names_ahead readings index).places) (split-at readings index (read sentence) is)
     ∙ logged-behind (take index readings) (drop (suc index) readings) sentence taken
 
 -- what is after the place in a line that says denied
@@ -176,7 +176,7 @@ module _ (log : List Statement) (tables : List (List ℕ)) (place : ℕ) (statem
   }
 
 -- so does the line that the report has for it
-pub line-tells : (readings : List Reading) (index place : ℕ) (statement : Statement) → IsTakenAt readings index place statement
+pub line-tells : (readings : List ParsedLine) (index place : ℕ) (statement : Statement) → IsTakenAt readings index place statement
     → HasLineFor readings index place statement
 line-tells readings index place statement taken =
     let log = log_of no_names readings in

@@ -5,17 +5,17 @@ use Rattle.log_text.specs.Fault.{line_fault}
 use Rattle.line_words.specs.declared.fault.LineFault.{LineFault}
 use Rattle.log_text.proofs.Grammar.{no_fault, one_statement}
 use Rattle.line_io.specs.Lines.{lines_of}
-use Rattle.report.specs.Report.{AreReadings, IsReading, IsReport, Reading, read, faulty, report_of}
+use Rattle.report.specs.Report.{AreParsedLines, IsParsedLine, IsReport, ParsedLine, read, faulty, report_of}
 
 -- a line without a fault reads as a statement
 abbrev pub IsTotal : Type 0
 IsTotal = (line : List ℕ) → line_fault line ≡ None → (sentence : Sentence) × Reads line sentence
 
-reading_if : IsTotal → (line : List ℕ) (o : Option LineFault) → line_fault line ≡ o → (r : Reading) × IsReading line r
+reading_if : IsTotal → (line : List ℕ) (o : Option LineFault) → line_fault line ≡ o → (r : ParsedLine) × IsParsedLine line r
 reading_if total line None e = let s = total line e in (read s.0, s.1)
 reading_if total line (Some f) e = (faulty f, e)
 
-pub readings : IsTotal → (lines : List (List ℕ)) → (rs : List Reading) × AreReadings lines rs
+pub readings : IsTotal → (lines : List (List ℕ)) → (rs : List ParsedLine) × AreParsedLines lines rs
 readings total [] = ([], tt)
 readings total (line ∷ lines) =
     let first = reading_if total line (line_fault line) refl in
@@ -23,13 +23,13 @@ readings total (line ∷ lines) =
     (first.0 ∷ rest.0, (first.1, rest.1))
 
 -- a line is read in one way alone
-one_reading : (line : List ℕ) (r q : Reading) → IsReading line r → IsReading line q → r ≡ q
+one_reading : (line : List ℕ) (r q : ParsedLine) → IsParsedLine line r → IsParsedLine line q → r ≡ q
 one_reading line (read s) (read t) h k = ap read (one_statement line s t h k)
 one_reading line (read s) (faulty f) h k = let bad : None ≡ Some f = sym (no_fault line s h) ∙ k in cc
 one_reading line (faulty f) (read t) h k = let bad : Some f ≡ None = sym h ∙ no_fault line t k in cc
 one_reading line (faulty f) (faulty e) h k = let same : Some f ≡ Some e = sym h ∙ k in cc
 
-one_list : (lines : List (List ℕ)) (rs qs : List Reading) → AreReadings lines rs → AreReadings lines qs → rs ≡ qs
+one_list : (lines : List (List ℕ)) (rs qs : List ParsedLine) → AreParsedLines lines rs → AreParsedLines lines qs → rs ≡ qs
 one_list [] [] [] h k = refl
 one_list [] [] (q ∷ qs) h k = absurd k
 one_list [] (r ∷ rs) qs h k = absurd h

@@ -6,13 +6,13 @@ use Rattle.model_base.specs.declared.outcome.Outcome.{Outcome}
 use Rattle.model_base.specs.Outcomes.{outcome}
 use Rattle.sequencer.specs.Catalog.{Names}
 use Rattle.report.specs.Text.{outcome_text}
-use Rattle.report.specs.Report.{Reading, accepted, log_of, names_after, names_with, place_text, text_of}
+use Rattle.report.specs.Report.{ParsedLine, accepted, log_of, names_after, names_with, place_text, text_of}
 
-pub names_after-append : (names : Names) (xs ys : List Reading) → names_after names (xs ++ ys) ≡ names_after (names_after names xs) ys
+pub names_after-append : (names : Names) (xs ys : List ParsedLine) → names_after names (xs ++ ys) ≡ names_after (names_after names xs) ys
 names_after-append names [] ys = refl
 names_after-append names (x ∷ xs) ys = names_after-append (names_with names x) xs ys
 
-pub log_of-append : (names : Names) (xs ys : List Reading) → log_of names (xs ++ ys) ≡ log_of names xs ++ log_of (names_after names xs) ys
+pub log_of-append : (names : Names) (xs ys : List ParsedLine) → log_of names (xs ++ ys) ≡ log_of names xs ++ log_of (names_after names xs) ys
 log_of-append names [] ys = refl
 log_of-append names (x ∷ xs) ys =
     ap (λ (log : List Statement). accepted names x ++ log) (log_of-append (names_with names x) xs ys)

@@ -10,24 +10,24 @@ use Rattle.log_text.specs.Statement.{Sentence}
 use Rattle.sequencer.specs.Catalog.{Names, no_names, numbered}
 use Rattle.sequencer.specs.Refusal.{refusal}
 use Rattle.report.specs.Text.{cause_text, need_text}
-use Rattle.report.specs.Report.{Reading, read, line_text, log_of, names_after, names_with}
+use Rattle.report.specs.Report.{ParsedLine, read, line_text, log_of, names_after, names_with}
 
 -- the report's lines, each by itself, from a line of this number on
-abbrev pub lines_told : List Statement → List (List ℕ) → ℕ → Names → List Reading → List (List ℕ)
+abbrev pub lines_told : List Statement → List (List ℕ) → ℕ → Names → List ParsedLine → List (List ℕ)
 lines_told log tables number names [] = []
 lines_told log tables number names (reading ∷ readings) =
     line_text log tables number names reading ∷ lines_told log tables (number + 1) (names_with names reading) readings
 
 -- the report's lines of lines that are read so
-abbrev pub report_lines : List Reading → List (List ℕ)
+abbrev pub report_lines : List ParsedLine → List (List ℕ)
 report_lines readings = lines_told (log_of no_names readings) (names_after no_names readings).tables 1 no_names readings
 
 -- the names before the line of this index
-abbrev pub names_ahead : List Reading → ℕ → Names
+abbrev pub names_ahead : List ParsedLine → ℕ → Names
 names_ahead readings index = names_after no_names (take index readings)
 
 -- the log takes the line of this index as this RUN or deed, at this place
-pub record IsTakenAt (readings : List Reading) (index place : ℕ) (statement : Statement) : Type 0 where
+pub record IsTakenAt (readings : List ParsedLine) (index place : ℕ) (statement : Statement) : Type 0 where
   pub sentence : Sentence
   pub reads : slice_get readings index ≡ Some (read sentence)
   pub accepted : refusal (names_ahead readings index) sentence ≡ None
@@ -54,7 +54,7 @@ pub record TellsPrivileges (log : List Statement) (tables : List (List ℕ)) (pl
       → line ≡ denial_text tables place need why
 
 -- the report has a line for this place, the one of the line that the log takes there, and it says who holds what
-pub record HasLineFor (readings : List Reading) (index place : ℕ) (statement : Statement) : Type 0 where
+pub record HasLineFor (readings : List ParsedLine) (index place : ℕ) (statement : Statement) : Type 0 where
   pub line : List ℕ
   pub stands : slice_get (report_lines readings) index ≡ Some line
   pub logged : slice_get (log_of no_names readings) place ≡ Some statement

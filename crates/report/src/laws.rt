@@ -5,7 +5,7 @@ ghost use Rattle.std.specs.List.{flat_map};
 ghost use Rattle.line_io.specs.Lines.{lines_of};
 ghost use Rattle.model_base.specs.declared.statement.Statement.{Statement};
 ghost use Rattle.report.specs.Denials.{HasLineFor, IsTakenAt, report_lines};
-ghost use Rattle.report.specs.Report.{AreReadings, IsReport, Reading};
+ghost use Rattle.report.specs.Report.{AreParsedLines, IsReport, ParsedLine};
 
 /// Each text has a report, and no other. The function does nothing: its clauses are the law.
 pub fn each_text_has_one_report()
@@ -17,8 +17,8 @@ pub fn each_text_has_one_report()
 /// says `denied` exactly if its user lacks one of its needs by the deeds before its place; then it names the first such need, and its
 /// cause: the place of the revocation that took it away last, or `never`.
 pub fn reports_tell_who_was_denied()
-    ensures lines { (input text : List ℕ) → IsReport input text → (readings : List Reading)
-        × AreReadings (lines_of input) readings × (text ≡ flat_map (λ line. line) (report_lines readings)) }
-    ensures denials { (readings : List Reading) (index place : ℕ) (statement : Statement)
+    ensures lines { (input text : List ℕ) → IsReport input text → (readings : List ParsedLine)
+        × AreParsedLines (lines_of input) readings × (text ≡ flat_map (λ line. line) (report_lines readings)) }
+    ensures denials { (readings : List ParsedLine) (index place : ℕ) (statement : Statement)
         → IsTakenAt readings index place statement → HasLineFor readings index place statement }
 {}

@@ -17,7 +17,7 @@ use Rattle.log_text.specs.declared.statement.RawStep.{RawStep}
 use Rattle.sequencer.specs.Names.{is_known, with_name}
 use Rattle.sequencer.specs.Catalog.{Names, numbered, numbered_access, numbered_form, numbered_step}
 use Rattle.sequencer.specs.Refusal.{accesses_refusal, columns_of, deed_refusal, form_refusal, or_refused, refusal, step_refusal, steps_refusal, refuse_unless}
-use Rattle.sequencer.specs.Taken.{HasFilledRows, IsFilled, columns_by}
+use Rattle.sequencer.specs.Whole.{HasFilledRows, IsFilled, columns_by}
 use Rattle.sequencer.specs.declared.refused.Refused.{Refused}
 use Rattle.sequencer.proofs.Passed.{both_none, form_passes, passes}
 

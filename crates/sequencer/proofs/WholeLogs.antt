@@ -17,7 +17,7 @@ use Rattle.sequencer.specs.Catalog.{Names, no_names, numbered, numbered_form, wi
 use Rattle.sequencer.specs.Foretelling.{IsForetold, with_one_place}
 use Rattle.sequencer.specs.Log.{Accepted, empty_log, with_accepted}
 use Rattle.sequencer.specs.Refusal.{create_refusal, form_refusal, refusal, refuse_unless}
-use Rattle.sequencer.specs.Taken.{HasFilledRows, IsFilled, IsKept, IsTaken, columns_by}
+use Rattle.sequencer.specs.Whole.{HasFilledRows, IsFilled, IsKept, IsAccepted, columns_by}
 use Rattle.sequencer.specs.declared.refused.Refused.{Refused}
 use Rattle.sequencer.proofs.Apart.{apart_accesses}
 use Rattle.sequencer.proofs.Bodies.{sound_body}
@@ -59,7 +59,7 @@ form_stays names more longer (Form.Run accesses steps deed) filled fits =
 form_stays names more longer form filled fits = tt
 
 -- what a statement is that was taken, it is with more tables
-taken_stays : (names more : Names) → IsLonger names more → (statement : Statement) → HasFilledRows statement.form → IsTaken names statement → IsTaken more statement
+taken_stays : (names more : Names) → IsLonger names more → (statement : Statement) → HasFilledRows statement.form → IsAccepted names statement → IsAccepted more statement
 taken_stays names more longer statement filled taken = record {
   runnable = taken.runnable;
   steps = taken.steps;
@@ -75,7 +75,7 @@ filled_rows names sentence h e = (sound_body names sentence h e).filled
 
 -- a statement is taken by the names before it, and so by those after it
 pub taken_after : (names : Names) (sentence : Sentence) → IsInGrammar sentence → refusal names sentence ≡ None
-    → IsTaken (with_statement names sentence) (numbered names sentence)
+    → IsAccepted (with_statement names sentence) (numbered names sentence)
 taken_after names sentence h e =
     let body = sound_body names sentence h e in
     let known = known_names names sentence e in
@@ -93,7 +93,7 @@ taken_after names sentence h e =
 pub taken_parts : {X : Type 0} (names after : Names) (sentence : Sentence) (user : List ℕ) (form : RawForm) (result : Result X Refused) → IsInGrammar sentence
     → user ≡ sentence.user → form ≡ sentence.form → OnOk result (refusal names (record { user = user; form = form }) ≡ None)
     → OnOk result (after ≡ with_statement names (record { user = user; form = form }))
-    → OnOk result (IsTaken after (numbered names sentence)) × OnOk result (HasFilledRows (numbered names sentence).form)
+    → OnOk result (IsAccepted after (numbered names sentence)) × OnOk result (HasFilledRows (numbered names sentence).form)
 taken_parts names after sentence user form (Ok value) h users forms e new =
     let told : record { user = user; form = form } ≡ sentence = λ i. record { user = users i; form = forms i } in
     let passes = subst (λ (s : Sentence). refusal names s ≡ None) told e in
@@ -128,7 +128,7 @@ whole_form names users user (RawForm.Create table columns) e owned each narrow =
 whole_form names users user form e owned each narrow = record { owners = sym (append-nil names.owners); owned = owned; columns = each; narrow = narrow }
 
 -- a log that takes a statement
-kept_with : (log : Accepted) (sentence : Sentence) → IsKept log → refusal log.names sentence ≡ None → IsTaken (with_statement log.names sentence) (numbered log.names sentence)
+kept_with : (log : Accepted) (sentence : Sentence) → IsKept log → refusal log.names sentence ≡ None → IsAccepted (with_statement log.names sentence) (numbered log.names sentence)
     → HasFilledRows (numbered log.names sentence).form → IsKept (with_accepted log sentence)
 kept_with log sentence kept e taken filled =
     let names : Names = log.names in
@@ -146,7 +146,7 @@ kept_with log sentence kept e taken filled =
         owned = form.owned;
         columns = form.columns;
         narrow = form.narrow;
-        taken = All-push (IsTaken after) log.statements statement
+        taken = All-push (IsAccepted after) log.statements statement
             (λ k d low. taken_stays names after (longer names sentence) (slice_index_or log.statements k d) (kept.filled k d low) (whole.taken k d low)) taken;
       };
       filled = All-push (λ (s : Statement). HasFilledRows s.form) log.statements statement kept.filled filled;
@@ -154,10 +154,10 @@ kept_with log sentence kept e taken filled =
 
 pub kept_after : (log after : Accepted) (sentence : Sentence) (statement : Statement) → IsKept log → refusal log.names sentence ≡ None
     → after.names ≡ with_statement log.names sentence → statement ≡ numbered log.names sentence → after.statements ≡ log.statements ++ statement ∷ []
-    → IsTaken after.names statement → HasFilledRows statement.form → IsKept after
+    → IsAccepted after.names statement → HasFilledRows statement.form → IsKept after
 kept_after log after sentence statement kept e names is statements taken filled =
     let same : after ≡ with_accepted log sentence = λ i. record { names = names i; statements = (statements ∙ ap (λ (s : Statement). log.statements ++ s ∷ []) is) i } in
-    rw same (kept_with log sentence kept e (subst (λ (ns : Names). IsTaken ns (numbered log.names sentence)) names (rw is at taken)) (rw is at filled))
+    rw same (kept_with log sentence kept e (subst (λ (ns : Names). IsAccepted ns (numbered log.names sentence)) names (rw is at taken)) (rw is at filled))
 
 -- a log that takes a statement as it was foretold
 module _ (log : Accepted) (sentence : Sentence) (statement : Statement) (is : IsForetold log.names sentence statement) where
@@ -181,7 +181,7 @@ kept_empty = record {
     owned = refl;
     columns = refl;
     narrow = All-nil (λ count. count ≤ 8);
-    taken = All-nil (IsTaken no_names);
+    taken = All-nil (IsAccepted no_names);
   };
   filled = All-nil (λ (statement : Statement). HasFilledRows statement.form);
 }

@@ -5,7 +5,7 @@ use Rattle.log_text.specs.declared.statement.RawForm.{RawForm}
 use Rattle.log_text.specs.declared.statement.RawForm.TheVariants.{Create, Run, Deed}
 use Rattle.sequencer.specs.Catalog.{Names}
 use Rattle.sequencer.specs.declared.catalog.Catalog.TheInside.{Inside}
-use Rattle.sequencer.specs.declared.room.Room.{Room}
+use Rattle.sequencer.specs.declared.statement_buffers.StatementBuffers.{StatementBuffers}
 
 -- the names that a catalog holds
 abbrev pub names_of : Inside → Names
@@ -25,7 +25,7 @@ pub record IsConsistent (inside : Inside) : Type 0 where
   pub places : inside.places ≤ MOST_PLACES
 
 -- the room is empty, and each access and step of the statement finds a place in it
-abbrev pub HasRoom : Room → RawForm → Type 0
+abbrev pub HasRoom : StatementBuffers → RawForm → Type 0
 HasRoom room (Create table columns) = Unit {0}
 HasRoom room (Deed deed) = Unit {0}
 HasRoom room (Run accesses steps deed) =

@@ -1,21 +1,21 @@
 //! How a statement is taken.
 
 ghost use Rattle.std.specs.Prelude.{◌≡◌, ◌<◌, ◌++◌, ◌∷◌, [], None, Some, option_map, IfOk, IfErr, OnOk, OnErr, vec_capacity, vec_len};
-ghost use Rattle.log_text.specs.Room.{sentence_of};
+ghost use Rattle.log_text.specs.LineBuffers.{sentence_of};
 ghost use Rattle.log_text.specs.Statement.{IsInGrammar};
 ghost use Rattle.sequencer.specs.Names.{number_of};
 ghost use Rattle.sequencer.specs.Catalog.{numbered, numbered_deed, with_statement, with_user};
 ghost use Rattle.sequencer.specs.Admitting.{create_by, deed_by, entry_refusal, run_by, with_users};
 ghost use Rattle.sequencer.specs.Known.{HasRoom};
-ghost use Rattle.sequencer.specs.Taken.{HasFilledRows, IsTaken};
+ghost use Rattle.sequencer.specs.Whole.{HasFilledRows, IsAccepted};
 ghost use Rattle.sequencer.specs.Refusal.{IsRefusal, refusal};
 
 use crate::catalog::Catalog;
 use crate::numbering::deed_form;
 use crate::refused::Refused;
-use crate::room::Room;
+use crate::statement_buffers::StatementBuffers;
 use crate::testing::{names_in, test_name};
-use log_text::{Name, RawAccess, RawDeed, RawForm, RawRoom, RawStatement, RawStep};
+use log_text::{LineBuffers, Name, RawAccess, RawDeed, RawForm, RawStatement, RawStep};
 use model_base::{DeedForm, Form, MOST_PLACES, Statement, Table, User};
 use std::mem;
 
@@ -77,7 +77,7 @@ impl Catalog {
         accesses: &[RawAccess<'_>],
         steps: &[RawStep<'_>],
         deed: &Option<RawDeed<'_>>,
-        room: &mut Room,
+        room: &mut StatementBuffers,
         kept: &mut Vec<Statement>,
     ) -> Result<(), Refused>
         requires kept { vec_len kept.old < vec_capacity kept.old }
@@ -205,12 +205,12 @@ impl Catalog {
     pub fn admit(
         &mut self,
         statement: &RawStatement<'_>,
-        room: &mut Room,
+        room: &mut StatementBuffers,
         kept: &mut Vec<Statement>,
     ) -> Result<(), Refused>
         requires { vec_len kept.old < vec_capacity kept.old }
         ensures ok { OnOk result (kept.new.items ≡ kept.old.items ++ numbered self.old statement.now ∷ []) }
-        ensures taken { OnOk result (IsTaken self.new (numbered self.old statement.now)) }
+        ensures taken { OnOk result (IsAccepted self.new (numbered self.old statement.now)) }
         ensures filled { OnOk result (HasFilledRows (numbered self.old statement.now).form) }
         ensures passes { OnOk result (refusal self.old statement.now ≡ None) }
         ensures names { OnOk result (self.new ≡ with_statement self.old statement.now) }
@@ -247,15 +247,15 @@ impl Catalog {
     #[inline(always)]
     pub(crate) fn admit_read(
         &mut self,
-        read: &RawRoom<'_>,
-        room: &mut Room,
+        read: &LineBuffers<'_>,
+        room: &mut StatementBuffers,
         kept: &mut Vec<Statement>,
     ) -> Result<(), Refused>
         requires run { read.now.other ≡ None }
         requires grammar { IsInGrammar (sentence_of read.now) }
         requires kept { vec_len kept.old < vec_capacity kept.old }
         ensures ok { OnOk result (kept.new.items ≡ kept.old.items ++ numbered self.old (sentence_of read.now) ∷ []) }
-        ensures taken { OnOk result (IsTaken self.new (numbered self.old (sentence_of read.now))) }
+        ensures taken { OnOk result (IsAccepted self.new (numbered self.old (sentence_of read.now))) }
         ensures filled { OnOk result (HasFilledRows (numbered self.old (sentence_of read.now)).form) }
         ensures passes { OnOk result (refusal self.old (sentence_of read.now) ≡ None) }
         ensures names { OnOk result (self.new ≡ with_statement self.old (sentence_of read.now)) }

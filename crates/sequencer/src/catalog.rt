@@ -1,7 +1,7 @@
 //! What a log knows of names.
 
 use crate::names::NameTable;
-use crate::room::Room;
+use crate::statement_buffers::StatementBuffers;
 use model_base::{HashSeed, MOST_COLUMNS, MOST_PLACES, Table, User};
 use std::alloc::Global;
 use std::marker::Model;
@@ -66,11 +66,11 @@ impl Catalog {
     }
 
     /// Room for nothing yet, of the catalog's own memory.
-    pub(crate) fn no_room(&self) -> Room
+    pub(crate) fn no_room(&self) -> StatementBuffers
         ensures accesses { result.accesses.items ≡ [] }
         ensures steps { result.steps.items ≡ [] }
     {
-        Room::new(self.alloc)
+        StatementBuffers::new(self.alloc)
     }
 
     /// How many statements were accepted, which is the place of the next one.

@@ -10,9 +10,9 @@ ghost use Rattle.std.specs.Option.{option_map};
 
 use crate::catalog::Catalog;
 use crate::numbering::deed_form;
-use crate::room::Room;
+use crate::statement_buffers::StatementBuffers;
 use crate::testing::names_in;
-use log_text::{Name, RawAccess, RawDeed, RawForm, RawGrantee, RawRoom, RawStatement, RawStep};
+use log_text::{LineBuffers, Name, RawAccess, RawDeed, RawForm, RawGrantee, RawStatement, RawStep};
 use model_base::{DeedForm, Form, Grantee, MOST_PLACES, Statement, Table, User};
 use std::alloc::AllocError;
 use std::mem;
@@ -98,7 +98,7 @@ impl Catalog {
         accesses: &[RawAccess<'_>],
         steps: &[RawStep<'_>],
         deed: &Option<RawDeed<'_>>,
-        room: &mut Room,
+        room: &mut StatementBuffers,
     ) -> Option<Statement>
         requires { HasRoom room.old (RawForm.Run accesses.now steps.now deed.now) }
         ensures number { IfSome result (λ s. s ≡ record {
@@ -154,7 +154,7 @@ impl Catalog {
         &self,
         recent: &mut Recent,
         statement: &RawStatement<'_>,
-        room: &mut Room,
+        room: &mut StatementBuffers,
     ) -> Option<Statement>
         ensures { IfSome result (λ s. Foretells self.now statement.now s) }
     {

@@ -7,7 +7,7 @@
 //! `take_foretold` takes it, and `catch_up` learns another catalog's names.
 //!
 //! A name is found by its hash, and a statement costs its accesses and steps. Lists come from forgotten statements, by
-//! `Room`.
+//! `StatementBuffers`.
 #![tactic(auto)]
 
 mod admitting;
@@ -20,7 +20,7 @@ mod names;
 mod numbering;
 mod past;
 mod refused;
-mod room;
+mod statement_buffers;
 mod tail;
 mod testing;
 
@@ -31,5 +31,5 @@ pub use log::Log;
 pub use names::NameTable;
 pub use past::Past;
 pub use refused::Refused;
-pub use room::Room;
+pub use statement_buffers::StatementBuffers;
 pub use tail::LogTail;

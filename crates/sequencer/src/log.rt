@@ -16,7 +16,7 @@ pub struct Log {
 
 impl Model for Log {
     ghost use Rattle.sequencer.specs.Log.{Accepted};
-    ghost use Rattle.sequencer.specs.Taken.{IsKept};
+    ghost use Rattle.sequencer.specs.Whole.{IsKept};
 
     ghost Value = { Accepted };
 
@@ -30,7 +30,7 @@ impl Log {
     ghost use Rattle.model_base.specs.Growing.{NeedsOwnTables};
     ghost use Rattle.sequencer.specs.Refusal.{IsRefusal, refusal};
     ghost use Rattle.sequencer.specs.Log.{empty_log, with_accepted};
-    ghost use Rattle.sequencer.specs.Taken.{IsWhole};
+    ghost use Rattle.sequencer.specs.Whole.{IsWhole};
 
     /// The log without statements. It doesn't allocate.
     pub fn new(alloc: Global) -> Self

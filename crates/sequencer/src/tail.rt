@@ -1,20 +1,20 @@
 //! The end of a log, of which the first statements aren't kept.
 
 ghost use Rattle.std.specs.Prelude.{◌≡◌, ◌<◌, ◌≤◌, None, Some, drop, length, slice_get, All, IfOk, IfErr, OnOk, OnErr};
-ghost use Rattle.log_text.specs.Room.{sentence_of};
+ghost use Rattle.log_text.specs.LineBuffers.{sentence_of};
 ghost use Rattle.log_text.specs.Statement.{IsInGrammar, Sentence};
 ghost use Rattle.model_base.specs.Growing.{NeedsOwnTables};
 ghost use Rattle.sequencer.specs.Foretelling.{IsForetold};
 ghost use Rattle.sequencer.specs.Refusal.{IsRefusal, refusal};
 ghost use Rattle.sequencer.specs.Log.{empty_log, with_accepted};
-ghost use Rattle.sequencer.specs.Taken.{IsWhole};
+ghost use Rattle.sequencer.specs.Whole.{IsWhole};
 
 use crate::catalog::Catalog;
 use crate::forgetting::forget_first;
 use crate::past::Past;
 use crate::refused::Refused;
-use crate::room::Room;
-use log_text::{RawForm, RawRoom, RawStatement};
+use crate::statement_buffers::StatementBuffers;
+use log_text::{LineBuffers, RawForm, RawStatement};
 use model_base::{Form, HashSeed, MOST_COLUMNS, MOST_PLACES, Place, Statement, Table, User};
 use std::alloc::{AllocError, Global};
 use std::marker::Model;
@@ -34,7 +34,7 @@ pub struct LogTail {
 impl Model for LogTail {
     ghost use Rattle.std.specs.Prelude.{◌++◌, length};
     ghost use Rattle.sequencer.specs.Tail.{Tail};
-    ghost use Rattle.sequencer.specs.Taken.{IsKept};
+    ghost use Rattle.sequencer.specs.Whole.{IsKept};
 
     ghost Value = { Tail };
 
@@ -47,7 +47,7 @@ impl Model for LogTail {
 }
 
 /// The room of the last RUN that was dropped, or another room where there is none.
-fn lend(spare: &mut Vec<Statement>, other: Room) -> Room {
+fn lend(spare: &mut Vec<Statement>, other: StatementBuffers) -> StatementBuffers {
     'dropped: while let Some(statement) = spare.pop() {
         if let Form::Run {
             accesses,
@@ -55,7 +55,7 @@ fn lend(spare: &mut Vec<Statement>, other: Room) -> Room {
             ..
         } = statement.form
         {
-            return Room {
+            return StatementBuffers {
                 accesses: accesses.into_vec(),
                 steps: steps.into_vec(),
             };
@@ -65,7 +65,11 @@ fn lend(spare: &mut Vec<Statement>, other: Room) -> Room {
 }
 
 /// Room for a statement that was read, as `lend`. Only a RUN takes any.
-fn room_for(spare: &mut Vec<Statement>, room: Room, form: &RawForm<'_>) -> Room {
+fn room_for(
+    spare: &mut Vec<Statement>,
+    room: StatementBuffers,
+    form: &RawForm<'_>,
+) -> StatementBuffers {
     match form {
         RawForm::Run { .. } => lend(spare, room),
         RawForm::Create { .. } | RawForm::Deed(_) => room,
@@ -127,7 +131,7 @@ impl LogTail {
 
     /// Takes a RUN that was read, as `push`, from where it stays.
     #[inline(always)]
-    fn push_run(&mut self, read: &RawRoom<'_>) -> Result<Place, Refused>
+    fn push_run(&mut self, read: &LineBuffers<'_>) -> Result<Place, Refused>
         requires run { read.now.other ≡ None }
         requires grammar { IsInGrammar (sentence_of read.now) }
         ensures place { IfOk result (λ place. place ≡ length self.old.log.statements) }
@@ -148,7 +152,7 @@ impl LogTail {
 
     /// Takes the statement that a line was read as, as `push`, from where it stays.
     #[inline(always)]
-    pub fn push_read(&mut self, read: &RawRoom<'_>) -> Result<Place, Refused>
+    pub fn push_read(&mut self, read: &LineBuffers<'_>) -> Result<Place, Refused>
         requires { IsInGrammar (sentence_of read.now) }
         ensures place { IfOk result (λ place. place ≡ length self.old.log.statements) }
         ensures accepted { OnOk result (self.new ≡ record self.old { log = with_accepted self.old.log (sentence_of read.now) }) }

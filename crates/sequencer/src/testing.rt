@@ -2,7 +2,7 @@
 
 ghost use Rattle.std.specs.Prelude.{◌≡◌, ◌<◌, [], length, nat_le, None, Some, IfOk};
 ghost use Rattle.std.specs.List.{list_any};
-ghost use Rattle.log_text.specs.Room.{sentence_of};
+ghost use Rattle.log_text.specs.LineBuffers.{sentence_of};
 ghost use Rattle.sequencer.specs.Names.{is_known, number_of};
 ghost use Rattle.sequencer.specs.Catalog.{deed_in, grantee_of, named_table_of};
 ghost use Rattle.sequencer.specs.Refusal.{IsAnswer, IsAnswerOf, IsRefusal, accesses_refusal, column_refusal, create_refusal, deed_refusal, form_refusal, name_refusal, or_refused, parties_refusal, refusal, same_row, step_refusal, steps_refusal, table_refusal, two_refusal, refuse_unless, users_refusal, width_refusal};
@@ -10,7 +10,7 @@ ghost use Rattle.sequencer.specs.Refusal.{IsAnswer, IsAnswerOf, IsRefusal, acces
 use crate::catalog::Catalog;
 use crate::names::NameTable;
 use crate::refused::Refused;
-use log_text::{Name, RawAccess, RawDeed, RawForm, RawGrantee, RawRoom, RawStatement, RawStep};
+use log_text::{LineBuffers, Name, RawAccess, RawDeed, RawForm, RawGrantee, RawStatement, RawStep};
 use model_base::{MOST_COLUMNS, MOST_NAMES, MOST_PLACES, Table};
 
 /// Whether the two accesses are to one row.
@@ -278,7 +278,7 @@ impl Catalog {
     }
 
     /// The first test that a RUN which was read doesn't pass refuses it, as in `test`.
-    fn test_read(&self, read: &RawRoom<'_>) -> Result<(), Refused>
+    fn test_read(&self, read: &LineBuffers<'_>) -> Result<(), Refused>
         requires { read.now.other ≡ None }
         ensures { IsAnswer result (refusal self.now (sentence_of read.now)) }
     {
@@ -292,7 +292,7 @@ impl Catalog {
     /// The refusal of a RUN that was read, and for which there is no memory.
     #[cold]
     #[tactic(auto, using(crate::proofs::RefusalLemmas::refusal_of_test))]
-    pub(crate) fn refused_run(&self, read: &RawRoom<'_>) -> Refused
+    pub(crate) fn refused_run(&self, read: &LineBuffers<'_>) -> Refused
         requires { read.now.other ≡ None }
         ensures { IsRefusal result (refusal self.now (sentence_of read.now)) }
     {

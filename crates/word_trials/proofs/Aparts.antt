@@ -7,9 +7,9 @@ use Rattle.bohm_core_base.specs.Batch.{IsSoundBatch, reference_words, batch_slot
 use Rattle.bohm_core_base.specs.Deeds.{named_before, slots}
 use Rattle.bohm_core_base.specs.Serial.{serial_words}
 use Rattle.words.specs.Layout.{IsListed, reference_at}
-use Rattle.words.specs.Tells.{HoldsWhole}
+use Rattle.words.specs.Meanings.{HoldsWhole}
 use Rattle.words.specs.Views.{Holds, KnowsReferences}
-use Rattle.words.specs.declared.view.View.{View}
+use Rattle.words.specs.declared.knowledge.Knowledge.{Knowledge}
 use Rattle.word_trials.specs.Apart.{apart}
 
 pub apart_sound : (size width : ℕ) → 0 < width → IsSoundBatch (apart size width)
@@ -70,12 +70,12 @@ unfolding serial_words words_by
 apart_serial size width index number less = rw (append-nil {A = ℕ} (replicate width 1)) (get-replicate width number less)
 
 -- a place refers to nothing, so all of it is known
-pub apart_references : (size width index : ℕ) (view : View) → KnowsReferences (apart size width) view index
+pub apart_references : (size width index : ℕ) (view : Knowledge) → KnowsReferences (apart size width) view index
 unfolding reference_words
 apart_references size width index view other has = absurd has
 
 -- with all words stored it may be finished
-pub apart_whole : (size width index : ℕ) (view : View) → Holds view index width [] → HoldsWhole (apart size width) view index
+pub apart_whole : (size width index : ℕ) (view : Knowledge) → Holds view index width [] → HoldsWhole (apart size width) view index
 apart_whole size width index view holds = (
   [],
   rw (apart_length size width index) holds,

@@ -4,16 +4,16 @@ use Rattle.std.proofs.lemmas.Bool.{cases_Bool, eqb-true}
 use Rattle.std.proofs.Common.{inl, inr}
 use Rattle.bohm_core_base.specs.declared.event.Event.{Event}
 use Rattle.bohm_core_base.specs.declared.event.Event.TheVariants.{Claim, Fill, Finish}
-use Rattle.words.specs.declared.view.View.{View}
+use Rattle.words.specs.declared.knowledge.Knowledge.{Knowledge}
 use Rattle.words.specs.Views.{Holds, HoldsNone, is_event_at, with_event, with_known}
 use Rattle.word_trials.specs.Holding.{HoldsOnly}
 
 -- an event about another place leaves what is held
 abbrev pub LeavesOthers : Type 0
-LeavesOthers = (view : View) (event : Event) (index count : ℕ) (ended : List ℕ)
+LeavesOthers = (view : Knowledge) (event : Event) (index count : ℕ) (ended : List ℕ)
     → is_event_at index event ≡ false → Holds (with_event view event) index count ended → Holds view index count ended
 
-pub claimed : LeavesOthers → (view : View) (actor index : ℕ) → HoldsNone view → Holds (with_event view (Claim actor index)) index 0 []
+pub claimed : LeavesOthers → (view : Knowledge) (actor index : ℕ) → HoldsNone view → Holds (with_event view (Claim actor index)) index 0 []
     → HoldsOnly (with_event view (Claim actor index)) index 0
 claimed leaves view actor index idle holds = record {
   held = holds;
@@ -23,7 +23,7 @@ claimed leaves view actor index idle holds = record {
   ];
 }
 
-pub filled : LeavesOthers → (view : View) (actor index count : ℕ) → HoldsOnly view index count → Holds (with_event view (Fill actor index)) index (suc count) []
+pub filled : LeavesOthers → (view : Knowledge) (actor index count : ℕ) → HoldsOnly view index count → Holds (with_event view (Fill actor index)) index (suc count) []
     → HoldsOnly (with_event view (Fill actor index)) index (suc count)
 filled leaves view actor index count only holds = record {
   held = holds;
@@ -34,8 +34,8 @@ filled leaves view actor index count only holds = record {
 }
 
 pub finished : LeavesOthers
-    → ((view : View) (actor index count : ℕ) (ended : List ℕ) → ¬ (Holds (with_event view (Finish actor index)) index count ended))
-    → (view : View) (actor index count : ℕ) → HoldsOnly view index count → HoldsNone (with_known (with_event view (Finish actor index)) index)
+    → ((view : Knowledge) (actor index count : ℕ) (ended : List ℕ) → ¬ (Holds (with_event view (Finish actor index)) index count ended))
+    → (view : Knowledge) (actor index count : ℕ) → HoldsOnly view index count → HoldsNone (with_known (with_event view (Finish actor index)) index)
 finished leaves none view actor index count only other stored ended has =
     let At : ℕ → Type 0 = λ place. Holds (with_event view (Finish actor index)) place stored ended in
     elim (cases_Bool (index == other)) [

@@ -2,11 +2,11 @@
 
 ghost use Rattle.std.specs.Prelude.{◌<◌, ◌≤◌, [], true};
 ghost use Rattle.model_base.specs.declared.limits.TheConstants.{MOST_PLACES};
-ghost use Rattle.words.specs.declared.placed.TheConstants.{MOST_WORDS_OF_A_PLACE};
+ghost use Rattle.words.specs.declared.batch_data.TheConstants.{MOST_WORDS_OF_A_PLACE};
 ghost use Rattle.word_trials.specs.Apart.{apart};
 
 use model_base::MOST_PLACES;
-use words::{MOST_WORDS_OF_A_PLACE, Placed};
+use words::{BatchData, MOST_WORDS_OF_A_PLACE};
 
 /// This many places that refer to none, with this many own words.
 #[derive(Drop)]
@@ -19,7 +19,7 @@ pub struct Apart {
     pub ghost narrow: { width ≤ MOST_WORDS_OF_A_PLACE },
 }
 
-impl Placed for Apart {
+impl BatchData for Apart {
     ghost batch = { λ key. apart key.size key.width };
 
     ghost listed = { λ _. [] };

@@ -21,7 +21,7 @@ const SHARED: usize = 1000;
 
 /// Asks for each place once, and counts those that are done then.
 pub(crate) fn ask_for_all(batch: &Batch<Chain>, size: usize, pass: Pass) -> (Pass, usize)
-    requires ours { IsPassOf batch.now pass }
+    requires same_table { IsPassOf batch.now pass }
     requires size { size ≡ batch.now.key.size }
     ensures { IsPassOf batch.now result.0 }
 {
@@ -39,7 +39,7 @@ pub(crate) fn ask_for_all(batch: &Batch<Chain>, size: usize, pass: Pass) -> (Pas
 
 /// The last own word of a place, if the pass finds it done.
 fn last_word(batch: &Batch<Chain>, pass: Pass, index: usize) -> (Pass, Option<u64>)
-    requires ours { IsPassOf batch.now pass }
+    requires same_table { IsPassOf batch.now pass }
     requires within { index < batch.now.key.size }
     ensures { IsPassOf batch.now result.0 }
 {
@@ -56,7 +56,7 @@ fn last_word(batch: &Batch<Chain>, pass: Pass, index: usize) -> (Pass, Option<u6
 }
 
 /// Prints the outcome of the last place of a long chain, asked for before any other.
-pub fn tell_long(rt: &impl Print, alloc: Global) -> Result<(), TrialFault> {
+pub fn print_long(rt: &impl Print, alloc: Global) -> Result<(), TrialFault> {
     let (batch, pass) = Batch::new(alloc, Chain { size: LONG })?;
     let (pass, tried) = batch.try_run(pass, LAST);
     let (pass, word) = last_word(&batch, pass, LAST);
@@ -68,8 +68,8 @@ pub fn tell_long(rt: &impl Print, alloc: Global) -> Result<(), TrialFault> {
 }
 
 /// Prints the outcome of three places while one part of a pass holds the one in the middle, and once it was given back.
-fn tell_middle_held(rt: &impl Print, batch: &Batch<Chain>, pass: Pass) -> Result<(), TrialFault>
-    requires ours { IsPassOf batch.now pass }
+fn print_middle_held(rt: &impl Print, batch: &Batch<Chain>, pass: Pass) -> Result<(), TrialFault>
+    requires same_table { IsPassOf batch.now pass }
     requires size { batch.now.key.size ≡ 3 }
 {
     let (first, second) = batch.split(pass);
@@ -97,9 +97,9 @@ fn tell_middle_held(rt: &impl Print, batch: &Batch<Chain>, pass: Pass) -> Result
 }
 
 /// Prints the outcome of three places while another pass holds the one in the middle, and once it was given back.
-pub fn tell_held(rt: &impl Print, alloc: Global) -> Result<(), TrialFault> {
+pub fn print_held(rt: &impl Print, alloc: Global) -> Result<(), TrialFault> {
     let (batch, pass) = Batch::new(alloc, Chain { size: 3 })?;
-    tell_middle_held(rt, &batch, pass)
+    print_middle_held(rt, &batch, pass)
 }
 
 /// What two passes do side by side, each asking for all places.
@@ -131,7 +131,7 @@ fn ask_by_two<R: Threads + Sync>(
 
 /// Prints how many places of a chain are done once two threads asked for all and their passes were joined, and how many of the
 /// words say so when they are closed.
-pub fn tell_shared<R: Threads + Print + Sync>(rt: &R, alloc: Global) -> Result<(), TrialFault> {
+pub fn print_shared<R: Threads + Print + Sync>(rt: &R, alloc: Global) -> Result<(), TrialFault> {
     let (batch, pass) = Batch::new(alloc, Chain { size: SHARED })?;
     let (first, second) = batch.split(pass);
     let (first, second) = ask_by_two(rt, &batch, SHARED, first, second);

@@ -7,7 +7,7 @@ ghost use Rattle.word_trials.specs.Chained.{chain};
 use filling_base::{Fills, store};
 use model_base::MOST_PLACES;
 use std::alloc::AllocError;
-use words::{BatchWords, Holding, Placed};
+use words::{BatchData, BatchWords, Holding};
 
 /// This many places that all write one row.
 #[derive(Drop)]
@@ -17,7 +17,7 @@ pub struct Chain {
     pub ghost few: { size ≤ MOST_PLACES },
 }
 
-impl Placed for Chain {
+impl BatchData for Chain {
     ghost batch = { λ key. chain key.size };
 
     ghost listed = { λ _. [] };

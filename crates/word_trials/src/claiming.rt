@@ -14,7 +14,7 @@ const PLACES: usize = 1000;
 
 /// How many places the pass wins, of all.
 fn claim_all(words: &BatchWords<Apart>, size: usize, pass: Pass) -> usize
-    requires ours { IsPassOf words.now pass }
+    requires same_table { IsPassOf words.now pass }
     requires size { size ≡ words.now.key.size }
     ensures { result ≤ size }
 {
@@ -35,7 +35,7 @@ fn claim_by_two<R: Threads + Sync>(
     size: usize,
     pass: Pass,
 ) -> usize
-    requires ours { IsPassOf words.now pass }
+    requires same_table { IsPassOf words.now pass }
     requires size { size ≡ words.now.key.size }
 {
     let (first, second) = words.split(pass);
@@ -58,7 +58,7 @@ fn claim_by_four<R: Threads + Sync>(
     size: usize,
     pass: Pass,
 ) -> usize
-    requires ours { IsPassOf words.now pass }
+    requires same_table { IsPassOf words.now pass }
     requires size { size ≡ words.now.key.size }
 {
     let (first, second) = words.split(pass);
@@ -81,7 +81,7 @@ fn claim_by_eight<R: Threads + Sync>(
     size: usize,
     pass: Pass,
 ) -> usize
-    requires ours { IsPassOf words.now pass }
+    requires same_table { IsPassOf words.now pass }
     requires size { size ≡ words.now.key.size }
 {
     let (first, second) = words.split(pass);
@@ -104,7 +104,7 @@ fn claim_by_sixteen<R: Threads + Sync>(
     size: usize,
     pass: Pass,
 ) -> usize
-    requires ours { IsPassOf words.now pass }
+    requires same_table { IsPassOf words.now pass }
     requires size { size ≡ words.now.key.size }
 {
     let (first, second) = words.split(pass);
@@ -121,7 +121,7 @@ fn claim_by_sixteen<R: Threads + Sync>(
 }
 
 /// Prints how many places sixteen threads win together, and how many are held then: all, so each was won once.
-pub fn tell_claiming<R: Threads + Print + Sync>(rt: &R, alloc: Global) -> Result<(), TrialFault> {
+pub fn print_claiming<R: Threads + Print + Sync>(rt: &R, alloc: Global) -> Result<(), TrialFault> {
     let key = Apart {
         size: PLACES,
         width: 1,

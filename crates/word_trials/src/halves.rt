@@ -22,11 +22,11 @@ const WORDS: usize = 5;
 
 /// Stores all own words of a place that is held with nothing stored.
 fn store_words(words: &BatchWords<Apart>, holding: &mut Holding, index: usize)
-    requires ours { IsPassOf words.now holding.old }
+    requires same_table { IsPassOf words.now holding.old }
     requires within { index < words.now.key.size }
     requires five { words.now.key.width ≡ 5 }
     requires held { HoldsOnly holding.old.view index 0 }
-    ensures ours { IsPassOf words.now holding.new }
+    ensures same_table { IsPassOf words.now holding.new }
     ensures held { HoldsOnly holding.new.view index 5 }
 {
     own_events_tell_what_is_held();
@@ -37,11 +37,11 @@ fn store_words(words: &BatchWords<Apart>, holding: &mut Holding, index: usize)
 
 /// Claims the place, and if it wins stores all its words and finishes it. Answers whether it won.
 fn fill_place(words: &BatchWords<Apart>, holding: &mut Holding, index: usize) -> bool
-    requires ours { IsPassOf words.now holding.old }
+    requires same_table { IsPassOf words.now holding.old }
     requires within { index < words.now.key.size }
     requires five { words.now.key.width ≡ 5 }
     requires idle { HoldsNone holding.old.view }
-    ensures ours { IsPassOf words.now holding.new }
+    ensures same_table { IsPassOf words.now holding.new }
     ensures idle { HoldsNone holding.new.view }
 {
     own_events_tell_what_is_held();
@@ -61,7 +61,7 @@ fn fill_place(words: &BatchWords<Apart>, holding: &mut Holding, index: usize) ->
 
 /// Fills the places of the range that the pass wins. Answers how many these are.
 fn fill_range(words: &BatchWords<Apart>, pass: Pass, start: usize, end: usize) -> (Pass, usize)
-    requires ours { IsPassOf words.now pass }
+    requires same_table { IsPassOf words.now pass }
     requires within { end ≤ words.now.key.size }
     requires order { start ≤ end }
     requires five { words.now.key.width ≡ 5 }
@@ -79,7 +79,7 @@ fn fill_range(words: &BatchWords<Apart>, pass: Pass, start: usize, end: usize) -
 
 /// How many of the places the pass finds done.
 fn count_done(words: &BatchWords<Apart>, pass: Pass, size: usize) -> usize
-    requires ours { IsPassOf words.now pass }
+    requires same_table { IsPassOf words.now pass }
     requires size { size ≡ words.now.key.size }
 {
     let mut holding = Holding::begin(pass);
@@ -98,7 +98,7 @@ fn fill_halves<R: Threads + Sync>(
     words: &BatchWords<Apart>,
     pass: Pass,
 ) -> (usize, usize, usize)
-    requires ours { IsPassOf words.now pass }
+    requires same_table { IsPassOf words.now pass }
     requires size { words.now.key.size ≡ 1000 }
     requires five { words.now.key.width ≡ 5 }
 {
@@ -121,7 +121,7 @@ fn fill_halves<R: Threads + Sync>(
 }
 
 /// Prints how many places each part fills, and how many the joined pass finds done.
-pub fn tell_filling<R: Threads + Print + Sync>(rt: &R, alloc: Global) -> Result<(), TrialFault> {
+pub fn print_filling<R: Threads + Print + Sync>(rt: &R, alloc: Global) -> Result<(), TrialFault> {
     let key = Apart {
         size: PLACES,
         width: WORDS,

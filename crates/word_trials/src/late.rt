@@ -3,13 +3,13 @@
 ghost use Rattle.std.specs.Prelude.{[], ◌∷◌, true};
 ghost use Rattle.word_trials.specs.Late.{late};
 
-use words::Placed;
+use words::BatchData;
 
 /// Places 3 and 4 of a log: the first reads a row, the second revokes the grant of place 2, by which the first reads.
 #[derive(Drop)]
 pub struct Late {}
 
-impl Placed for Late {
+impl BatchData for Late {
     ghost batch = { λ _. late };
 
     ghost listed = { λ _. 0 ∷ [] };

@@ -16,39 +16,39 @@ mod late;
 mod row;
 mod working;
 
-use asking::{tell_held, tell_long, tell_shared};
-use claiming::tell_claiming;
+use asking::{print_held, print_long, print_shared};
+use claiming::print_claiming;
 use fault::TrialFault;
-use halves::tell_filling;
-use row::tell_row;
+use halves::print_filling;
+use row::print_row;
 use std::alloc::Global;
 use std::process::ExitCode;
 use std::sync::Wait;
 use std::thread::Threads;
-use working::tell_workers;
+use working::print_workers;
 
 /// Prints what passes find on the shared words of a batch.
-fn tell_words<R: Threads + Print + Sync>(rt: &R, alloc: Global) -> Result<(), TrialFault> {
-    tell_claiming(rt, alloc)?;
-    tell_filling(rt, alloc)?;
-    tell_row(rt, alloc)
+fn print_words<R: Threads + Print + Sync>(rt: &R, alloc: Global) -> Result<(), TrialFault> {
+    print_claiming(rt, alloc)?;
+    print_filling(rt, alloc)?;
+    print_row(rt, alloc)
 }
 
 /// Prints the outcome of places that are run on shared words.
-fn tell_places<R: Threads + Wait + Print + Sync>(rt: &R, alloc: Global) -> Result<(), TrialFault> {
-    tell_long(rt, alloc)?;
-    tell_held(rt, alloc)?;
-    tell_shared(rt, alloc)?;
+fn print_places<R: Threads + Wait + Print + Sync>(rt: &R, alloc: Global) -> Result<(), TrialFault> {
+    print_long(rt, alloc)?;
+    print_held(rt, alloc)?;
+    print_shared(rt, alloc)?;
     for workers in [0, 1, 2, 3, 8, 64] {
-        tell_workers(rt, alloc, workers)?;
+        print_workers(rt, alloc, workers)?;
     }
     Ok(())
 }
 
 /// Prints the trials one after another.
 fn run<R: Threads + Wait + Print + Sync>(rt: &R, alloc: Global) -> Result<(), TrialFault> {
-    tell_words(rt, alloc)?;
-    tell_places(rt, alloc)
+    print_words(rt, alloc)?;
+    print_places(rt, alloc)
 }
 
 fn main(rt: HostRuntime) -> ExitCode {

@@ -40,10 +40,10 @@ fn late_word(index: usize, number: usize) -> u64
 
 /// Stores all own words of a place that is held with nothing stored.
 fn store_words(words: &BatchWords<Late>, holding: &mut Holding, index: usize)
-    requires ours { IsPassOf words.now holding.old }
+    requires same_table { IsPassOf words.now holding.old }
     requires low { index < 2 }
     requires held { Holds holding.old.view index 0 [] }
-    ensures ours { IsPassOf words.now holding.new }
+    ensures same_table { IsPassOf words.now holding.new }
     ensures held { Holds holding.new.view index (late_length index) [] }
 {
     own_events_tell_what_is_held();
@@ -54,9 +54,9 @@ fn store_words(words: &BatchWords<Late>, holding: &mut Holding, index: usize)
 
 /// Stores all that the revocation has to store, and finishes it.
 fn revoke(words: &BatchWords<Late>, holding: &mut Holding)
-    requires ours { IsPassOf words.now holding.old }
+    requires same_table { IsPassOf words.now holding.old }
     requires held { Holds holding.old.view 1 0 [] }
-    ensures ours { IsPassOf words.now holding.new }
+    ensures same_table { IsPassOf words.now holding.new }
 {
     own_events_tell_what_is_held();
     store_words(words, holding, 1);
@@ -65,12 +65,12 @@ fn revoke(words: &BatchWords<Late>, holding: &mut Holding)
 }
 
 /// Prints what a pass finds of the revocation: its outcome, and the end of the record, if it is done.
-fn tell_found(
+fn print_found(
     rt: &impl Print,
     words: &BatchWords<Late>,
     holding: &mut Holding,
 ) -> Result<(), TrialFault>
-    requires ours { IsPassOf words.now holding.old }
+    requires same_table { IsPassOf words.now holding.old }
 {
     passes_keep_what_they_know();
     match words.look(holding, 1) {
@@ -88,13 +88,13 @@ fn tell_found(
 }
 
 /// The second pass looks at the reader, takes it, and gives it back.
-fn tell_reader(
+fn print_reader(
     rt: &impl Print,
     words: &BatchWords<Late>,
     holding: &mut Holding,
 ) -> Result<(), TrialFault>
-    requires ours { IsPassOf words.now holding.old }
-    ensures ours { IsPassOf words.now holding.new }
+    requires same_table { IsPassOf words.now holding.old }
+    ensures same_table { IsPassOf words.now holding.new }
 {
     let seen = words.look(holding, 0);
     println!(rt; "the second looks at 3: {seen:?}")?;
@@ -113,7 +113,7 @@ fn tell_reader(
 }
 
 /// Prints the row of calls of the two parts of a pass.
-fn tell_calls(rt: &impl Print, words: &BatchWords<Late>, pass: Pass) -> Result<(), TrialFault>
+fn print_calls(rt: &impl Print, words: &BatchWords<Late>, pass: Pass) -> Result<(), TrialFault>
     requires { IsPassOf words.now pass }
 {
     let (first, second) = words.split(pass);
@@ -126,17 +126,17 @@ fn tell_calls(rt: &impl Print, words: &BatchWords<Late>, pass: Pass) -> Result<(
         Claimed::Won => {
             let found = words.claim(&mut other, 1);
             println!(rt; "the first claims 4: Won; the second: {found:?}")?;
-            tell_reader(rt, words, &mut other)?;
+            print_reader(rt, words, &mut other)?;
             revoke(words, &mut one);
         }
         Claimed::Held => println!(rt; "the first claims 4: Held")?,
         Claimed::Done => println!(rt; "the first claims 4: Done")?,
     }
-    tell_found(rt, words, &mut other)
+    print_found(rt, words, &mut other)
 }
 
 /// Prints the row of calls.
-pub fn tell_row(rt: &impl Print, alloc: Global) -> Result<(), TrialFault> {
+pub fn print_row(rt: &impl Print, alloc: Global) -> Result<(), TrialFault> {
     let (words, pass) = BatchWords::new(alloc, &Late {})?;
-    tell_calls(rt, &words, pass)
+    print_calls(rt, &words, pass)
 }

@@ -52,7 +52,7 @@ impl<K: Fills> BatchPlacer<K> for AtItsEnd {
 
 /// Reports what comes of a chain that this many workers run, whether each was known each place done, and how many places are done once they
 /// are joined.
-pub fn tell_workers<R: Threads + Wait + Print + Sync>(
+pub fn print_workers<R: Threads + Wait + Print + Sync>(
     rt: &R,
     alloc: Global,
     workers: usize,

@@ -11,10 +11,10 @@ use Rattle.bohm_core_base.specs.declared.event.Event.TheVariants.{Place}
 use Rattle.bohm_core_base.specs.Batch.{Batch, reference_words}
 use Rattle.bohm_core_base.specs.Laws.{actor_of}
 use Rattle.bohm_core_base.specs.Machine.{State, change, front_of, guard, reach}
-use Rattle.words.specs.declared.view.View.{View}
+use Rattle.words.specs.declared.knowledge.Knowledge.{Knowledge}
 use Rattle.words.specs.Layout.{Counts, Has, Meaning, claim_word, own_word, reference_word, front_word, end_word, partition_at, position, reference_at, shown, ShowsState}
 use Rattle.words.specs.Legal.{Fits, Lawful, IsStored, events_by, legal, placings_in}
-use Rattle.words.specs.Tells.{StoredAll}
+use Rattle.words.specs.Meanings.{StoredAll}
 use Rattle.words.specs.Views.{In, front_in, with_placing, with_stored}
 use Rattle.words.proofs.Plays.{goes_to}
 use Rattle.words.proofs.Members.{by-append, in_cases, in_one, placings-append}
@@ -23,7 +23,7 @@ use Rattle.words.proofs.Stepping.{has-all, reached-more, works-more}
 use Rattle.words.proofs.Showing.{position-below, references-stay, shows-set, stands-set}
 use Rattle.words.proofs.Keeping.{IsMade, changes, front_on, goes-on, knows_on, of_other, placed_by_other, placed_on, saw_front_on, saw_on}
 
-module _ (b : Batch) (listed words : List ℕ) (views : List View) (es : List Event) (by : ℕ) (v : View) (law : Lawful b listed words views es) (at : get_elem? views by ≡ some v) (alive : v.spent ≡ false) (places : v.placer ≡ true) where
+module _ (b : Batch) (listed words : List ℕ) (views : List Knowledge) (es : List Event) (by : ℕ) (v : Knowledge) (law : Lawful b listed words views es) (at : get_elem? views by ≡ some v) (alive : v.spent ≡ false) (places : v.placer ≡ true) where
   abbrev here : State
   here = reach b es
 
@@ -191,8 +191,8 @@ module _ (b : Batch) (listed words : List ℕ) (views : List View) (es : List Ev
           (t.0, t.1, t.2, references-stay b listed words (front_word v.partition) (suc (front_in v)) (mine.places places).0 refl (front_in u) r t.0 t.1 ∙ t.3))
           (λ is r has. absurd has)
 
-module _ (b : Batch) (listed : List ℕ) (slots by : ℕ) (me : Me ℕ View) (alive : me.0.spent ≡ false) (places : me.0.placer ≡ true) (below : front_in me.0 < b.size) where
-  abbrev Rule : Table ℕ View → Type 0
+module _ (b : Batch) (listed : List ℕ) (slots by : ℕ) (me : Me ℕ Knowledge) (alive : me.0.spent ≡ false) (places : me.0.placer ≡ true) (below : front_in me.0 < b.size) where
+  abbrev Rule : Table ℕ Knowledge → Type 0
   Rule s = legal b listed s.words s.views
 
   pub stores : (k word : ℕ) → k < length (reference_words b (front_in me.0)) → partition_at b (front_in me.0) k ≡ me.0.partition → word ≡ reference_at b (front_in me.0) k

@@ -15,10 +15,10 @@ use Rattle.bohm_core_base.specs.Serial.{is_end, serial_ends, serial_words}
 use Rattle.bohm_core_base.specs.Laws.{actor_of}
 use Rattle.bohm_core_base.specs.Machine.{State, all_below, all_ended, all_filled, all_ready, change, end_of, front_of, guard, hold_of, is_free, is_held_by, must_end, next_word, none_ended, own_of, reach, with_hold}
 use Rattle.bohm_core_base.proofs.Reach.{done-right, ends-right, shown-serial, word-rests}
-use Rattle.words.specs.declared.view.View.{View}
+use Rattle.words.specs.declared.knowledge.Knowledge.{Knowledge}
 use Rattle.words.specs.Layout.{claim_word, own_word, reference_word, front_word, end_word, claim_code, end_code, listed_slot_at, partition_at, position, reference_at, shown, ShowsState}
 use Rattle.words.specs.Legal.{Fits, Lawful, events_by, legal}
-use Rattle.words.specs.Tells.{HoldsWhole}
+use Rattle.words.specs.Meanings.{HoldsWhole}
 use Rattle.words.specs.Views.{Holds, In, IsSettled, KnowsFront, KnowsPast, KnowsReferences, front_in, with_all_placed, with_event, with_front, with_known}
 use Rattle.words.proofs.Plays.{claim_then, look_then, makes, finishes, front_then, goes_to, reads, end_then}
 use Rattle.words.proofs.Members.{by-append, by-one, in_one}
@@ -36,7 +36,7 @@ all-below : (test : ℕ → Bool) (n : ℕ) → ((k : ℕ) → k < n → test k 
 all-below test zero each = refl
 all-below test (suc n) each = and_from (test n) (all_below test n) (each n (omega arith)) (all-below test n (λ k less. each k (omega arith)))
 
-module _ (b : Batch) (listed words : List ℕ) (views : List View) (es : List Event) (by : ℕ) (v : View) (law : Lawful b listed words views es) (at : get_elem? views by ≡ some v) (alive : v.spent ≡ false) (pass : v.placer ≡ false) where
+module _ (b : Batch) (listed words : List ℕ) (views : List Knowledge) (es : List Event) (by : ℕ) (v : Knowledge) (law : Lawful b listed words views es) (at : get_elem? views by ≡ some v) (alive : v.spent ≡ false) (pass : v.placer ≡ false) where
   abbrev here : State
   here = reach b es
 
@@ -56,7 +56,7 @@ module _ (b : Batch) (listed words : List ℕ) (views : List View) (es : List Ev
     pub fits_then : Fits b es' by (with_event v e)
     fits_then = goes_on b law.sound listed es es' (e ∷ []) refl by v is_mine words words views law at alive pass (v.events ++ e ∷ []) own_list
 
-    pub acts : (words' : List ℕ) (w : View) → ShowsState b listed words' (change b here e) → SameReferences b words words' → Fits b es' by w → GoesOn v w → legal b listed words' (set views by w)
+    pub acts : (words' : List ℕ) (w : Knowledge) → ShowsState b listed words' (change b here e) → SameReferences b words words' → Fits b es' by w → GoesOn v w → legal b listed words' (set views by w)
     acts words' w shows same fit on = (
       es',
       changes b law.sound listed es es' (e ∷ []) refl by v is_mine words words' views law at alive w
@@ -136,12 +136,12 @@ module _ (b : Batch) (listed words : List ℕ) (views : List View) (es : List Ev
           let same : Some q ≡ Some (b.first + i) = sym whole ∙ ends-whole b i slot serial in
           absurd (out (ends slot (set ∙ same)))
 
-module _ (b : Batch) (listed : List ℕ) (slots by : ℕ) (me : Me ℕ View) (alive : me.0.spent ≡ false) (pass : me.0.placer ≡ false) where
-  abbrev Rule : Table ℕ View → Type 0
+module _ (b : Batch) (listed : List ℕ) (slots by : ℕ) (me : Me ℕ Knowledge) (alive : me.0.spent ≡ false) (pass : me.0.placer ≡ false) where
+  abbrev Rule : Table ℕ Knowledge → Type 0
   Rule s = legal b listed s.words s.views
 
   -- the state after the words
-  abbrev behind : (s : Table ℕ View) → Rule s → State
+  abbrev behind : (s : Table ℕ Knowledge) → Rule s → State
   behind s r = reach b r.0
 
   module _ (i : ℕ) (below : i < b.size) where
@@ -150,25 +150,25 @@ module _ (b : Batch) (listed : List ℕ) (slots by : ℕ) (me : Me ℕ View) (al
     spot = position b (claim_word i)
 
     -- the claim shows the hold
-    code : (s : Table ℕ View) (r : Rule s) (g : Hold) → hold_of (behind s r) i ≡ g → get_or s.words spot 0 ≡ claim_code g
+    code : (s : Table ℕ Knowledge) (r : Rule s) (g : Hold) → hold_of (behind s r) i ≡ g → get_or s.words spot 0 ≡ claim_code g
     code s r g e = r.1.shows.at (claim_word i) below tt ∙ ap claim_code e
 
     -- the claim is stored
-    claim_stored : (s : Table ℕ View) (r : Rule s) (hold : Hold) → ShowsState b listed (set s.words spot (claim_code hold)) (with_hold (behind s r) i hold)
+    claim_stored : (s : Table ℕ Knowledge) (r : Rule s) (hold : Hold) → ShowsState b listed (set s.words spot (claim_code hold)) (with_hold (behind s r) i hold)
     claim_stored s r hold =
         let within : i < length (behind s r).holds = (let len = (has-all b r.1.sound r.0).holds in omega arith) in
         shows-store b listed s.words (behind s r) (with_hold (behind s r) i hold) (claim_word i) (claim_code hold) below r.1.shows refl
         (ap claim_code (sym (get_or-set_same (behind s r).holds i hold Free within)))
         (λ o has other. hold-others b listed (behind s r) i hold o other)
 
-    known_two : (s : Table ℕ View) (r : Rule s) → get_elem? s.views by ≡ some me.0 → In i me.0.known → get_or s.words spot 0 ≡ 2
+    known_two : (s : Table ℕ Knowledge) (r : Rule s) → get_elem? s.views by ≡ some me.0 → In i me.0.known → get_or s.words spot 0 ≡ 2
     known_two s r at known = code s r Done (known-done b listed s.words s.views r.0 by me.0 r.1 at alive i known)
 
-    settled_two : (s : Table ℕ View) (r : Rule s) → get_elem? s.views by ≡ some me.0 → IsSettled b me.0 i → get_or s.words spot 0 ≡ 2
+    settled_two : (s : Table ℕ Knowledge) (r : Rule s) → get_elem? s.views by ≡ some me.0 → IsSettled b me.0 i → get_or s.words spot 0 ≡ 2
     settled_two s r at settled = code s r Done (settled-done b listed s.words s.views r.0 by me.0 r.1 at alive i settled)
 
-    claim_found : KnowsPast b me.0 i → (s : Table ℕ View) (r : Rule s) (at : get_elem? s.views by ≡ some me.0) (g : Hold) → hold_of (behind s r) i ≡ g
-        → (w : View) × legal b listed (set s.words spot (either (eqb (get_or s.words spot 0) 0) 1 (get_or s.words spot 0))) (set s.views by w) × claim_then b by i me (get_or s.words spot 0) (w, me.1)
+    claim_found : KnowsPast b me.0 i → (s : Table ℕ Knowledge) (r : Rule s) (at : get_elem? s.views by ≡ some me.0) (g : Hold) → hold_of (behind s r) i ≡ g
+        → (w : Knowledge) × legal b listed (set s.words spot (either (eqb (get_or s.words spot 0) 0) 1 (get_or s.words spot 0))) (set s.views by w) × claim_then b by i me (get_or s.words spot 0) (w, me.1)
     claim_found past s r at Free e =
         let x0 = code s r Free e in
         let within : i < length (behind s r).holds = (let len = (has-all b r.1.sound r.0).holds in omega arith) in
@@ -196,8 +196,8 @@ module _ (b : Batch) (listed : List ℕ) (slots by : ℕ) (me : Me ℕ View) (al
     pub claims : KnowsPast b me.0 i → Allows Rule slots by me spot (λ n. either (eqb n 0) 1 n) (claim_then b by i me)
     claims past s r _ at _ = let t = claim_found past s r at (hold_of (behind s r) i) refl in (t.0, keeps, tt, t.1, t.2)
 
-    look_found : (s : Table ℕ View) (r : Rule s) (at : get_elem? s.views by ≡ some me.0) (g : Hold) → hold_of (behind s r) i ≡ g
-        → (w : View) × legal b listed (set s.words spot (get_or s.words spot 0)) (set s.views by w) × look_then b i me (get_or s.words spot 0) (w, me.1)
+    look_found : (s : Table ℕ Knowledge) (r : Rule s) (at : get_elem? s.views by ≡ some me.0) (g : Hold) → hold_of (behind s r) i ≡ g
+        → (w : Knowledge) × legal b listed (set s.words spot (get_or s.words spot 0)) (set s.views by w) × look_then b i me (get_or s.words spot 0) (w, me.1)
     look_found s r at Free e =
         let x0 = code s r Free e in
         (me.0, read_same b listed s.words s.views r.0 by me.0 r.1 at alive pass spot, ((refl, refl, refl, refl), (λ _. refl), (λ one. absurd (omega arith)), (λ no _. absurd (no x0)), known_two s r at, settled_two s r at))

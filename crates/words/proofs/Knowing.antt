@@ -17,10 +17,10 @@ use Rattle.bohm_core_base.proofs.Reach.{done-right, ends-right, has-references, 
 use Rattle.bohm_core_base.proofs.Kept.{rests}
 use Rattle.bohm_core_base.proofs.Steps.{done-is}
 use Rattle.bohm_core_base.proofs.View.{deeds-done, end-seen, rests-tables, table-ready}
-use Rattle.words.specs.declared.view.View.{View}
+use Rattle.words.specs.declared.knowledge.Knowledge.{Knowledge}
 use Rattle.words.specs.Layout.{end_code, end_told as told}
 use Rattle.words.specs.Legal.{Fits, IsFrontSighted, IsSighted, Lawful, legal}
-use Rattle.words.specs.Tells.{EndTells, FoundHeld}
+use Rattle.words.specs.Meanings.{EndMeans, FoundHeld}
 use Rattle.words.specs.Views.{Holds, In, IsSettled, KnowsFront, KnowsPast, KnowsReferences, track, with_all_placed, with_front, with_known, with_sighting}
 use Rattle.words.proofs.Members.{by-none, in_cases, in_one}
 use Rattle.words.proofs.Past.{front-most, past-all, past-each}
@@ -39,7 +39,7 @@ pub told-code : (end : Option ℕ) → told (end_code end) ≡ end
 told-code None = refl
 told-code (Some q) = refl
 
-pub knows_more : (b : Batch) (es : List Event) (by : ℕ) (v : View) (i : ℕ) → Fits b es by v → hold_of (reach b es) i ≡ Done → Fits b es by (with_known v i)
+pub knows_more : (b : Batch) (es : List Event) (by : ℕ) (v : Knowledge) (i : ℕ) → Fits b es by v → hold_of (reach b es) i ≡ Done → Fits b es by (with_known v i)
 knows_more b es by v i f q = record {
   own = f.own;
   taken = f.taken;
@@ -53,7 +53,7 @@ knows_more b es by v i f q = record {
   places = f.places;
 }
 
-module _ (b : Batch) (listed words : List ℕ) (views : List View) (es : List Event) (by : ℕ) (v : View) (law : Lawful b listed words views es) (at : get_elem? views by ≡ some v) (alive : v.spent ≡ false) where
+module _ (b : Batch) (listed words : List ℕ) (views : List Knowledge) (es : List Event) (by : ℕ) (v : Knowledge) (law : Lawful b listed words views es) (at : get_elem? views by ≡ some v) (alive : v.spent ≡ false) where
   abbrev pub now : State
   now = reach b es
 
@@ -121,7 +121,7 @@ module _ (b : Batch) (listed words : List ℕ) (views : List View) (es : List Ev
       done-is (hold_of now i) (deeds-before settled.0 settled.1 settled.4 settled.5 i settled.2 settled.6)
 
   -- what an end says
-  pub tells-end : (slot word : ℕ) → slot < length (batch_slots b) → word ≡ end_code (end_of now slot) → EndTells b slot v word
+  pub tells-end : (slot word : ℕ) → slot < length (batch_slots b) → word ≡ end_code (end_of now slot) → EndMeans b slot v word
   tells-end slot word within is = record {
     none_or = by_end (end_of now slot) refl;
     ended = λ i whole known.
@@ -136,10 +136,10 @@ module _ (b : Batch) (listed words : List ℕ) (views : List View) (es : List Ev
       by_end (Some q) set = inr (q, is ∙ ap end_code set, ends-right b law.sound es slot q set)
 
   -- the word i is only read
-  abbrev pub Read : ℕ → View → Type 0
+  abbrev pub Read : ℕ → Knowledge → Type 0
   Read i w = legal b listed (set words i (get_or words i 0)) (set views by w)
 
-  quiet : (i : ℕ) (w : View) → Fits b es by w → GoesOn v w → w.placer ≡ false → Read i w
+  quiet : (i : ℕ) (w : Knowledge) → Fits b es by w → GoesOn v w → w.placer ≡ false → Read i w
   quiet i w fit on pass = (es, subst (λ (l : List ℕ). Lawful b listed l (set views by w) es) (sym (set-get_or words i 0)) (no_event b listed words views es by v w law at alive fit on pass))
 
   module _ (pass : v.placer ≡ false) where
@@ -213,7 +213,7 @@ module _ (b : Batch) (listed words : List ℕ) (views : List View) (es : List Ev
         (λ no. no)
 
     -- a read that finds the place j held
-    pub read_held : (i j c : ℕ) → hold_of now j ≡ Held c → (w : View) × (w.spent ≡ false) × (w.placer ≡ false) × (w.placed ≡ v.placed) × Read i w × FoundHeld j v w
+    pub read_held : (i j c : ℕ) → hold_of now j ≡ Held c → (w : Knowledge) × (w.spent ≡ false) × (w.placer ≡ false) × (w.placed ≡ v.placed) × Read i w × FoundHeld j v w
     read_held i j c h =
         elim (cases_eq c by) [
           | inl same ↦

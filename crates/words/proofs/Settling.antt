@@ -12,8 +12,8 @@ use Rattle.bohm_core_base.specs.Batch.{Batch, reference_words, words_length}
 use Rattle.bohm_core_base.specs.Machine.{end_of, front_of, hold_of, own_of, reach}
 use Rattle.bohm_core_base.specs.Serial.{serial_words, whole_end}
 use Rattle.bohm_core_base.proofs.Reach.{done-right, ends-right, words-begun}
-use Rattle.words.specs.declared.view.View.{View}
-use Rattle.words.specs.Closing.{HasBeginning, TellsReferences, IsSettledBy, ClosedLayout, claim_in, end_word_in, own_in}
+use Rattle.words.specs.declared.knowledge.Knowledge.{Knowledge}
+use Rattle.words.specs.Closing.{HasBeginning, HasItsReferences, IsSettledBy, ClosedLayout, claim_in, end_word_in, own_in}
 use Rattle.words.specs.Layout.{block_begin, claim_code, claim_word, end_begin, end_code, end_word, own_word, listed_slot_at, partition_at, reference_begin, reference_word}
 use Rattle.words.specs.Legal.{Lawful}
 use Rattle.words.proofs.Past.{placed-reference}
@@ -42,31 +42,31 @@ beginning own rest all m is =
       | inr past ↦ past-end own m (omega arith)
     ]))
 
-module _ (b : Batch) (listed : List ℕ) (standing : ClosedLayout) (views : List View) (es : List Event) (law : Lawful b listed standing.words views es)
-    (every : length standing.begins ≡ b.size) (begin : (i : ℕ) → i < b.size → get_or standing.begins i 0 ≡ block_begin b i) (end : standing.ends ≡ end_begin b) where
-  claim-at : (i : ℕ) → i < b.size → claim_in standing i ≡ claim_code (hold_of (reach b es) i)
-  claim-at i below = ap (λ (n : ℕ). get_or standing.words n 0) (begin i below) ∙ law.shows.at (claim_word i) below tt
+module _ (b : Batch) (listed : List ℕ) (layout : ClosedLayout) (views : List Knowledge) (es : List Event) (law : Lawful b listed layout.words views es)
+    (every : length layout.begins ≡ b.size) (begin : (i : ℕ) → i < b.size → get_or layout.begins i 0 ≡ block_begin b i) (end : layout.ends ≡ end_begin b) where
+  claim-at : (i : ℕ) → i < b.size → claim_in layout i ≡ claim_code (hold_of (reach b es) i)
+  claim-at i below = ap (λ (n : ℕ). get_or layout.words n 0) (begin i below) ∙ law.shows.at (claim_word i) below tt
 
-  own-at : (i m : ℕ) → i < b.size → m < words_length b i → own_in standing i m ≡ get_or (own_of (reach b es) i) m 0
-  own-at i m below within = ap (λ (n : ℕ). get_or standing.words (n + suc m) 0) (begin i below) ∙ law.shows.at (own_word i m) (below, within) tt
+  own-at : (i m : ℕ) → i < b.size → m < words_length b i → own_in layout i m ≡ get_or (own_of (reach b es) i) m 0
+  own-at i m below within = ap (λ (n : ℕ). get_or layout.words (n + suc m) 0) (begin i below) ∙ law.shows.at (own_word i m) (below, within) tt
 
-  end-at : (r : ℕ) → r < length listed → end_word_in standing r ≡ end_code (end_of (reach b es) (listed_slot_at listed r))
-  end-at r has = ap (λ (n : ℕ). get_or standing.words (n + r) 0) end ∙ law.shows.at (end_word r) has tt
+  end-at : (r : ℕ) → r < length listed → end_word_in layout r ≡ end_code (end_of (reach b es) (listed_slot_at listed r))
+  end-at r has = ap (λ (n : ℕ). get_or layout.words (n + r) 0) end ∙ law.shows.at (end_word r) has tt
 
-  done-at : (i : ℕ) → i < b.size → claim_in standing i ≡ 2 → hold_of (reach b es) i ≡ Done
+  done-at : (i : ℕ) → i < b.size → claim_in layout i ≡ 2 → hold_of (reach b es) i ≡ Done
   done-at i below two = two-is-done (hold_of (reach b es) i) (sym (claim-at i below) ∙ two)
 
-  begun-at : (i : ℕ) → i < b.size → HasBeginning b standing i (length (own_of (reach b es) i))
+  begun-at : (i : ℕ) → i < b.size → HasBeginning b layout i (length (own_of (reach b es) i))
   begun-at i below m within =
       let begun = words-begun b law.sound es i in
       own-at i m below within ∙ beginning (own_of (reach b es) i) begun.0 (serial_words b i) m begun.1
 
-  by_end : (r : ℕ) (seen : Option ℕ) → end_of (reach b es) (listed_slot_at listed r) ≡ seen → end_word_in standing r ≡ end_code seen
-      → (end_word_in standing r ≡ 0) ⊎ ((place : ℕ) × (end_word_in standing r ≡ suc place) × (whole_end b (listed_slot_at listed r) ≡ Some place))
+  by_end : (r : ℕ) (seen : Option ℕ) → end_of (reach b es) (listed_slot_at listed r) ≡ seen → end_word_in layout r ≡ end_code seen
+      → (end_word_in layout r ≡ 0) ⊎ ((place : ℕ) × (end_word_in layout r ≡ suc place) × (whole_end b (listed_slot_at listed r) ≡ Some place))
   by_end r None is shows = inl shows
   by_end r (Some q) is shows = inr (q, shows, ends-right b law.sound es (listed_slot_at listed r) q is)
 
-  pub settled : IsSettledBy b listed standing
+  pub settled : IsSettledBy b listed layout
   settled = record {
     begins = λ i below. omega arith;
     claims = λ i below. (let room = position-below b listed (claim_word i) below in let wide = law.shows.wide in let from = begin i below in omega arith);
@@ -80,9 +80,9 @@ module _ (b : Batch) (listed : List ℕ) (standing : ClosedLayout) (views : List
     end = λ r has. by_end r (end_of (reach b es) (listed_slot_at listed r)) refl (end-at r has);
   }
 
-module _ (b : Batch) (listed : List ℕ) (standing : ClosedLayout) (views : List View) (es : List Event) (law : Lawful b listed standing.words views es)
-    (every : length standing.references ≡ b.size) (begin : (i : ℕ) → i < b.size → get_or standing.references i 0 ≡ reference_begin b i) where
-  past-front : (n : ℕ) (v : View) → get_elem? views n ≡ some v → v.placed ≡ true → (i m : ℕ) → i < b.size → m < length (reference_words b i)
+module _ (b : Batch) (listed : List ℕ) (layout : ClosedLayout) (views : List Knowledge) (es : List Event) (law : Lawful b listed layout.words views es)
+    (every : length layout.references ≡ b.size) (begin : (i : ℕ) → i < b.size → get_or layout.references i 0 ≡ reference_begin b i) where
+  past-front : (n : ℕ) (v : Knowledge) → get_elem? views n ≡ some v → v.placed ≡ true → (i m : ℕ) → i < b.size → m < length (reference_words b i)
       → i < front_of (reach b es) (partition_at b i m)
   past-front n v is placed i m below low =
       let long = law.sound.same_length i in
@@ -90,12 +90,12 @@ module _ (b : Batch) (listed : List ℕ) (standing : ClosedLayout) (views : List
       let all = (law.fits n v is).placed placed (partition_at b i m) there in
       omega arith
 
-  pub referred : (n : ℕ) (v : View) → get_elem? views n ≡ some v → v.placed ≡ true → TellsReferences b standing
+  pub referred : (n : ℕ) (v : Knowledge) → get_elem? views n ≡ some v → v.placed ≡ true → HasItsReferences b layout
   referred n v is placed = record {
     begins = λ i below. omega arith;
     within = λ i m below low. (let room = position-below b listed (reference_word i m) (below, low) in let wide = law.shows.wide in let from = begin i below in omega arith);
     right = λ i m below low. (let past = past-front n v is placed i m below low in
-        ap (λ (p : ℕ). get_or standing.words (p + m) 0) (begin i below)
+        ap (λ (p : ℕ). get_or layout.words (p + m) 0) (begin i below)
         ∙ law.shows.at (reference_word i m) (below, low) past
         ∙ placed-reference b law.sound es i m below low past);
   }

@@ -3,5 +3,5 @@ pub mod Written
 pub mod Views
 pub mod Legal
 pub mod Passes
-pub mod Tells
+pub mod Meanings
 pub mod Closing

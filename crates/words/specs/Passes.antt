@@ -3,7 +3,7 @@ use Rattle.std.specs.Prelude.{◌≡◌, ◌<◌, ◌+◌, ◌-◌, ◌^◌, ℕ
 use Rattle.atomic_table.specs.Seated.{TableId}
 use Rattle.atomic_table.specs.Table.{Me}
 use Rattle.bohm_core_base.specs.Batch.{Batch}
-use Rattle.words.specs.declared.view.View.{View}
+use Rattle.words.specs.declared.knowledge.Knowledge.{Knowledge}
 use Rattle.words.specs.Layout.{block_begin, end_begin, front_begin, reference_begin, total}
 use Rattle.words.specs.Views.{HoldsNone, first_view, front_in, joined, placer_view, split_left, split_right}
 
@@ -13,22 +13,22 @@ pub record Words (K : Type 0) : Type 0 where
   pub key : K
 
 -- a pass: its table, its number there, what it knows, and how many bodies were run through it
-pub record Passing : Type 0 where
+pub record PassState : Type 0 where
   pub table : TableId
   pub number : ℕ
-  pub view : View
+  pub view : Knowledge
   pub bodies : ℕ
 
 -- the pass is one of these words
-abbrev pub IsPassOf : {K : Type 0} → Words K → Passing → Type 0
+abbrev pub IsPassOf : {K : Type 0} → Words K → PassState → Type 0
 IsPassOf words pass = pass.table ≡ words.table
 
 -- the pass has gone on to this view
-abbrev pub gone_on : Passing → View → Passing
+abbrev pub gone_on : PassState → Knowledge → PassState
 gone_on pass view = record pass { view = view }
 
 -- no other took it in, it isn't a placer, and it has no slot of the table
-pub record IsAlive (me : Me ℕ View) (knows : Bool) : Type 0 where
+pub record IsAlive (me : Me ℕ Knowledge) (knows : Bool) : Type 0 where
   pub bare : me.1 ≡ []
   pub alive : me.0.spent ≡ false
   pub pass : me.0.placer ≡ false
@@ -36,7 +36,7 @@ pub record IsAlive (me : Me ℕ View) (knows : Bool) : Type 0 where
   pub placed : knows ≡ true → me.0.placed ≡ true
 
 -- and it holds no place
-pub record IsIdle (me : Me ℕ View) (knows : Bool) : Type 0 where
+pub record IsIdle (me : Me ℕ Knowledge) (knows : Bool) : Type 0 where
   pub bare : me.1 ≡ []
   pub alive : me.0.spent ≡ false
   pub pass : me.0.placer ≡ false
@@ -44,21 +44,21 @@ pub record IsIdle (me : Me ℕ View) (knows : Bool) : Type 0 where
   pub idle : HoldsNone me.0
 
 -- a placer: its table, its number there, and what it did
-pub record Placing : Type 0 where
+pub record PlacerState : Type 0 where
   pub table : TableId
   pub number : ℕ
-  pub view : View
+  pub view : Knowledge
 
 -- the placer is one of these words
-abbrev pub IsPlacerOf : {K : Type 0} → Words K → Placing → Type 0
+abbrev pub IsPlacerOf : {K : Type 0} → Words K → PlacerState → Type 0
 IsPlacerOf words placer = placer.table ≡ words.table
 
 -- the placer has gone on to this view
-abbrev pub placed_on : Placing → View → Placing
+abbrev pub placed_on : PlacerState → Knowledge → PlacerState
 placed_on placer view = record placer { view = view }
 
 -- the view is that of the placer of this partition, which has placed this many places
-pub record IsPlacer (me : Me ℕ View) (number count : ℕ) : Type 0 where
+pub record IsPlacer (me : Me ℕ Knowledge) (number count : ℕ) : Type 0 where
   pub bare : me.1 ≡ []
   pub alive : me.0.spent ≡ false
   pub places : me.0.placer ≡ true
@@ -94,30 +94,30 @@ pub record IsLaid
   pub few : count < 2 ^ 64
 
 -- one more body was run through the pass; the count stops at the greatest number
-abbrev pub counted : Passing → Passing
+abbrev pub counted : PassState → PassState
 counted pass = record pass { bodies = min (suc pass.bodies) (2 ^ 64 - 1) }
 
 -- the first pass of a batch of which all is placed, and of one of which nothing is placed yet
-abbrev pub first_pass : {K : Type 0} → Words K → Passing
+abbrev pub first_pass : {K : Type 0} → Words K → PassState
 first_pass words = record { table = words.table; number = 0; view = first_view true; bodies = 0 }
 
-abbrev pub open_pass : {K : Type 0} → Words K → Passing
+abbrev pub open_pass : {K : Type 0} → Words K → PassState
 open_pass words = record { table = words.table; number = 0; view = first_view false; bodies = 0 }
 
 -- the placer of a partition that was cut from a pass, whose number is a new one
-abbrev pub cut_placer : Passing → ℕ → ℕ → Placing
+abbrev pub cut_placer : PassState → ℕ → ℕ → PlacerState
 cut_placer pass partition number = record { table = pass.table; number = number; view = placer_view partition }
 
 -- the part of a split pass that goes on
-abbrev pub cut_first : Passing → Passing
+abbrev pub cut_first : PassState → PassState
 cut_first pass = record pass { view = split_left pass.view }
 
 -- and the one that begins, whose number is a new one
-abbrev pub cut_second : Passing → ℕ → Passing
+abbrev pub cut_second : PassState → ℕ → PassState
 cut_second pass number = record { table = pass.table; number = number; view = split_right pass.view; bodies = 0 }
 
 -- a pass that took in another
-abbrev pub joined_pass : Passing → Passing → Passing
+abbrev pub joined_pass : PassState → PassState → PassState
 joined_pass pass other = record {
   table = pass.table;
   number = pass.number;

@@ -6,7 +6,7 @@ use Rattle.std.specs.Prelude.{◌≡◌, ◌⊎◌, ◌==◌, ◌||◌, ℕ, suc
 use Rattle.bohm_core_base.specs.declared.event.Event.{Event}
 use Rattle.bohm_core_base.specs.declared.event.Event.TheVariants.{Place, Claim, Fill, End, Finish, GiveBack}
 use Rattle.bohm_core_base.specs.Batch.{Batch, place_has_deed_on, is_listed, reference_words}
-use Rattle.words.specs.declared.view.View.{View}
+use Rattle.words.specs.declared.knowledge.Knowledge.{Knowledge}
 
 -- x is among these
 abbrev pub In : {A : Type 0} → A → List A → Type 0
@@ -14,7 +14,7 @@ In x [] = ⊥
 In x (y ∷ ys) = (x ≡ y) ⊎ In x ys
 
 -- the first pass of a batch, of which all is placed or nothing yet
-abbrev pub first_view : Bool → View
+abbrev pub first_view : Bool → Knowledge
 first_view placed = record {
   events = [];
   kept = [];
@@ -33,7 +33,7 @@ first_view placed = record {
 }
 
 -- what a pass that was taken in leaves
-abbrev pub spent_view : View
+abbrev pub spent_view : Knowledge
 spent_view = record {
   events = [];
   kept = [];
@@ -52,10 +52,10 @@ spent_view = record {
 }
 
 -- of a split, the first part goes on, and the second begins without events and knows the same
-abbrev pub split_left : View → View
+abbrev pub split_left : Knowledge → Knowledge
 split_left view = record view { sole = false }
 
-abbrev pub split_right : View → View
+abbrev pub split_right : Knowledge → Knowledge
 split_right view = record {
   events = [];
   kept = [];
@@ -74,7 +74,7 @@ split_right view = record {
 }
 
 -- the first goes on, knows what either knew, and keeps the lists of the other, which has this number
-abbrev pub joined : View → ℕ → View → View
+abbrev pub joined : Knowledge → ℕ → Knowledge → Knowledge
 joined view number other = record {
   events = view.events;
   kept = view.kept ++ (number, other.events) ∷ other.kept;
@@ -93,11 +93,11 @@ joined view number other = record {
 }
 
 -- the placer of a partition was cut from the pass
-abbrev pub with_cut : View → ℕ → View
+abbrev pub with_cut : Knowledge → ℕ → Knowledge
 with_cut view partition = record view { cut = view.cut ++ partition ∷ [] }
 
 -- a placer, which begins without events or references
-abbrev pub placer_view : ℕ → View
+abbrev pub placer_view : ℕ → Knowledge
 placer_view partition = record {
   events = [];
   kept = [];
@@ -116,51 +116,51 @@ placer_view partition = record {
 }
 
 -- a placer stored one more reference
-abbrev pub with_stored : View → ℕ → View
+abbrev pub with_stored : Knowledge → ℕ → Knowledge
 with_stored view number = record view { stored = view.stored ++ number ∷ [] }
 
 -- a placer placed a place
-abbrev pub with_placing : View → View
+abbrev pub with_placing : Knowledge → Knowledge
 with_placing view = record view { placings = view.placings ++ Place view.partition ∷ []; stored = [] }
 
 -- how many places a placer has placed, which is the index of the one that it places next
-abbrev pub front_in : View → ℕ
+abbrev pub front_in : Knowledge → ℕ
 front_in view = length view.placings
 
 -- one more event of its own
-abbrev pub with_event : View → Event → View
+abbrev pub with_event : Knowledge → Event → Knowledge
 with_event view event = record view { events = view.events ++ event ∷ [] }
 
 -- it knows a place done
-abbrev pub with_known : View → ℕ → View
+abbrev pub with_known : Knowledge → ℕ → Knowledge
 with_known view index = record view { known = view.known ++ index ∷ [] }
 
 -- it found a place held by another pass
-abbrev pub with_sighting : View → ℕ → View
+abbrev pub with_sighting : Knowledge → ℕ → Knowledge
 with_sighting view index = record view { sightings = view.sightings ++ (index, length view.events) ∷ [] }
 
 -- it found a front, which is at least so from then on
-abbrev pub with_front : View → ℕ → ℕ → View
+abbrev pub with_front : Knowledge → ℕ → ℕ → Knowledge
 with_front view partition found = record view {
   fronts = view.fronts ++ (partition, found) ∷ [];
   front_sightings = view.front_sightings ++ (partition, found, length view.events) ∷ [];
 }
 
 -- it knows that all is placed
-abbrev pub with_all_placed : View → View
+abbrev pub with_all_placed : Knowledge → Knowledge
 with_all_placed view = record view { placed = true }
 
 -- the pass knows that a partition has placed the place
-abbrev pub KnowsFront : View → ℕ → ℕ → Type 0
+abbrev pub KnowsFront : Knowledge → ℕ → ℕ → Type 0
 KnowsFront view partition index =
     (view.placed ≡ true) ⊎ ((count : ℕ) × In (partition, count) view.fronts × (index < count))
 
 -- and that every partition has
-abbrev pub KnowsPast : Batch → View → ℕ → Type 0
+abbrev pub KnowsPast : Batch → Knowledge → ℕ → Type 0
 KnowsPast batch view index = (partition : ℕ) → partition < batch.partitions → KnowsFront view partition index
 
 -- who has gone on from the first view to the second knows no fewer fronts
-abbrev pub KeepsFronts : View → View → Type 0
+abbrev pub KeepsFronts : Knowledge → Knowledge → Type 0
 KeepsFronts view after =
     (view.placed ≡ true → after.placed ≡ true)
     × ((partition count : ℕ) → In (partition, count) view.fronts → In (partition, count) after.fronts)
@@ -202,20 +202,20 @@ track index stored [] = stored
 track index stored (event ∷ events) = track index (if is_event_at index event then turn stored event else stored) events
 
 -- by its own events the pass holds the place, and has stored this many of its own words and the ends of these slots
-abbrev pub Holds : View → ℕ → ℕ → List ℕ → Type 0
+abbrev pub Holds : Knowledge → ℕ → ℕ → List ℕ → Type 0
 Holds view index count ended = track index None view.events ≡ Some (count, ended)
 
 -- the pass holds no place
-abbrev pub HoldsNone : View → Type 0
+abbrev pub HoldsNone : Knowledge → Type 0
 HoldsNone view = (index count : ℕ) (ended : List ℕ) → ¬ (Holds view index count ended)
 
 -- the pass knows each place done that this one is referred to
-abbrev pub KnowsReferences : Batch → View → ℕ → Type 0
+abbrev pub KnowsReferences : Batch → Knowledge → ℕ → Type 0
 KnowsReferences batch view index = (other : ℕ) → In (suc other) (reference_words batch index) → In other view.known
 
 -- the place has a deed on a table of a later place, of which the pass knows done all that it is referred to: so all deeds on
 -- that table before the later place are done
-abbrev pub IsSettled : Batch → View → ℕ → Type 0
+abbrev pub IsSettled : Batch → Knowledge → ℕ → Type 0
 IsSettled batch view index =
     (later : ℕ) × (table : ℕ) × (index < later) × (later < batch.size) × KnowsReferences batch view later
     × (is_listed (batch.tables later) table ≡ true) × (place_has_deed_on batch index table ≡ true)

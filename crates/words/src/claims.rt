@@ -3,10 +3,10 @@
 ghost use Rattle.std.specs.Prelude.{◌≡◌, ◌<◌, []};
 ghost use Rattle.bohm_core_base.specs.declared.event.Event.TheVariants.{GiveBack};
 ghost use Rattle.words.specs.Passes.{IsPassOf, gone_on};
-ghost use Rattle.words.specs.Tells.{ClaimTells, LookTells};
+ghost use Rattle.words.specs.Meanings.{ClaimMeans, LookMeans};
 ghost use Rattle.words.specs.Views.{Holds, In, IsSettled, KnowsPast, with_event};
 
-use crate::placed::Placed;
+use crate::batch_data::BatchData;
 use crate::table::{BatchWords, Holding};
 use std::marker::Brand;
 
@@ -32,16 +32,16 @@ pub enum Seen {
     Done,
 }
 
-impl<K: Placed> BatchWords<K> {
+impl<K: BatchData> BatchWords<K> {
     /// Takes a place if it is free: one compare-exchange of its claim, from free to held. The pass knows that every partition has
     /// placed the place. A place that the pass knows done is
     /// found done, and so is one with a deed on a table of a later place of which the pass knows all references done.
     pub fn claim(&self, pass: &mut Holding, index: usize) -> Claimed
-        requires ours { IsPassOf self.now pass.old }
+        requires same_table { IsPassOf self.now pass.old }
         requires within { index < (K.batch self.now.key).size }
         requires past { KnowsPast (K.batch self.now.key) pass.old.view index }
         ensures same { pass.new ≡ gone_on pass.old pass.new.view }
-        ensures tells { ClaimTells pass.old.number index pass.old.view result pass.new.view }
+        ensures tells { ClaimMeans pass.old.number index pass.old.view result pass.new.view }
         ensures known { In index pass.old.view.known → result ≡ Claimed.Done }
         ensures settled { IsSettled (K.batch self.now.key) pass.old.view index → result ≡ Claimed.Done }
     {
@@ -57,10 +57,10 @@ impl<K: Placed> BatchWords<K> {
     /// One load of a claim. A place that the pass knows done is found done, and so is one with a deed on a table of a later
     /// place of which the pass knows all references done.
     pub fn look(&self, pass: &mut Holding, index: usize) -> Seen
-        requires ours { IsPassOf self.now pass.old }
+        requires same_table { IsPassOf self.now pass.old }
         requires within { index < (K.batch self.now.key).size }
         ensures same { pass.new ≡ gone_on pass.old pass.new.view }
-        ensures tells { LookTells index pass.old.view result pass.new.view }
+        ensures tells { LookMeans index pass.old.view result pass.new.view }
         ensures known { In index pass.old.view.known → result ≡ Seen.Done }
         ensures settled { IsSettled (K.batch self.now.key) pass.old.view index → result ≡ Seen.Done }
     {
@@ -75,7 +75,7 @@ impl<K: Placed> BatchWords<K> {
 
     /// Sets the claim of a place that the pass holds, and for which nothing is stored, to free: one store.
     pub fn give_back(&self, pass: &mut Holding, index: usize)
-        requires ours { IsPassOf self.now pass.old }
+        requires same_table { IsPassOf self.now pass.old }
         requires within { index < (K.batch self.now.key).size }
         requires blank { Holds pass.old.view index 0 [] }
         ensures { pass.new ≡ gone_on pass.old (with_event pass.old.view (GiveBack pass.old.number index)) }

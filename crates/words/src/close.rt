@@ -2,10 +2,10 @@
 
 ghost use Rattle.std.specs.Prelude.{◌≡◌, ◌<◌, ◌+◌, suc, length, slice_index, true};
 ghost use Rattle.std.specs.Mem.Slots.{slots_len, IsFull};
-ghost use Rattle.words.specs.Closing.{TellsReferences, IsSettledBy, LastWith, claim_in, end_word_in, own_in, reference_in};
+ghost use Rattle.words.specs.Closing.{HasItsReferences, IsSettledBy, LastWith, claim_in, end_word_in, own_in, reference_in};
 ghost use Rattle.words.specs.Passes.{IsPassOf};
 
-use crate::placed::Placed;
+use crate::batch_data::BatchData;
 use crate::table::{BatchWords, Pass};
 use atomic_table::Closed as Stood;
 use std::alloc::Global;
@@ -35,7 +35,7 @@ impl Model for Closed {
     } };
 }
 
-impl<K: Placed> BatchWords<K> {
+impl<K: BatchData> BatchWords<K> {
     /// The words as they are. Some list of events led to them, with this pass's events in order. Each place whose claim is done has the own
     /// words and the ends of the serial run; of any other place the words are a beginning of the serial run's; and no end is another than
     /// the serial run's. If the pass knows that all is placed, the references are the batch's.
@@ -43,7 +43,7 @@ impl<K: Placed> BatchWords<K> {
         requires { IsPassOf self pass }
         ensures last { LastWith (K.batch self.key) (K.listed self.key) result.words pass.number pass.view }
         ensures settled { IsSettledBy (K.batch self.key) (K.listed self.key) result }
-        ensures references { pass.view.placed ≡ true → TellsReferences (K.batch self.key) result }
+        ensures references { pass.view.placed ≡ true → HasItsReferences (K.batch self.key) result }
     {
         let BatchWords {
             table,

@@ -6,19 +6,19 @@ ghost use Rattle.bohm_core_base.specs.Batch.{words_length};
 ghost use Rattle.bohm_core_base.specs.Serial.{serial_ends, serial_words};
 ghost use Rattle.words.specs.Layout.{listed_slot_at};
 ghost use Rattle.words.specs.Passes.{IsPassOf, gone_on};
-ghost use Rattle.words.specs.Tells.{EndTells, HoldsWhole};
+ghost use Rattle.words.specs.Meanings.{EndMeans, HoldsWhole};
 ghost use Rattle.words.specs.Views.{Holds, In, KnowsReferences, with_event, with_known};
 
-use crate::placed::Placed;
+use crate::batch_data::BatchData;
 use crate::table::{BatchWords, Holding};
 use model_base::Place;
 use std::marker::Brand;
 
-impl<K: Placed> BatchWords<K> {
+impl<K: BatchData> BatchWords<K> {
     /// Stores the next own word of a place that the pass holds and of which it knows all references done: one store. The word
     /// is the serial run's.
     pub fn fill(&self, pass: &mut Holding, index: usize, number: usize, word: u64)
-        requires ours { IsPassOf self.now pass.old }
+        requires same_table { IsPassOf self.now pass.old }
         requires within { index < (K.batch self.now.key).size }
         requires missing { number < words_length (K.batch self.now.key) index }
         requires held { (ended : _) × Holds pass.old.view index number ended }
@@ -33,7 +33,7 @@ impl<K: Placed> BatchWords<K> {
     /// Stores a listed end, not yet set, of a record that the place ends by the serial run: one store. The pass holds the place, has stored
     /// all its own words, and knows all its references done. `place` is where it is in the log.
     pub fn set_end(&self, pass: &mut Holding, index: usize, end: usize, place: Place)
-        requires ours { IsPassOf self.now pass.old }
+        requires same_table { IsPassOf self.now pass.old }
         requires within { index < (K.batch self.now.key).size }
         requires listed { end < length (K.listed self.now.key) }
         requires held { (ended : _)
@@ -53,7 +53,7 @@ impl<K: Placed> BatchWords<K> {
     /// Sets the claim of a place to done: one store. The pass holds the place, and has stored all own words and all ends that
     /// the place sets by the serial run.
     pub fn finish_place(&self, pass: &mut Holding, index: usize)
-        requires ours { IsPassOf self.now pass.old }
+        requires same_table { IsPassOf self.now pass.old }
         requires within { index < (K.batch self.now.key).size }
         requires whole { HoldsWhole (K.batch self.now.key) pass.old.view index }
         ensures { pass.new ≡ gone_on pass.old (with_known (with_event pass.old.view (Finish pass.old.number index)) index) }
@@ -64,7 +64,7 @@ impl<K: Placed> BatchWords<K> {
 
     /// The own word of a number of a place that the pass knows done: one load. It is the serial run's.
     pub fn own(&self, pass: &mut Holding, index: usize, number: usize) -> u64
-        requires ours { IsPassOf self.now pass.old }
+        requires same_table { IsPassOf self.now pass.old }
         requires within { (index < (K.batch self.now.key).size) × (number < words_length (K.batch self.now.key) index) }
         requires known { In index pass.old.view.known }
         ensures same { pass.new ≡ pass.old }
@@ -78,10 +78,10 @@ impl<K: Placed> BatchWords<K> {
     /// pass knows the ending place done; and for a place of which the pass knows all references done, and on one of whose
     /// tables the grant is, the end that is read tells below the place what the serial run's does.
     pub fn end(&self, pass: &mut Holding, end: usize) -> u64
-        requires ours { IsPassOf self.now pass.old }
+        requires same_table { IsPassOf self.now pass.old }
         requires listed { end < length (K.listed self.now.key) }
         ensures same { pass.new ≡ pass.old }
-        ensures tells { EndTells (K.batch self.now.key) (listed_slot_at (K.listed self.now.key) end) pass.old.view result }
+        ensures tells { EndMeans (K.batch self.now.key) (listed_slot_at (K.listed self.now.key) end) pass.old.view result }
     {
         let at = self.end_at(end);
         self.get::<Brand>(&mut pass.seat, at, 0, end)

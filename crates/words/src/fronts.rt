@@ -4,10 +4,10 @@ ghost use Rattle.std.specs.Prelude.{◌≡◌, ◌<◌, ◌+◌, length, false, 
 ghost use Rattle.bohm_core_base.specs.Batch.{reference_words};
 ghost use Rattle.words.specs.Layout.{partition_at, reference_at};
 ghost use Rattle.words.specs.Passes.{IsPassOf, IsPlacerOf, cut_placer, gone_on, placed_on};
-ghost use Rattle.words.specs.Tells.{FrontTells, StoredAll};
+ghost use Rattle.words.specs.Meanings.{FrontMeans, StoredAll};
 ghost use Rattle.words.specs.Views.{In, KnowsFront, KnowsPast, front_in, with_all_placed, with_cut, with_front, with_placing, with_stored};
 
-use crate::placed::Placed;
+use crate::batch_data::BatchData;
 use crate::table::{BatchWords, Holding, Pass, Placer};
 use std::marker::Brand;
 
@@ -27,11 +27,11 @@ impl Placer {
     }
 }
 
-impl<K: Placed> BatchWords<K> {
+impl<K: BatchData> BatchWords<K> {
     /// Cuts the placer of a partition off the first pass of a batch of which nothing was placed at first, by one load. The
     /// pass was never split, and it hasn't cut this placer; it stays sole. The placer has placed nothing.
     pub fn cut_placer(&self, pass: Pass, partition: usize) -> (Pass, Placer)
-        requires ours { IsPassOf self.now pass }
+        requires same_table { IsPassOf self.now pass }
         requires within { partition < (K.batch self.now.key).partitions }
         requires sole { pass.view.sole ≡ true }
         requires open { pass.view.placed ≡ false }
@@ -61,7 +61,7 @@ impl<K: Placed> BatchWords<K> {
 
     /// Stores a reference of the place that the placer places next, into the placer's partition: one store.
     pub fn set_reference(&self, placer: &mut Placer, number: usize, word: u64)
-        requires ours { IsPlacerOf self.now placer.old }
+        requires same_table { IsPlacerOf self.now placer.old }
         requires within { front_in placer.old.view < (K.batch self.now.key).size }
         requires number { number < length (reference_words (K.batch self.now.key) (front_in placer.old.view)) }
         requires mine { partition_at (K.batch self.now.key) (front_in placer.old.view) number ≡ placer.old.view.partition }
@@ -76,7 +76,7 @@ impl<K: Placed> BatchWords<K> {
     /// Places the next place for the placer's partition: one store of its front. All references of the place into the partition
     /// are stored.
     pub fn advance(&self, placer: &mut Placer)
-        requires ours { IsPlacerOf self.now placer.old }
+        requires same_table { IsPlacerOf self.now placer.old }
         requires partition { placer.old.view.partition < (K.batch self.now.key).partitions }
         requires within { front_in placer.old.view < (K.batch self.now.key).size }
         requires stored { StoredAll (K.batch self.now.key) placer.old.view }
@@ -92,10 +92,10 @@ impl<K: Placed> BatchWords<K> {
     /// How many places a partition has placed: one load of its front. It is past each place that the pass knew it past, and
     /// past each that the pass knows done.
     pub fn front(&self, pass: &mut Holding, partition: usize) -> u64
-        requires ours { IsPassOf self.now pass.old }
+        requires same_table { IsPassOf self.now pass.old }
         requires within { partition < (K.batch self.now.key).partitions }
         ensures same { pass.new ≡ gone_on pass.old (with_front pass.old.view partition result) }
-        ensures tells { FrontTells (K.batch self.now.key) partition pass.old.view result }
+        ensures tells { FrontMeans (K.batch self.now.key) partition pass.old.view result }
     {
         let at = self.front_spot(partition);
         self.get::<Brand>(&mut pass.seat, at, partition, 0)
@@ -103,7 +103,7 @@ impl<K: Placed> BatchWords<K> {
 
     /// One load of a front, after which the pass knows that all is placed: it knew each front past the last place.
     pub fn settle_fronts(&self, pass: &mut Holding, last: usize)
-        requires ours { IsPassOf self.now pass.old }
+        requires same_table { IsPassOf self.now pass.old }
         requires some { 0 < (K.batch self.now.key).partitions }
         requires last { last + 1 ≡ (K.batch self.now.key).size }
         requires past { KnowsPast (K.batch self.now.key) pass.old.view last }
@@ -117,7 +117,7 @@ impl<K: Placed> BatchWords<K> {
     /// A reference of a place that the pass knows its partition to have placed: 0 for what was there before the batch, or one more than the
     /// index of a place. One load.
     pub fn reference(&self, pass: &mut Holding, index: usize, number: usize) -> u64
-        requires ours { IsPassOf self.now pass.old }
+        requires same_table { IsPassOf self.now pass.old }
         requires within { index < (K.batch self.now.key).size }
         requires number { number < length (reference_words (K.batch self.now.key) index) }
         requires known { KnowsFront pass.old.view (partition_at (K.batch self.now.key) index number) index }

@@ -9,7 +9,7 @@ ghost use Rattle.bohm_core_base.specs.declared.hold.Hold.TheVariants.{Done, Held
 ghost use Rattle.bohm_core_base.specs.Batch.{Batch, IsSoundBatch};
 ghost use Rattle.bohm_core_base.specs.Laws.{actor_of};
 ghost use Rattle.bohm_core_base.specs.Machine.{front_of, hold_of, is_done, own_of, reach, start};
-ghost use Rattle.words.specs.declared.view.View.{View};
+ghost use Rattle.words.specs.declared.knowledge.Knowledge.{Knowledge};
 ghost use Rattle.words.specs.Legal.{IsEffective, Lawful, events_by, finishes_of, is_event_of};
 ghost use Rattle.words.specs.Views.{Holds, In, IsSettled, KeepsFronts, KnowsFront, KnowsPast, KnowsReferences, front_in, is_event_at, joined, split_left, split_right, with_all_placed, with_event, with_front, with_known};
 
@@ -17,20 +17,20 @@ ghost use Rattle.words.specs.Views.{Holds, In, IsSettled, KeepsFronts, KnowsFron
 /// listed after the others; it holds no more what it finished or gave back. Its events about other places change nothing of that, and what
 /// is stored of a place is one thing.
 pub fn own_events_tell_what_is_held()
-    ensures claimed { (view : View) (actor index : ℕ) → Holds (with_event view (Claim actor index)) index 0 [] }
-    ensures filled { (view : View) (actor index count : ℕ) (ended : List ℕ)
+    ensures claimed { (view : Knowledge) (actor index : ℕ) → Holds (with_event view (Claim actor index)) index 0 [] }
+    ensures filled { (view : Knowledge) (actor index count : ℕ) (ended : List ℕ)
         → Holds view index count ended → Holds (with_event view (Fill actor index)) index (suc count) ended }
-    ensures ended { (view : View) (actor index slot count : ℕ) (ended : List ℕ)
+    ensures ended { (view : Knowledge) (actor index slot count : ℕ) (ended : List ℕ)
         → Holds view index count ended → Holds (with_event view (End actor index slot)) index count (ended ++ slot ∷ []) }
-    ensures finished { (view : View) (actor index count : ℕ) (ended : List ℕ)
+    ensures finished { (view : Knowledge) (actor index count : ℕ) (ended : List ℕ)
         → ¬ (Holds (with_event view (Finish actor index)) index count ended) }
-    ensures given_back { (view : View) (actor index count : ℕ) (ended : List ℕ)
+    ensures given_back { (view : Knowledge) (actor index count : ℕ) (ended : List ℕ)
         → ¬ (Holds (with_event view (GiveBack actor index)) index count ended) }
-    ensures others { (view : View) (event : Event) (index count : ℕ) (ended : List ℕ)
+    ensures others { (view : Knowledge) (event : Event) (index count : ℕ) (ended : List ℕ)
         → is_event_at index event ≡ false → Holds view index count ended → Holds (with_event view event) index count ended }
-    ensures no_others { (view : View) (event : Event) (index count : ℕ) (ended : List ℕ)
+    ensures no_others { (view : Knowledge) (event : Event) (index count : ℕ) (ended : List ℕ)
         → is_event_at index event ≡ false → Holds (with_event view event) index count ended → Holds view index count ended }
-    ensures once { (view : View) (index count other : ℕ) (ended others : List ℕ)
+    ensures once { (view : Knowledge) (index count other : ℕ) (ended others : List ℕ)
         → Holds view index count ended → Holds view index other others → (count ≡ other) × (ended ≡ others) }
 {}
 
@@ -45,33 +45,34 @@ pub fn events_are_their_actors()
 /// A pass knows the place that it just found done, and keeps all that it knew; both parts of a split know what the whole knew,
 /// and a join knows what either knew. Who knows more knows the references that were known, and what they settle.
 pub fn passes_keep_what_they_know()
-    ensures learned { (view : View) (index : ℕ) → In index (with_known view index).known }
-    ensures kept { (view : View) (index other : ℕ) → In other view.known → In other (with_known view index).known }
-    ensures split { (view : View) (index : ℕ) → In index view.known → In index (split_left view).known × In index (split_right view).known }
-    ensures first { (view other : View) (number index : ℕ) → In index view.known → In index (joined view number other).known }
-    ensures second { (view other : View) (number index : ℕ) → In index other.known → In index (joined view number other).known }
-    ensures references { (batch : Batch) (view after : View) (index : ℕ)
+    ensures learned { (view : Knowledge) (index : ℕ) → In index (with_known view index).known }
+    ensures kept { (view : Knowledge) (index other : ℕ) → In other view.known → In other (with_known view index).known }
+    ensures split { (view : Knowledge) (index : ℕ) → In index view.known
+        → In index (split_left view).known × In index (split_right view).known }
+    ensures first { (view other : Knowledge) (number index : ℕ) → In index view.known → In index (joined view number other).known }
+    ensures second { (view other : Knowledge) (number index : ℕ) → In index other.known → In index (joined view number other).known }
+    ensures references { (batch : Batch) (view after : Knowledge) (index : ℕ)
         → ((other : ℕ) → In other view.known → In other after.known) → KnowsReferences batch view index
         → KnowsReferences batch after index }
-    ensures settled { (batch : Batch) (view after : View) (index : ℕ)
+    ensures settled { (batch : Batch) (view after : Knowledge) (index : ℕ)
         → ((other : ℕ) → In other view.known → In other after.known) → IsSettled batch view index → IsSettled batch after index }
 {}
 
 /// A pass knows the front that it just found, and keeps those that it knew; who knows no fewer fronts knows each place that was
 /// known to be past, and each before it; both parts of a split know what the whole knew, and a join knows what either knew.
 pub fn passes_keep_the_fronts_that_they_know()
-    ensures found { (view : View) (partition found index : ℕ) → index < found
+    ensures found { (view : Knowledge) (partition found index : ℕ) → index < found
         → KnowsFront (with_front view partition found) partition index }
-    ensures kept { (view : View) (partition found other index : ℕ) → KnowsFront view other index
+    ensures kept { (view : Knowledge) (partition found other index : ℕ) → KnowsFront view other index
         → KnowsFront (with_front view partition found) other index }
-    ensures all { (batch : Batch) (view : View) (index : ℕ) → KnowsPast batch (with_all_placed view) index }
-    ensures past { (batch : Batch) (view after : View) (index other : ℕ)
+    ensures all { (batch : Batch) (view : Knowledge) (index : ℕ) → KnowsPast batch (with_all_placed view) index }
+    ensures past { (batch : Batch) (view after : Knowledge) (index other : ℕ)
         → KeepsFronts view after → other ≤ index → KnowsPast batch view index → KnowsPast batch after other }
-    ensures split { (batch : Batch) (view : View) (index : ℕ) → KnowsPast batch view index
+    ensures split { (batch : Batch) (view : Knowledge) (index : ℕ) → KnowsPast batch view index
         → KnowsPast batch (split_left view) index × KnowsPast batch (split_right view) index }
-    ensures first { (batch : Batch) (view other : View) (number index : ℕ) → KnowsPast batch view index
+    ensures first { (batch : Batch) (view other : Knowledge) (number index : ℕ) → KnowsPast batch view index
         → KnowsPast batch (joined view number other) index }
-    ensures second { (batch : Batch) (view other : View) (number index : ℕ) → KnowsPast batch other index
+    ensures second { (batch : Batch) (view other : Knowledge) (number index : ℕ) → KnowsPast batch other index
         → KnowsPast batch (joined view number other) index }
 {}
 
@@ -79,22 +80,25 @@ pub fn passes_keep_the_fronts_that_they_know()
 /// done is done; so is a place with a deed on a table of a later place of which it knows all references done; and a partition has
 /// placed each place that the pass knows it past, and so has every one if the pass knows that all is placed.
 pub fn views_tell_the_state()
-    ensures held { (batch : Batch) (listed words : List ℕ) (views : List View) (events : List Event)
-        (number index count : ℕ) (view : View) (ended : List ℕ)
+    ensures held { (batch : Batch) (listed words : List ℕ) (views : List Knowledge) (events : List Event)
+        (number index count : ℕ) (view : Knowledge) (ended : List ℕ)
         → Lawful batch listed words views events → get_elem? views number ≡ some view → view.spent ≡ false → Holds view index count ended
         → (hold_of (reach batch events) index ≡ Held number) × (length (own_of (reach batch events) index) ≡ count) }
-    ensures known { (batch : Batch) (listed words : List ℕ) (views : List View) (events : List Event) (number index : ℕ) (view : View)
+    ensures known { (batch : Batch) (listed words : List ℕ) (views : List Knowledge) (events : List Event) (number index : ℕ)
+        (view : Knowledge)
         → Lawful batch listed words views events → get_elem? views number ≡ some view → In index view.known
         → hold_of (reach batch events) index ≡ Done }
-    ensures settled { (batch : Batch) (listed words : List ℕ) (views : List View) (events : List Event) (number index : ℕ) (view : View)
+    ensures settled { (batch : Batch) (listed words : List ℕ) (views : List Knowledge) (events : List Event) (number index : ℕ)
+        (view : Knowledge)
         → Lawful batch listed words views events → get_elem? views number ≡ some view → view.spent ≡ false → IsSettled batch view index
         → hold_of (reach batch events) index ≡ Done }
-    ensures past { (batch : Batch) (listed words : List ℕ) (views : List View) (events : List Event)
-        (number partition index : ℕ) (view : View)
+    ensures past { (batch : Batch) (listed words : List ℕ) (views : List Knowledge) (events : List Event)
+        (number partition index : ℕ) (view : Knowledge)
         → Lawful batch listed words views events → get_elem? views number ≡ some view → view.spent ≡ false
         → partition < batch.partitions → index < batch.size → KnowsFront view partition index
         → index < front_of (reach batch events) partition }
-    ensures placed_by { (batch : Batch) (listed words : List ℕ) (views : List View) (events : List Event) (number : ℕ) (view : View)
+    ensures placed_by { (batch : Batch) (listed words : List ℕ) (views : List Knowledge) (events : List Event) (number : ℕ)
+        (view : Knowledge)
         → Lawful batch listed words views events → get_elem? views number ≡ some view → view.placer ≡ true
         → front_of (reach batch events) view.partition ≡ front_in view }
 {}

@@ -9,16 +9,16 @@ ghost use Rattle.words.specs.Legal.{legal};
 ghost use Rattle.words.specs.Layout.{claim_word, end_word, front_word, own_word, position, reference_word};
 ghost use Rattle.words.specs.Views.{joined, split_left, split_right};
 
-use crate::placed::Placed;
+use crate::batch_data::BatchData;
+use crate::knowledge::Knowledge;
 use crate::table::{BatchWords, Rule};
-use crate::view::View;
 use atomic_table::{Play, Seat, Shared, Split};
 use std::marker::Brand;
 
 // What a step tells is a type M that the caller's proof picks, by the place and the number that are passed for it alone.
-impl<K: Placed> BatchWords<K> {
+impl<K: BatchData> BatchWords<K> {
     // What threads share of the table, which has a word.
-    pub(crate) fn shared(&self) -> &Shared<u8, View, K, Rule>
+    pub(crate) fn shared(&self) -> &Shared<u8, Knowledge, K, Rule>
         ensures same { self.now ≡ record { table = result.now.table_id; key = result.now.key } }
         ensures some { 0 < result.now.table_id.words }
     {
@@ -33,8 +33,8 @@ impl<K: Placed> BatchWords<K> {
     }
 
     // Cuts a seat in two, by one load.
-    pub(crate) fn cut_off(&self, seat: &mut Seat<u8, View>) -> Seat<u8, View>
-        requires ours { seat.old.table_id ≡ self.now.table }
+    pub(crate) fn cut_off(&self, seat: &mut Seat<u8, Knowledge>) -> Seat<u8, Knowledge>
+        requires same_table { seat.old.table_id ≡ self.now.table }
         requires alive { seat.old.me.0.spent ≡ false }
         requires pass { seat.old.me.0.placer ≡ false }
         ensures same { (seat.new.table_id ≡ seat.old.table_id) × (seat.new.id ≡ seat.old.id) × (result.table_id ≡ seat.old.table_id) }
@@ -45,12 +45,12 @@ impl<K: Placed> BatchWords<K> {
     }
 
     // Cuts a seat of the placer of a partition off, by one load.
-    pub(crate) fn cut_placer_off<M: Split<View>>(
+    pub(crate) fn cut_placer_off<M: Split<Knowledge>>(
         &self,
-        seat: &mut Seat<u8, View>,
+        seat: &mut Seat<u8, Knowledge>,
         _partition: usize,
-    ) -> Seat<u8, View>
-        requires ours { seat.old.table_id ≡ self.now.table }
+    ) -> Seat<u8, Knowledge>
+        requires same_table { seat.old.table_id ≡ self.now.table }
         requires splits { Splits {S = ℕ}
             (λ state. legal (K.batch self.now.key) (K.listed self.now.key) state.words state.views)
             seat.old.id seat.old.me.0 (M.left seat.old.me.0) (M.right seat.old.me.0) }
@@ -62,8 +62,12 @@ impl<K: Placed> BatchWords<K> {
     }
 
     // The first seat, which takes the other in, by one load.
-    pub(crate) fn take_in(&self, mut seat: Seat<u8, View>, other: Seat<u8, View>) -> Seat<u8, View>
-        requires ours { (seat.table_id ≡ self.now.table) × (other.table_id ≡ self.now.table) }
+    pub(crate) fn take_in(
+        &self,
+        mut seat: Seat<u8, Knowledge>,
+        other: Seat<u8, Knowledge>,
+    ) -> Seat<u8, Knowledge>
+        requires same_table { (seat.table_id ≡ self.now.table) × (other.table_id ≡ self.now.table) }
         requires bare { other.me.1 ≡ [] }
         requires alive { (seat.me.0.spent ≡ false) × (other.me.0.spent ≡ false) }
         requires pass { (seat.me.0.placer ≡ false) × (other.me.0.placer ≡ false) }
@@ -75,13 +79,13 @@ impl<K: Placed> BatchWords<K> {
     }
 
     // A compare-exchange from free to held.
-    pub(crate) fn exchange<M: Play<u8, View>>(
+    pub(crate) fn exchange<M: Play<u8, Knowledge>>(
         &self,
-        seat: &mut Seat<u8, View>,
+        seat: &mut Seat<u8, Knowledge>,
         at: usize,
         _index: usize,
     ) -> u64
-        requires ours { seat.old.table_id ≡ self.now.table }
+        requires same_table { seat.old.table_id ≡ self.now.table }
         requires within { at < self.now.table.words }
         requires allows { Allows
             (λ state. legal (K.batch self.now.key) (K.listed self.now.key) state.words state.views)
@@ -95,15 +99,15 @@ impl<K: Placed> BatchWords<K> {
     }
 
     // A store.
-    pub(crate) fn put<M: Play<u8, View>>(
+    pub(crate) fn put<M: Play<u8, Knowledge>>(
         &self,
-        seat: &mut Seat<u8, View>,
+        seat: &mut Seat<u8, Knowledge>,
         at: usize,
         word: u64,
         _index: usize,
         _number: usize,
     )
-        requires ours { seat.old.table_id ≡ self.now.table }
+        requires same_table { seat.old.table_id ≡ self.now.table }
         requires within { at < self.now.table.words }
         requires allows { Allows
             (λ state. legal (K.batch self.now.key) (K.listed self.now.key) state.words state.views)
@@ -116,14 +120,14 @@ impl<K: Placed> BatchWords<K> {
     }
 
     // A load.
-    pub(crate) fn get<M: Play<u8, View>>(
+    pub(crate) fn get<M: Play<u8, Knowledge>>(
         &self,
-        seat: &mut Seat<u8, View>,
+        seat: &mut Seat<u8, Knowledge>,
         at: usize,
         _index: usize,
         _number: usize,
     ) -> u64
-        requires ours { seat.old.table_id ≡ self.now.table }
+        requires same_table { seat.old.table_id ≡ self.now.table }
         requires within { at < self.now.table.words }
         requires allows { Allows
             (λ state. legal (K.batch self.now.key) (K.listed self.now.key) state.words state.views)

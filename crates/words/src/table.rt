@@ -2,8 +2,8 @@
 
 ghost use Rattle.std.specs.Prelude.{◌≡◌};
 
-use crate::placed::Placed;
-use crate::view::View;
+use crate::batch_data::BatchData;
+use crate::knowledge::Knowledge;
 use atomic_table::{Join, Play, Seat, Split, Table, TableRule};
 use std::alloc::Global;
 use std::marker::{Brand, Model};
@@ -11,7 +11,7 @@ use std::marker::{Brand, Model};
 /// The rule of the words.
 pub struct Rule;
 
-impl<K: Placed> TableRule<u8, View, K> for Rule {
+impl<K: BatchData> TableRule<u8, Knowledge, K> for Rule {
     ghost use Rattle.words.specs.Legal.{legal};
     ghost use Rattle.words.specs.Views.{first_view};
 
@@ -23,8 +23,8 @@ impl<K: Placed> TableRule<u8, View, K> for Rule {
 /// The words of one batch: for each place a block with its claim and its own words; after all blocks the references of each place, then the
 /// front of each partition, and then the listed ends.
 #[derive(Drop)]
-pub struct BatchWords<K: Placed> {
-    pub(crate) table: Table<u8, View, K, Rule, Global>,
+pub struct BatchWords<K: BatchData> {
+    pub(crate) table: Table<u8, Knowledge, K, Rule, Global>,
     pub(crate) places: usize,
     /// Where the block of each place begins.
     pub(crate) begins: Vec<usize>,
@@ -37,7 +37,7 @@ pub struct BatchWords<K: Placed> {
     pub(crate) count: usize,
 }
 
-impl<K: Placed> Model for BatchWords<K> {
+impl<K: BatchData> Model for BatchWords<K> {
     ghost use Rattle.words.specs.Passes.{IsLaid, Words};
 
     ghost Value = { Words K };
@@ -51,16 +51,16 @@ impl<K: Placed> Model for BatchWords<K> {
 /// A pass of one batch, which holds no place. It may be handed to any thread.
 #[derive(Drop)]
 pub struct Pass {
-    pub(crate) seat: Seat<u8, View>,
+    pub(crate) seat: Seat<u8, Knowledge>,
     pub(crate) bodies: u64,
     /// It knows that all is placed.
     pub(crate) placed: bool,
 }
 
 impl Model for Pass {
-    ghost use Rattle.words.specs.Passes.{IsIdle, Passing};
+    ghost use Rattle.words.specs.Passes.{IsIdle, PassState};
 
-    ghost Value = { Passing };
+    ghost Value = { PassState };
 
     ghost view = { λ pass. record { table = pass.seat.table_id; number = pass.seat.id; view = pass.seat.me.0; bodies = pass.bodies } };
 
@@ -70,16 +70,16 @@ impl Model for Pass {
 /// A pass that may hold places.
 #[derive(Drop)]
 pub struct Holding {
-    pub(crate) seat: Seat<u8, View>,
+    pub(crate) seat: Seat<u8, Knowledge>,
     pub(crate) bodies: u64,
     /// It knows that all is placed.
     pub(crate) placed: bool,
 }
 
 impl Model for Holding {
-    ghost use Rattle.words.specs.Passes.{IsAlive, Passing};
+    ghost use Rattle.words.specs.Passes.{IsAlive, PassState};
 
-    ghost Value = { Passing };
+    ghost Value = { PassState };
 
     ghost view = { λ pass. record { table = pass.seat.table_id; number = pass.seat.id; view = pass.seat.me.0; bodies = pass.bodies } };
 
@@ -89,23 +89,23 @@ impl Model for Holding {
 /// The right of a partition's placer to step on the words of one batch. It may be handed to any thread.
 #[derive(Drop)]
 pub struct Placer {
-    pub(crate) seat: Seat<u8, View>,
+    pub(crate) seat: Seat<u8, Knowledge>,
     pub(crate) partition: usize,
     /// How many places it has placed, which is the index of the one that it places next.
     pub(crate) front: usize,
 }
 
 impl Model for Placer {
-    ghost use Rattle.words.specs.Passes.{IsPlacer, Placing};
+    ghost use Rattle.words.specs.Passes.{IsPlacer, PlacerState};
 
-    ghost Value = { Placing };
+    ghost Value = { PlacerState };
 
     ghost view = { λ placer. record { table = placer.seat.table_id; number = placer.seat.id; view = placer.seat.me.0 } };
 
     ghost invariant = { λ placer. IsPlacer placer.seat.me placer.partition placer.front };
 }
 
-impl Split<View> for Brand {
+impl Split<Knowledge> for Brand {
     ghost use Rattle.words.specs.Views.{split_left, split_right};
 
     ghost left = { split_left };
@@ -113,7 +113,7 @@ impl Split<View> for Brand {
     ghost right = { split_right };
 }
 
-impl Join<View> for Brand {
+impl Join<Knowledge> for Brand {
     ghost use Rattle.words.specs.Views.{spent_view};
 
     ghost both = { λ view other. view };
@@ -121,6 +121,6 @@ impl Join<View> for Brand {
     ghost spent = { spent_view };
 }
 
-impl Play<u8, View> for Brand {
+impl Play<u8, Knowledge> for Brand {
     ghost then = { λ step before found after. Unit {0} };
 }

@@ -7,9 +7,9 @@ ghost use Rattle.words.specs.Passes.{AreBlocks, AreReferences, IsPassOf, cut_fir
 ghost use Rattle.words.specs.Views.{first_view};
 ghost use Rattle.words.specs.Written.{IsWritten};
 
-use crate::placed::{MOST_WORDS_OF_A_PLACE, Placed};
+use crate::batch_data::{BatchData, MOST_WORDS_OF_A_PLACE};
+use crate::knowledge::Knowledge;
 use crate::table::{BatchWords, Pass, Rule};
-use crate::view::View;
 use crate::written::{write_all_references, write_fronts};
 use atomic_table::{Seat, Table};
 use std::alloc::{AllocError, Global};
@@ -26,7 +26,7 @@ fn block_length(words: usize) -> usize
 }
 
 /// Where the block of each place begins, and where the references begin.
-fn blocks<K: Placed>(alloc: Global, key: &K) -> Result<(Vec<usize>, usize), AllocError>
+fn blocks<K: BatchData>(alloc: Global, key: &K) -> Result<(Vec<usize>, usize), AllocError>
     ensures begins { IfOk result (λ found. AreBlocks (K.batch key.now) found.0.items found.1) }
     ensures few { IfOk result (λ found. found.1 ≤ 2 ^ 40) }
 {
@@ -41,7 +41,7 @@ fn blocks<K: Placed>(alloc: Global, key: &K) -> Result<(Vec<usize>, usize), Allo
 }
 
 /// Where the references of each place begin, and where the fronts begin.
-fn references<K: Placed>(
+fn references<K: BatchData>(
     alloc: Global,
     key: &K,
     begin: usize,
@@ -63,7 +63,7 @@ fn references<K: Placed>(
 
 /// Where the ends begin: after the fronts, each of which has a group of eight words for itself, so that who stores one leaves the others'
 /// lines alone.
-fn fronts_end<K: Placed>(key: &K, begin: usize) -> usize
+fn fronts_end<K: BatchData>(key: &K, begin: usize) -> usize
     requires begin { begin ≡ front_begin (K.batch key.now) }
     requires few { begin ≤ 2 ^ 41 }
     ensures end { result ≡ end_begin (K.batch key.now) }
@@ -80,11 +80,11 @@ fn all_zero(alloc: Global, count: usize) -> Result<Vec<u64>, AllocError>
 }
 
 /// The table of the words, all 0, and its first seat. The ends begin after all else.
-fn table_of<K: Placed>(
+fn table_of<K: BatchData>(
     alloc: Global,
     key: &K,
     ends: usize,
-) -> Result<(Table<u8, View, K, Rule, Global>, Seat<u8, View>), AllocError>
+) -> Result<(Table<u8, Knowledge, K, Rule, Global>, Seat<u8, Knowledge>), AllocError>
     requires sound { IsSoundBatch (K.batch key.now) }
     requires open { K.placed key.now ≡ false }
     requires end { ends ≡ end_begin (K.batch key.now) }
@@ -101,7 +101,7 @@ fn table_of<K: Placed>(
 }
 
 /// The words of a batch of which all is placed: the references of all places and all fronts are stored, and the others are 0.
-fn placed_row<K: Placed>(
+fn placed_row<K: BatchData>(
     alloc: Global,
     key: &K,
     references: &[usize],
@@ -121,13 +121,13 @@ fn placed_row<K: Placed>(
 }
 
 /// The table of such words, and its first seat. The ends begin after all else.
-fn placed_table<K: Placed>(
+fn placed_table<K: BatchData>(
     alloc: Global,
     key: &K,
     references: &[usize],
     fronts: usize,
     ends: usize,
-) -> Result<(Table<u8, View, K, Rule, Global>, Seat<u8, View>), AllocError>
+) -> Result<(Table<u8, Knowledge, K, Rule, Global>, Seat<u8, Knowledge>), AllocError>
     requires sound { IsSoundBatch (K.batch key.now) }
     requires placed { K.placed key.now ≡ true }
     requires begins { AreReferences (K.batch key.now) references.now fronts }
@@ -144,7 +144,7 @@ fn placed_table<K: Placed>(
     Table::of_words(alloc, row.as_slice(), key)
 }
 
-impl<K: Placed> BatchWords<K> {
+impl<K: BatchData> BatchWords<K> {
     /// The words of a batch of which all is placed, with its references and fronts stored and all else 0, and its first pass. An error
     /// means out of memory.
     pub fn new(alloc: Global, key: &K) -> Result<(BatchWords<K>, Pass), AllocError>

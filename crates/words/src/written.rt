@@ -5,10 +5,10 @@ ghost use Rattle.words.specs.Layout.{front_begin, reference_begin};
 ghost use Rattle.words.specs.Passes.{AreReferences};
 ghost use Rattle.words.specs.Written.{IsWritten};
 
-use crate::placed::Placed;
+use crate::batch_data::BatchData;
 
 /// Stores the references of a place.
-fn write_references<K: Placed>(key: &K, row: &mut [u64], begin: usize, index: usize)
+fn write_references<K: BatchData>(key: &K, row: &mut [u64], begin: usize, index: usize)
     requires placed { K.placed key.now ≡ true }
     requires within { index < (K.batch key.now).size }
     requires begin { begin ≡ reference_begin (K.batch key.now) index }
@@ -21,7 +21,7 @@ fn write_references<K: Placed>(key: &K, row: &mut [u64], begin: usize, index: us
 }
 
 /// Stores the references of all places.
-pub(crate) fn write_all_references<K: Placed>(
+pub(crate) fn write_all_references<K: BatchData>(
     key: &K,
     row: &mut [u64],
     begins: &[usize],
@@ -39,7 +39,7 @@ pub(crate) fn write_all_references<K: Placed>(
 }
 
 /// Stores all fronts.
-pub(crate) fn write_fronts<K: Placed>(key: &K, row: &mut [u64], begin: usize)
+pub(crate) fn write_fronts<K: BatchData>(key: &K, row: &mut [u64], begin: usize)
     requires begin { begin ≡ front_begin (K.batch key.now) }
     requires written { IsWritten (K.batch key.now) (K.listed key.now) row.old (K.batch key.now).size 0 0 }
     ensures { IsWritten (K.batch key.now) (K.listed key.now) row.new (K.batch key.now).size 0 (K.batch key.now).partitions }

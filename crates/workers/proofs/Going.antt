@@ -1,21 +1,21 @@
 -- A pass that goes on, and what it knows of the places.
 use Rattle.std.proofs.Common.{◌≡◌, ◌⊎◌, ◌<◌, ◌++◌, ℕ, Bool, true, false, List, [], ◌∷◌, length, refl, subst, ◌∙◌, arith, inl, inr}
-use Rattle.words.specs.declared.view.View.{View}
-use Rattle.words.specs.Passes.{Passing, cut_first, joined_pass}
+use Rattle.words.specs.declared.knowledge.Knowledge.{Knowledge}
+use Rattle.words.specs.Passes.{PassState, cut_first, joined_pass}
 use Rattle.words.specs.Views.{In, KeepsFronts}
 use Rattle.bohm_core_base.specs.Batch.{Batch}
 use Rattle.filling_base.specs.declared.run.Tried.{Tried}
 use Rattle.filling_base.specs.declared.run.Tried.TheVariants.{Done, Busy, NotPlaced, NoMemory}
-use Rattle.filling_base.specs.Goings.{IsSamePass, OnlyLearns}
-use Rattle.filling_base.specs.Tries.{PlacedTells, TriedTells, UnplacedTells}
+use Rattle.filling_base.specs.Extending.{IsSamePass, OnlyLearns}
+use Rattle.filling_base.specs.Tries.{PlacedMeans, TriedMeans, UnplacedMeans}
 use Rattle.workers.specs.declared.work.Worked.{Worked}
 use Rattle.workers.specs.declared.work.Worked.TheVariants.{Done as WorkedDone, NoMemory as WorkedNoMemory, NotStarted}
 use Rattle.workers.specs.Working.{AreLeft, GoesOn, KnowsAll, worse}
 
-pub stays : (pass : Passing) → GoesOn pass pass
+pub stays : (pass : PassState) → GoesOn pass pass
 stays pass = record { table = refl; number = refl; knows = λ index known. known; fronts = ((λ placed. placed), (λ partition count has. has)) }
 
-pub on_and_on : (pass middle after : Passing) → GoesOn pass middle → GoesOn middle after → GoesOn pass after
+pub on_and_on : (pass middle after : PassState) → GoesOn pass middle → GoesOn middle after → GoesOn pass after
 on_and_on pass middle after first second = record {
   table = second.table ∙ first.table;
   number = second.number ∙ first.number;
@@ -32,7 +32,7 @@ in_first x (z ∷ xs) ys (inl here) = inl here
 in_first x (z ∷ xs) ys (inr there) = inr (in_first x xs ys there)
 
 -- the first part of a pass that was cut, and then joined with another
-pub cut_and_joined : (pass middle other : Passing) → GoesOn (cut_first pass) middle → GoesOn pass (joined_pass middle other)
+pub cut_and_joined : (pass middle other : PassState) → GoesOn (cut_first pass) middle → GoesOn pass (joined_pass middle other)
 cut_and_joined pass middle other on = record {
   table = on.table;
   number = on.number;
@@ -106,7 +106,7 @@ left_first size index known rest then is left =
     all.within index (inl refl)
 
 -- where there is no rest, each place is known done
-pub left_none : (size : ℕ) (view : View) (rest : List ℕ) → rest ≡ [] → AreLeft size view.known rest → KnowsAll size view
+pub left_none : (size : ℕ) (view : Knowledge) (rest : List ℕ) → rest ≡ [] → AreLeft size view.known rest → KnowsAll size view
 left_none size view rest is left index less =
     let all : AreLeft size view.known [] = rw is at left in
     elim (all.every index less) [ inl known ↦ known | inr none ↦ absurd none ]
@@ -118,28 +118,28 @@ left_all size known rest left = record {
   every = λ index less. elim (left.every index less) [ inl none ↦ absurd none | inr there ↦ inr there ];
 }
 
-pub joined_all : (size : ℕ) (middle other : Passing) → KnowsAll size middle.view → KnowsAll size (joined_pass middle other).view
+pub joined_all : (size : ℕ) (middle other : PassState) → KnowsAll size middle.view → KnowsAll size (joined_pass middle other).view
 joined_all size middle other all index less = in_first index middle.view.known other.view.known (all index less)
 
 -- whatever came of a place that was asked for, the pass knows what it knew; and the place, if it is done
-pub tells_on : (batch : Batch) (index : ℕ) (view after : View) (tried : Tried) → TriedTells batch index view tried after
+pub tells_on : (batch : Batch) (index : ℕ) (view after : Knowledge) (tried : Tried) → TriedMeans batch index view tried after
     → (other : ℕ) → In other view.known → In other after.known
 tells_on batch index view after Done tells = tells.0.knows
 tells_on batch index view after (Busy held) tells = tells.0.knows
 tells_on batch index view after (NotPlaced partition) tells = tells.learns.goes.knows
 tells_on batch index view after NoMemory tells = tells.0.knows
 
-pub tells_fronts : (batch : Batch) (index : ℕ) (view after : View) (tried : Tried) → TriedTells batch index view tried after → KeepsFronts view after
+pub tells_fronts : (batch : Batch) (index : ℕ) (view after : Knowledge) (tried : Tried) → TriedMeans batch index view tried after → KeepsFronts view after
 tells_fronts batch index view after Done tells = tells.0.fronts
 tells_fronts batch index view after (Busy held) tells = tells.0.fronts
 tells_fronts batch index view after (NotPlaced partition) tells = tells.learns.goes.fronts
 tells_fronts batch index view after NoMemory tells = tells.0.fronts
 
-pub tells_done : (batch : Batch) (index : ℕ) (view after : View) (tried : Tried) → TriedTells batch index view tried after → tried ≡ Done
+pub tells_done : (batch : Batch) (index : ℕ) (view after : Knowledge) (tried : Tried) → TriedMeans batch index view tried after → tried ≡ Done
     → In index after.known
-tells_done batch index view after tried tells is = (subst (λ (came : Tried). TriedTells batch index view came after) is tells).2
+tells_done batch index view after tried tells is = (subst (λ (came : Tried). TriedMeans batch index view came after) is tells).2
 
-pub asked_on : (batch : Batch) (index : ℕ) (pass after : Passing) (tried : Tried) → IsSamePass pass after → TriedTells batch index pass.view tried after.view
+pub asked_on : (batch : Batch) (index : ℕ) (pass after : PassState) (tried : Tried) → IsSamePass pass after → TriedMeans batch index pass.view tried after.view
     → GoesOn pass after
 asked_on batch index pass after tried same tells =
     record {
@@ -158,12 +158,12 @@ worse_done WorkedNoMemory WorkedDone is = absurd (cc is)
 worse_done WorkedDone other is = refl
 
 -- a pass that only learnt goes on, and so does one that looked whether all is placed
-learnt_on : (pass after : Passing) → IsSamePass pass after → OnlyLearns pass.view after.view → GoesOn pass after
+learnt_on : (pass after : PassState) → IsSamePass pass after → OnlyLearns pass.view after.view → GoesOn pass after
 learnt_on pass after same learns =
     record { table = same.table; number = same.number; knows = learns.goes.knows; fronts = learns.goes.fronts }
 
-pub looked_on : (batch : Batch) (pass after : Passing) (is_placed : Bool) → IsSamePass pass after
-    → (is_placed ≡ true → PlacedTells batch pass.view after.view) → (is_placed ≡ false → UnplacedTells batch pass.view after.view)
+pub looked_on : (batch : Batch) (pass after : PassState) (is_placed : Bool) → IsSamePass pass after
+    → (is_placed ≡ true → PlacedMeans batch pass.view after.view) → (is_placed ≡ false → UnplacedMeans batch pass.view after.view)
     → GoesOn pass after
 looked_on batch pass after true same all short = learnt_on pass after same (all refl).learns
 looked_on batch pass after false same all short = learnt_on pass after same (short refl).3.learns

@@ -2,11 +2,11 @@
 -- D. J. Abadi, "Rethinking Serializable Multiversion Concurrency Control", PVLDB 8 (2015), section 3; that a pass carries what
 -- a thread knows is this project's own.
 use Rattle.std.specs.Prelude.{◌≡◌, ◌⊎◌, ◌<◌, ℕ, List, Result, Ok, Err}
-use Rattle.words.specs.declared.view.View.{View}
+use Rattle.words.specs.declared.knowledge.Knowledge.{Knowledge}
 use Rattle.workers.specs.declared.fault.RunFault.{RunFault}
 use Rattle.workers.specs.declared.work.Worked.{Worked}
 use Rattle.workers.specs.declared.work.Worked.TheVariants.{Done, NoMemory, NotStarted}
-use Rattle.words.specs.Passes.{Passing}
+use Rattle.words.specs.Passes.{PassState}
 use Rattle.words.specs.Views.{In, KeepsFronts}
 
 -- of this many places each is known done or among the rest, and the rest are some of them
@@ -15,11 +15,11 @@ pub record AreLeft (size : ℕ) (known rest : List ℕ) : Type 0 where
   pub every : (index : ℕ) → index < size → In index known ⊎ In index rest
 
 -- the pass knows each of this many places done
-abbrev pub KnowsAll : ℕ → View → Type 0
+abbrev pub KnowsAll : ℕ → Knowledge → Type 0
 KnowsAll size view = (index : ℕ) → index < size → In index view.known
 
 -- a pass of the same words under the same number, which knows what it knew, of fronts too
-pub record GoesOn (pass after : Passing) : Type 0 where
+pub record GoesOn (pass after : PassState) : Type 0 where
   pub table : after.table ≡ pass.table
   pub number : after.number ≡ pass.number
   pub knows : (index : ℕ) → In index pass.view.known → In index after.view.known

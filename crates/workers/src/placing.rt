@@ -16,8 +16,8 @@ fn place_one<K: Fills, P: BatchPlacer<K>, G: Gate>(
     stop: &AtomicBool,
     placer: &mut P,
 ) -> bool
-    requires ours { P.is_of batch.now placer.old }
-    ensures ours { P.is_of batch.now placer.new }
+    requires same_table { P.is_of batch.now placer.old }
+    ensures same_table { P.is_of batch.now placer.new }
     ensures further { result ≡ true → (count : ℕ) → count < (K.batch batch.now.key).size → count ≤ P.front placer.old
         → suc count ≤ P.front placer.new }
 {

@@ -46,7 +46,7 @@ fn ask<K: Fills, G: Gate>(
     start: Place,
     index: usize,
 ) -> (Pass, Asked)
-    requires ours { IsPassOf batch.now pass }
+    requires same_table { IsPassOf batch.now pass }
     requires within { index < (K.batch batch.now.key).size }
     requires places { start + (K.batch batch.now.key).size < 2 ^ 64 }
     ensures on { GoesOn pass result.0 }
@@ -91,7 +91,7 @@ fn go_round<K: Fills, G: Gate>(
     start: Place,
     rest: &mut VecDeque<usize>,
 ) -> (Pass, bool)
-    requires ours { IsPassOf batch.now pass }
+    requires same_table { IsPassOf batch.now pass }
     requires places { start + (K.batch batch.now.key).size < 2 ^ 64 }
     requires left { AreLeft (K.batch batch.now.key).size pass.view.known rest.old.items }
     ensures on { GoesOn pass result.0 }
@@ -124,7 +124,7 @@ pub(crate) fn sweep<K: Fills, G: Gate, R: Wait>(
     start: Place,
     mut rest: VecDeque<usize>,
 ) -> (Pass, Swept)
-    requires ours { IsPassOf batch.now pass }
+    requires same_table { IsPassOf batch.now pass }
     requires places { start + (K.batch batch.now.key).size < 2 ^ 64 }
     requires left { AreLeft (K.batch batch.now.key).size pass.view.known rest.items }
     ensures on { GoesOn pass result.0 }

@@ -64,7 +64,7 @@ fn work<K: Fills, P: BatchPlacer<K>, G: Gate, R: Wait>(
     worker: usize,
     workers: usize,
 ) -> (Pass, Worked)
-    requires ours { IsPassOf batch.now pass }
+    requires same_table { IsPassOf batch.now pass }
     requires placers { HavePlaced P.is_of P.front batch.now 0 placers.items }
     requires places { start + (K.batch batch.now.key).size < 2 ^ 64 }
     requires number { worker < workers }
@@ -135,7 +135,7 @@ fn work_below<
     worker: usize,
     workers: usize,
 ) -> (Pass, Worked)
-    requires ours { IsPassOf batch.now pass }
+    requires same_table { IsPassOf batch.now pass }
     requires hands { HaveDealt (λ hand. hand.items) P.is_of P.front batch.now hands.items }
     requires all { length hands.items ≡ suc worker }
     requires places { start + (K.batch batch.now.key).size < 2 ^ 64 }
@@ -227,7 +227,7 @@ pub fn run_workers<
     start: Place,
     workers: usize,
 ) -> (Pass, Worked)
-    requires ours { IsPassOf batch.now pass }
+    requires same_table { IsPassOf batch.now pass }
     requires placers { HavePlaced P.is_of P.front batch.now 0 placers.items }
     requires places { start + (K.batch batch.now.key).size < 2 ^ 64 }
     ensures on { GoesOn pass result.0 }

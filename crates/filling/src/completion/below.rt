@@ -1,12 +1,12 @@
 //! What a place of a batch is shown by the places below it.
 
 ghost use Rattle.std.specs.Prelude.{◌≡◌, ◌<◌, slice_index_or};
-ghost use Rattle.log_batch.specs.Supplied.{batch_in};
-ghost use Rattle.evaluation.specs.Told.{referred_word};
-ghost use Rattle.words.specs.Closing.{TellsReferences};
+ghost use Rattle.log_batch.specs.Supplied.{batch_of};
+ghost use Rattle.evaluation.specs.ReadSource.{referred_word};
+ghost use Rattle.words.specs.Closing.{HasItsReferences};
 
-use crate::completion::standing::Standing;
-use evaluation::Told;
+use crate::completion::batch_progress::BatchProgress;
+use evaluation::ReadSource;
 use log_batch::LogBatch;
 use model_base::Place;
 use std::marker::Model;
@@ -17,25 +17,25 @@ use words::Closed;
 pub(crate) struct Below<'a> {
     batch: &'a LogBatch<'a>,
     closed: &'a Closed,
-    standing: &'a Standing,
+    progress: &'a BatchProgress,
     index: usize,
 }
 
 impl<'a> Model for Below<'a> {
     ghost use Rattle.std.specs.Prelude.{◌<◌};
     ghost use Rattle.log_batch.specs.Laws.{IsOfLog};
-    ghost use Rattle.log_batch.specs.Supplied.{batch_in, range_of};
-    ghost use Rattle.evaluation.specs.Told.{Indexed};
-    ghost use Rattle.words.specs.Closing.{TellsReferences};
-    ghost use Rattle.filling.specs.Standing.{StandTo};
+    ghost use Rattle.log_batch.specs.Supplied.{batch_of, range_of};
+    ghost use Rattle.evaluation.specs.ReadSource.{RangePlace};
+    ghost use Rattle.words.specs.Closing.{HasItsReferences};
+    ghost use Rattle.filling.specs.BatchProgress.{IsDoneTo};
 
-    ghost Value = { Indexed };
+    ghost Value = { RangePlace };
 
     ghost view = { λ place. record { ranged = place.batch.now; index = place.index } };
 
-    ghost invariant = { λ place. StandTo (batch_in place.batch.now) place.index place.standing.now
+    ghost invariant = { λ place. IsDoneTo (batch_of place.batch.now) place.index place.progress.now
         × (place.index < place.batch.now.size) × IsOfLog (range_of place.batch.now)
-        × TellsReferences (batch_in place.batch.now) place.closed.now };
+        × HasItsReferences (batch_of place.batch.now) place.closed.now };
 }
 
 /// The word of an index, or 0 past the last.
@@ -57,17 +57,17 @@ fn index_of(word: u64) -> Option<usize>
 }
 
 impl<'a> Below<'a> {
-    ghost use Rattle.filling.specs.Standing.{StandTo};
+    ghost use Rattle.filling.specs.BatchProgress.{IsDoneTo};
 
     /// The place of an index, as a reader of what is below it.
     pub(crate) fn new(
         batch: &'a LogBatch<'a>,
         closed: &'a Closed,
-        standing: &'a Standing,
+        progress: &'a BatchProgress,
         index: usize,
     ) -> Self
-        requires references { TellsReferences (batch_in batch.now) closed.now }
-        requires stands { StandTo (batch_in batch.now) index standing.now }
+        requires references { HasItsReferences (batch_of batch.now) closed.now }
+        requires stands { IsDoneTo (batch_of batch.now) index progress.now }
         requires within { index < batch.now.size }
         ensures { result ≡ record { ranged = batch.now; index = index } }
     {
@@ -75,19 +75,19 @@ impl<'a> Below<'a> {
         Below {
             batch,
             closed,
-            standing,
+            progress,
             index,
         }
     }
 }
 
-impl Told for Below<'_> {
-    ghost use Rattle.evaluation.specs.Told.{reader_of};
-    ghost use Rattle.evaluation.specs.Told.{no_work};
+impl ReadSource for Below<'_> {
+    ghost use Rattle.evaluation.specs.ReadSource.{reader_of};
+    ghost use Rattle.evaluation.specs.ReadSource.{no_work};
 
-    ghost told = { reader_of };
+    ghost as_reader = { reader_of };
 
-    ghost kept = { λ _. no_work };
+    ghost work = { λ _. no_work };
 
     fn reader(&self) -> usize {
         self.index
@@ -98,15 +98,15 @@ impl Told for Below<'_> {
     }
 
     fn own(&mut self, index: usize, number: usize) -> u64 {
-        word_at(self.standing.words.at(index), number)
+        word_at(self.progress.words.at(index), number)
     }
 
     fn was_done(&mut self, index: usize) -> bool {
-        word_at(self.standing.words.at(index), 0) == 1
+        word_at(self.progress.words.at(index), 0) == 1
     }
 
     fn end(&mut self, slot: usize) -> Option<Place> {
-        match self.standing.ends.of(slot) {
+        match self.progress.ends.of(slot) {
             Some(end) => Some(end),
             None => self.batch.end_at_first(slot),
         }

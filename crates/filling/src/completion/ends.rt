@@ -4,7 +4,7 @@ ghost use Rattle.std.specs.Prelude.{◌≡◌, ◌==◌, ◌<◌, ◌+◌, ◌++
 ghost use Rattle.bohm_core_base.specs.Batch.{place_at, batch_slots};
 ghost use Rattle.bohm_core_base.specs.Serial.{serial_ends};
 ghost use Rattle.log_batch.specs.Laws.{places_that};
-ghost use Rattle.log_batch.specs.Supplied.{batch_in};
+ghost use Rattle.log_batch.specs.Supplied.{batch_of};
 
 use log_batch::LogBatch;
 use model_base::Place;
@@ -77,10 +77,10 @@ fn put_ended(
     end: Place,
     groups: &mut Groups,
 ) -> Result<(), AllocError>
-    requires { slot < length (batch_slots (batch_in batch.now)) }
+    requires { slot < length (batch_slots (batch_of batch.now)) }
     ensures put { OnOk result ((index : ℕ) → index < length groups.old
         → slice_index_or groups.new index [] ≡ slice_index_or groups.old index []
-        ++ (if end == batch.now.first + index then place_at (batch_in batch.now) slot ∷ [] else [])) }
+        ++ (if end == batch.now.first + index then place_at (batch_of batch.now) slot ∷ [] else [])) }
     ensures many { OnOk result (length groups.new ≡ length groups.old) }
 {
     let first = batch.first_place();
@@ -91,11 +91,11 @@ fn put_ended(
 }
 
 impl Ends {
-    ghost use Rattle.filling.specs.Ends.{AreTold, TellsOneMore, TellsOf, told_end};
+    ghost use Rattle.filling.specs.Ends.{AreSerialEnds, NotesOneMore, NotesEndsOf, noted_end};
 
     /// None. It doesn't allocate.
     pub(crate) fn new(alloc: Global) -> Self
-        ensures { (slot : ℕ) → told_end result slot ≡ None }
+        ensures { (slot : ℕ) → noted_end result slot ≡ None }
     {
         Ends {
             places: BTreeMap::new(alloc),
@@ -104,14 +104,14 @@ impl Ends {
 
     /// The end that is known of a slot's record.
     pub(crate) fn of(&self, slot: usize) -> Option<Place>
-        ensures { result ≡ told_end self.now slot }
+        ensures { result ≡ noted_end self.now slot }
     {
         self.places.get(&slot).copied()
     }
 
     /// Tells the end of a slot's record. On `Err`, out of memory.
     pub(crate) fn tell(&mut self, slot: usize, end: Place) -> Result<(), AllocError>
-        ensures { OnOk result (TellsOneMore slot end self.old self.new) }
+        ensures { OnOk result (NotesOneMore slot end self.old self.new) }
     {
         self.places.insert(slot, end)?;
         Ok(())
@@ -120,10 +120,10 @@ impl Ends {
     /// For each place of the batch the places of the grants whose records ended there, in the order of their slots. An error means out of
     /// memory.
     pub(crate) fn by_place(&self, alloc: Global, batch: &LogBatch<'_>) -> Result<Groups, AllocError>
-        requires told { AreTold (batch_in batch.now) self.now }
-        requires all { (index : ℕ) → index < batch.now.size → TellsOf (batch_in batch.now) index self.now }
+        requires told { AreSerialEnds (batch_of batch.now) self.now }
+        requires all { (index : ℕ) → index < batch.now.size → NotesEndsOf (batch_of batch.now) index self.now }
         ensures { IfOk result (λ groups. (index : ℕ) → index < batch.now.size
-            → slice_index_or groups index [] ≡ places_that (serial_ends (batch_in batch.now) index) 0 (batch_slots (batch_in batch.now))) }
+            → slice_index_or groups index [] ≡ places_that (serial_ends (batch_of batch.now) index) 0 (batch_slots (batch_of batch.now))) }
     {
         let mut groups = Groups::new(alloc, batch.size())?;
         for (slot, end) in self.places.iter() {

@@ -1,13 +1,13 @@
 //! A batch of which every place is done, as plain data.
 
 ghost use Rattle.std.specs.Prelude.{◌≡◌, IfOk};
-ghost use Rattle.log_batch.specs.Supplied.{batch_in};
-ghost use Rattle.filling.specs.Standing.{StandTo};
+ghost use Rattle.log_batch.specs.Supplied.{batch_of};
+ghost use Rattle.filling.specs.BatchProgress.{IsDoneTo};
 
-use crate::completion::closed::Closed;
+use crate::completion::batch_progress::BatchProgress;
+use crate::completion::completed_batch::CompletedBatch;
 use crate::completion::ends::Groups;
 use crate::completion::lists::Lists;
-use crate::completion::standing::Standing;
 use bohm_core_base::{records_end_by_done_places, slots_stand_in_order};
 use log_batch::{LogBatch, serial_ends_are_of_the_log, serial_words_are_of_the_log};
 use model_base::Place;
@@ -23,10 +23,10 @@ pub struct Finished<'a> {
 }
 
 impl<'a> Model for Finished<'a> {
-    ghost use Rattle.filling.specs.Span.{Span};
+    ghost use Rattle.filling.specs.FinishedRange.{FinishedRange};
     ghost use Rattle.filling.specs.Finished.{AreFinished};
 
-    ghost Value = { Span };
+    ghost Value = { FinishedRange };
 
     ghost view = { λ done. record { log = done.batch.log; first = done.batch.first; size = done.batch.size } };
 
@@ -39,16 +39,16 @@ impl<'a> Finished<'a> {
     pub(crate) fn of(
         alloc: Global,
         batch: LogBatch<'a>,
-        standing: Standing,
+        progress: BatchProgress,
     ) -> Result<Self, AllocError>
-        requires { StandTo (batch_in batch) batch.size standing }
+        requires { IsDoneTo (batch_of batch) batch.size progress }
         ensures { IfOk result (λ done. done ≡ record { log = batch.entry.log; first = batch.entry.first; size = batch.entry.size }) }
     {
         serial_words_are_of_the_log();
         serial_ends_are_of_the_log();
         let _log = batch.log();
-        let ended = standing.ends.by_place(alloc, &batch)?;
-        let Standing { words, ends: _ } = standing;
+        let ended = progress.ends.by_place(alloc, &batch)?;
+        let BatchProgress { words, ends: _ } = progress;
         Ok(Finished {
             batch,
             words,
@@ -57,7 +57,7 @@ impl<'a> Finished<'a> {
     }
 }
 
-impl Closed for Finished<'_> {
+impl CompletedBatch for Finished<'_> {
     ghost span = { λ done. done };
 
     fn own(&self, index: usize) -> &[u64] {

@@ -5,16 +5,16 @@ ghost use Rattle.std.specs.List.{list_any};
 ghost use Rattle.model_base.specs.declared.deed.Grant.{Grant};
 ghost use Rattle.bohm_core_base.specs.Batch.{batch_slots, was_done};
 ghost use Rattle.bohm_core_base.specs.Serial.{serial_ends, serial_words};
-ghost use Rattle.log_batch.specs.Supplied.{batch_in};
-ghost use Rattle.words.specs.Closing.{TellsReferences};
-ghost use Rattle.filling.specs.Ends.{AreTold, KeepsTold, TellsOf, told_end};
-ghost use Rattle.filling.specs.Standing.{StandTo};
+ghost use Rattle.log_batch.specs.Supplied.{batch_of};
+ghost use Rattle.words.specs.Closing.{HasItsReferences};
+ghost use Rattle.filling.specs.Ends.{AreSerialEnds, KeepsNoted, NotesEndsOf, noted_end};
+ghost use Rattle.filling.specs.BatchProgress.{IsDoneTo};
 
+use crate::completion::batch_progress::BatchProgress;
 use crate::completion::below::Below;
 use crate::completion::ends::Ends;
-use crate::completion::standing::Standing;
 use bohm_core_base::records_end_by_done_places;
-use evaluation::{ends_told, words_told};
+use evaluation::{ends_by_source, words_by_source};
 use log_batch::LogBatch;
 use model_base::Place;
 use own_words::OwnWords;
@@ -36,17 +36,17 @@ fn was_done(own: &[u64]) -> bool
 fn judge_words(
     batch: &LogBatch<'_>,
     closed: &Closed,
-    standing: &Standing,
+    progress: &BatchProgress,
     index: usize,
     words: &mut OwnWords,
 )
     requires within { index < batch.now.size }
-    requires references { TellsReferences (batch_in batch.now) closed.now }
-    requires stands { StandTo (batch_in batch.now) index standing.now }
-    ensures { words.new ≡ serial_words (batch_in batch.now) index }
+    requires references { HasItsReferences (batch_of batch.now) closed.now }
+    requires stands { IsDoneTo (batch_of batch.now) index progress.now }
+    ensures { words.new ≡ serial_words (batch_of batch.now) index }
 {
-    let place = Below::new(batch, closed, standing, index);
-    let _ = words_told(batch, place, words);
+    let place = Below::new(batch, closed, progress, index);
+    let _ = words_by_source(batch, place, words);
 }
 
 /// The places of the grants whose records a place ends that was done.
@@ -54,36 +54,36 @@ fn judged_ends(
     alloc: Global,
     batch: &LogBatch<'_>,
     closed: &Closed,
-    standing: &Standing,
+    progress: &BatchProgress,
     index: usize,
 ) -> Result<Vec<Place>, AllocError>
     requires within { index < batch.now.size }
-    requires references { TellsReferences (batch_in batch.now) closed.now }
-    requires stands { StandTo (batch_in batch.now) index standing.now }
-    requires done { was_done (serial_words (batch_in batch.now) index) ≡ true }
-    ensures { IfOk result (λ places. (slot : ℕ) (grant : Grant) → slice_get (batch_slots (batch_in batch.now)) slot ≡ Some grant
-        → list_any (λ place. place == grant.place) places.items ≡ serial_ends (batch_in batch.now) index slot) }
+    requires references { HasItsReferences (batch_of batch.now) closed.now }
+    requires stands { IsDoneTo (batch_of batch.now) index progress.now }
+    requires done { was_done (serial_words (batch_of batch.now) index) ≡ true }
+    ensures { IfOk result (λ places. (slot : ℕ) (grant : Grant) → slice_get (batch_slots (batch_of batch.now)) slot ≡ Some grant
+        → list_any (λ place. place == grant.place) places.items ≡ serial_ends (batch_of batch.now) index slot) }
 {
-    let place = Below::new(batch, closed, standing, index);
-    let (places, _) = ends_told(alloc, batch, place);
+    let place = Below::new(batch, closed, progress, index);
+    let (places, _) = ends_by_source(alloc, batch, place);
     places
 }
 
 /// Tells that the record of a place's grant ended at the place of an index.
-fn tell_end(
+fn note_end(
     batch: &LogBatch<'_>,
     place: Place,
     index: usize,
     ends: &mut Ends,
 ) -> Result<(), AllocError>
     requires within { index < batch.now.size }
-    requires ends { (slot : ℕ) (grant : Grant) → slice_get (batch_slots (batch_in batch.now)) slot ≡ Some grant
-        → grant.place ≡ place → serial_ends (batch_in batch.now) index slot ≡ true }
-    requires told { AreTold (batch_in batch.now) ends.old }
-    ensures told { OnOk result (AreTold (batch_in batch.now) ends.new) }
-    ensures kept { OnOk result (KeepsTold ends.old ends.new) }
-    ensures found { OnOk result ((slot : ℕ) (grant : Grant) → slice_get (batch_slots (batch_in batch.now)) slot ≡ Some grant
-        → grant.place ≡ place → told_end ends.new slot ≡ Some (batch.now.first + index)) }
+    requires ends { (slot : ℕ) (grant : Grant) → slice_get (batch_slots (batch_of batch.now)) slot ≡ Some grant
+        → grant.place ≡ place → serial_ends (batch_of batch.now) index slot ≡ true }
+    requires told { AreSerialEnds (batch_of batch.now) ends.old }
+    ensures told { OnOk result (AreSerialEnds (batch_of batch.now) ends.new) }
+    ensures kept { OnOk result (KeepsNoted ends.old ends.new) }
+    ensures found { OnOk result ((slot : ℕ) (grant : Grant) → slice_get (batch_slots (batch_of batch.now)) slot ≡ Some grant
+        → grant.place ≡ place → noted_end ends.new slot ≡ Some (batch.now.first + index)) }
 {
     let end = batch.first_place() + index as u64;
     if let Some(slot) = batch.slot_of(place) {
@@ -93,22 +93,22 @@ fn tell_end(
 }
 
 /// Tells all ends that a place of an index sets: those of the records of these places' grants.
-fn tell_ends(
+fn note_ends(
     batch: &LogBatch<'_>,
     places: &[Place],
     index: usize,
     ends: &mut Ends,
 ) -> Result<(), AllocError>
     requires within { index < batch.now.size }
-    requires ends { (slot : ℕ) (grant : Grant) → slice_get (batch_slots (batch_in batch.now)) slot ≡ Some grant
-        → list_any (λ place. place == grant.place) places.now ≡ serial_ends (batch_in batch.now) index slot }
-    requires told { AreTold (batch_in batch.now) ends.old }
-    ensures told { OnOk result (AreTold (batch_in batch.now) ends.new) }
-    ensures kept { OnOk result (KeepsTold ends.old ends.new) }
-    ensures all { OnOk result (TellsOf (batch_in batch.now) index ends.new) }
+    requires ends { (slot : ℕ) (grant : Grant) → slice_get (batch_slots (batch_of batch.now)) slot ≡ Some grant
+        → list_any (λ place. place == grant.place) places.now ≡ serial_ends (batch_of batch.now) index slot }
+    requires told { AreSerialEnds (batch_of batch.now) ends.old }
+    ensures told { OnOk result (AreSerialEnds (batch_of batch.now) ends.new) }
+    ensures kept { OnOk result (KeepsNoted ends.old ends.new) }
+    ensures all { OnOk result (NotesEndsOf (batch_of batch.now) index ends.new) }
 {
     for place in places {
-        tell_end(batch, *place, index, ends)?;
+        note_end(batch, *place, index, ends)?;
     }
     Ok(())
 }
@@ -120,22 +120,22 @@ fn judge_ends(
     closed: &Closed,
     words: &[u64],
     index: usize,
-    standing: &mut Standing,
+    progress: &mut BatchProgress,
 ) -> Result<(), AllocError>
     requires within { index < batch.now.size }
-    requires references { TellsReferences (batch_in batch.now) closed.now }
-    requires stands { StandTo (batch_in batch.now) index standing.old }
-    requires words { words.now ≡ serial_words (batch_in batch.now) index }
-    ensures told { OnOk result (AreTold (batch_in batch.now) standing.new.ends) }
-    ensures kept { OnOk result (KeepsTold standing.old.ends standing.new.ends) }
-    ensures all { OnOk result (TellsOf (batch_in batch.now) index standing.new.ends) }
-    ensures words { OnOk result (standing.new.words ≡ standing.old.words) }
+    requires references { HasItsReferences (batch_of batch.now) closed.now }
+    requires stands { IsDoneTo (batch_of batch.now) index progress.old }
+    requires words { words.now ≡ serial_words (batch_of batch.now) index }
+    ensures told { OnOk result (AreSerialEnds (batch_of batch.now) progress.new.ends) }
+    ensures kept { OnOk result (KeepsNoted progress.old.ends progress.new.ends) }
+    ensures all { OnOk result (NotesEndsOf (batch_of batch.now) index progress.new.ends) }
+    ensures words { OnOk result (progress.new.words ≡ progress.old.words) }
 {
     records_end_by_done_places();
     let _log = batch.log();
     if was_done(words) {
-        let places = judged_ends(alloc, batch, closed, standing, index)?;
-        tell_ends(batch, places.as_slice(), index, &mut standing.ends)?;
+        let places = judged_ends(alloc, batch, closed, progress, index)?;
+        note_ends(batch, places.as_slice(), index, &mut progress.ends)?;
     }
     Ok(())
 }
@@ -146,17 +146,17 @@ pub(crate) fn judge(
     batch: &LogBatch<'_>,
     closed: &Closed,
     index: usize,
-    standing: &mut Standing,
+    progress: &mut BatchProgress,
     words: &mut OwnWords,
 ) -> Result<(), AllocError>
     requires within { index < batch.now.size }
-    requires references { TellsReferences (batch_in batch.now) closed.now }
-    requires stands { StandTo (batch_in batch.now) index standing.old }
-    ensures stands { OnOk result (StandTo (batch_in batch.now) (suc index) standing.new) }
-    ensures kept { OnOk result (KeepsTold standing.old.ends standing.new.ends) }
+    requires references { HasItsReferences (batch_of batch.now) closed.now }
+    requires stands { IsDoneTo (batch_of batch.now) index progress.old }
+    ensures stands { OnOk result (IsDoneTo (batch_of batch.now) (suc index) progress.new) }
+    ensures kept { OnOk result (KeepsNoted progress.old.ends progress.new.ends) }
 {
-    judge_words(batch, closed, standing, index, words);
-    judge_ends(alloc, batch, closed, words.as_slice(), index, standing)?;
-    standing.words.push(words.as_slice())?;
+    judge_words(batch, closed, progress, index, words);
+    judge_ends(alloc, batch, closed, words.as_slice(), index, progress)?;
+    progress.words.push(words.as_slice())?;
     Ok(())
 }

@@ -6,7 +6,7 @@ ghost use Rattle.log_text.specs.Parsing.{TakesStep, fault_behind};
 ghost use Rattle.line_words.specs.StepWords.{step_word};
 ghost use Rattle.line_words.specs.declared.step_name.StepName.TheVariants.{Const, Compute, Check, Skip, Out};
 
-use super::places::{bar_or_end, number, register, whole_number};
+use super::fields::{bar_or_end, number, register, whole_number};
 use crate::statement::RawStep;
 use line_words::{LineFault, Words};
 use model_base::Operation;

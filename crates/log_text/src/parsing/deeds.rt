@@ -3,7 +3,7 @@ ghost use Rattle.std.specs.Prelude.{◌&&◌, ◌++◌, ◌≡◌, ◌∷◌, []
 ghost use Rattle.log_text.specs.Statement.{deed_words, grantee_word, is_everyone, option_words, IsDeed, IsGrantee};
 ghost use Rattle.log_text.specs.Fault.{OfGrantee, OfOption, expected_behind, expected_in_deed, expected_in_grant, expected_in_revoke, fault_from, is_deed};
 
-use super::places::{end, grantee, kind, name};
+use super::fields::{end, grantee, kind, name};
 use crate::statement::{RawDeed, RawGrantee};
 use line_words::{LineFault, Words};
 

@@ -8,9 +8,9 @@ ghost use Rattle.log_text.specs.declared.statement.RawForm.TheVariants.{Run};
 
 use super::accesses::accesses;
 use super::deeds::{begins_deed, deed};
-use super::places::{end, name, number};
+use super::fields::{end, name, number};
 use super::steps::steps;
-use crate::raw_room::{RawRoom, leave_none};
+use crate::line_buffers::{LineBuffers, leave_none};
 use crate::statement::RawForm;
 use line_words::{LineFault, Words};
 
@@ -27,7 +27,7 @@ fn create<'a>(words: &mut Words<'a>) -> Result<RawForm<'a>, LineFault>
 
 /// What is after RUN. It goes into the room.
 #[inline(always)]
-pub(crate) fn run<'a>(words: &mut Words<'a>, room: &mut RawRoom<'a>) -> Result<(), LineFault>
+pub(crate) fn run<'a>(words: &mut Words<'a>, room: &mut LineBuffers<'a>) -> Result<(), LineFault>
     ensures ok { OnOk result ((codes "RUN" ∷ words.old ≡ form_words (Run room.new.accesses.items room.new.steps.items room.new.deed))
         × IsFormInGrammar (Run room.new.accesses.items room.new.steps.items room.new.deed)) }
     ensures fault { IfErr result (λ f. IsFault f (fault_from (OfForm ∷ []) (codes "RUN" ∷ words.old))) }

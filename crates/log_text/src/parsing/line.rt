@@ -1,15 +1,15 @@
 //! A line, and the statement that it reads as.
 ghost use Rattle.std.specs.Prelude.{◌≡◌, ◌≢◌, ◌<◌, ◌≤◌, ◌∷◌, List, ℕ, None, Some, MatchResult, IfOk, IfErr, IsTrue, OnOk, length};
 ghost use Rattle.std.specs.List.{list_all};
-ghost use Rattle.log_text.specs.Room.{sentence_of};
+ghost use Rattle.log_text.specs.LineBuffers.{sentence_of};
 ghost use Rattle.log_text.specs.Statement.{Sentence, Reads};
 ghost use Rattle.line_words.specs.Faults.{IsFault};
 ghost use Rattle.log_text.specs.Fault.{OfName, line_fault, misfit, whole_fault, words_fault};
 ghost use Rattle.line_words.specs.Words.{first_word, is_name, is_printable};
 
+use super::fields::name;
 use super::form::{other_form, run, takes_run};
-use super::places::name;
-use crate::raw_room::{RawRoom, leave_none, same_name};
+use crate::line_buffers::{LineBuffers, leave_none, same_name};
 use crate::statement::RawStatement;
 use line_io::MOST_LINE_BYTES;
 use line_words::{LineFault, Name, Words};
@@ -60,7 +60,7 @@ fn take_user<'a>(words: &mut Words<'a>, user: &mut Name<'a>) -> Result<(), LineF
 /// take memory only where there isn't room enough. `NoMemory` comes only where the allocator refused. After an error nothing is known of
 /// what is in the room.
 #[tactic(auto, using(crate::proofs::Grammar::only_memory, crate::proofs::Grammar::found_fault))]
-pub fn read_into<'a>(line: &'a [u8], room: &mut RawRoom<'a>) -> Result<(), LineFault>
+pub fn read_into<'a>(line: &'a [u8], room: &mut LineBuffers<'a>) -> Result<(), LineFault>
     // What is in the room is what the line reads as.
     ensures read { OnOk result (Reads line.now (sentence_of room.new)) }
     // A line that reads as a statement is read, unless memory runs out.
@@ -104,7 +104,7 @@ pub fn read_into<'a>(line: &'a [u8], room: &mut RawRoom<'a>) -> Result<(), LineF
 pub fn read_line<'a>(
     alloc: Global,
     line: &'a [u8],
-    room: &mut RawRoom<'a>,
+    room: &mut LineBuffers<'a>,
 ) -> Result<RawStatement<'a>, LineFault>
     // What is returned is what the line reads as.
     ensures read { IfOk result (λ s. Reads line.now s) }
@@ -134,7 +134,7 @@ pub fn parse_line<'a>(alloc: Global, line: &'a [u8]) -> Result<RawStatement<'a>,
     // A line that is too long or empty, or has a byte that isn't printable, is returned as such, and never as out of memory.
     ensures whole { (f : LineFault) → whole_fault line.now ≡ Some f → result ≡ Err f }
 {
-    read_line(alloc, line, &mut RawRoom::new(alloc))
+    read_line(alloc, line, &mut LineBuffers::new(alloc))
 }
 
 /// No line reads as two statements, no two lines as one, and none with a fault as any.

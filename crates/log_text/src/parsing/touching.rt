@@ -8,7 +8,7 @@ ghost use Rattle.log_text.specs.Fault.{Expected, OfName, OfRow, OfPlain, expecte
 ghost use Rattle.log_text.specs.Parsing.{AreInsertable, FailAsRegisters, FitAsRegisters, TakesStep, TakesRegisters, fault_behind};
 ghost use Rattle.line_words.specs.declared.step_name.StepName.TheVariants.{Has, Load, Store, Insert, Delete};
 
-use super::places::{bar_or_end, name, number, register, register_of, row};
+use super::fields::{bar_or_end, name, number, register, register_of, row};
 use crate::statement::RawStep;
 use line_words::{LineFault, Name, Words};
 use model_base::{MOST_COLUMNS, Registers, RowName};

@@ -1,6 +1,6 @@
 use Rattle.std.proofs.Common.{inl, ℕ, subst, sym, ◌∙◌}
 use Rattle.std.specs.Prelude.{Err, Ok}
-use Rattle.sequencer.specs.Taken.{IsWhole}
+use Rattle.sequencer.specs.Whole.{IsWhole}
 use Rattle.batched_text.specs.Foretold.{Runs, TakesAt}
 use Rattle.batched_text.specs.declared.batching.Batching.{Batching}
 use Rattle.batched_text.proofs.Cutting.{filled}

@@ -3,7 +3,7 @@ use Rattle.model_base.specs.declared.limits.TheConstants.{MOST_PLACES}
 use Rattle.read_ahead.specs.Ahead.{line_from}
 use Rattle.report.specs.Report.{faulty, read}
 use Rattle.sequencer.specs.Log.{Accepted}
-use Rattle.sequencer.specs.Taken.{IsWhole}
+use Rattle.sequencer.specs.Whole.{IsWhole}
 use Rattle.batched_text.specs.Foretold.{log_names}
 use Rattle.batched_text.proofs.ForetoldLines.{faulty_at, known_at}
 use Rattle.batched_text.proofs.foretold.take_ahead.Goals as goal

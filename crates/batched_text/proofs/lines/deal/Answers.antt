@@ -1,4 +1,4 @@
-use Rattle.sequencer.specs.Taken.{IsWhole}
+use Rattle.sequencer.specs.Whole.{IsWhole}
 use Rattle.std.proofs.Common.{subst}
 use Rattle.batched_text.proofs.Cutting.{dealt, filled}
 use Rattle.batched_text.proofs.lines.deal.Goals as goal

@@ -1,6 +1,6 @@
 use Rattle.std.proofs.Common.{◌++◌, ◌∷◌, [], ap, refl, ◌∙◌}
-use Rattle.log_text.specs.Room.{sentence_of}
-use Rattle.bohm_base.specs.declared.collecting.Became.{Became}
+use Rattle.log_text.specs.LineBuffers.{sentence_of}
+use Rattle.bohm_base.specs.declared.collecting.LineOutcome.{LineOutcome}
 use Rattle.engine.specs.Engine.{Run, finished}
 use Rattle.batched_text.specs.LineRead.{reading_by}
 use Rattle.batched_text.proofs.LineReadings.{reads_by}
@@ -16,7 +16,7 @@ returns-clause-ok c =
         reads_by c.args.line.now c.read_into-found.result sentence parsed.read parsed.sound parsed.fault took.told,
         record {
           engine = took.engine;
-          waiting = c.in_ok-push.ensures.items ∙ ap (λ (line : Became). c.args.batching.now.waiting.items ++ line ∷ []) took.line;
+          waiting = c.in_ok-push.ensures.items ∙ ap (λ (line : LineOutcome). c.args.batching.now.waiting.items ++ line ∷ []) took.line;
           number = refl;
           pending = refl;
         },

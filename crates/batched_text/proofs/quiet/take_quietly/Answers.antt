@@ -1,4 +1,4 @@
-use Rattle.log_text.specs.Room.{sentence_of}
+use Rattle.log_text.specs.LineBuffers.{sentence_of}
 use Rattle.batched_text.specs.LineRead.{reading_by}
 use Rattle.batched_text.proofs.LineReadings.{reads_by}
 use Rattle.batched_text.proofs.quiet.take_quietly.Goals as goal

@@ -4,7 +4,7 @@ use Rattle.model_base.specs.declared.outcome.Outcome.{Outcome}
 use Rattle.model_base.specs.declared.statement.Statement.{Statement}
 use Rattle.sequencer.specs.Catalog.{Names}
 use Rattle.sequencer.specs.Log.{Accepted}
-use Rattle.sequencer.specs.Taken.{IsWhole}
+use Rattle.sequencer.specs.Whole.{IsWhole}
 use Rattle.report.specs.Text.{IsNamed, outcome_text}
 use Rattle.report.proofs.ReportLemmas.{place_spelled}
 use Rattle.bohm_base.proofs.Named.{outcome-named}

@@ -1,5 +1,5 @@
 use Rattle.std.proofs.Common.{refl}
-use Rattle.bohm_base.specs.Collecting.{became_text}
+use Rattle.bohm_base.specs.Collecting.{line_outcome_text}
 use Rattle.bohm_base.proofs.Beginnings.{line_left}
 use Rattle.bohm_base.proofs.serial_run.report_line.Goals as goal
 
@@ -15,7 +15,7 @@ returns-in_err-put_out-clause-begun g c = rw (c.deref.ensures.value, c.in_ok-put
 pub returns-in_err-put_line-clause-begun : goal.returns-in_err-put_line-clause-begun
 returns-in_err-put_line-clause-begun g c =
     line_left _ c.args.pending.now.items c.args.pending.now.items
-    (became_text c.args.log.now.statements c.args.log.now.names.tables c.args.number c.args.place c.args.line) refl
+    (line_outcome_text c.args.log.now.statements c.args.log.now.names.tables c.args.number c.args.place c.args.line) refl
 
 pub returns-clause-errors : goal.returns-clause-errors
 returns-clause-errors g c = c.in_ok-put_out.ensures.errors

@@ -1,5 +1,5 @@
 use Rattle.std.proofs.Common.{◌≡◌, ◌<◌, length, get_or, refl, ap, ◌∙◌, arith}
-use Rattle.bohm_base.specs.declared.collecting.Became.{Became}
+use Rattle.bohm_base.specs.declared.collecting.LineOutcome.{LineOutcome}
 use Rattle.bohm_base.specs.Collecting.{places_of}
 use Rattle.bohm_base.proofs.Beginnings.{begun_then, moves_on, moves_then}
 use Rattle.bohm_base.proofs.serial_run.report_lines.Goals as goal
@@ -9,7 +9,7 @@ returns-in_err-report_line-clause-begun g c =
     let low : c.loop-index.index < length c.args.collected.now.lines.items = omega (arith, ap length c.deref-line-items.ensures.value) in
     begun_then _ (g.W.Write.contents c.loop-index.writer.inner) _ _ _ c.report_line.new.pending.items _
     (moves_on _ _ c.args.collected.now.log c.args.collected.now.lines.items c.loop-index.index c.loop-index.place
-    (places_of (get_or c.args.collected.now.lines.items c.loop-index.index Became.Accepted)) Became.Accepted
+    (places_of (get_or c.args.collected.now.lines.items c.loop-index.index LineOutcome.Accepted)) LineOutcome.Accepted
     c.loop-index.pending.items c.loop-index.invariant.written low refl)
     (rw c.deref-line-items.ensures.value at c.report_line.ensures.begun)
 
@@ -19,7 +19,7 @@ loop-index-preserved g c =
     let writes : c.report_line.new.writer.errors ≡ c.loop-index.writer.errors = c.in_ok-report_line.ensures.errors in
     record {
       written = moves_then _ (g.W.Write.contents c.loop-index.writer.inner) _ _ _ c.report_line.new.pending.items _
-          (moves_on _ _ c.args.collected.now.log c.args.collected.now.lines.items c.loop-index.index c.loop-index.place c.places-place.result Became.Accepted
+          (moves_on _ _ c.args.collected.now.log c.args.collected.now.lines.items c.loop-index.index c.loop-index.place c.places-place.result LineOutcome.Accepted
           c.loop-index.pending.items c.loop-index.invariant.written low (rw c.deref-line-items.ensures.value at c.places-place.ensures.count))
           (rw c.deref-line-items.ensures.value at c.in_ok-report_line.ensures.ok);
       places = omega (arith, c.places-place.ensures.most, c.loop-index.invariant.places);

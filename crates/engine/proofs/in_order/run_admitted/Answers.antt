@@ -7,7 +7,7 @@ use Rattle.model_base.specs.Versions.{accesses_of}
 use Rattle.body.specs.declared.ending.BodyEnd.{BodyEnd}
 use Rattle.body.specs.Shown.{with_rows}
 use Rattle.chains.specs.Store.{versions_at, versions_by}
-use Rattle.sequencer.specs.Taken.{IsTaken}
+use Rattle.sequencer.specs.Whole.{IsAccepted}
 use Rattle.engine.proofs.Running.{completed-deeds, ended-leads, few_accesses, placed-versions, same-stands}
 use Rattle.engine.proofs.Stepping.{make_owners, make_table}
 use Rattle.filling.proofs.Told.{got}
@@ -60,7 +60,7 @@ returns-in_ok-deed-in-Completed-clause-stands c =
     let leads = ended-leads c.args.log.now.log.statements c.args.place c.args.statement.now c.requires.at c.requires.form c.requires.admitted
     c.args.chains.now c.mark-mark.ensures.within c.args.book.now c.requires.stands c.fill_window.new.window c.run.new.window
     c.fill_window.ensures.shows c.run.result BodyEnd.Completed c.in-Completed.is c.run.ensures.ends in
-    let taken = got (IsTaken c.args.log.now.log.names) log place statement c.dropped-dropped.ensures.whole.taken c.requires.at in
+    let taken = got (IsAccepted c.args.log.now.log.names) log place statement c.dropped-dropped.ensures.whole.taken c.requires.at in
     let few : length (accesses_of statement.form) ≤ length contents = omega (arith, c.row-row.ensures.whole, few_accesses statement.form taken.runnable) in
     let versions : versions_by place (accesses_of statement.form) contents ≡ versions_at log place =
     placed-versions log place statement c.requires.at (with_rows (accesses_of statement.form) contents rows) contents (ap (λ (w : World). w.rows) leads.1)

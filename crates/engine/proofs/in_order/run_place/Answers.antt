@@ -2,7 +2,7 @@ use Rattle.std.proofs.Common.{◌+◌, subst, sym, ◌∙◌}
 use Rattle.model_base.specs.declared.outcome.Outcome.{Outcome}
 use Rattle.model_base.specs.Outcomes.{deeds_before, owners}
 use Rattle.grants_base.specs.Book.{Entries}
-use Rattle.engine.specs.Stands.{Stands}
+use Rattle.engine.specs.RunState.{IsRunState}
 use Rattle.engine.proofs.Making.{shows-past}
 use Rattle.engine.proofs.Running.{covers-needs, denied-leads, lacks-none, pass-stands, same-stands}
 use Rattle.engine.proofs.Stepping.{created-leads}
@@ -46,6 +46,6 @@ returns-in-Denied-clause-stands c =
     let value = c.admit.ensures.value in
     let is = sym c.in-Denied.is ∙ value (owners log) (deeds_before log c.args.place) (shows-past log c.args.place c.args.book.now c.requires.stands.booked) in
     let leads = denied-leads log c.args.place statement at other c.in-Denied.need c.in-Denied.cause is in
-    subst (λ (book : Entries). Stands log (c.args.place + 1) c.pass-in-Denied.new.self book) (sym c.admit.ensures.same)
+    subst (λ (book : Entries). IsRunState log (c.args.place + 1) c.pass-in-Denied.new.self book) (sym c.admit.ensures.same)
     (same-stands log c.args.place statement at c.args.chains.now c.pass-in-Denied.new.self c.args.book.now c.requires.stands c.requires.known other
     c.pass-in-Denied.ensures.store c.pass-in-Denied.ensures.right leads.1)

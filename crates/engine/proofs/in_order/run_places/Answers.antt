@@ -1,7 +1,7 @@
 use Rattle.std.proofs.lemmas.List.{length-append}
 use Rattle.std.proofs.Common.{length, ◌≡◌, ◌+◌, ◌≤◌, ◌++◌, ◌∷◌, [], ℕ, List, ap, ◌∙◌, subst, arith, append_assoc}
 use Rattle.model_base.specs.declared.outcome.Outcome.{Outcome}
-use Rattle.engine.specs.Stands.{Stands}
+use Rattle.engine.specs.RunState.{IsRunState}
 use Rattle.filling.proofs.Ranges.{outcomes_more}
 use Rattle.engine.proofs.in_order.run_places.Goals as goal
 
@@ -16,7 +16,7 @@ loop-index-preserved g c =
     let next : first + index + 1 ≡ first + (index + 1) = omega arith in
     let least : first ≤ first + index = omega arith in
     record {
-      stands = subst (λ (n : ℕ). Stands log n c.run_place.new.chains c.run_place.new.book) next c.in_ok-run_place.ensures.stands;
+      stands = subst (λ (n : ℕ). IsRunState log n c.run_place.new.chains c.run_place.new.book) next c.in_ok-run_place.ensures.stands;
       mark = c.run_place.ensures.mark ∙ invariant.mark;
       end = omega (arith, c.run_place.ensures.end, invariant.end);
       came = (

@@ -5,10 +5,10 @@ use Rattle.grants_base.specs.Index.{IsFirst, IsNext, is_to}
 use Rattle.grants_base.specs.View.{slot_at}
 use Rattle.bohm_core_base.specs.Batch.{batch_slots}
 use Rattle.log_batch.specs.Earlier.{earlier_count, records_before}
-use Rattle.log_batch.specs.Supplied.{batch_in, range_of}
+use Rattle.log_batch.specs.Supplied.{batch_of, range_of}
 use Rattle.evaluation.specs.Seen.{seen_at, seen_view}
 use Rattle.evaluation.specs.Sought.{IsLastEnd, is_sought, slot_end}
-use Rattle.evaluation.specs.Told.{Reader}
+use Rattle.evaluation.specs.ReadSource.{Reader}
 use Rattle.evaluation.proofs.InForce.{in-force-low}
 use Rattle.evaluation.proofs.Steps.{last-early, last-early-all, last-early-none, last-start, looked_in, sought-on, was_in}
 use Rattle.evaluation.proofs.in_force.last_earlier.Goals as goal
@@ -16,7 +16,7 @@ use Rattle.evaluation.proofs.in_force.last_earlier.Goals as goal
 pub overflow_add-from : goal.overflow_add-from
 overflow_add-from g c =
     let ranged = c.args.batch.now in
-    let index = (g.T.Told.told c.args.told.now).index in
+    let index = (g.T.ReadSource.as_reader c.args.source.now).index in
     let passes = is_sought c.args.sought.now in
     let of_log = c.log-log.ensures.of_log in
     let first : IsFirst (was_in ranged passes) c.loop-from.from (Some c.in-Some-slot.slot) =
@@ -27,7 +27,7 @@ overflow_add-from g c =
 pub end_sought-requires-clause-within : goal.end_sought-requires-clause-within
 end_sought-requires-clause-within g c =
     let ranged = c.args.batch.now in
-    let index = (g.T.Told.told c.args.told.now).index in
+    let index = (g.T.ReadSource.as_reader c.args.source.now).index in
     let passes = is_sought c.args.sought.now in
     let of_log = c.log-log.ensures.of_log in
     let first : IsFirst (was_in ranged passes) c.loop-from.from (Some c.in-Some-slot.slot) =
@@ -38,11 +38,11 @@ end_sought-requires-clause-within g c =
 pub loop-from-init : goal.loop-from-init
 loop-from-init g c =
     let ranged = c.args.batch.now in
-    let index = (g.T.Told.told c.args.told.now).index in
+    let index = (g.T.ReadSource.as_reader c.args.source.now).index in
     let passes = is_sought c.args.sought.now in
     let of_log = c.log-log.ensures.of_log in
     record {
-      told = refl;
+      source = refl;
       kept = refl;
       count = c.earlier_count-count.ensures.value;
       last = last-start ranged of_log index passes (sought-on ranged of_log index c.args.sought.now c.requires.listed) c.args.before c.requires.before;
@@ -51,16 +51,16 @@ loop-from-init g c =
 pub loop-from-preserved : goal.loop-from-preserved
 loop-from-preserved g c =
     let ranged = c.args.batch.now in
-    let index = (g.T.Told.told c.args.told.now).index in
+    let index = (g.T.ReadSource.as_reader c.args.source.now).index in
     let passes = is_sought c.args.sought.now in
     let of_log = c.log-log.ensures.of_log in
     let first : IsFirst (was_in ranged passes) c.loop-from.from (Some c.in-Some-slot.slot) =
     subst (λ (found : Option ℕ). IsFirst (was_in ranged passes) c.loop-from.from found) c.in-Some-slot.is c.in-Some.ensures in
     let low = in-force-low ranged of_log index passes c.in-Some-slot.slot first.1 in
     let end : c.end_sought.result ≡ slot_end passes (slot_at (seen_view (seen_at ranged index)) c.in-Some-slot.slot) =
-    c.end_sought.ensures.value ∙ ap (λ (reader : Reader). slot_end passes (slot_at (seen_view (seen_at ranged reader.index)) c.in-Some-slot.slot)) c.loop-from.invariant.told in
+    c.end_sought.ensures.value ∙ ap (λ (reader : Reader). slot_end passes (slot_at (seen_view (seen_at ranged reader.index)) c.in-Some-slot.slot)) c.loop-from.invariant.source in
     record {
-      told = c.end_sought.ensures.same.0 ∙ c.loop-from.invariant.told;
+      source = c.end_sought.ensures.same.0 ∙ c.loop-from.invariant.source;
       kept = c.end_sought.ensures.same.1 ∙ c.loop-from.invariant.kept;
       count = c.loop-from.invariant.count;
       last =
@@ -71,7 +71,7 @@ loop-from-preserved g c =
 pub returns-in_default-slot-clause-last : goal.returns-in_default-slot-clause-last
 returns-in_default-slot-clause-last g c =
     let ranged = c.args.batch.now in
-    let index = (g.T.Told.told c.args.told.now).index in
+    let index = (g.T.ReadSource.as_reader c.args.source.now).index in
     let passes = is_sought c.args.sought.now in
     let of_log = c.log-log.ensures.of_log in
     last-early-none ranged of_log index passes c.loop-from.from c.loop-from.place c.loop-from.invariant.last
@@ -80,7 +80,7 @@ returns-in_default-slot-clause-last g c =
 pub returns-clause-last : goal.returns-clause-last
 returns-clause-last g c =
     let ranged = c.args.batch.now in
-    let index = (g.T.Told.told c.args.told.now).index in
+    let index = (g.T.ReadSource.as_reader c.args.source.now).index in
     let passes = is_sought c.args.sought.now in
     let of_log = c.log-log.ensures.of_log in
     last-early-all ranged of_log index passes c.loop-from.from c.loop-from.place c.loop-from.invariant.last

@@ -5,10 +5,10 @@ use Rattle.grants_base.specs.Index.{IsFirst, IsNext, is_to}
 use Rattle.grants_base.specs.View.{slot_at}
 use Rattle.bohm_core_base.specs.Batch.{batch_slots}
 use Rattle.log_batch.specs.Earlier.{earlier_count, records_before}
-use Rattle.log_batch.specs.Supplied.{batch_in, range_of}
+use Rattle.log_batch.specs.Supplied.{batch_of, range_of}
 use Rattle.evaluation.specs.Seen.{seen_at, seen_view}
 use Rattle.evaluation.specs.Sought.{IsLastEnd, is_sought, slot_end}
-use Rattle.evaluation.specs.Told.{Reader}
+use Rattle.evaluation.specs.ReadSource.{Reader}
 use Rattle.evaluation.proofs.InForce.{in-force-low}
 use Rattle.evaluation.proofs.Steps.{last-own, last-own-all, last-own-none}
 use Rattle.evaluation.proofs.LastEnds.{last-greatest}
@@ -17,15 +17,15 @@ use Rattle.evaluation.proofs.in_force.last_own.Goals as goal
 pub loop-from-preserved : goal.loop-from-preserved
 loop-from-preserved g c =
     let ranged = c.args.batch.now in
-    let index = (g.T.Told.told c.args.told.now).index in
+    let index = (g.T.ReadSource.as_reader c.args.source.now).index in
     let passes = is_sought c.args.sought.now in
     let of_log = c.log-log.ensures.of_log in
-    let first : IsNext (is_to c.args.sought.now.grantee c.args.sought.now.kind c.args.sought.now.table) (batch_slots (batch_in ranged)) c.loop-from.from (Some c.in-Some.slot) = c.in-Some.ensures in
+    let first : IsNext (is_to c.args.sought.now.grantee c.args.sought.now.kind c.args.sought.now.table) (batch_slots (batch_of ranged)) c.loop-from.from (Some c.in-Some.slot) = c.in-Some.ensures in
     let end : c.end_sought.result ≡ slot_end passes (slot_at (seen_view (seen_at ranged index)) c.in-Some.slot) =
-    c.end_sought.ensures.value ∙ ap (λ (reader : Reader). slot_end passes (slot_at (seen_view (seen_at ranged reader.index)) c.in-Some.slot)) c.loop-from.invariant.told in
+    c.end_sought.ensures.value ∙ ap (λ (reader : Reader). slot_end passes (slot_at (seen_view (seen_at ranged reader.index)) c.in-Some.slot)) c.loop-from.invariant.source in
     let above = first.0 in
     record {
-      told = c.end_sought.ensures.same.0 ∙ c.loop-from.invariant.told;
+      source = c.end_sought.ensures.same.0 ∙ c.loop-from.invariant.source;
       kept = c.end_sought.ensures.same.1 ∙ c.loop-from.invariant.kept;
       count = c.loop-from.invariant.count;
       own = omega (arith, above, c.loop-from.invariant.own);
@@ -37,17 +37,17 @@ loop-from-preserved g c =
 pub returns-in_default-clause-last : goal.returns-in_default-clause-last
 returns-in_default-clause-last g c =
     let ranged = c.args.batch.now in
-    let index = (g.T.Told.told c.args.told.now).index in
+    let index = (g.T.ReadSource.as_reader c.args.source.now).index in
     let passes = is_sought c.args.sought.now in
     let of_log = c.log-log.ensures.of_log in
     last-greatest passes (seen_view (seen_at ranged index)) c.loop-from.place
     (last-own-none ranged of_log index c.args.sought.now c.loop-from.from c.loop-from.place c.loop-from.invariant.last
-    (subst (λ (found : Option ℕ). IsNext (is_to c.args.sought.now.grantee c.args.sought.now.kind c.args.sought.now.table) (batch_slots (batch_in ranged)) c.loop-from.from found) c.in_default.is c.next_own_to.ensures))
+    (subst (λ (found : Option ℕ). IsNext (is_to c.args.sought.now.grantee c.args.sought.now.kind c.args.sought.now.table) (batch_slots (batch_of ranged)) c.loop-from.from found) c.in_default.is c.next_own_to.ensures))
 
 pub returns-clause-last : goal.returns-clause-last
 returns-clause-last g c =
     let ranged = c.args.batch.now in
-    let index = (g.T.Told.told c.args.told.now).index in
+    let index = (g.T.ReadSource.as_reader c.args.source.now).index in
     let passes = is_sought c.args.sought.now in
     let of_log = c.log-log.ensures.of_log in
     last-greatest passes (seen_view (seen_at ranged index)) c.loop-from.place

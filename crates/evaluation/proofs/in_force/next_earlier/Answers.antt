@@ -5,10 +5,10 @@ use Rattle.grants_base.specs.Index.{IsFirst, IsNext, is_to}
 use Rattle.grants_base.specs.View.{slot_at}
 use Rattle.bohm_core_base.specs.Batch.{batch_slots}
 use Rattle.log_batch.specs.Earlier.{earlier_count, records_before}
-use Rattle.log_batch.specs.Supplied.{batch_in, range_of}
+use Rattle.log_batch.specs.Supplied.{batch_of, range_of}
 use Rattle.evaluation.specs.Seen.{seen_at, seen_view}
 use Rattle.evaluation.specs.Sought.{IsLastEnd, is_sought, slot_end}
-use Rattle.evaluation.specs.Told.{Reader}
+use Rattle.evaluation.specs.ReadSource.{Reader}
 use Rattle.evaluation.proofs.InForce.{in-force-low}
 use Rattle.evaluation.proofs.Steps.{early-all, early-found, early-none, early-passed, force_in, was_in}
 use Rattle.evaluation.proofs.in_force.next_earlier.Goals as goal
@@ -16,7 +16,7 @@ use Rattle.evaluation.proofs.in_force.next_earlier.Goals as goal
 pub overflow_add-from : goal.overflow_add-from
 overflow_add-from g c =
     let ranged = c.args.batch.now in
-    let index = (g.T.Told.told c.args.told.now).index in
+    let index = (g.T.ReadSource.as_reader c.args.source.now).index in
     let passes = is_sought c.args.sought.now in
     let of_log = c.log-log.ensures.of_log in
     let first : IsFirst (was_in ranged passes) c.loop-from.from (Some c.in-Some-slot.slot) =
@@ -27,7 +27,7 @@ overflow_add-from g c =
 pub is_shown_in_force-requires-clause-within : goal.is_shown_in_force-requires-clause-within
 is_shown_in_force-requires-clause-within g c =
     let ranged = c.args.batch.now in
-    let index = (g.T.Told.told c.args.told.now).index in
+    let index = (g.T.ReadSource.as_reader c.args.source.now).index in
     let passes = is_sought c.args.sought.now in
     let of_log = c.log-log.ensures.of_log in
     let first : IsFirst (was_in ranged passes) c.loop-from.from (Some c.in-Some-slot.slot) =
@@ -38,17 +38,17 @@ is_shown_in_force-requires-clause-within g c =
 pub loop-from-preserved : goal.loop-from-preserved
 loop-from-preserved g c =
     let ranged = c.args.batch.now in
-    let index = (g.T.Told.told c.args.told.now).index in
+    let index = (g.T.ReadSource.as_reader c.args.source.now).index in
     let passes = is_sought c.args.sought.now in
     let of_log = c.log-log.ensures.of_log in
     let first : IsFirst (was_in ranged passes) c.loop-from.from (Some c.in-Some-slot.slot) =
     subst (λ (found : Option ℕ). IsFirst (was_in ranged passes) c.loop-from.from found) c.in-Some-slot.is c.in-Some.ensures in
     let low = in-force-low ranged of_log index passes c.in-Some-slot.slot first.1 in
     let here : force_in ranged index passes c.in-Some-slot.slot ≡ false =
-    ap (λ (reader : Reader). force_in ranged reader.index passes c.in-Some-slot.slot) (sym c.loop-from.invariant.told) ∙ sym c.is_shown_in_force.ensures.value ∙ c.if-is_shown_in_force.false in
+    ap (λ (reader : Reader). force_in ranged reader.index passes c.in-Some-slot.slot) (sym c.loop-from.invariant.source) ∙ sym c.is_shown_in_force.ensures.value ∙ c.if-is_shown_in_force.false in
     let above = first.0 in
     record {
-      told = c.is_shown_in_force.ensures.same.0 ∙ c.loop-from.invariant.told;
+      source = c.is_shown_in_force.ensures.same.0 ∙ c.loop-from.invariant.source;
       kept = c.is_shown_in_force.ensures.same.1 ∙ c.loop-from.invariant.kept;
       count = c.loop-from.invariant.count;
       start = omega (arith, above, c.loop-from.invariant.start);
@@ -58,20 +58,20 @@ loop-from-preserved g c =
 pub returns-then-is_shown_in_force-clause-next : goal.returns-then-is_shown_in_force-clause-next
 returns-then-is_shown_in_force-clause-next g c =
     let ranged = c.args.batch.now in
-    let index = (g.T.Told.told c.args.told.now).index in
+    let index = (g.T.ReadSource.as_reader c.args.source.now).index in
     let passes = is_sought c.args.sought.now in
     let of_log = c.log-log.ensures.of_log in
     let first : IsFirst (was_in ranged passes) c.loop-from.from (Some c.in-Some-slot.slot) =
     subst (λ (found : Option ℕ). IsFirst (was_in ranged passes) c.loop-from.from found) c.in-Some-slot.is c.in-Some.ensures in
     let low = in-force-low ranged of_log index passes c.in-Some-slot.slot first.1 in
     let here : force_in ranged index passes c.in-Some-slot.slot ≡ true =
-    ap (λ (reader : Reader). force_in ranged reader.index passes c.in-Some-slot.slot) (sym c.loop-from.invariant.told) ∙ sym c.is_shown_in_force.ensures.value ∙ c.if-is_shown_in_force.true in
+    ap (λ (reader : Reader). force_in ranged reader.index passes c.in-Some-slot.slot) (sym c.loop-from.invariant.source) ∙ sym c.is_shown_in_force.ensures.value ∙ c.if-is_shown_in_force.true in
     early-found ranged of_log index passes c.args.start c.loop-from.from c.in-Some-slot.slot c.loop-from.invariant.start c.loop-from.invariant.passed first here
 
 pub returns-in_default-slot-clause-next : goal.returns-in_default-slot-clause-next
 returns-in_default-slot-clause-next g c =
     let ranged = c.args.batch.now in
-    let index = (g.T.Told.told c.args.told.now).index in
+    let index = (g.T.ReadSource.as_reader c.args.source.now).index in
     let passes = is_sought c.args.sought.now in
     let of_log = c.log-log.ensures.of_log in
     early-none ranged of_log index passes c.args.start c.loop-from.from c.loop-from.invariant.passed
@@ -80,7 +80,7 @@ returns-in_default-slot-clause-next g c =
 pub returns-clause-next : goal.returns-clause-next
 returns-clause-next g c =
     let ranged = c.args.batch.now in
-    let index = (g.T.Told.told c.args.told.now).index in
+    let index = (g.T.ReadSource.as_reader c.args.source.now).index in
     let passes = is_sought c.args.sought.now in
     let of_log = c.log-log.ensures.of_log in
     early-all ranged of_log index passes c.args.start c.loop-from.from c.loop-from.invariant.passed

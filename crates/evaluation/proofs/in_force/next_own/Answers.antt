@@ -5,10 +5,10 @@ use Rattle.grants_base.specs.Index.{IsFirst, IsNext, is_to}
 use Rattle.grants_base.specs.View.{slot_at}
 use Rattle.bohm_core_base.specs.Batch.{batch_slots}
 use Rattle.log_batch.specs.Earlier.{earlier_count, records_before}
-use Rattle.log_batch.specs.Supplied.{batch_in, range_of}
+use Rattle.log_batch.specs.Supplied.{batch_of, range_of}
 use Rattle.evaluation.specs.Seen.{seen_at, seen_view}
 use Rattle.evaluation.specs.Sought.{IsLastEnd, is_sought, slot_end}
-use Rattle.evaluation.specs.Told.{Reader}
+use Rattle.evaluation.specs.ReadSource.{Reader}
 use Rattle.evaluation.proofs.InForce.{in-force-low}
 use Rattle.evaluation.proofs.Steps.{force_in, own-all, own-found, own-none, own-passed}
 use Rattle.evaluation.proofs.in_force.next_own.Goals as goal
@@ -16,15 +16,15 @@ use Rattle.evaluation.proofs.in_force.next_own.Goals as goal
 pub loop-from-preserved : goal.loop-from-preserved
 loop-from-preserved g c =
     let ranged = c.args.batch.now in
-    let index = (g.T.Told.told c.args.told.now).index in
+    let index = (g.T.ReadSource.as_reader c.args.source.now).index in
     let passes = is_sought c.args.sought.now in
     let of_log = c.log-log.ensures.of_log in
-    let first : IsNext (is_to c.args.sought.now.grantee c.args.sought.now.kind c.args.sought.now.table) (batch_slots (batch_in ranged)) c.loop-from.from (Some c.in-Some.slot) = c.in-Some.ensures in
+    let first : IsNext (is_to c.args.sought.now.grantee c.args.sought.now.kind c.args.sought.now.table) (batch_slots (batch_of ranged)) c.loop-from.from (Some c.in-Some.slot) = c.in-Some.ensures in
     let here : force_in ranged index passes c.in-Some.slot ≡ false =
-    ap (λ (reader : Reader). force_in ranged reader.index passes c.in-Some.slot) (sym c.loop-from.invariant.told) ∙ sym c.is_shown_in_force.ensures.value ∙ c.if-is_shown_in_force.false in
+    ap (λ (reader : Reader). force_in ranged reader.index passes c.in-Some.slot) (sym c.loop-from.invariant.source) ∙ sym c.is_shown_in_force.ensures.value ∙ c.if-is_shown_in_force.false in
     let above = first.0 in
     record {
-      told = c.is_shown_in_force.ensures.same.0 ∙ c.loop-from.invariant.told;
+      source = c.is_shown_in_force.ensures.same.0 ∙ c.loop-from.invariant.source;
       kept = c.is_shown_in_force.ensures.same.1 ∙ c.loop-from.invariant.kept;
       count = c.loop-from.invariant.count;
       own = omega (arith, above, c.loop-from.invariant.own);
@@ -35,27 +35,27 @@ loop-from-preserved g c =
 pub returns-then-is_shown_in_force-clause-next : goal.returns-then-is_shown_in_force-clause-next
 returns-then-is_shown_in_force-clause-next g c =
     let ranged = c.args.batch.now in
-    let index = (g.T.Told.told c.args.told.now).index in
+    let index = (g.T.ReadSource.as_reader c.args.source.now).index in
     let passes = is_sought c.args.sought.now in
     let of_log = c.log-log.ensures.of_log in
-    let first : IsNext (is_to c.args.sought.now.grantee c.args.sought.now.kind c.args.sought.now.table) (batch_slots (batch_in ranged)) c.loop-from.from (Some c.in-Some.slot) = c.in-Some.ensures in
+    let first : IsNext (is_to c.args.sought.now.grantee c.args.sought.now.kind c.args.sought.now.table) (batch_slots (batch_of ranged)) c.loop-from.from (Some c.in-Some.slot) = c.in-Some.ensures in
     let here : force_in ranged index passes c.in-Some.slot ≡ true =
-    ap (λ (reader : Reader). force_in ranged reader.index passes c.in-Some.slot) (sym c.loop-from.invariant.told) ∙ sym c.is_shown_in_force.ensures.value ∙ c.if-is_shown_in_force.true in
+    ap (λ (reader : Reader). force_in ranged reader.index passes c.in-Some.slot) (sym c.loop-from.invariant.source) ∙ sym c.is_shown_in_force.ensures.value ∙ c.if-is_shown_in_force.true in
     own-found ranged of_log index c.args.sought.now c.args.start c.loop-from.from c.in-Some.slot c.loop-from.invariant.start c.loop-from.invariant.passed first here
 
 pub returns-in_default-clause-next : goal.returns-in_default-clause-next
 returns-in_default-clause-next g c =
     let ranged = c.args.batch.now in
-    let index = (g.T.Told.told c.args.told.now).index in
+    let index = (g.T.ReadSource.as_reader c.args.source.now).index in
     let passes = is_sought c.args.sought.now in
     let of_log = c.log-log.ensures.of_log in
     own-none ranged of_log index c.args.sought.now c.args.start c.loop-from.from c.loop-from.invariant.passed
-    (subst (λ (found : Option ℕ). IsNext (is_to c.args.sought.now.grantee c.args.sought.now.kind c.args.sought.now.table) (batch_slots (batch_in ranged)) c.loop-from.from found) c.in_default.is c.next_own_to.ensures)
+    (subst (λ (found : Option ℕ). IsNext (is_to c.args.sought.now.grantee c.args.sought.now.kind c.args.sought.now.table) (batch_slots (batch_of ranged)) c.loop-from.from found) c.in_default.is c.next_own_to.ensures)
 
 pub returns-clause-next : goal.returns-clause-next
 returns-clause-next g c =
     let ranged = c.args.batch.now in
-    let index = (g.T.Told.told c.args.told.now).index in
+    let index = (g.T.ReadSource.as_reader c.args.source.now).index in
     let passes = is_sought c.args.sought.now in
     let of_log = c.log-log.ensures.of_log in
     own-all ranged of_log index c.args.sought.now c.args.start c.loop-from.from c.loop-from.invariant.passed

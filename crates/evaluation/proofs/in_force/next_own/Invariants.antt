@@ -1,7 +1,7 @@
 use Rattle.std.proofs.Common.{◌-◌, ◌≡◌, ◌≤◌, length}
 use Rattle.bohm_core_base.specs.Batch.{batch_slots}
 use Rattle.log_batch.specs.Earlier.{earlier_count}
-use Rattle.log_batch.specs.Supplied.{batch_in}
+use Rattle.log_batch.specs.Supplied.{batch_of}
 use Rattle.evaluation.specs.Seen.{seen_at, seen_view}
 use Rattle.evaluation.specs.Sought.{IsLastEnd, is_sought}
 use Rattle.std.specs.Prelude.{nat_lt}
@@ -12,12 +12,12 @@ use Rattle.evaluation.proofs.in_force.next_own.Given as goal
 -- no slot so far is such a one
 abbrev pub invariant-loop-from : goal.invariant-loop-from
 invariant-loop-from g l = record {
-  told : g.T.Told.told l.told ≡ g.T.Told.told l.initial.told;
-  kept : g.T.Told.kept l.told ≡ g.T.Told.kept l.initial.told;
-  count : l.count ≡ length (batch_slots (batch_in l.batch));
-  own : earlier_count (batch_in l.batch) ≤ l.from;
+  source : g.T.ReadSource.as_reader l.source ≡ g.T.ReadSource.as_reader l.initial.source;
+  kept : g.T.ReadSource.work l.source ≡ g.T.ReadSource.work l.initial.source;
+  count : l.count ≡ length (batch_slots (batch_of l.batch));
+  own : earlier_count (batch_of l.batch) ≤ l.from;
   start : l.start ≤ l.from;
-  passed : NoneBetween (force_in l.batch (g.T.Told.told l.initial.told).index (is_sought l.sought)) l.start l.from;
+  passed : NoneBetween (force_in l.batch (g.T.ReadSource.as_reader l.initial.source).index (is_sought l.sought)) l.start l.from;
 }
 
 abbrev pub decreases-loop-from : goal.decreases-loop-from

@@ -5,10 +5,10 @@ use Rattle.grants_base.specs.Index.{IsFirst, IsNext, is_to}
 use Rattle.grants_base.specs.View.{slot_at}
 use Rattle.bohm_core_base.specs.Batch.{batch_slots}
 use Rattle.log_batch.specs.Earlier.{earlier_count, records_before}
-use Rattle.log_batch.specs.Supplied.{batch_in, range_of}
+use Rattle.log_batch.specs.Supplied.{batch_of, range_of}
 use Rattle.evaluation.specs.Seen.{seen_at, seen_view}
 use Rattle.evaluation.specs.Sought.{IsLastEnd, is_sought, slot_end}
-use Rattle.evaluation.specs.Told.{Reader}
+use Rattle.evaluation.specs.ReadSource.{Reader}
 use Rattle.evaluation.proofs.InForce.{in-force-low}
 use Rattle.evaluation.proofs.Steps.{early_in, first-after, first-there, force_in}
 use Rattle.evaluation.proofs.in_force.next_shown.Goals as goal
@@ -16,14 +16,14 @@ use Rattle.evaluation.proofs.in_force.next_shown.Goals as goal
 pub returns-then-is_some-clause-next : goal.returns-then-is_some-clause-next
 returns-then-is_some-clause-next g c =
     let ranged = c.args.batch.now in
-    let index = (g.T.Told.told c.args.told.now).index in
+    let index = (g.T.ReadSource.as_reader c.args.source.now).index in
     first-there ranged c.log-log.ensures.of_log index (is_sought c.args.sought.now) c.args.from c.in-Some.next.slot c.in-Some.ensures.next
     (sym c.is_some.ensures ∙ c.if-is_some.true)
 
 pub returns-clause-next : goal.returns-clause-next
 returns-clause-next g c =
     let ranged = c.args.batch.now in
-    let index = (g.T.Told.told c.args.told.now).index in
+    let index = (g.T.ReadSource.as_reader c.args.source.now).index in
     let passes = is_sought c.args.sought.now in
     first-after ranged c.log-log.ensures.of_log index passes c.args.from c.max-own.result c.in-Some.next.slot c.next_own-slot.result
     (c.max-own.ensures ∙ ap (max c.args.from) c.earlier_count.ensures.value) c.in-Some.ensures.next (sym c.is_some.ensures ∙ c.if-is_some.false)

@@ -19,7 +19,7 @@ ended-places-requires g c =
     let statement = c.statement-statement.result.now in
     record {
       covered =
-          deed-covered (seen_view (seen_at ranged (g.T.Told.told c.args.told).index)).owner statement.form
+          deed-covered (seen_view (seen_at ranged (g.T.ReadSource.as_reader c.args.source).index)).owner statement.form
           (subst (λ index. All (λ table. IsSome ((seen_view (seen_at ranged index)).owner table)) (tables_of statement.form)) c.reader.ensures.value
           (all-covered ranged c.log-log.ensures.whole c.reader.result statement c.statement-statement.ensures.at));
     }
@@ -28,7 +28,7 @@ pub returns-clause-value : goal.returns-clause-value
 returns-clause-value g c statement at =
     let ranged = c.args.batch.now in
     let log = ranged.log.statements in
-    let index = (g.T.Told.told c.args.told).index in
+    let index = (g.T.ReadSource.as_reader c.args.source).index in
     let place = ranged.first + index in
     let mine = subst (λ index. slice_get log (ranged.first + index) ≡ Some c.statement-statement.result.now) c.reader.ensures.value c.statement-statement.ensures.at in
     let both : Some c.statement-statement.result.now ≡ Some statement = sym mine ∙ at in
@@ -39,7 +39,7 @@ returns-clause-value g c statement at =
     (λ (places : Vec ℕ Global). (users : List ℕ) (deeds : List Deed) → ShowsDeeds (seen_view (seen_at ranged index)) users deeds
     → places.items ≡ ended_by_deed users deeds (deed_of place c.statement-statement.result.now.user c.statement-statement.result.now.form))
     (λ (places : Vec ℕ Global). places.items ≡ ended_by_deed (owners log) (deeds_before log place) (deed_of place statement.user statement.form))
-    (λ places told.
-    told (owners log) (deeds_before log place) shows
+    (λ places source.
+    source (owners log) (deeds_before log place) shows
     ∙ ap (λ (one : Statement). ended_by_deed (owners log) (deeds_before log place) (deed_of place one.user one.form)) same)
     c.ended-places.ensures.value

@@ -1,7 +1,7 @@
 use Rattle.std.proofs.Common.{ap, ◌∙◌}
 use Rattle.grants_base.specs.View.{end_in, slot_at}
 use Rattle.evaluation.specs.Seen.{seen_at, seen_view}
-use Rattle.evaluation.specs.Told.{Reader}
+use Rattle.evaluation.specs.ReadSource.{Reader}
 use Rattle.evaluation.proofs.records.end_shown.Goals as goal
 
 pub returns-clause-value : goal.returns-clause-value

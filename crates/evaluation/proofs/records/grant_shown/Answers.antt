@@ -5,9 +5,9 @@ use Rattle.model_base.proofs.Replay.{by_cases}
 use Rattle.grants_base.specs.View.{grant_in, slot_at}
 use Rattle.bohm_core_base.specs.Batch.{is_listed, was_done}
 use Rattle.bohm_core_base.specs.Serial.{serial_words}
-use Rattle.log_batch.specs.Supplied.{batch_in}
+use Rattle.log_batch.specs.Supplied.{batch_of}
 use Rattle.evaluation.specs.Seen.{seen_at, seen_view}
-use Rattle.evaluation.specs.Told.{IsDeedBefore, Reader, made_whole}
+use Rattle.evaluation.specs.ReadSource.{IsDeedBefore, Reader, made_whole}
 use Rattle.evaluation.proofs.Shown.{reader-is}
 use Rattle.evaluation.proofs.Slots.{grant-none, grant-some, listed, made-early, made-late, slot-deed}
 use Rattle.evaluation.proofs.records.grant_shown.Goals as goal
@@ -16,7 +16,7 @@ use Rattle.evaluation.proofs.records.grant_shown.Goals.{then-not-is_on-via-then-
 pub returns-then-not-is_on-clause-value : goal.returns-then-not-is_on-clause-value
 returns-then-not-is_on-clause-value g c =
     let ranged = c.args.batch.now in
-    let batch = batch_in ranged in
+    let batch = batch_of ranged in
     let index = c.reader-index.result in
     let grant = c.grant-grant.result in
     let statement = c.statement.result.now in
@@ -39,7 +39,7 @@ returns-then-not-is_on-clause-value g c =
 pub was_done-requires : goal.was_done-requires
 was_done-requires g c =
     let ranged = c.args.batch.now in
-    let batch = batch_in ranged in
+    let batch = batch_of ranged in
     let index = c.reader-index.result in
     let grant = c.grant-grant.result in
     let statement = c.statement.result.now in
@@ -49,7 +49,7 @@ was_done-requires g c =
     let first = c.first_place-first.ensures.value in
     let from : ranged.first ≤ grant.place = omega (arith, first, c.if-grant-first-2.false) in
     let below : grant.place < ranged.first + index = omega (arith, first, c.if-grant-first.false) in
-    let reader = reader-is (g.T.Told.told c.args.told.now) batch index c.requires.batch c.reader-index.ensures.value in
+    let reader = reader-is (g.T.ReadSource.as_reader c.args.source.now) batch index c.requires.batch c.reader-index.ensures.value in
     record {
       deed =
           subst (λ (reader : Reader). IsDeedBefore reader (grant.place - c.first_place-first.result)) (sym reader)
@@ -60,7 +60,7 @@ was_done-requires g c =
 pub returns-then-was_done-clause-value : goal.returns-then-was_done-clause-value
 returns-then-was_done-clause-value g c =
     let ranged = c.args.batch.now in
-    let batch = batch_in ranged in
+    let batch = batch_of ranged in
     let index = c.reader-index.result in
     let grant = c.grant-grant.result in
     let statement = c.statement.result.now in
@@ -85,7 +85,7 @@ returns-then-was_done-clause-value g c =
 pub returns-else-was_done-clause-value : goal.returns-else-was_done-clause-value
 returns-else-was_done-clause-value g c =
     let ranged = c.args.batch.now in
-    let batch = batch_in ranged in
+    let batch = batch_of ranged in
     let index = c.reader-index.result in
     let grant = c.grant-grant.result in
     let statement = c.statement.result.now in

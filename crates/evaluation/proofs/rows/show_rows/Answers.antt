@@ -8,8 +8,8 @@ use Rattle.model_base.specs.Versions.{accesses_of}
 use Rattle.evaluation.proofs.Executing.{few_accesses}
 use Rattle.bohm_core_base.specs.Batch.{reference_words}
 use Rattle.log_batch.specs.Shown.{row_numbers}
-use Rattle.log_batch.specs.Supplied.{batch_in}
-use Rattle.evaluation.specs.Told.{IsReferred, Reader, referred_word, row_referred}
+use Rattle.log_batch.specs.Supplied.{batch_of}
+use Rattle.evaluation.specs.ReadSource.{IsReferred, Reader, referred_word, row_referred}
 use Rattle.evaluation.proofs.Shown.{by_access, reader-is, referred-by, row-by}
 use Rattle.evaluation.proofs.rows.show_rows.Goals as goal
 
@@ -24,11 +24,11 @@ row_shown-requires-clause-referred g c other shows =
     let within : place < length (accesses_of statement.form) = subst (λ (accesses : List Access). place < length accesses) same c.loop-place-test.true in
     let here : access ≡ get_or (accesses_of statement.form) place access =
     c.index-accesses-place.is ∙ ap (λ (accesses : List Access). get_or accesses place access) same in
-    let reader = reader-is (g.T.Told.told c.args.told.now) (batch_in ranged) index c.requires.batch c.reader-index.ensures.value in
-    let told : g.T.Told.told c.loop-place.told ≡ record { batch = batch_in ranged; index = index } = c.loop-place.invariant.told ∙ reader in
-    let found : get_or (reference_words (batch_in ranged) index) place 0 ≡ suc other =
-    sym (ap (λ (r : Reader). get_or (reference_words r.batch r.index) place 0) told) ∙ sym c.reference-reference.ensures.value ∙ ap referred_word shows in
-    subst (λ (reader : Reader). IsReferred reader other) (sym (c.reference-reference.ensures.same.0 ∙ told))
+    let reader = reader-is (g.T.ReadSource.as_reader c.args.source.now) (batch_of ranged) index c.requires.batch c.reader-index.ensures.value in
+    let source : g.T.ReadSource.as_reader c.loop-place.source ≡ record { batch = batch_of ranged; index = index } = c.loop-place.invariant.source ∙ reader in
+    let found : get_or (reference_words (batch_of ranged) index) place 0 ≡ suc other =
+    sym (ap (λ (r : Reader). get_or (reference_words r.batch r.index) place 0) source) ∙ sym c.reference-reference.ensures.value ∙ ap referred_word shows in
+    subst (λ (reader : Reader). IsReferred reader other) (sym (c.reference-reference.ensures.same.0 ∙ source))
     (referred-by ranged index statement c.statement-statement.ensures.at place within access here other found)
 
 pub reference-reference-requires : goal.reference-reference-requires
@@ -42,8 +42,8 @@ reference-reference-requires g c =
     let within : place < length (accesses_of statement.form) = subst (λ (accesses : List Access). place < length accesses) same c.loop-place-test.true in
     let here : access ≡ get_or (accesses_of statement.form) place access =
     c.index-accesses-place.is ∙ ap (λ (accesses : List Access). get_or accesses place access) same in
-    let reader = reader-is (g.T.Told.told c.args.told.now) (batch_in ranged) index c.requires.batch c.reader-index.ensures.value in
-    subst (λ (r : Reader). place < length (reference_words r.batch r.index)) (sym (c.loop-place.invariant.told ∙ reader))
+    let reader = reader-is (g.T.ReadSource.as_reader c.args.source.now) (batch_of ranged) index c.requires.batch c.reader-index.ensures.value in
+    subst (λ (r : Reader). place < length (reference_words r.batch r.index)) (sym (c.loop-place.invariant.source ∙ reader))
     (by_access ranged index statement c.statement-statement.ensures.at place within access here).0
 
 pub loop-place-preserved : goal.loop-place-preserved
@@ -61,16 +61,16 @@ loop-place-preserved g c =
     let within : place < length (accesses_of statement.form) = subst (λ (accesses : List Access). place < length accesses) same c.loop-place-test.true in
     let here : access ≡ get_or (accesses_of statement.form) place access =
     c.index-accesses-place.is ∙ ap (λ (accesses : List Access). get_or accesses place access) same in
-    let reader = reader-is (g.T.Told.told c.args.told.now) (batch_in ranged) index c.requires.batch c.reader-index.ensures.value in
-    let found : referred_word c.reference-reference.result ≡ get_or (reference_words (batch_in ranged) index) place 0 =
-    c.reference-reference.ensures.value ∙ ap (λ (r : Reader). get_or (reference_words r.batch r.index) place 0) (c.loop-place.invariant.told ∙ reader) in
+    let reader = reader-is (g.T.ReadSource.as_reader c.args.source.now) (batch_of ranged) index c.requires.batch c.reader-index.ensures.value in
+    let found : referred_word c.reference-reference.result ≡ get_or (reference_words (batch_of ranged) index) place 0 =
+    c.reference-reference.ensures.value ∙ ap (λ (r : Reader). get_or (reference_words r.batch r.index) place 0) (c.loop-place.invariant.source ∙ reader) in
     let before : Access → Option (List ℤ) = λ one. rows_before ranged.log.statements (ranged.first + index) one.key.table one.key.row in
     let shown : c.row_shown.result ≡ before access =
     c.row_shown.ensures.value
-    ∙ ap (λ word. row_numbers (row_referred (batch_in ranged) access.key word)) found
+    ∙ ap (λ word. row_numbers (row_referred (batch_of ranged) access.key word)) found
     ∙ row-by ranged index statement c.statement-statement.ensures.at place within access here c.log-log.ensures.of_log in
     record {
-      told = c.row_shown.ensures.same.0 ∙ c.reference-reference.ensures.same.0 ∙ c.loop-place.invariant.told;
+      source = c.row_shown.ensures.same.0 ∙ c.reference-reference.ensures.same.0 ∙ c.loop-place.invariant.source;
       kept = c.row_shown.ensures.same.1 ∙ c.reference-reference.ensures.same.1 ∙ c.loop-place.invariant.kept;
       seen =
           ap (take (place + 1)) c.set.ensures.rows
@@ -89,7 +89,7 @@ returns-clause-shows g c = λ statement at.
     let index = c.reader-index.result in
     let accesses = c.accesses-accesses.result.now in
     let place = c.loop-place.place in
-    let mine : ranged.first + (g.T.Told.told c.args.told.now).index ≡ ranged.first + index = ap (λ i. ranged.first + i) (sym c.reader-index.ensures.value) in
+    let mine : ranged.first + (g.T.ReadSource.as_reader c.args.source.now).index ≡ ranged.first + index = ap (λ i. ranged.first + i) (sym c.reader-index.ensures.value) in
     let both : Some c.statement-statement.result.now ≡ Some statement =
     sym c.statement-statement.ensures.at ∙ ap (λ at. slice_get ranged.log.statements at) (sym mine) ∙ at in
     let same : c.statement-statement.result.now ≡ statement = cc in

@@ -6,8 +6,8 @@ use Rattle.evaluation.proofs.rows.show_rows.Given as goal
 -- the rows so far are those before the reader's place
 abbrev pub invariant-loop-place : goal.invariant-loop-place
 invariant-loop-place g l = record {
-  told : g.T.Told.told l.told ≡ g.T.Told.told l.initial.told;
-  kept : g.T.Told.kept l.told ≡ g.T.Told.kept l.initial.told;
+  source : g.T.ReadSource.as_reader l.source ≡ g.T.ReadSource.as_reader l.initial.source;
+  kept : g.T.ReadSource.work l.source ≡ g.T.ReadSource.work l.initial.source;
   seen :
       take l.place l.window.rows
       ≡ map (λ (access : Access). rows_before l.batch.log.statements (l.batch.first + l.index) access.key.table access.key.row) (take l.place l.accesses);

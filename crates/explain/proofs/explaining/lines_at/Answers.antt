@@ -8,7 +8,7 @@ use Rattle.model_base.specs.Outcomes.{deeds_before, needs, owners}
 use Rattle.explain.specs.declared.line.Line.{Line}
 use Rattle.grants_base.specs.Book.{Entries, ShowsBook}
 use Rattle.sequencer.specs.Log.{Accepted}
-use Rattle.sequencer.specs.Taken.{IsWhole}
+use Rattle.sequencer.specs.Whole.{IsWhole}
 use Rattle.engine.specs.Engine.{finished}
 use Rattle.engine.proofs.Named.{named_in}
 use Rattle.explain.specs.ExplainedNeeds.{explaining_lines}

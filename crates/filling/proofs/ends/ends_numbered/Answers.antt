@@ -1,6 +1,6 @@
 use Rattle.std.proofs.Common.{◌≡◌, ℕ, Vec, Global, sym, subst}
 use Rattle.std.proofs.lemmas.Result.{IfOk-weaker}
-use Rattle.log_batch.specs.Supplied.{batch_in}
+use Rattle.log_batch.specs.Supplied.{batch_of}
 use Rattle.filling_base.specs.Storing.{IsEnding}
 use Rattle.filling.specs.Numbers.{numbers_at}
 use Rattle.filling.proofs.Lists.{rises-by}
@@ -9,7 +9,7 @@ use Rattle.filling.proofs.ends.ends_numbered.Goals as goal
 
 pub returns : goal.returns
 returns c =
-    let b = batch_in c.args.key.now.batch in
+    let b = batch_of c.args.key.now.batch in
     let listed = c.args.key.now.slots in
     let places = c.args.places.now in
     IfOk-weaker c.numbers_of.result

@@ -4,14 +4,14 @@ use Rattle.std.specs.List.{list_any}
 use Rattle.model_base.specs.declared.deed.Grant.{Grant}
 use Rattle.bohm_core_base.specs.Batch.{batch_slots, was_done}
 use Rattle.bohm_core_base.specs.Serial.{serial_ends, serial_words}
-use Rattle.log_batch.specs.Supplied.{Ranged, batch_in}
+use Rattle.log_batch.specs.Supplied.{LogRange, batch_of}
 use Rattle.filling.specs.Readings.{PlaceReading}
 use Rattle.filling.proofs.Telling.{named-words}
 use Rattle.filling.proofs.ends.judge_places.Goals as goal
 
 pub invariant_of-reader : goal.invariant_of-reader
 invariant_of-reader g c = record {
-  ours = c.requires.ours;
+  same_table = c.requires.same_table;
   key = c.requires.key;
   within = c.requires.within;
   past = c.requires.past;
@@ -20,28 +20,28 @@ invariant_of-reader g c = record {
   knows = c.requires.knows;
 }
 
-pub ends_told-places-requires-clause-batch : goal.ends_told-places-requires-clause-batch
-ends_told-places-requires-clause-batch g c = sym (ap batch_in c.batch-2.ensures)
+pub ends_by_source-places-requires-clause-batch : goal.ends_by_source-places-requires-clause-batch
+ends_by_source-places-requires-clause-batch g c = sym (ap batch_of c.batch-2.ensures)
 
-pub ends_told-places-requires-clause-done : goal.ends_told-places-requires-clause-done
-ends_told-places-requires-clause-done g c =
-    subst (λ (r : Ranged). was_done (serial_words (batch_in r) c.args.index) ≡ true) (sym c.batch-2.ensures) c.requires.done
+pub ends_by_source-places-requires-clause-done : goal.ends_by_source-places-requires-clause-done
+ends_by_source-places-requires-clause-done g c =
+    subst (λ (r : LogRange). was_done (serial_words (batch_of r) c.args.index) ≡ true) (sym c.batch-2.ensures) c.requires.done
 
 pub returns-clause-ends : goal.returns-clause-ends
 returns-clause-ends g c =
-    subst (λ (r : Ranged). IfOk c.ends_told-places.result.0 (λ (places : Vec ℕ Global). (slot : ℕ) (grant : Grant) → slice_get (batch_slots (batch_in r)) slot ≡ Some grant
-    → list_any (λ place. place == grant.place) places.items ≡ serial_ends (batch_in r) c.args.index slot)) c.batch-2.ensures
-    c.ends_told-places.ensures.ends
+    subst (λ (r : LogRange). IfOk c.ends_by_source-places.result.0 (λ (places : Vec ℕ Global). (slot : ℕ) (grant : Grant) → slice_get (batch_slots (batch_of r)) slot ≡ Some grant
+    → list_any (λ place. place == grant.place) places.items ≡ serial_ends (batch_of r) c.args.index slot)) c.batch-2.ensures
+    c.ends_by_source-places.ensures.ends
 
 pub returns-clause-order : goal.returns-clause-order
-returns-clause-order g c = c.ends_told-places.ensures.order
+returns-clause-order g c = c.ends_by_source-places.ensures.order
 
-pub returns-clause-ours : goal.returns-clause-ours
-returns-clause-ours g c =
-    named-words c.args.words.now c.reader.inside.words.now g.N.Named.words c.reader.inside.holding c.requires.named c.reader.invariant.named c.reader.invariant.ours
+pub returns-clause-same_table : goal.returns-clause-same_table
+returns-clause-same_table g c =
+    named-words c.args.words.now c.reader.inside.words.now g.N.Named.words c.reader.inside.holding c.requires.named c.reader.invariant.named c.reader.invariant.same_table
 
 pub returns-clause-knows : goal.returns-clause-knows
 returns-clause-knows g c = c.reader.invariant.knows
 
 pub returns-clause-work : goal.returns-clause-work
-returns-clause-work g c = ap (λ (r : PlaceReading). r.work) c.reader.view_is ∙ c.ends_told-places.ensures.same.1
+returns-clause-work g c = ap (λ (r : PlaceReading). r.work) c.reader.view_is ∙ c.ends_by_source-places.ensures.same.1

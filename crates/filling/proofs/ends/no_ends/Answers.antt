@@ -1,10 +1,10 @@
-use Rattle.log_batch.specs.Supplied.{batch_in}
+use Rattle.log_batch.specs.Supplied.{batch_of}
 use Rattle.filling.proofs.Numbered.{ends-none}
 use Rattle.filling.proofs.ends.no_ends.Goals as goal
 
 pub returns : goal.returns
 returns c =
-    let b = batch_in c.args.key.now.batch in
+    let b = batch_of c.args.key.now.batch in
     let sound = c.places-places.ensures.sound in
     rw c.new.ensures.items
     (ends-none b c.args.key.now.slots c.args.index

@@ -1,5 +1,5 @@
 use Rattle.std.proofs.Common.{◌≡◌, ◌++◌, drop}
-use Rattle.log_batch.specs.Supplied.{batch_in}
+use Rattle.log_batch.specs.Supplied.{batch_of}
 use Rattle.filling.specs.Outcomes.{ended_places_at}
 use Rattle.filling.proofs.outcomes.ended_places.Given as goal
 
@@ -7,5 +7,5 @@ use Rattle.filling.proofs.outcomes.ended_places.Given as goal
 abbrev pub invariant-loop-number : goal.invariant-loop-number
 invariant-loop-number l = record {
   same : l.holding ≡ l.initial.holding;
-  all : l.places.items ++ ended_places_at (batch_in l.key.batch) (drop l.number l.key.slots) l.index ≡ ended_places_at (batch_in l.key.batch) l.key.slots l.index;
+  all : l.places.items ++ ended_places_at (batch_of l.key.batch) (drop l.number l.key.slots) l.index ≡ ended_places_at (batch_of l.key.batch) l.key.slots l.index;
 }

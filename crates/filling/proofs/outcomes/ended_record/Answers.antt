@@ -1,8 +1,8 @@
 use Rattle.std.proofs.Common.{◌+◌, ◌==◌, Some, None, sym, ap, ◌∙◌, subst}
-use Rattle.log_batch.specs.Supplied.{Ranged, batch_in}
+use Rattle.log_batch.specs.Supplied.{LogRange, batch_of}
 use Rattle.log_batch.specs.Keys.{Key}
 use Rattle.words.specs.Layout.{listed_slot_at}
-use Rattle.words.specs.Tells.{EndTells}
+use Rattle.words.specs.Meanings.{EndMeans}
 use Rattle.filling.proofs.Telling.{record-ended}
 use Rattle.filling.proofs.outcomes.ended_record.Goals as goal
 
@@ -11,15 +11,15 @@ returns-in-Some-clause-value c =
     let key = c.args.key.now in
     let view = c.args.holding.now.view in
     let told = c.end_loaded.ensures.told in
-    let tells = subst (λ (k : Key). EndTells (batch_in k.batch) (listed_slot_at k.slots c.args.number) view told.0) c.requires.key told.1 in
-    let first = c.first_place.ensures.value ∙ ap (λ (r : Ranged). r.first) c.batch.ensures in
+    let tells = subst (λ (k : Key). EndMeans (batch_of k.batch) (listed_slot_at k.slots c.args.number) view told.0) c.requires.key told.1 in
+    let first = c.first_place.ensures.value ∙ ap (λ (r : LogRange). r.first) c.batch.ensures in
     ap (λ n. c.in-Some.end == n + c.args.index) first
-    ∙ record-ended (batch_in key.batch) view (listed_slot_at key.slots c.args.number) told.0 c.args.index (Some c.in-Some.end) tells c.requires.known (sym c.in-Some.is ∙ told.2)
+    ∙ record-ended (batch_of key.batch) view (listed_slot_at key.slots c.args.number) told.0 c.args.index (Some c.in-Some.end) tells c.requires.known (sym c.in-Some.is ∙ told.2)
 
 pub returns-in-None-clause-value : goal.returns-in-None-clause-value
 returns-in-None-clause-value c =
     let key = c.args.key.now in
     let view = c.args.holding.now.view in
     let told = c.end_loaded.ensures.told in
-    let tells = subst (λ (k : Key). EndTells (batch_in k.batch) (listed_slot_at k.slots c.args.number) view told.0) c.requires.key told.1 in
-    record-ended (batch_in key.batch) view (listed_slot_at key.slots c.args.number) told.0 c.args.index None tells c.requires.known (sym c.in-None.is ∙ told.2)
+    let tells = subst (λ (k : Key). EndMeans (batch_of k.batch) (listed_slot_at k.slots c.args.number) view told.0) c.requires.key told.1 in
+    record-ended (batch_of key.batch) view (listed_slot_at key.slots c.args.number) told.0 c.args.index None tells c.requires.known (sym c.in-None.is ∙ told.2)

@@ -7,5 +7,5 @@ abbrev pub invariant-loop-number : goal.invariant-loop-number
 invariant-loop-number g l = record {
   same : l.holding ≡ l.initial.holding;
   long : length l.own ≡ 156;
-  own : (k : ℕ) → k < l.number → get_or l.own k 0 ≡ get_or (serial_words (g.K.Placed.batch l.words.key) l.index) k 0;
+  own : (k : ℕ) → k < l.number → get_or l.own k 0 ≡ get_or (serial_words (g.K.BatchData.batch l.words.key) l.index) k 0;
 }

@@ -1,6 +1,6 @@
 use Rattle.std.proofs.Common.{◌≡◌, ◌<◌, ◌+◌, ◌^◌, Some, List, ℕ, take, sym, ap, ◌∙◌, subst, arith}
 use Rattle.bohm_core_base.specs.Serial.{serial_words}
-use Rattle.log_batch.specs.Supplied.{Ranged, batch_in}
+use Rattle.log_batch.specs.Supplied.{LogRange, batch_of}
 use Rattle.log_batch.specs.Keys.{Key}
 use Rattle.filling.specs.Outcomes.{IsEndedList, outcome_in}
 use Rattle.filling.proofs.Decoding.{told-outcome}
@@ -11,13 +11,13 @@ returns-clause-value c =
     let ranged = c.batch-batch.result.now in
     let index = c.args.index in
     let same = c.batch-batch.ensures in
-    let within : index < ranged.size = subst (λ (r : Ranged). index < r.size) (sym same) c.requires.within in
+    let within : index < ranged.size = subst (λ (r : LogRange). index < r.size) (sym same) c.requires.within in
     let low = c.first_place-first.ensures.small in
     let small : ranged.first + index < 2 ^ 64 = omega arith in
     let own : List ℕ = take c.words_length-count.result c.load_own-own.result in
-    let is : own ≡ serial_words (batch_in ranged) index
-    = c.load_own-own.ensures.value ∙ ap (λ (k : Key). serial_words (batch_in k.batch) index) c.requires.key ∙ ap (λ (r : Ranged). serial_words (batch_in r) index) (sym same) in
-    let right = subst (λ (r : Ranged). IsEndedList r index c.args.ended) (sym same) c.requires.ended in
+    let is : own ≡ serial_words (batch_of ranged) index
+    = c.load_own-own.ensures.value ∙ ap (λ (k : Key). serial_words (batch_of k.batch) index) c.requires.key ∙ ap (λ (r : LogRange). serial_words (batch_of r) index) (sym same) in
+    let right = subst (λ (r : LogRange). IsEndedList r index c.args.ended) (sym same) c.requires.ended in
     let told = told-outcome ranged c.log-log.ensures.of_log index within c.statement-statement.result.now c.statement-statement.ensures.at c.statement-statement.ensures.taken small
     c.words_tell_outcomes.ensures own c.args.ended is right in
-    ap (λ (r : Ranged). outcome_in r index) (sym same) ∙ told ∙ ap Some (sym c.decoded.ensures)
+    ap (λ (r : LogRange). outcome_in r index) (sym same) ∙ told ∙ ap Some (sym c.decoded.ensures)

@@ -1,5 +1,5 @@
 use Rattle.std.proofs.Common.{◌<◌, sym, subst}
-use Rattle.words.specs.Passes.{Placing}
+use Rattle.words.specs.Passes.{PlacerState}
 use Rattle.filling.specs.Placers.{IsAt}
 use Rattle.filling.proofs.Placing.{at-stays, stored-all, stores-advance, stores-then}
 use Rattle.filling.proofs.placer.place_statement.Goals as goal
@@ -17,8 +17,8 @@ advance-requires c =
     let only = stores-then c.args.token.now c.store_rows.new.token token c.store_rows.ensures.only c.store_tables.ensures.only in
     let at : IsAt words token latest statement = at-stays words c.args.token.now token latest statement only c.requires.at in
     record {
-      ours = at.ours;
-      partition = subst (λ (t : Placing). t.view.partition < words.key.batch.partitions) (sym only) c.requires.partition;
+      same_table = at.same_table;
+      partition = subst (λ (t : PlacerState). t.view.partition < words.key.batch.partitions) (sym only) c.requires.partition;
       within = at.within;
       stored = stored-all words token latest statement at c.store_tables.ensures.stored;
     }

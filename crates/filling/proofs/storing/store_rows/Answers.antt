@@ -3,7 +3,7 @@ use Rattle.model_base.specs.declared.statement.Access.{Access}
 use Rattle.model_base.specs.Versions.{accesses_of}
 use Rattle.placing.specs.Parts.{key_partition}
 use Rattle.log_batch.specs.Laws.{word_of}
-use Rattle.log_batch.specs.Supplied.{Ranged, batch_in}
+use Rattle.log_batch.specs.Supplied.{LogRange, batch_of}
 use Rattle.log_batch.specs.Keys.{Key}
 use Rattle.words.specs.Views.{front_in}
 use Rattle.filling.specs.Placers.{IsAt, StoredBelow}
@@ -25,7 +25,7 @@ store_reference-requires-clause-number c =
     let here : access ≡ get_or (accesses_of statement.form) number access =
     c.access-item.is ∙ ap (λ (list : List Access). get_or list number access) all in
     let partitions : c.partition_count-partitions.result ≡ ranged.partitions =
-    c.partition_count-partitions.ensures.value ∙ ap (λ (r : Ranged). r.partitions) (c.batch.ensures ∙ ap (λ (k : Key). k.batch) (sym c.requires.key)) in
+    c.partition_count-partitions.ensures.value ∙ ap (λ (r : LogRange). r.partitions) (c.batch.ensures ∙ ap (λ (k : Key). k.batch) (sym c.requires.key)) in
     let into : c.partition_of-partition.result ≡ key_partition ranged.partitions access.key.table access.key.row =
     c.partition_of-partition.ensures.value ∙ ap (λ n. key_partition n access.key.table access.key.row) partitions in
     let count = references-count ranged (front_in token.view) statement at.at in
@@ -46,7 +46,7 @@ store_reference-requires-clause-partition c =
     let here : access ≡ get_or (accesses_of statement.form) number access =
     c.access-item.is ∙ ap (λ (list : List Access). get_or list number access) all in
     let partitions : c.partition_count-partitions.result ≡ ranged.partitions =
-    c.partition_count-partitions.ensures.value ∙ ap (λ (r : Ranged). r.partitions) (c.batch.ensures ∙ ap (λ (k : Key). k.batch) (sym c.requires.key)) in
+    c.partition_count-partitions.ensures.value ∙ ap (λ (r : LogRange). r.partitions) (c.batch.ensures ∙ ap (λ (k : Key). k.batch) (sym c.requires.key)) in
     let into : c.partition_of-partition.result ≡ key_partition ranged.partitions access.key.table access.key.row =
     c.partition_of-partition.ensures.value ∙ ap (λ n. key_partition n access.key.table access.key.row) partitions in
     into ∙ sym (row-partition ranged (front_in token.view) statement at.at number access within here)
@@ -66,14 +66,14 @@ store_reference-requires-clause-right c = λ mine.
     let here : access ≡ get_or (accesses_of statement.form) number access =
     c.access-item.is ∙ ap (λ (list : List Access). get_or list number access) all in
     let partitions : c.partition_count-partitions.result ≡ ranged.partitions =
-    c.partition_count-partitions.ensures.value ∙ ap (λ (r : Ranged). r.partitions) (c.batch.ensures ∙ ap (λ (k : Key). k.batch) (sym c.requires.key)) in
+    c.partition_count-partitions.ensures.value ∙ ap (λ (r : LogRange). r.partitions) (c.batch.ensures ∙ ap (λ (k : Key). k.batch) (sym c.requires.key)) in
     let into : c.partition_of-partition.result ≡ key_partition ranged.partitions access.key.table access.key.row =
     c.partition_of-partition.ensures.value ∙ ap (λ n. key_partition n access.key.table access.key.row) partitions in
     ap (λ reference. word_of ranged.first reference) c.writer.ensures
     ∙ found-row words token latest statement at number access within here (sym into ∙ mine)
 
 pub loop-number-init : goal.loop-number-init
-loop-number-init c = (stores-none c.args.token.now, stored-none (batch_in c.args.words.now.key.batch) c.args.token.now.view)
+loop-number-init c = (stores-none c.args.token.now, stored-none (batch_of c.args.words.now.key.batch) c.args.token.now.view)
 
 pub loop-number-preserved : goal.loop-number-preserved
 loop-number-preserved c = (
@@ -86,4 +86,4 @@ returns-clause-stored c =
     let all = c.accesses-access-items.ensures in
     let last : c.loop-number.number ≡ length (accesses_of c.args.statement.now.form) =
     (let same = ap (λ (list : List Access). length list) all in omega arith) in
-    subst (λ n. StoredBelow (batch_in c.args.words.now.key.batch) c.loop-number.token.view n) last c.loop-number.invariant.1
+    subst (λ n. StoredBelow (batch_of c.args.words.now.key.batch) c.loop-number.token.view n) last c.loop-number.invariant.1

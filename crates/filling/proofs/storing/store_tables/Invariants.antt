@@ -1,10 +1,10 @@
 use Rattle.std.proofs.Common.{◌+◌, length}
 use Rattle.model_base.specs.Versions.{accesses_of}
-use Rattle.log_batch.specs.Supplied.{batch_in}
+use Rattle.log_batch.specs.Supplied.{batch_of}
 use Rattle.filling.specs.Placers.{OnlyStores, StoredBelow}
 use Rattle.filling.proofs.storing.store_tables.Given as goal
 
 abbrev pub invariant-loop-number : goal.invariant-loop-number
 invariant-loop-number l =
     OnlyStores l.initial.token l.token
-    × StoredBelow (batch_in l.words.key.batch) l.token.view (length (accesses_of l.statement.form) + l.number)
+    × StoredBelow (batch_of l.words.key.batch) l.token.view (length (accesses_of l.statement.form) + l.number)

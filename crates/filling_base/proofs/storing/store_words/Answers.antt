@@ -1,12 +1,12 @@
 use Rattle.std.proofs.Common.{◌+◌, [], refl, ap, ◌∙◌, arith}
-use Rattle.words.specs.Passes.{Passing}
+use Rattle.words.specs.Passes.{PassState}
 use Rattle.filling_base.proofs.Going.{same-on, same-self, same-then}
 use Rattle.filling_base.proofs.Loops.{begun-storing, filled-more}
 use Rattle.filling_base.proofs.storing.store_words.Goals as goal
 
 pub loop-number-init : goal.loop-number-init
 loop-number-init g c = record {
-  ours = c.requires.ours;
+  same_table = c.requires.same_table;
   same = same-self c.args.holding.now;
   bodies = refl;
   stores = begun-storing c.args.index c.args.holding.now.view 0 [] c.requires.held;
@@ -23,9 +23,9 @@ loop-number-preserved g c =
     let i = c.loop-number.invariant in
     let old = c.loop-number.holding in
     let same = same-on old c.fill.new.pass _ c.fill.ensures in record {
-      ours = same.table ∙ i.ours;
+      same_table = same.table ∙ i.same_table;
       same = same-then c.args.holding.now old c.fill.new.pass i.same same;
-      bodies = ap (λ (p : Passing). p.bodies) c.fill.ensures ∙ i.bodies;
+      bodies = ap (λ (p : PassState). p.bodies) c.fill.ensures ∙ i.bodies;
       stores = filled-more c.args.index old.number c.loop-number.number (c.loop-number.number + 1) c.args.holding.now.view old.view c.fill.new.pass.view [] i.stores
-          (ap (λ (p : Passing). p.view) c.fill.ensures) (omega arith);
+          (ap (λ (p : PassState). p.view) c.fill.ensures) (omega arith);
     }

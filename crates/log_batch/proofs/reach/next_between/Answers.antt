@@ -2,7 +2,7 @@ use Rattle.std.proofs.Common.{◌≡◌, sym, ◌∙◌, arith, true, false}
 use Rattle.grants_base.specs.Force.{gives_by}
 use Rattle.grants_base.specs.Index.{is_to, passes_at}
 use Rattle.log_batch.specs.Earlier.{earlier_grants}
-use Rattle.log_batch.specs.Supplied.{batch_in}
+use Rattle.log_batch.specs.Supplied.{batch_of}
 use Rattle.log_batch.proofs.NoneBetween.{one-found, one-passed}
 use Rattle.log_batch.proofs.Between.{between-here, between-none}
 use Rattle.log_batch.proofs.Reaching.{found-earlier}
@@ -11,25 +11,25 @@ use Rattle.log_batch.proofs.reach.next_between.Goals as goal
 pub grant-requires : goal.grant-requires
 grant-requires c =
     let next = c.in-Some.ensures in
-    let less = found-earlier (batch_in c.args.batch.now) (is_to c.args.grantee.now c.args.kind c.args.table) c.in-Some.slot next.1 in
+    let less = found-earlier (batch_of c.args.batch.now) (is_to c.args.grantee.now c.args.kind c.args.table) c.in-Some.slot next.1 in
     omega (arith, less, c.earlier_count-count.ensures.value, c.earlier_count-count.ensures.within)
 
 pub overflow_add-from : goal.overflow_add-from
 overflow_add-from c =
     let next = c.in-Some.ensures in
-    let less = found-earlier (batch_in c.args.batch.now) (is_to c.args.grantee.now c.args.kind c.args.table) c.in-Some.slot next.1 in
+    let less = found-earlier (batch_of c.args.batch.now) (is_to c.args.grantee.now c.args.kind c.args.table) c.in-Some.slot next.1 in
     omega (arith, less, c.earlier_count-count.ensures.value, c.earlier_count-count.type_inv)
 
 pub loop-slot-smaller : goal.loop-slot-smaller
 loop-slot-smaller c =
     let next = c.in-Some.ensures in
     let low = next.0 in
-    let less = found-earlier (batch_in c.args.batch.now) (is_to c.args.grantee.now c.args.kind c.args.table) c.in-Some.slot next.1 in
+    let less = found-earlier (batch_of c.args.batch.now) (is_to c.args.grantee.now c.args.kind c.args.table) c.in-Some.slot next.1 in
     omega (arith, low, less)
 
 pub loop-slot-preserved : goal.loop-slot-preserved
 loop-slot-preserved c =
-    let b = batch_in c.args.batch.now in
+    let b = batch_of c.args.batch.now in
     let next = c.in-Some.ensures in
     let low = next.0 in
     let slot = c.in-Some.slot in
@@ -44,7 +44,7 @@ loop-slot-preserved c =
 
 pub returns-then-eq : goal.returns-then-eq
 returns-then-eq c =
-    let b = batch_in c.args.batch.now in
+    let b = batch_of c.args.batch.now in
     let next = c.in-Some.ensures in
     let slot = c.in-Some.slot in
     let from = c.loop-slot.from in

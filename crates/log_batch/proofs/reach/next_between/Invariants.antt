@@ -2,7 +2,7 @@ use Rattle.std.proofs.Common.{◌-◌, ◌≤◌}
 use Rattle.grants_base.specs.Force.{gives_by}
 use Rattle.grants_base.specs.Index.{passes_at}
 use Rattle.log_batch.specs.Earlier.{earlier_count, earlier_grants}
-use Rattle.log_batch.specs.Supplied.{batch_in}
+use Rattle.log_batch.specs.Supplied.{batch_of}
 use Rattle.log_batch.proofs.NoneBetween.{NoneBetween}
 use Rattle.log_batch.proofs.reach.next_between.Given as goal
 
@@ -10,8 +10,8 @@ use Rattle.log_batch.proofs.reach.next_between.Given as goal
 abbrev pub invariant-loop-slot : goal.invariant-loop-slot
 invariant-loop-slot l = record {
   start : l.start ≤ l.from;
-  passed : NoneBetween (passes_at (gives_by l.user l.grantee l.kind l.table) (earlier_grants (batch_in l.batch))) l.start l.from;
+  passed : NoneBetween (passes_at (gives_by l.user l.grantee l.kind l.table) (earlier_grants (batch_of l.batch))) l.start l.from;
 }
 
 abbrev pub decreases-loop-slot : goal.decreases-loop-slot
-decreases-loop-slot l = earlier_count (batch_in l.batch) - l.from
+decreases-loop-slot l = earlier_count (batch_of l.batch) - l.from

@@ -1,4 +1,4 @@
-use Rattle.log_batch.specs.Supplied.{batch_in, range_of}
+use Rattle.log_batch.specs.Supplied.{batch_of, range_of}
 use Rattle.log_batch.specs.Reach.{has_party}
 use Rattle.log_batch.proofs.OpenSlots.{open-first}
 use Rattle.log_batch.proofs.Reaching.{open-next}
@@ -10,4 +10,4 @@ returns-in-Some c =
 
 pub returns-in-None : goal.returns-in-None
 returns-in-None c =
-    open-next (batch_in c.args.batch.now) (has_party c.args.party.now c.args.kind c.args.table) c.args.from c.next_made.result c.next_made.ensures
+    open-next (batch_of c.args.batch.now) (has_party c.args.party.now c.args.kind c.args.table) c.args.from c.next_made.result c.next_made.ensures

@@ -1,14 +1,14 @@
 use Rattle.std.proofs.Common.{ap, sym, ◌∙◌}
 use Rattle.std.specs.Prelude.{Option, Some}
 use Rattle.model_base.specs.declared.deed.Deed.{Deed}
-use Rattle.log_batch.specs.Supplied.{batch_in}
+use Rattle.log_batch.specs.Supplied.{batch_of}
 use Rattle.log_batch.specs.Listing.{is_against}
 use Rattle.log_batch.proofs.Reaching.{not_new, seeds-again, seeds-more}
 use Rattle.log_batch.proofs.reach.put_deed.Goals as goal
 
 pub returns-in_ok-add_grants : goal.returns-in_ok-add_grants
 returns-in_ok-add_grants c =
-    let b = batch_in c.args.batch.now in
+    let b = batch_of c.args.batch.now in
     let revocation = c.in-Some-Revoking.revocation in
     let deed = sym c.requires.deed ∙ c.in-Some-Revoking.is ∙ ap Some c.in-Some-Revoking.field-0-is in
     seeds-more b c.args.index revocation (λ grant. ap (λ (made : Option Deed). is_against made grant) deed)
@@ -17,7 +17,7 @@ returns-in_ok-add_grants c =
 
 pub returns-else-branch : goal.returns-else-branch
 returns-else-branch c =
-    let b = batch_in c.args.batch.now in
+    let b = batch_of c.args.batch.now in
     let revocation = c.in-Some-Revoking.revocation in
     let deed = sym c.requires.deed ∙ c.in-Some-Revoking.is ∙ ap Some c.in-Some-Revoking.field-0-is in
     seeds-again b c.args.index revocation (λ grant. ap (λ (made : Option Deed). is_against made grant) deed)

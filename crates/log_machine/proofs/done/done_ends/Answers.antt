@@ -3,7 +3,7 @@ use Rattle.bohm_core_base.specs.declared.hold.Hold.TheVariants.{Done}
 use Rattle.bohm_core_base.specs.Batch.{batch_slots}
 use Rattle.bohm_core_base.specs.Machine.{State, hold_of}
 use Rattle.log_batch.specs.Laws.{IsOfLog, ended_places}
-use Rattle.log_batch.specs.Supplied.{Ranged, batch_in, range_of}
+use Rattle.log_batch.specs.Supplied.{LogRange, batch_of, range_of}
 use Rattle.log_machine.proofs.Finished.{done-within, ended-done, ends-done, on_err}
 use Rattle.log_machine.proofs.done.done_ends.Goals as goal
 
@@ -13,14 +13,14 @@ overflow_add-place c =
     let state = c.args.machine.now.state in
     let index = c.args.index in
     let same = c.batch-batch.ensures.same ∙ c.statements.ensures in
-    let is = subst (λ (r : Ranged). IsOfLog (range_of r)) same c.log-log.ensures.of_log in
-    let within = subst (λ (r : Ranged). r.first + r.size ≤ length r.log.statements) same c.log-log.ensures.within in
+    let is = subst (λ (r : LogRange). IsOfLog (range_of r)) same c.log-log.ensures.of_log in
+    let within = subst (λ (r : LogRange). r.first + r.size ≤ length r.log.statements) same c.log-log.ensures.within in
     let done : hold_of state index ≡ Done =
     ap (λ (s : State). hold_of s index) (sym c.state-state.ensures.value) ∙ sym c.hold.ensures ∙ c.in-Done.is in
     let low : index < ranged.size = done-within ranged is within state c.state-state.ensures.reached index done in
     let few : ranged.first + ranged.size ≤ 4294967295 =
-    subst (λ (r : Ranged). r.first + r.size ≤ 4294967295) same c.first_place.ensures.small in
-    let first : c.first_place.result ≡ ranged.first = c.first_place.ensures.value ∙ ap (λ (r : Ranged). r.first) same in
+    subst (λ (r : LogRange). r.first + r.size ≤ 4294967295) same c.first_place.ensures.small in
+    let first : c.first_place.result ≡ ranged.first = c.first_place.ensures.value ∙ ap (λ (r : LogRange). r.first) same in
     let fits : c.first_place.result + index < 2 ^ 64 = omega arith in
     search rules
 
@@ -30,15 +30,15 @@ returns-in_ok-places-in-Done-clause-told c found comes =
     let state = c.args.machine.now.state in
     let index = c.args.index in
     let same = c.batch-batch.ensures.same ∙ c.statements.ensures in
-    let is = subst (λ (r : Ranged). IsOfLog (range_of r)) same c.log-log.ensures.of_log in
-    let within = subst (λ (r : Ranged). r.first + r.size ≤ length r.log.statements) same c.log-log.ensures.within in
+    let is = subst (λ (r : LogRange). IsOfLog (range_of r)) same c.log-log.ensures.of_log in
+    let within = subst (λ (r : LogRange). r.first + r.size ≤ length r.log.statements) same c.log-log.ensures.within in
     let done : hold_of state index ≡ Done =
     ap (λ (s : State). hold_of s index) (sym c.state-state.ensures.value) ∙ sym c.hold.ensures ∙ c.in-Done.is in
-    let first : c.first_place.result ≡ ranged.first = c.first_place.ensures.value ∙ ap (λ (r : Ranged). r.first) same in
+    let first : c.first_place.result ≡ ranged.first = c.first_place.ensures.value ∙ ap (λ (r : LogRange). r.first) same in
     c.in_ok-places-in-Done.ensures.value
-    ∙ ap (λ (r : Ranged). ended_places (batch_slots (batch_in r)) c.state-state.result.now.ends (c.first_place.result + index)) same
-    ∙ ap (λ (s : State). ended_places (batch_slots (batch_in ranged)) s.ends (c.first_place.result + index)) c.state-state.ensures.value
-    ∙ ap (λ at. ended_places (batch_slots (batch_in ranged)) state.ends (at + index)) first
+    ∙ ap (λ (r : LogRange). ended_places (batch_slots (batch_of r)) c.state-state.result.now.ends (c.first_place.result + index)) same
+    ∙ ap (λ (s : State). ended_places (batch_slots (batch_of ranged)) s.ends (c.first_place.result + index)) c.state-state.ensures.value
+    ∙ ap (λ at. ended_places (batch_slots (batch_of ranged)) state.ends (at + index)) first
     ∙ ends-done ranged is within state c.state-state.ensures.reached index found done comes
 
 pub returns-in_err-places-in-Done-clause-memory : goal.returns-in_err-places-in-Done-clause-memory
@@ -47,15 +47,15 @@ returns-in_err-places-in-Done-clause-memory c =
     let state = c.args.machine.now.state in
     let index = c.args.index in
     let same = c.batch-batch.ensures.same ∙ c.statements.ensures in
-    let is = subst (λ (r : Ranged). IsOfLog (range_of r)) same c.log-log.ensures.of_log in
-    let within = subst (λ (r : Ranged). r.first + r.size ≤ length r.log.statements) same c.log-log.ensures.within in
+    let is = subst (λ (r : LogRange). IsOfLog (range_of r)) same c.log-log.ensures.of_log in
+    let within = subst (λ (r : LogRange). r.first + r.size ≤ length r.log.statements) same c.log-log.ensures.within in
     let done : hold_of state index ≡ Done =
     ap (λ (s : State). hold_of s index) (sym c.state-state.ensures.value) ∙ sym c.hold.ensures ∙ c.in-Done.is in
-    let first : c.first_place.result ≡ ranged.first = c.first_place.ensures.value ∙ ap (λ (r : Ranged). r.first) same in
-    let here : ended_places (batch_slots (batch_in c.batch-batch.result.now)) c.state-state.result.now.ends (c.first_place.result + index)
-    ≡ ended_places (batch_slots (batch_in ranged)) state.ends (ranged.first + index) =
-    ap (λ (r : Ranged). ended_places (batch_slots (batch_in r)) c.state-state.result.now.ends (c.first_place.result + index)) same
-    ∙ ap (λ (s : State). ended_places (batch_slots (batch_in ranged)) s.ends (c.first_place.result + index)) c.state-state.ensures.value
-    ∙ ap (λ at. ended_places (batch_slots (batch_in ranged)) state.ends (at + index)) first in
+    let first : c.first_place.result ≡ ranged.first = c.first_place.ensures.value ∙ ap (λ (r : LogRange). r.first) same in
+    let here : ended_places (batch_slots (batch_of c.batch-batch.result.now)) c.state-state.result.now.ends (c.first_place.result + index)
+    ≡ ended_places (batch_slots (batch_of ranged)) state.ends (ranged.first + index) =
+    ap (λ (r : LogRange). ended_places (batch_slots (batch_of r)) c.state-state.result.now.ends (c.first_place.result + index)) same
+    ∙ ap (λ (s : State). ended_places (batch_slots (batch_of ranged)) s.ends (c.first_place.result + index)) c.state-state.ensures.value
+    ∙ ap (λ at. ended_places (batch_slots (batch_of ranged)) state.ends (at + index)) first in
     on_err c.from_residual.result
     (ended-done ranged is within state c.state-state.ensures.reached index done (λ none. c.in_err-places-in-Done.ensures.memory (here ∙ none)))

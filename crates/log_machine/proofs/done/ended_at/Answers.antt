@@ -2,13 +2,13 @@ use Rattle.std.proofs.Common.{◌<◌, ◌++◌, ◌+◌, length, ap, arith, dro
 use Rattle.std.proofs.lemmas.List.{append-nil}
 use Rattle.bohm_core_base.specs.Batch.{batch_slots}
 use Rattle.log_batch.specs.Laws.{ended_places}
-use Rattle.log_batch.specs.Supplied.{batch_in}
+use Rattle.log_batch.specs.Supplied.{batch_of}
 use Rattle.log_machine.proofs.Finished.{ended_more, ended_past, ended_some, on_err}
 use Rattle.log_machine.proofs.done.ended_at.Goals as goal
 
 pub loop-slot-preserved : goal.loop-slot-preserved
 loop-slot-preserved c =
-    let grants = batch_slots (batch_in c.args.batch.now) in
+    let grants = batch_slots (batch_of c.args.batch.now) in
     let ends = c.args.state.now.ends in
     let slot = c.loop-slot.slot in
     let first : slot < length grants = omega (arith, c.slot_count.ensures, c.slots.ensures, c.min-slot-end.ensures) in
@@ -19,7 +19,7 @@ loop-slot-preserved c =
 
 pub returns-clause-value : goal.returns-clause-value
 returns-clause-value c =
-    let grants = batch_slots (batch_in c.args.batch.now) in
+    let grants = batch_slots (batch_of c.args.batch.now) in
     let ends = c.args.state.now.ends in
     let slot = c.loop-slot.slot in
     let past = ended_past grants ends c.args.place slot
@@ -28,7 +28,7 @@ returns-clause-value c =
 
 pub returns-in_err-push_ended-clause-memory : goal.returns-in_err-push_ended-clause-memory
 returns-in_err-push_ended-clause-memory c =
-    let grants = batch_slots (batch_in c.args.batch.now) in
+    let grants = batch_slots (batch_of c.args.batch.now) in
     let ends = c.args.state.now.ends in
     let slot = c.loop-slot.slot in
     let first : slot < length grants = omega (arith, c.slot_count.ensures, c.slots.ensures, c.min-slot-end.ensures) in

@@ -4,7 +4,7 @@ use Rattle.bohm_core_base.specs.declared.hold.Hold.{Hold}
 use Rattle.bohm_core_base.specs.declared.hold.Hold.TheVariants.{Done, Free}
 use Rattle.bohm_core_base.specs.Batch.{reference_words}
 use Rattle.bohm_core_base.specs.Machine.{State, hold_of, stored_references_of}
-use Rattle.log_batch.specs.Supplied.{batch_in}
+use Rattle.log_batch.specs.Supplied.{batch_of}
 use Rattle.machine_trials.proofs.Referring.{none-in}
 use Rattle.machine_trials.proofs.two_words.refers_to_none.Goals as goal
 
@@ -13,7 +13,7 @@ done-not_free hold done free = let both : Done ≡ Free = sym done ∙ free in a
 
 pub returns : goal.returns
 returns c told =
-    let b = batch_in c.args.machine.now.statements in
+    let b = batch_of c.args.machine.now.statements in
     let index = c.args.index in
     let here = c.state.ensures.reached in
     let P : State → Type 0 = λ s. hold_of s index ≡ Done → stored_references_of s index ≡ reference_words b index in

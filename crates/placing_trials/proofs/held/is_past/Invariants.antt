@@ -5,6 +5,6 @@ use Rattle.placing_trials.proofs.held.is_past.Given as goal
 
 abbrev pub invariant-loop-partition : goal.invariant-loop-partition
 invariant-loop-partition g l = record {
-  ours : IsPassOf l.batch l.holding;
+  same_table : IsPassOf l.batch l.holding;
   past : (partition : ℕ) → partition < l.partition → KnowsFront l.holding.view partition l.index;
 }

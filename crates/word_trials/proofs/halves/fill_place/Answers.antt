@@ -1,5 +1,5 @@
 use Rattle.std.proofs.Common.{ℕ, [], sym, subst}
-use Rattle.words.specs.declared.view.View.{View}
+use Rattle.words.specs.declared.knowledge.Knowledge.{Knowledge}
 use Rattle.words.specs.Views.{Holds}
 use Rattle.word_trials.specs.Holding.{HoldsOnly}
 use Rattle.word_trials.proofs.Aparts.{apart_whole}
@@ -10,7 +10,7 @@ pub store_words-requires-clause-held : goal.store_words-requires-clause-held
 store_words-requires-clause-held c =
     let pass = c.args.holding.now in
     let law = c.own_events_tell_what_is_held.ensures in
-    subst (λ (v : View). HoldsOnly v c.args.index 0) (sym c.in-Won.ensures.tells.0)
+    subst (λ (v : Knowledge). HoldsOnly v c.args.index 0) (sym c.in-Won.ensures.tells.0)
     (claimed law.no_others pass.view pass.number c.args.index c.requires.idle (law.claimed pass.view pass.number c.args.index))
 
 pub finish_place-requires-clause-whole : goal.finish_place-requires-clause-whole

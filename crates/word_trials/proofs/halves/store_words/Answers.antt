@@ -1,6 +1,6 @@
 use Rattle.std.proofs.Common.{◌≡◌, ◌+◌, ℕ, suc, [], sym, ap, ◌∙◌, subst, arith}
 use Rattle.bohm_core_base.specs.declared.event.Event.TheVariants.{Fill}
-use Rattle.words.specs.Passes.{Passing}
+use Rattle.words.specs.Passes.{PassState}
 use Rattle.words.specs.Views.{with_event}
 use Rattle.word_trials.specs.Holding.{HoldsOnly}
 use Rattle.word_trials.proofs.Aparts.{apart_length, apart_references, apart_serial}
@@ -39,7 +39,7 @@ loop-number-preserved c =
     let only = c.loop-number.invariant.1 in
     let more = filled law.no_others pass.view pass.number c.args.index number only (law.filled pass.view pass.number c.args.index number [] only.held) in
     let one : suc number ≡ number + 1 = omega arith in (
-      ap (λ (p : Passing). p.table) done ∙ c.loop-number.invariant.0,
-      subst (λ (p : Passing). HoldsOnly p.view c.args.index (number + 1)) (sym done)
+      ap (λ (p : PassState). p.table) done ∙ c.loop-number.invariant.0,
+      subst (λ (p : PassState). HoldsOnly p.view c.args.index (number + 1)) (sym done)
           (subst (λ (n : ℕ). HoldsOnly (with_event pass.view (Fill pass.number c.args.index)) c.args.index n) one more),
     )

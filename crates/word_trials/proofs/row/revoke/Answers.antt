@@ -1,6 +1,6 @@
 use Rattle.std.proofs.Common.{ℕ, [], ◌∷◌, sym, subst, arith, inl}
 use Rattle.bohm_core_base.specs.Batch.{words_length}
-use Rattle.words.specs.Passes.{Passing}
+use Rattle.words.specs.Passes.{PassState}
 use Rattle.words.specs.Views.{Holds}
 use Rattle.word_trials.specs.Late.{late}
 use Rattle.word_trials.proofs.Lates.{late_counts, late_ends, late_references, late_slots}
@@ -21,7 +21,7 @@ finish_place-requires-clause-whole c =
     let pass = c.store_words.new.holding in
     let held = subst (λ (n : ℕ). Holds pass.view 1 n []) (sym (late_counts 1 (omega arith))) c.store_words.ensures.held in (
       0 ∷ [],
-      subst (λ (p : Passing). Holds p.view 1 (words_length late 1) (0 ∷ [])) (sym c.set_end.ensures)
+      subst (λ (p : PassState). Holds p.view 1 (words_length late 1) (0 ∷ [])) (sym c.set_end.ensures)
           (c.own_events_tell_what_is_held.ensures.ended pass.view pass.number 1 0 (words_length late 1) [] held),
       λ slot within ends. inl (late_slots slot within),
     )

@@ -1,6 +1,6 @@
 use Rattle.std.proofs.Common.{◌≡◌, ◌<◌, ◌+◌, ℕ, suc, [], get_or, sym, ap, ◌∙◌, subst, List, arith}
 use Rattle.bohm_core_base.specs.declared.event.Event.TheVariants.{Fill}
-use Rattle.words.specs.Passes.{Passing}
+use Rattle.words.specs.Passes.{PassState}
 use Rattle.words.specs.Views.{Holds, with_event}
 use Rattle.word_trials.specs.Late.{late_length}
 use Rattle.word_trials.proofs.Lates.{late_counts, late_references, late_serial}
@@ -24,7 +24,7 @@ loop-number-preserved c =
     let pass = c.loop-number.holding in
     let more = c.own_events_tell_what_is_held.ensures.filled pass.view pass.number c.args.index c.loop-number.number [] c.loop-number.invariant.1 in
     let one : suc c.loop-number.number ≡ c.loop-number.number + 1 = omega arith in (
-      ap (λ (p : Passing). p.table) done ∙ c.loop-number.invariant.0,
-      subst (λ (p : Passing). Holds p.view c.args.index (c.loop-number.number + 1) []) (sym done)
+      ap (λ (p : PassState). p.table) done ∙ c.loop-number.invariant.0,
+      subst (λ (p : PassState). Holds p.view c.args.index (c.loop-number.number + 1) []) (sym done)
           (subst (λ (n : ℕ). Holds (with_event pass.view (Fill pass.number c.args.index)) c.args.index n []) one more),
     )

@@ -8,8 +8,8 @@ use Rattle.words.proofs.words.placed_table.Goals as goal
 
 pub of_words-requires : goal.of_words-requires
 of_words-requires g c =
-    let b = g.K.Placed.batch c.args.key.now in
-    let listed = g.K.Placed.listed c.args.key.now in
+    let b = g.K.BatchData.batch c.args.key.now in
+    let listed = g.K.BatchData.listed c.args.key.now in
     let row = c.as_slice.result.now in
     let written = subst (λ (l : List ℕ). IsWritten b listed l b.size 0 b.partitions) (sym c.as_slice.ensures.value) c.in_ok-row.ensures in
     subst (λ (placed : Bool). legal b listed row (first_view placed ∷ [])) (sym c.requires.placed)

@@ -5,7 +5,7 @@ use Rattle.words.proofs.words.references.Goals as goal
 
 pub loop-index-preserved : goal.loop-index-preserved
 loop-index-preserved g c =
-    let b = g.K.Placed.batch c.args.key.now in
+    let b = g.K.BatchData.batch c.args.key.now in
     let places = c.places-places.result in
     let index = c.loop-index.index in
     let begins = c.loop-index.begins.items in
@@ -24,7 +24,7 @@ pub returns-clause-begins : goal.returns-clause-begins
 returns-clause-begins g c =
     let most = c.loop-index.auto.index-end in
     let least = c.loop-index-test.false in
-    all-referred (g.K.Placed.batch c.args.key.now) c.places-places.result c.loop-index.index c.loop-index.end c.loop-index.begins.items c.loop-index.invariant.begun (omega arith)
+    all-referred (g.K.BatchData.batch c.args.key.now) c.places-places.result c.loop-index.index c.loop-index.end c.loop-index.begins.items c.loop-index.invariant.begun (omega arith)
 
 pub returns-clause-few : goal.returns-clause-few
 returns-clause-few g c =

@@ -7,8 +7,8 @@ use Rattle.words.proofs.words.table_of.Goals as goal
 
 pub of_words-requires : goal.of_words-requires
 of_words-requires g c =
-    let b = g.K.Placed.batch c.args.key.now in
-    let listed = g.K.Placed.listed c.args.key.now in
+    let b = g.K.BatchData.batch c.args.key.now in
+    let listed = g.K.BatchData.listed c.args.key.now in
     let next = c.requires.end in
     let more = c.ends.ensures.value in
     let count : c.args.ends + c.ends.result ≡ total b listed = omega arith in

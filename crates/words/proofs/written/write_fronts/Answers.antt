@@ -6,8 +6,8 @@ use Rattle.words.proofs.written.write_fronts.Goals as goal
 
 pub loop-partition-preserved : goal.loop-partition-preserved
 loop-partition-preserved g c =
-    let b = g.K.Placed.batch c.args.key.now in
-    let listed = g.K.Placed.listed c.args.key.now in
+    let b = g.K.BatchData.batch c.args.key.now in
+    let listed = g.K.BatchData.listed c.args.key.now in
     let partition = c.loop-partition.partition in
     let less = c.loop-partition-test.true in
     let most = c.partitions-partitions.ensures.value in

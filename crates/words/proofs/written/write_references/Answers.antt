@@ -8,8 +8,8 @@ use Rattle.words.proofs.written.write_references.Goals as goal
 
 pub overflow_add-row : goal.overflow_add-row
 overflow_add-row g c =
-    let b = g.K.Placed.batch c.args.key.now in
-    let listed = g.K.Placed.listed c.args.key.now in
+    let b = g.K.BatchData.batch c.args.key.now in
+    let listed = g.K.BatchData.listed c.args.key.now in
     let less = c.loop-number-test.true in
     let most = c.references_length-number-end.ensures in
     let within : c.loop-number.number < length (reference_words b c.args.index) = omega arith in
@@ -21,8 +21,8 @@ overflow_add-row g c =
 
 pub offset_bounds-row-begin : goal.offset_bounds-row-begin
 offset_bounds-row-begin g c =
-    let b = g.K.Placed.batch c.args.key.now in
-    let listed = g.K.Placed.listed c.args.key.now in
+    let b = g.K.BatchData.batch c.args.key.now in
+    let listed = g.K.BatchData.listed c.args.key.now in
     let less = c.loop-number-test.true in
     let most = c.references_length-number-end.ensures in
     let within : c.loop-number.number < length (reference_words b c.args.index) = omega arith in
@@ -34,8 +34,8 @@ offset_bounds-row-begin g c =
 
 pub bounds-row-begin : goal.bounds-row-begin
 bounds-row-begin g c =
-    let b = g.K.Placed.batch c.args.key.now in
-    let listed = g.K.Placed.listed c.args.key.now in
+    let b = g.K.BatchData.batch c.args.key.now in
+    let listed = g.K.BatchData.listed c.args.key.now in
     let less = c.loop-number-test.true in
     let most = c.references_length-number-end.ensures in
     let within : c.loop-number.number < length (reference_words b c.args.index) = omega arith in
@@ -46,8 +46,8 @@ bounds-row-begin g c =
 
 pub loop-number-preserved : goal.loop-number-preserved
 loop-number-preserved g c =
-    let b = g.K.Placed.batch c.args.key.now in
-    let listed = g.K.Placed.listed c.args.key.now in
+    let b = g.K.BatchData.batch c.args.key.now in
+    let listed = g.K.BatchData.listed c.args.key.now in
     let number = c.loop-number.number in
     let less = c.loop-number-test.true in
     let most = c.references_length-number-end.ensures in
@@ -60,8 +60,8 @@ loop-number-preserved g c =
 
 pub returns : goal.returns
 returns g c =
-    let b = g.K.Placed.batch c.args.key.now in
-    let listed = g.K.Placed.listed c.args.key.now in
+    let b = g.K.BatchData.batch c.args.key.now in
+    let listed = g.K.BatchData.listed c.args.key.now in
     let most = c.references_length-number-end.ensures in
     let least = c.loop-number-test.false in
     let end = c.loop-number.auto.number-end in

@@ -13,7 +13,7 @@ pub place_one-requires : goal.place_one-requires
 place_one-requires g c =
     let placers = c.loop-placer.placers in
     let at = c.loop-placer.placer-index in
-    record { ours = (c.loop-placer.invariant at (get_or placers at c.placer-item.result) (slice_get-get_or placers at c.placer-item.result (omega arith))).0 }
+    record { same_table = (c.loop-placer.invariant at (get_or placers at c.placer-item.result) (slice_get-get_or placers at c.placer-item.result (omega arith))).0 }
 
 pub loop-placer-preserved : goal.loop-placer-preserved
 loop-placer-preserved g c = λ index placer is.
@@ -24,7 +24,7 @@ loop-placer-preserved g c = λ index placer is.
     let after = c.place_one.new.placer in
     let further = c.place_one.ensures.further c.if-not-place_one.false c.args.count c.requires.within had.1 in
     elim (set_or_old placers at index after placer is) [
-      | inl here ↦ rw here.1 (c.place_one.ensures.ours, omega (arith, further), (λ _. further))
+      | inl here ↦ rw here.1 (c.place_one.ensures.same_table, omega (arith, further), (λ _. further))
       | inr there ↦ (let old = c.loop-placer.invariant index placer there.1 in
           (old.0, old.1, (λ below. old.2 (omega (arith, below, there.0)))))
     ]

@@ -3,5 +3,5 @@ use Rattle.workers.proofs.sweep.look.Goals as goal
 
 pub returns : goal.returns
 returns g c =
-    looked_on (g.K.Placed.batch c.args.batch.now.key) c.args.pass c.all_placed-looked.result.0 c.all_placed-looked.result.1
+    looked_on (g.K.BatchData.batch c.args.batch.now.key) c.args.pass c.all_placed-looked.result.0 c.all_placed-looked.result.1
     c.all_placed-looked.ensures.same c.all_placed-looked.ensures.all c.all_placed-looked.ensures.short

@@ -6,7 +6,7 @@ use Rattle.workers.proofs.work.work.Goals as goal
 pub sweep-pass-requires-clause-left : goal.sweep-pass-requires-clause-left
 sweep-pass-requires-clause-left g c =
     subst (λ (size : ℕ). AreLeft size c.args.pass.view.known c.in-Ok.rest.items)
-    (c.places-size.ensures.value ∙ ap (λ key. (g.K.Placed.batch key).size) c.key.ensures)
+    (c.places-size.ensures.value ∙ ap (λ key. (g.K.BatchData.batch key).size) c.key.ensures)
     (left_all c.places-size.result c.args.pass.view.known c.in-Ok.rest.items c.in-Ok.ensures)
 
 pub returns-in-All-clause-all : goal.returns-in-All-clause-all

@@ -1,6 +1,6 @@
 use Rattle.std.proofs.Common.{◌++◌, ◌≡◌, None, subst}
 use Rattle.std.specs.Prelude.{OnOk}
-use Rattle.log_text.specs.Room.{sentence_of}
+use Rattle.log_text.specs.LineBuffers.{sentence_of}
 use Rattle.sequencer.specs.Refusal.{refusal}
 use Rattle.engine.specs.Engine.{Run}
 use Rattle.engine.proofs.Pushed.{pushed}

@@ -1,6 +1,6 @@
 use Rattle.std.proofs.Common.{◌≡◌, ◌≤◌, ◌-◌, ◌++◌, ℕ, List, length, ap, append_assoc, subst, sym, ◌∙◌}
 use Rattle.model_base.specs.declared.outcome.Outcome.{Outcome}
-use Rattle.filling.specs.Span.{AreOutcomes}
+use Rattle.filling.specs.FinishedRange.{AreOutcomes}
 use Rattle.engine.specs.Engine.{Run, finished}
 use Rattle.engine.proofs.Advanced.{advanced, came_to, ends_at}
 use Rattle.engine.proofs.run.Engine.run_alone.Goals as goal

@@ -5,4 +5,4 @@ use Rattle.evaluation.proofs.records.ShownRecordsRecords.grant.Goals as goal
 pub grant_shown-requires-clause-within : goal.grant_shown-requires-clause-within
 grant_shown-requires-clause-within g c =
     let self = c.args.self.now in
-    subst (λ count. c.args.i < count) (slots-all self.batch.now c.log-log.ensures.of_log (g.T.Told.told self.told).index) c.requires.within
+    subst (λ count. c.args.i < count) (slots-all self.batch.now c.log-log.ensures.of_log (g.T.ReadSource.as_reader self.source).index) c.requires.within

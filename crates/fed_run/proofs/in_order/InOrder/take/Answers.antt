@@ -1,6 +1,6 @@
 use Rattle.std.proofs.Common.{◌++◌, ◌∷◌, [], List, ap, subst, ◌∙◌}
-use Rattle.log_text.specs.Room.{sentence_of}
-use Rattle.bohm_base.specs.declared.collecting.Became.{Became}
+use Rattle.log_text.specs.LineBuffers.{sentence_of}
+use Rattle.bohm_base.specs.declared.collecting.LineOutcome.{LineOutcome}
 use Rattle.batched_text.specs.LineRead.{reading_by}
 use Rattle.batched_text.proofs.LineReadings.{reads_by}
 use Rattle.fed_run.specs.Progress.{Progress, TakesLine}
@@ -12,7 +12,7 @@ invariant_of-self-2 c =
     let e = c.self.inside in
     let took = c.in_ok-taken.ensures in
     let now : Progress = record { run = e.engine; waiting = e.waiting.items; reported = e.reported; keep = e.keep } in
-    let lines = c.push_reserved.ensures.items ∙ ap (λ (ls : List Became). ls ++ c.in_ok-taken.field-0 ∷ []) c.reserve.ensures.items in
+    let lines = c.push_reserved.ensures.items ∙ ap (λ (ls : List LineOutcome). ls ++ c.in_ok-taken.field-0 ∷ []) c.reserve.ensures.items in
     (line_taken now c.take_read-taken.new.engine
     (reading_by c.read_into-found.result (sentence_of c.read_into-found.new.room)) c.in_ok-taken.field-0 c.push_reserved.new.self.items c.self.invariant took.line took.engine lines).0
 
@@ -24,7 +24,7 @@ returns-clause-ok c =
     let sentence = sentence_of c.read_into-found.new.room in
     let reading = reading_by c.read_into-found.result sentence in
     let now : Progress = record { run = e.engine; waiting = e.waiting.items; reported = e.reported; keep = e.keep } in
-    let lines = c.push_reserved.ensures.items ∙ ap (λ (ls : List Became). ls ++ c.in_ok-taken.field-0 ∷ []) c.reserve.ensures.items in (
+    let lines = c.push_reserved.ensures.items ∙ ap (λ (ls : List LineOutcome). ls ++ c.in_ok-taken.field-0 ∷ []) c.reserve.ensures.items in (
       reading,
       (
         reads_by c.args.line.now c.read_into-found.result sentence parsed.read parsed.sound parsed.fault took.told,

@@ -3,7 +3,7 @@ use Rattle.std.proofs.lemmas.List.{length-take-le, take_all, take_more}
 use Rattle.bohm_core_base.specs.Batch.{words_length}
 use Rattle.bohm_core_base.specs.Serial.{serial_words}
 use Rattle.bohm_core_base.proofs.Kept.{serial-length}
-use Rattle.log_batch.specs.Supplied.{batch_in}
+use Rattle.log_batch.specs.Supplied.{batch_of}
 use Rattle.log_batch.proofs.Counted.{sound_batch}
 use Rattle.filling.proofs.completion.copying.copy_words.Goals as goal
 
@@ -12,13 +12,13 @@ own-requires-clause-begins c = c.requires.closed.begins c.args.index c.requires.
 
 pub own-requires-clause-within : goal.own-requires-clause-within
 own-requires-clause-within c =
-    let b = batch_in c.args.batch.now in
+    let b = batch_of c.args.batch.now in
     let less : c.loop-number.number < words_length b c.args.index = omega arith in
     c.requires.closed.owns c.args.index c.loop-number.number c.requires.within less
 
 pub push-requires : goal.push-requires
 push-requires c =
-    let b = batch_in c.args.batch.now in
+    let b = batch_of c.args.batch.now in
     let number = c.loop-number.number in
     let words = serial_words b c.args.index in
     let long = serial-length b (sound_batch c.args.batch.now c.log-log.ensures.of_log) c.args.index in
@@ -29,7 +29,7 @@ push-requires c =
 
 pub loop-number-preserved : goal.loop-number-preserved
 loop-number-preserved c =
-    let b = batch_in c.args.batch.now in
+    let b = batch_of c.args.batch.now in
     let index = c.args.index in
     let number = c.loop-number.number in
     let words = serial_words b index in
@@ -44,7 +44,7 @@ loop-number-preserved c =
 
 pub returns : goal.returns
 returns c =
-    let b = batch_in c.args.batch.now in
+    let b = batch_of c.args.batch.now in
     let words = serial_words b c.args.index in
     let long = serial-length b (sound_batch c.args.batch.now c.log-log.ensures.of_log) c.args.index in
     let all : length words ≤ c.loop-number.number = omega arith in

@@ -1,8 +1,8 @@
 use Rattle.std.proofs.Common.{ℕ, sym, ap, ◌∙◌, subst, arith}
-use Rattle.log_batch.specs.Supplied.{batch_in}
-use Rattle.words.specs.declared.view.View.{View}
+use Rattle.log_batch.specs.Supplied.{batch_of}
+use Rattle.words.specs.declared.knowledge.Knowledge.{Knowledge}
 use Rattle.filling_base.specs.Counting.{counted_more}
-use Rattle.filling_base.specs.Goings.{Finishes}
+use Rattle.filling_base.specs.Extending.{Finishes}
 use Rattle.filling.specs.Bodies.{runs_at}
 use Rattle.filling.proofs.fill.RangeKeyFills.fill.Goals as goal
 
@@ -11,7 +11,7 @@ ends_of-ends-requires-clause-ready c other has = c.own_told-holding.ensures.lear
 
 pub ends_of-ends-requires-clause-past : goal.ends_of-ends-requires-clause-past
 ends_of-ends-requires-clause-past c =
-    c.passes_keep_the_fronts_that_they_know.ensures.past (batch_in c.args.self.now.batch) c.args.holding.view c.own_told-holding.result.view c.args.index c.args.index
+    c.passes_keep_the_fronts_that_they_know.ensures.past (batch_of c.args.self.now.batch) c.args.holding.view c.own_told-holding.result.view c.args.index c.args.index
     c.own_told-holding.ensures.learns.goes.fronts (omega arith) c.requires.past
 
 pub store_place-holding-requires-clause-ready : goal.store_place-holding-requires-clause-ready
@@ -26,7 +26,7 @@ returns-in-Ok-clause-tells c =
     let ended = c.ends_of-ends.result.1.view in
     let finishes = law.finishes first ended c.store_place-holding.result.view c.args.index
     (law.again first told ended c.own_told-holding.ensures.learns c.ends_of-ends.ensures.learns) c.store_place-holding.ensures.finishes in
-    subst (λ (v : View). Finishes c.args.index first v) (sym c.count_run.ensures.view) finishes
+    subst (λ (v : Knowledge). Finishes c.args.index first v) (sym c.count_run.ensures.view) finishes
 
 pub returns-in-Err-clause-tells : goal.returns-in-Err-clause-tells
 returns-in-Err-clause-tells c =

@@ -2,7 +2,7 @@ use Rattle.std.proofs.Common.{◌≡◌, ◌<◌, [], ◌∷◌, ◌++◌, List,
 use Rattle.std.proofs.lemmas.Grind.{common_steps}
 use Rattle.bohm_core_base.specs.Batch.{Batch}
 use Rattle.filling_base.specs.declared.walk.Frame.{Frame}
-use Rattle.filling_base.specs.Walks.{Onward, asked_place, spot}
+use Rattle.filling_base.specs.Walks.{GoesFurther, asked_place, spot}
 use Rattle.words.specs.Views.{KnowsPast}
 use Rattle.words.proofs.Known.{keeps-same, past-later}
 use Rattle.filling_base.proofs.Counting.{counts-claim}
@@ -15,13 +15,13 @@ pub returns-then-is_err-clause-stepped : goal.returns-then-is_err-clause-stepped
 returns-then-is_err-clause-stepped g c =
     let s = spot c.args.walk.now in
     let back : c.push.new.self.items ≡ c.args.walk.now.stack.items = grind (arith, common_steps) in
-    no-room (g.K.Placed.batch c.args.self.now.key) s.view s.at s.next c.args.index s.frames c.push.new.self.items c.requires.walks c.requires.short c.requires.names c.requires.untold back
+    no-room (g.K.BatchData.batch c.args.self.now.key) s.view s.at s.next c.args.index s.frames c.push.new.self.items c.requires.walks c.requires.short c.requires.names c.requires.untold back
 
 pub claim-requires-clause-within : goal.claim-requires-clause-within
 claim-requires-clause-within g c =
     let view = c.self.view_is in
-    let same : g.K.Placed.batch c.args.self.now.key ≡ g.K.Placed.batch c.self.inside.words.key = cc in
-    let b = g.K.Placed.batch c.args.self.now.key in
+    let same : g.K.BatchData.batch c.args.self.now.key ≡ g.K.BatchData.batch c.self.inside.words.key = cc in
+    let b = g.K.BatchData.batch c.args.self.now.key in
     let s = spot c.args.walk.now in
     let top = path-top b s.view.known s.frames s.at c.requires.walks.path in
     let below = falls-at b s.at s.next c.args.index c.requires.short c.requires.names in
@@ -31,8 +31,8 @@ claim-requires-clause-within g c =
 pub claim-requires-clause-past : goal.claim-requires-clause-past
 claim-requires-clause-past g c =
     let view = c.self.view_is in
-    let same : g.K.Placed.batch c.args.self.now.key ≡ g.K.Placed.batch c.self.inside.words.key = cc in
-    let b = g.K.Placed.batch c.args.self.now.key in
+    let same : g.K.BatchData.batch c.args.self.now.key ≡ g.K.BatchData.batch c.self.inside.words.key = cc in
+    let b = g.K.BatchData.batch c.args.self.now.key in
     let s = spot c.args.walk.now in
     let top = path-top b s.view.known s.frames s.at c.requires.walks.path in
     let below = falls-at b s.at s.next c.args.index c.requires.short c.requires.names in
@@ -43,21 +43,21 @@ pub returns-in-Won-clause-stepped : goal.returns-in-Won-clause-stepped
 returns-in-Won-clause-stepped g c =
     let s = spot c.args.walk.now in
     let more : c.push.new.self.items ≡ s.frames ++ record { index = s.at; next = c.args.next } ∷ [] = grind (arith, common_steps) in
-    went-in (g.K.Placed.batch c.args.self.now.key) s.view c.claim.new.pass.view c.args.walk.now.holding.number s.at c.args.index s.next c.args.next s.frames c.push.new.self.items
+    went-in (g.K.BatchData.batch c.args.self.now.key) s.view c.claim.new.pass.view c.args.walk.now.holding.number s.at c.args.index s.next c.args.next s.frames c.push.new.self.items
     c.requires.within c.requires.walks c.requires.short c.requires.names c.requires.next c.requires.untold c.in-Won.ensures.tells.0 more
 
 pub returns-in-Held-clause-stepped : goal.returns-in-Held-clause-stepped
 returns-in-Held-clause-stepped g c =
     let s = spot c.args.walk.now in
     let back : c.pop.new.self.items ≡ c.args.walk.now.stack.items = grind (arith, common_steps) in
-    met-other (g.K.Placed.batch c.args.self.now.key) s.view c.claim.new.pass.view s.at s.next c.args.index s.frames c.pop.new.self.items c.requires.walks c.requires.short c.requires.names c.requires.untold c.in-Held.ensures.tells back
+    met-other (g.K.BatchData.batch c.args.self.now.key) s.view c.claim.new.pass.view s.at s.next c.args.index s.frames c.pop.new.self.items c.requires.walks c.requires.short c.requires.names c.requires.untold c.in-Held.ensures.tells back
 
 pub returns-in-Done-clause-stepped : goal.returns-in-Done-clause-stepped
 returns-in-Done-clause-stepped g c =
     let s = spot c.args.walk.now in
-    let b = g.K.Placed.batch c.args.self.now.key in
+    let b = g.K.BatchData.batch c.args.self.now.key in
     let back : c.pop-in-Done.new.self.items ≡ c.args.walk.now.stack.items = grind (arith, common_steps) in
-    subst (λ (fs : List Frame). Onward b s (record { view = c.claim.new.pass.view; at = s.at; next = c.args.next; frames = fs })) (sym back)
+    subst (λ (fs : List Frame). GoesFurther b s (record { view = c.claim.new.pass.view; at = s.at; next = c.args.next; frames = fs })) (sym back)
     (went-next b s.view c.claim.new.pass.view s.at s.next c.args.next c.args.index s.frames c.requires.walks c.requires.short c.requires.names c.in-Done.ensures.tells c.requires.next)
 
 pub returns-in-Won-clause-bodies : goal.returns-in-Won-clause-bodies

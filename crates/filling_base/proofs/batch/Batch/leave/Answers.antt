@@ -15,9 +15,9 @@ pub fill-holding-requires-clause-within : goal.fill-holding-requires-clause-with
 fill-holding-requires-clause-within g c =
     let invariant = c.self.invariant in
     let view = c.self.view_is in
-    let same : g.K.Placed.batch c.args.self.now.key ≡ g.K.Placed.batch c.self.inside.key = cc in
+    let same : g.K.BatchData.batch c.args.self.now.key ≡ g.K.BatchData.batch c.self.inside.key = cc in
     let s = spot c.args.walk in
-    let top = path-top (g.K.Placed.batch c.args.self.now.key) s.view.known s.frames s.at c.requires.walks.path in
+    let top = path-top (g.K.BatchData.batch c.args.self.now.key) s.view.known s.frames s.at c.requires.walks.path in
     let within = c.requires.within in
     subst (λ (b : Batch). s.at < b.size) same (omega arith)
 
@@ -25,17 +25,17 @@ pub fill-holding-requires-clause-ready : goal.fill-holding-requires-clause-ready
 fill-holding-requires-clause-ready g c =
     let invariant = c.self.invariant in
     let view = c.self.view_is in
-    let same : g.K.Placed.batch c.args.self.now.key ≡ g.K.Placed.batch c.self.inside.key = cc in
+    let same : g.K.BatchData.batch c.args.self.now.key ≡ g.K.BatchData.batch c.self.inside.key = cc in
     let s = spot c.args.walk in
     subst (λ (b : Batch). KnowsReferences b s.view s.at) same
-    (knows-all (g.K.Placed.batch c.args.self.now.key) s.view s.at s.next c.requires.all c.requires.walks.ready)
+    (knows-all (g.K.BatchData.batch c.args.self.now.key) s.view s.at s.next c.requires.all c.requires.walks.ready)
 
 pub fill-holding-requires-clause-past : goal.fill-holding-requires-clause-past
 fill-holding-requires-clause-past g c =
     let invariant = c.self.invariant in
     let view = c.self.view_is in
-    let same : g.K.Placed.batch c.args.self.now.key ≡ g.K.Placed.batch c.self.inside.key = cc in
-    let b = g.K.Placed.batch c.args.self.now.key in
+    let same : g.K.BatchData.batch c.args.self.now.key ≡ g.K.BatchData.batch c.self.inside.key = cc in
+    let b = g.K.BatchData.batch c.args.self.now.key in
     let s = spot c.args.walk in
     let top = path-top b s.view.known s.frames s.at c.requires.walks.path in
     subst (λ (b : Batch). KnowsPast b s.view s.at) same
@@ -45,10 +45,10 @@ pub returns-in-Err-clause-stepped : goal.returns-in-Err-clause-stepped
 returns-in-Err-clause-stepped g c =
     let invariant = c.self.invariant in
     let view = c.self.view_is in
-    let same : g.K.Placed.batch c.args.self.now.key ≡ g.K.Placed.batch c.self.inside.key = cc in
+    let same : g.K.BatchData.batch c.args.self.now.key ≡ g.K.BatchData.batch c.self.inside.key = cc in
     let s = spot c.args.walk in
     let told = rw c.in-Err.is at c.fill-holding.ensures.tells in
-    starved (g.K.Placed.batch c.args.self.now.key) s.view c.fill-holding.result.0.view s.at s.next s.frames c.requires.walks told.0
+    starved (g.K.BatchData.batch c.args.self.now.key) s.view c.fill-holding.result.0.view s.at s.next s.frames c.requires.walks told.0
     (subst (λ (b : Batch). IsRevocation b s.at) (sym same) told.1)
 
 pub returns-in-None-clause-stepped : goal.returns-in-None-clause-stepped
@@ -56,13 +56,13 @@ returns-in-None-clause-stepped g c =
     let s = spot c.args.walk in
     let empty : c.args.walk.stack.items ≡ [] = grind (arith, common_steps) in
     let told = rw c.in-Ok.is at c.fill-holding.ensures.tells in
-    ended (g.K.Placed.batch c.args.self.now.key) s.view c.fill-holding.result.0.view s.at s.next s.frames c.pop.new.self.items c.requires.walks told empty
+    ended (g.K.BatchData.batch c.args.self.now.key) s.view c.fill-holding.result.0.view s.at s.next s.frames c.pop.new.self.items c.requires.walks told empty
 
 pub returns-in-Some-clause-stepped : goal.returns-in-Some-clause-stepped
 returns-in-Some-clause-stepped g c =
     let s = spot c.args.walk in
     let told = rw c.in-Ok.is at c.fill-holding.ensures.tells in
-    went-out (g.K.Placed.batch c.args.self.now.key) s.view c.fill-holding.result.0.view s.at s.next s.frames c.pop.new.self.items c.in-Some.frame c.requires.walks told c.in-Some.ensures.items
+    went-out (g.K.BatchData.batch c.args.self.now.key) s.view c.fill-holding.result.0.view s.at s.next s.frames c.pop.new.self.items c.in-Some.frame c.requires.walks told c.in-Some.ensures.items
 
 pub returns-in-Err-clause-bodies : goal.returns-in-Err-clause-bodies
 returns-in-Err-clause-bodies g c =

@@ -8,9 +8,9 @@ pub reference-requires-clause-known : goal.reference-requires-clause-known
 reference-requires-clause-known g c =
     let invariant = c.self.invariant in
     let view = c.self.view_is in
-    let same : g.K.Placed.batch c.args.self.now.key ≡ g.K.Placed.batch c.self.inside.key = cc in
-    let words : g.K.Placed.batch c.args.self.now.key ≡ g.K.Placed.batch c.self.inside.words.key = cc in
-    let b = g.K.Placed.batch c.args.self.now.key in
+    let same : g.K.BatchData.batch c.args.self.now.key ≡ g.K.BatchData.batch c.self.inside.key = cc in
+    let words : g.K.BatchData.batch c.args.self.now.key ≡ g.K.BatchData.batch c.self.inside.words.key = cc in
+    let b = g.K.BatchData.batch c.args.self.now.key in
     let sound : IsSoundBatch b = subst (λ (x : Batch). IsSoundBatch x) (sym same) c.places-places.ensures.sound in
     let low : partition_at b c.args.index c.args.number < b.partitions = sound.within c.args.index c.args.number (let long = sound.same_length c.args.index in let number = c.requires.number in omega arith) in
     subst (λ (x : Batch). KnowsFront c.args.holding.now.view (partition_at x c.args.index c.args.number) c.args.index) words

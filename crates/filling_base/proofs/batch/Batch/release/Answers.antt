@@ -1,7 +1,7 @@
 use Rattle.std.proofs.Common.{◌≡◌, ◌<◌, ℕ, ◌∷◌, List, refl, sym, ap, ◌∙◌, subst, inl, inr, arith}
 use Rattle.bohm_core_base.specs.declared.event.Event.TheVariants.{GiveBack}
 use Rattle.bohm_core_base.specs.Batch.{Batch}
-use Rattle.words.specs.Passes.{Passing}
+use Rattle.words.specs.Passes.{PassState}
 use Rattle.words.specs.Views.{In, with_event}
 use Rattle.filling_base.specs.declared.walk.Frame.{Frame}
 use Rattle.filling_base.specs.Walks.{IsPath, bottom, held, spot, waiting}
@@ -16,9 +16,9 @@ pub give_back-requires-clause-within : goal.give_back-requires-clause-within
 give_back-requires-clause-within g c =
     let invariant = c.self.invariant in
     let view = c.self.view_is in
-    let words : g.K.Placed.batch c.args.self.now.key ≡ g.K.Placed.batch c.self.inside.words.key = cc in
+    let words : g.K.BatchData.batch c.args.self.now.key ≡ g.K.BatchData.batch c.self.inside.words.key = cc in
     let s = spot c.args.walk in
-    let top = path-top (g.K.Placed.batch c.args.self.now.key) s.view.known s.frames s.at c.requires.walks.path in
+    let top = path-top (g.K.BatchData.batch c.args.self.now.key) s.view.known s.frames s.at c.requires.walks.path in
     let within = c.requires.within in
     subst (λ (b : Batch). s.at < b.size) words (omega arith)
 
@@ -27,14 +27,14 @@ give_back-requires-clause-blank g c = c.requires.walks.holds.these c.args.walk.a
 
 pub loop-frame-init : goal.loop-frame-init
 loop-frame-init g c =
-    let b = g.K.Placed.batch c.args.self.now.key in
+    let b = g.K.BatchData.batch c.args.self.now.key in
     let old = c.args.walk.holding in
     let new = c.give_back.new.pass in
-    let view-is : new.view ≡ with_event old.view (GiveBack old.number c.args.walk.at) = ap (λ (p : Passing). p.view) c.give_back.ensures in
+    let view-is : new.view ≡ with_event old.view (GiveBack old.number c.args.walk.at) = ap (λ (p : PassState). p.view) c.give_back.ensures in
     let fs = c.args.walk.stack.items in
     let h = c.requires.walks in
     let same = same-on old new _ c.give_back.ensures in record {
-      ours = same.table ∙ c.requires.ours;
+      same_table = same.table ∙ c.requires.same_table;
       same = same;
       bodies = counts-back (g.K.Fills.runs c.args.self.now.key) old new c.args.walk.at c.give_back.ensures;
       released = released-first (held (spot c.args.walk)) old.view new.view old.number c.args.walk.at (inl refl) view-is;
@@ -48,8 +48,8 @@ pub give_back-requires-in-Some-clause-within : goal.give_back-requires-in-Some-c
 give_back-requires-in-Some-clause-within g c =
     let invariant = c.self.invariant in
     let view = c.self.view_is in
-    let words : g.K.Placed.batch c.args.self.now.key ≡ g.K.Placed.batch c.self.inside.words.key = cc in
-    let b = g.K.Placed.batch c.args.self.now.key in
+    let words : g.K.BatchData.batch c.args.self.now.key ≡ g.K.BatchData.batch c.self.inside.words.key = cc in
+    let b = g.K.BatchData.batch c.args.self.now.key in
     let known = c.args.walk.holding.view.known in
     let f = c.in-Some.frame in
     let gs = c.pop.new.self.items in
@@ -66,20 +66,20 @@ give_back-requires-in-Some-clause-blank g c =
 
 pub loop-frame-preserved : goal.loop-frame-preserved
 loop-frame-preserved g c =
-    let b = g.K.Placed.batch c.args.self.now.key in
+    let b = g.K.BatchData.batch c.args.self.now.key in
     let i = c.loop-frame.invariant in
     let first = c.args.walk.holding in
     let old = c.loop-frame.holding in
     let new = c.give_back-in-Some.new.pass in
     let f = c.in-Some.frame in
     let gs = c.pop.new.self.items in
-    let view-is : new.view ≡ with_event old.view (GiveBack old.number f.index) = ap (λ (p : Passing). p.view) c.give_back-in-Some.ensures in
+    let view-is : new.view ≡ with_event old.view (GiveBack old.number f.index) = ap (λ (p : PassState). p.view) c.give_back-in-Some.ensures in
     let same = same-on old new _ c.give_back-in-Some.ensures in
     let p = i.path in
     let popped = path-pop b first.view.known gs f p.0 (subst (λ (fs : List Frame). IsPath b first.view.known fs p.0) c.in-Some.ensures.items p.2) in
     let had : (j : ℕ) → In j (f.index ∷ waiting gs) → In j (waiting c.loop-frame.stack.items) =
     λ j has. subst (λ (fs : List Frame). In j (waiting fs)) (sym c.in-Some.ensures.items) (to-back gs f j has) in record {
-      ours = same.table ∙ i.ours;
+      same_table = same.table ∙ i.same_table;
       same = same-then first old new i.same same;
       bodies = counts-then (g.K.Fills.runs c.args.self.now.key) first old new i.bodies
           (counts-back (g.K.Fills.runs c.args.self.now.key) old new f.index c.give_back-in-Some.ensures);

@@ -1,17 +1,17 @@
 use Rattle.words.specs.Passes.{IsPassOf}
 use Rattle.filling_base.specs.Counting.{CountsBodies}
-use Rattle.filling_base.specs.Goings.{IsSamePass}
+use Rattle.filling_base.specs.Extending.{IsSamePass}
 use Rattle.filling_base.specs.Walks.{left, spot}
 use Rattle.filling_base.proofs.Walking.{Running}
 use Rattle.filling_base.proofs.batch.Batch.run.Given as goal
 
 abbrev pub decreases-steps : goal.decreases-steps
-decreases-steps g l = left (g.K.Placed.batch l.self.key) (spot l.walk)
+decreases-steps g l = left (g.K.BatchData.batch l.self.key) (spot l.walk)
 
 abbrev pub invariant-steps : goal.invariant-steps
 invariant-steps g l = record {
-  ours : IsPassOf l.self l.walk.holding;
+  same_table : IsPassOf l.self l.walk.holding;
   same : IsSamePass l.fn.holding l.walk.holding;
   bodies : CountsBodies (g.K.Fills.runs l.self.key) l.fn.holding l.walk.holding;
-  runs : Running (g.K.Placed.batch l.self.key) l.index l.fn.holding.view (spot l.walk);
+  runs : Running (g.K.BatchData.batch l.self.key) l.index l.fn.holding.view (spot l.walk);
 }

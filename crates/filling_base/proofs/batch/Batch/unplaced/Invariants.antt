@@ -1,7 +1,7 @@
 use Rattle.std.proofs.Common.{◌≡◌, ◌<◌, ◌++◌, ℕ, List}
 use Rattle.words.specs.Passes.{gone_on}
 use Rattle.words.specs.Views.{KnowsFront}
-use Rattle.filling_base.specs.Goings.{OnlyLearns}
+use Rattle.filling_base.specs.Extending.{OnlyLearns}
 use Rattle.filling_base.proofs.batch.Batch.unplaced.Given as goal
 
 abbrev pub invariant-loop-partition : goal.invariant-loop-partition

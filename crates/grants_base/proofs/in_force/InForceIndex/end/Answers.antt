@@ -4,7 +4,7 @@ use Rattle.grants_base.specs.Force.{IsWithdrawn}
 use Rattle.grants_base.specs.InForce.{IsChanged}
 use Rattle.grants_base.specs.Sides.{to_side}
 use Rattle.grants_base.specs.declared.grantor_set.Granted.{Granted}
-use Rattle.grants_base.specs.declared.index.Side.{Side}
+use Rattle.grants_base.specs.declared.index.HolderKey.{HolderKey}
 use Rattle.grants_base.proofs.Keeping.{keeps_ended, none_of}
 use Rattle.grants_base.proofs.in_force.InForceIndex.end.Goals as goal
 
@@ -17,4 +17,4 @@ returns-else-not-take c = λ entries at keeps.
     keeps_ended c.args.self.now c.take.new.self c.take.ensures.whole entries keeps c.args.slot c.args.place c.args.entry.now at
     (none_of c.args.entry.now.end (sym c.is_some.ensures ∙ c.if-is_some.false))
     (subst (λ (granted : Granted). IsChanged (to_side grant) (IsWithdrawn granted c.args.place grant.option) c.args.self.now c.take.new.self) c.granted_at.ensures
-    (subst (λ (side : Side). IsChanged side (IsWithdrawn c.granted_at.result c.args.place grant.option) c.args.self.now c.take.new.self) c.to_side.ensures (c.take.ensures.taken c.if-not-take.false)))
+    (subst (λ (side : HolderKey). IsChanged side (IsWithdrawn c.granted_at.result c.args.place grant.option) c.args.self.now c.take.new.self) c.to_side.ensures (c.take.ensures.taken c.if-not-take.false)))

@@ -7,7 +7,7 @@ use Rattle.grants_base.specs.InForce.{privilege_under}
 use Rattle.grants_base.specs.Index.{IsFirst}
 use Rattle.grants_base.specs.Sides.{side_of}
 use Rattle.grants_base.specs.declared.force.NextBy.{NextBy}
-use Rattle.grants_base.specs.declared.index.Side.{Side}
+use Rattle.grants_base.specs.declared.index.HolderKey.{HolderKey}
 use Rattle.grants_base.proofs.Indexing.{first_as}
 use Rattle.grants_base.proofs.Keeping.{next_by_told}
 use Rattle.grants_base.proofs.indexed.IndexedRecords.next_in_force_by.Goals as goal
@@ -21,6 +21,6 @@ returns c =
     c.next_by.ensures.whole c.next_by.ensures.slot
     (λ next whole slot.
     let kept = (c.self.invariant.kept whole c.args.grantee c.args.kind c.args.table).by user in
-    let found = subst (λ (side : Side). IsFirst (has_by (privilege_under index side).by user) c.args.from next.slot) c.side_of.ensures slot in
+    let found = subst (λ (side : HolderKey). IsFirst (has_by (privilege_under index side).by user) c.args.from next.slot) c.side_of.ensures slot in
     subst (λ (es : List Record). IsFirst (λ k. is_in_force passes (slice_get es k)) c.args.from next.slot) c.self.view_is
     (first_as (has_by (privilege_under index (side_of c.args.grantee c.args.kind c.args.table)).by user) (λ k. is_in_force passes (slice_get c.self.inside.records.items k)) kept c.args.from next.slot found))

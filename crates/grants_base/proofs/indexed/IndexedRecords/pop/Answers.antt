@@ -3,7 +3,7 @@ use Rattle.model_base.specs.declared.deed.Record.{Record}
 use Rattle.grants_base.specs.Index.{is_to}
 use Rattle.grants_base.specs.Marks.{AreIndexed}
 use Rattle.grants_base.specs.Sides.{IsPopped, by_side, is_made_by, to_side}
-use Rattle.grants_base.specs.declared.index.Side.{Side}
+use Rattle.grants_base.specs.declared.index.HolderKey.{HolderKey}
 use Rattle.grants_base.proofs.Indexing.{ends_less}
 use Rattle.grants_base.proofs.SideLaws.{by_side-same, indexes_less, to_side-same}
 use Rattle.grants_base.proofs.indexed.IndexedRecords.pop.Goals as goal
@@ -17,10 +17,10 @@ invariant_of-self c =
     record {
       grantees =
           indexes_less is_to to_side to_side-same c.self.inside.to c.pop-in-Some.new.self entries last was.grantees
-          (subst (λ (side : Side). IsPopped side c.self.inside.to c.pop-in-Some.new.self) c.to_side.ensures c.pop-in-Some.ensures);
+          (subst (λ (side : HolderKey). IsPopped side c.self.inside.to c.pop-in-Some.new.self) c.to_side.ensures c.pop-in-Some.ensures);
       grantors =
           indexes_less is_made_by by_side by_side-same c.self.inside.by c.pop-in-Some-2.new.self entries last was.grantors
-          (subst (λ (side : Side). IsPopped side c.self.inside.by c.pop-in-Some-2.new.self) c.by_side.ensures c.pop-in-Some-2.ensures);
+          (subst (λ (side : HolderKey). IsPopped side c.self.inside.by c.pop-in-Some-2.new.self) c.by_side.ensures c.pop-in-Some-2.ensures);
       ends = ends_less c.self.inside.endings.items entries last was.ends;
       order = was.order;
       kept = c.forget.ensures entries;

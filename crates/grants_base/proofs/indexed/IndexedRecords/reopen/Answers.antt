@@ -20,12 +20,12 @@ invariant_of-self c =
     let now = with_items_is c.self.inside.records c.reopen.new.records long in
     let is = c.reopen.ensures.reopened ∙ ap (map (reopened place)) c.deref_mut.ensures.value in
     let grants = recorded-reopened place entries in
-    let became = subst (λ (es : List Record). HasEnds c.reopen.new.endings.items es) is c.reopen.ensures.noted in
+    let line_outcome = subst (λ (es : List Record). HasEnds c.reopen.new.endings.items es) is c.reopen.ensures.noted in
     subst (λ (es : List Record). AreIndexed es c.self.inside.to c.self.inside.by c.reopen.new.endings.items c.forget.new.self) (sym (now ∙ is))
     (record {
       grantees = indexes_as is_to c.self.inside.to entries (map (reopened place) entries) grants c.self.invariant.grantees;
       grantors = indexes_as is_made_by c.self.inside.by entries (map (reopened place) entries) grants c.self.invariant.grantors;
-      ends = became;
+      ends = line_outcome;
       order = c.reopen.ensures.order;
       kept = c.forget.ensures (map (reopened place) entries);
     })

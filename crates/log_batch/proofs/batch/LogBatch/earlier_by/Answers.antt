@@ -5,7 +5,7 @@ use Rattle.grants_base.specs.Book.{Entries}
 use Rattle.grants_base.specs.Index.{IsNext, is_by}
 use Rattle.log_batch.specs.Earlier.{earlier_grants}
 use Rattle.log_batch.specs.Referred.{is_found}
-use Rattle.log_batch.specs.Supplied.{Ranged, batch_in, range_of}
+use Rattle.log_batch.specs.Supplied.{LogRange, batch_of, range_of}
 use Rattle.log_batch.proofs.Earlier.{book-earlier}
 use Rattle.log_batch.proofs.batch.LogBatch.earlier_by.Goals as goal
 
@@ -14,5 +14,5 @@ returns c =
     let s = c.self.inside in
     let range = range_of record { log = s.log.now.log; first = s.first; size = s.size; partitions = s.partitions; placed = is_found s.references } in
     let same = ap (λ (entries : Entries). recorded entries.records) c.at-view.ensures.book ∙ book-earlier range s.book.now c.self.invariant.book.same in
-    subst (λ (ranged : Ranged). IsNext (is_by c.args.user c.args.kind c.args.table) (earlier_grants (batch_in ranged)) c.args.from c.next_by.result) c.self.view_is
+    subst (λ (ranged : LogRange). IsNext (is_by c.args.user c.args.kind c.args.table) (earlier_grants (batch_of ranged)) c.args.from c.next_by.result) c.self.view_is
     (subst (λ (grants : List Grant). IsNext (is_by c.args.user c.args.kind c.args.table) grants c.args.from c.next_by.result) same c.next_by.ensures.next)

@@ -3,7 +3,7 @@ use Rattle.model_base.specs.declared.deed.Record.{Record}
 use Rattle.bohm_core_base.specs.Batch.{batch_slots}
 use Rattle.log_batch.specs.Earlier.{earlier_count}
 use Rattle.log_batch.specs.Referred.{is_found}
-use Rattle.log_batch.specs.Supplied.{Ranged, batch_in, range_of}
+use Rattle.log_batch.specs.Supplied.{LogRange, batch_of, range_of}
 use Rattle.log_batch.proofs.Earlier.{book-count, count-within}
 use Rattle.log_batch.proofs.batch.LogBatch.earlier_count.Goals as goal
 
@@ -14,8 +14,8 @@ returns c =
     let found = length c.records.result.now in
     let count = ap (λ (entries : List Record). length entries) c.records.ensures.records ∙ book-count range s.book.now c.self.invariant.book.same in
     record {
-      value = subst (λ (ranged : Ranged). found ≡ earlier_count (batch_in ranged)) c.self.view_is count;
+      value = subst (λ (ranged : LogRange). found ≡ earlier_count (batch_of ranged)) c.self.view_is count;
       within =
-          subst (λ (ranged : Ranged). found ≤ length (batch_slots (batch_in ranged))) c.self.view_is
-          (subst (λ (n : ℕ). n ≤ length (batch_slots (batch_in (record { log = s.log.now.log; first = s.first; size = s.size; partitions = s.partitions; placed = is_found s.references })))) (sym count) (count-within range));
+          subst (λ (ranged : LogRange). found ≤ length (batch_slots (batch_of ranged))) c.self.view_is
+          (subst (λ (n : ℕ). n ≤ length (batch_slots (batch_of (record { log = s.log.now.log; first = s.first; size = s.size; partitions = s.partitions; placed = is_found s.references })))) (sym count) (count-within range));
     }

@@ -2,13 +2,13 @@ use Rattle.std.proofs.Common.{◌-◌, ◌+◌, ℕ, None, Some, arith, ap, sym,
 use Rattle.grants_base.specs.Index.{IsNext, is_to}
 use Rattle.bohm_core_base.specs.Batch.{batch_slots}
 use Rattle.log_batch.specs.Earlier.{earlier_count, own_grants}
-use Rattle.log_batch.specs.Supplied.{batch_in}
+use Rattle.log_batch.specs.Supplied.{batch_of}
 use Rattle.log_batch.proofs.Passed.{first-behind, none-behind, taken-past}
 use Rattle.log_batch.proofs.batch.LogBatch.next_own_to.Goals as goal
 
 pub returns-in-Some : goal.returns-in-Some
 returns-in-Some c =
-    let batch = batch_in c.args.self.now in
+    let batch = batch_of c.args.self.now in
     let passes = is_to c.args.grantee.now c.args.kind c.args.table in
     let low = c.requires in
     let from = ap (λ (count : ℕ). c.args.from - count) c.earlier_count-earlier.ensures.value in
@@ -19,7 +19,7 @@ returns-in-Some c =
 
 pub returns-in-None : goal.returns-in-None
 returns-in-None c =
-    let batch = batch_in c.args.self.now in
+    let batch = batch_of c.args.self.now in
     let passes = is_to c.args.grantee.now c.args.kind c.args.table in
     let low = c.requires in
     let from = ap (λ (count : ℕ). c.args.from - count) c.earlier_count-earlier.ensures.value in

@@ -3,7 +3,7 @@ use Rattle.model_base.specs.declared.deed.Grant.{Grant}
 use Rattle.grants_base.specs.Index.{IsNext, is_to}
 use Rattle.log_batch.specs.Earlier.{own_grants}
 use Rattle.log_batch.specs.Referred.{is_found}
-use Rattle.log_batch.specs.Supplied.{Ranged, batch_in, range_of}
+use Rattle.log_batch.specs.Supplied.{LogRange, batch_of, range_of}
 use Rattle.log_batch.proofs.Earlier.{book-behind}
 use Rattle.log_batch.proofs.batch.LogBatch.own_to.Goals as goal
 
@@ -12,5 +12,5 @@ returns-clause-next c =
     let s = c.self.inside in
     let range = range_of record { log = s.log.now.log; first = s.first; size = s.size; partitions = s.partitions; placed = is_found s.references } in
     let same = book-behind range s.book.now c.self.invariant.book.same s.named c.self.invariant.slots in
-    subst (λ (ranged : Ranged). IsNext (is_to c.args.grantee.now c.args.kind c.args.table) (own_grants (batch_in ranged)) c.args.from c.next_to.result) c.self.view_is
+    subst (λ (ranged : LogRange). IsNext (is_to c.args.grantee.now c.args.kind c.args.table) (own_grants (batch_of ranged)) c.args.from c.next_to.result) c.self.view_is
     (subst (λ (grants : List Grant). IsNext (is_to c.args.grantee.now c.args.kind c.args.table) grants c.args.from c.next_to.result) same c.next_to.ensures)

@@ -2,14 +2,14 @@ use Rattle.std.proofs.Common.{◌≡◌, ◌<◌, ◌≤◌, ◌+◌, ◌-◌, �
 use Rattle.std.specs.Prelude.{slice_get}
 use Rattle.std.proofs.lemmas.Bool.{cases_lt}
 use Rattle.bohm_core_base.specs.Batch.{batch_slots}
-use Rattle.log_batch.specs.Supplied.{batch_in}
+use Rattle.log_batch.specs.Supplied.{batch_of}
 use Rattle.log_batch.proofs.Counted.{sound_batch}
 use Rattle.log_batch.proofs.batch.LogBatch.slot_from.Goals as goal
 
 pub loop-low-preserved-then-grant-place : goal.loop-low-preserved-then-grant-place
 loop-low-preserved-then-grant-place c =
     let ranged = c.args.self.now in
-    let batch = batch_in ranged in
+    let batch = batch_of ranged in
     let sound = sound_batch ranged c.log-log.ensures.of_log in
     let middle = c.loop-low.low + (c.loop-low.high - c.loop-low.low) / 2 in
     let less : c.loop-low.low < c.loop-low.high = omega (arith, c.loop-low-test.true) in
@@ -32,7 +32,7 @@ loop-low-preserved-then-grant-place c =
 pub loop-low-preserved : goal.loop-low-preserved
 loop-low-preserved c =
     let ranged = c.args.self.now in
-    let batch = batch_in ranged in
+    let batch = batch_of ranged in
     let sound = sound_batch ranged c.log-log.ensures.of_log in
     let middle = c.loop-low.low + (c.loop-low.high - c.loop-low.low) / 2 in
     let less : c.loop-low.low < c.loop-low.high = omega (arith, c.loop-low-test.true) in

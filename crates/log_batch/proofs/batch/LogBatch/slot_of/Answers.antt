@@ -3,7 +3,7 @@ use Rattle.std.specs.Prelude.{slice_get}
 use Rattle.std.proofs.lemmas.Option.{slice_get_within}
 use Rattle.model_base.specs.declared.deed.Grant.{Grant}
 use Rattle.bohm_core_base.specs.Batch.{batch_slots}
-use Rattle.log_batch.specs.Supplied.{batch_in}
+use Rattle.log_batch.specs.Supplied.{batch_of}
 use Rattle.log_batch.proofs.Counted.{sound_batch}
 use Rattle.log_batch.proofs.OnlySlot.{only-slot}
 use Rattle.log_batch.proofs.batch.LogBatch.slot_of.Goals as goal
@@ -11,7 +11,7 @@ use Rattle.log_batch.proofs.batch.LogBatch.slot_of.Goals.{else-slot-slot_count-v
 
 pub returns-then-grant-place-clause-only : goal.returns-then-grant-place-clause-only
 returns-then-grant-place-clause-only c slot grant at same =
-    let batch = batch_in c.args.self.now in
+    let batch = batch_of c.args.self.now in
     let sound = sound_batch c.args.self.now c.log-log.ensures.of_log in
     ap Some (sym (only-slot (batch_slots batch) c.slot_from-slot.result c.args.place
     (λ k j first later less here behind. c.slots_stand_in_order.ensures batch k j first later sound less here behind)
@@ -19,7 +19,7 @@ returns-then-grant-place-clause-only c slot grant at same =
 
 pub returns-else-slot-slot_count-clause-found : goal.returns-else-slot-slot_count-clause-found
 returns-else-slot-slot_count-clause-found c slot grant at same =
-    let batch = batch_in c.args.self.now in
+    let batch = batch_of c.args.self.now in
     let sound = sound_batch c.args.self.now c.log-log.ensures.of_log in
     let here : slot ≡ c.slot_from-slot.result =
     only-slot (batch_slots batch) c.slot_from-slot.result c.args.place

@@ -1,6 +1,6 @@
 use Rattle.std.proofs.Common.{Ok, Err, Some, None, ◌<◌, length, ◌≡◌, List, ℕ, ◌∷◌, ap, ◌∙◌, sym, subst}
 use Rattle.line_words.specs.Words.{words}
-use Rattle.log_text.specs.Room.{sentence_of}
+use Rattle.log_text.specs.LineBuffers.{sentence_of}
 use Rattle.log_text.specs.Statement.{Reads, form_words}
 use Rattle.log_text.specs.declared.statement.RawForm.TheVariants.{Run}
 use Rattle.std.proofs.Common.{ltb}

@@ -1,5 +1,5 @@
 use Rattle.std.proofs.Common.{sym, ◌≡◌, ap}
-use Rattle.log_text.specs.Room.{other_or_run, sentence_of}
+use Rattle.log_text.specs.LineBuffers.{other_or_run, sentence_of}
 use Rattle.log_text.specs.Statement.{Sentence}
 use Rattle.sequencer.proofs.WholeLogs.{taken_parts}
 use Rattle.sequencer.specs.Admitting.{run_by}

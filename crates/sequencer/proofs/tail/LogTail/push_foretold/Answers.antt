@@ -4,7 +4,7 @@ use Rattle.sequencer.specs.Catalog.{Names}
 use Rattle.sequencer.specs.Foretelling.{IsForetold}
 use Rattle.sequencer.specs.Log.{Accepted}
 use Rattle.sequencer.specs.Tail.{Tail}
-use Rattle.sequencer.specs.Taken.{IsKept}
+use Rattle.sequencer.specs.Whole.{IsKept}
 use Rattle.sequencer.proofs.WholeLogs.{kept_foretold}
 use Rattle.sequencer.proofs.tail.LogTail.push_foretold.Goals as goal
 

@@ -1,5 +1,5 @@
 use Rattle.std.proofs.Common.{◌++◌, ◌∷◌, [], List, ap, refl, sym, ◌∙◌, append_assoc}
-use Rattle.log_text.specs.Room.{sentence_of}
+use Rattle.log_text.specs.LineBuffers.{sentence_of}
 use Rattle.model_base.specs.declared.statement.Statement.{Statement}
 use Rattle.sequencer.specs.Catalog.{numbered}
 use Rattle.sequencer.proofs.WholeLogs.{kept_after}

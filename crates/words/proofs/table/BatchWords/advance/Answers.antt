@@ -4,8 +4,8 @@ use Rattle.atomic_table.specs.Table.{Allows}
 use Rattle.bohm_core_base.specs.declared.event.Event.TheVariants.{Place}
 use Rattle.words.specs.Layout.{front_word, position}
 use Rattle.words.specs.Legal.{legal}
-use Rattle.words.specs.Passes.{Placing, placed_on}
-use Rattle.words.specs.Tells.{StoredAll}
+use Rattle.words.specs.Passes.{PlacerState, placed_on}
+use Rattle.words.specs.Meanings.{StoredAll}
 use Rattle.words.specs.Views.{front_in, with_placing}
 use Rattle.words.proofs.Plays.{goes_to}
 use Rattle.words.proofs.Advancing.{advances}
@@ -13,26 +13,26 @@ use Rattle.words.proofs.table.BatchWords.advance.Goals as goal
 
 pub overflow_add-front : goal.overflow_add-front
 overflow_add-front g c =
-    let b = g.K.Placed.batch c.args.self.now.key in
-    let within : front_in c.placer.inside.seat.me.0 < b.size = subst (λ (p : Placing). front_in p.view < b.size) (sym c.placer.view_is) c.requires.within in
+    let b = g.K.BatchData.batch c.args.self.now.key in
+    let within : front_in c.placer.inside.seat.me.0 < b.size = subst (λ (p : PlacerState). front_in p.view < b.size) (sym c.placer.view_is) c.requires.within in
     let front = c.placer.invariant.front in
     let size = c.places-places.ensures in
     omega arith
 
 pub front_spot-at-requires : goal.front_spot-at-requires
 front_spot-at-requires g c =
-    let b = g.K.Placed.batch c.args.self.now.key in
-    let partition : c.placer.inside.seat.me.0.partition < b.partitions = subst (λ (p : Placing). p.view.partition < b.partitions) (sym c.placer.view_is) c.requires.partition in
+    let b = g.K.BatchData.batch c.args.self.now.key in
+    let partition : c.placer.inside.seat.me.0.partition < b.partitions = subst (λ (p : PlacerState). p.view.partition < b.partitions) (sym c.placer.view_is) c.requires.partition in
     subst (λ (p : ℕ). p < b.partitions) (sym c.placer.invariant.partition) partition
 
 pub put-requires-clause-allows : goal.put-requires-clause-allows
 put-requires-clause-allows g c =
     let key = c.args.self.now.key in
-    let b = g.K.Placed.batch key in
-    let listed = g.K.Placed.listed key in
+    let b = g.K.BatchData.batch key in
+    let listed = g.K.BatchData.listed key in
     let seat = c.placer.inside.seat in
-    let within = subst (λ (p : Placing). front_in p.view < b.size) (sym c.placer.view_is) c.requires.within in
-    let stored = subst (λ (p : Placing). StoredAll b p.view) (sym c.placer.view_is) c.requires.stored in
+    let within = subst (λ (p : PlacerState). front_in p.view < b.size) (sym c.placer.view_is) c.requires.within in
+    let stored = subst (λ (p : PlacerState). StoredAll b p.view) (sym c.placer.view_is) c.requires.stored in
     let front = c.placer.invariant.front in
     let next : suc (front_in seat.me.0) ≡ c.placer.inside.front + 1 = omega arith in
     let at : c.front_spot-at.result ≡ position b (front_word seat.me.0.partition) = c.front_spot-at.ensures.value ∙ ap (λ (p : ℕ). position b (front_word p)) c.placer.invariant.partition in
@@ -58,6 +58,6 @@ pub returns : goal.returns
 returns g c =
     let same = c.put.ensures.same in
     let then = c.put.ensures.then in
-    let placed : Placing = record { table = c.put.new.seat.table_id; number = c.put.new.seat.id; view = c.put.new.seat.me.0 } in
-    subst (λ (p : Placing). placed ≡ placed_on p (with_placing p.view)) c.placer.view_is
+    let placed : PlacerState = record { table = c.put.new.seat.table_id; number = c.put.new.seat.id; view = c.put.new.seat.me.0 } in
+    subst (λ (p : PlacerState). placed ≡ placed_on p (with_placing p.view)) c.placer.view_is
     (λ t. record { table = same.0 t; number = same.1 t; view = (then t).0 })

@@ -7,22 +7,22 @@ use Rattle.words.proofs.table.BatchWords.claim_at.Goals as goal
 pub returns-clause-value : goal.returns-clause-value
 returns-clause-value g c =
     let words = c.self.inside in
-    let b = g.K.Placed.batch words.table.shared.key in
-    let listed = g.K.Placed.listed words.table.shared.key in
+    let b = g.K.BatchData.batch words.table.shared.key in
+    let listed = g.K.BatchData.listed words.table.shared.key in
     let laid = c.self.invariant in
-    let below : c.args.index < b.size = subst (λ w. c.args.index < (g.K.Placed.batch w.key).size) (sym c.self.view_is) c.requires in
+    let below : c.args.index < b.size = subst (λ w. c.args.index < (g.K.BatchData.batch w.key).size) (sym c.self.view_is) c.requires in
     let every = laid.every in
     let size = laid.size in
     let at : c.index.result.now ≡ block_begin b c.args.index = c.index.ensures ∙ get_or_default_zero words.begins.items c.args.index c.index.result.now (omega arith) ∙ laid.begin c.args.index below in
-    subst (λ w. c.index.result.now ≡ block_begin (g.K.Placed.batch w.key) c.args.index) c.self.view_is at
+    subst (λ w. c.index.result.now ≡ block_begin (g.K.BatchData.batch w.key) c.args.index) c.self.view_is at
 
 pub returns-clause-within : goal.returns-clause-within
 returns-clause-within g c =
     let words = c.self.inside in
-    let b = g.K.Placed.batch words.table.shared.key in
-    let listed = g.K.Placed.listed words.table.shared.key in
+    let b = g.K.BatchData.batch words.table.shared.key in
+    let listed = g.K.BatchData.listed words.table.shared.key in
     let laid = c.self.invariant in
-    let below : c.args.index < b.size = subst (λ w. c.args.index < (g.K.Placed.batch w.key).size) (sym c.self.view_is) c.requires in
+    let below : c.args.index < b.size = subst (λ w. c.args.index < (g.K.BatchData.batch w.key).size) (sym c.self.view_is) c.requires in
     let every = laid.every in
     let size = laid.size in
     let at : c.index.result.now ≡ block_begin b c.args.index = c.index.ensures ∙ get_or_default_zero words.begins.items c.args.index c.index.result.now (omega arith) ∙ laid.begin c.args.index below in

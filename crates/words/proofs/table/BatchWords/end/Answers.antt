@@ -2,8 +2,8 @@ use Rattle.std.proofs.Common.{◌≡◌, ℕ, sym, ap, ◌∙◌, subst}
 use Rattle.atomic_table.specs.Table.{Allows}
 use Rattle.words.specs.Layout.{listed_slot_at}
 use Rattle.words.specs.Legal.{legal}
-use Rattle.words.specs.Passes.{Passing}
-use Rattle.words.specs.Tells.{EndTells}
+use Rattle.words.specs.Passes.{PassState}
+use Rattle.words.specs.Meanings.{EndMeans}
 use Rattle.words.proofs.Plays.{end_then}
 use Rattle.words.proofs.Allowed.{end_reads}
 use Rattle.words.proofs.table.BatchWords.end.Goals as goal
@@ -11,8 +11,8 @@ use Rattle.words.proofs.table.BatchWords.end.Goals as goal
 pub get-requires-clause-allows : goal.get-requires-clause-allows
 get-requires-clause-allows g c =
     let key = c.args.self.now.key in
-    let b = g.K.Placed.batch key in
-    let listed = g.K.Placed.listed key in
+    let b = g.K.BatchData.batch key in
+    let listed = g.K.BatchData.listed key in
     let seat = c.pass.inside.seat in
     subst (λ (w : ℕ). Allows (λ s. legal b listed s.words s.views) c.args.self.now.table.slots seat.id seat.me w (λ n. n) (end_then b (listed_slot_at listed c.args.end) seat.me)) (sym c.end_at-at.ensures.value)
     (end_reads b listed c.args.self.now.table.slots seat.id seat.me c.pass.invariant.alive c.pass.invariant.pass c.args.end c.requires.listed)
@@ -26,10 +26,10 @@ pub returns-clause-same : goal.returns-clause-same
 returns-clause-same g c =
     let same = c.get.ensures.same in
     let me = c.get.ensures.then.0 in
-    let passed : Passing = record { table = c.get.new.seat.table_id; number = c.get.new.seat.id; view = c.get.new.seat.me.0; bodies = c.pass.inside.bodies } in
-    subst (λ (p : Passing). passed ≡ p) c.pass.view_is
+    let passed : PassState = record { table = c.get.new.seat.table_id; number = c.get.new.seat.id; view = c.get.new.seat.me.0; bodies = c.pass.inside.bodies } in
+    subst (λ (p : PassState). passed ≡ p) c.pass.view_is
     (λ t. record { table = same.0 t; number = same.1 t; view = (me t).0; bodies = c.pass.inside.bodies })
 
 pub returns-clause-tells : goal.returns-clause-tells
 returns-clause-tells g c =
-    subst (λ (p : Passing). EndTells (g.K.Placed.batch c.args.self.now.key) (listed_slot_at (g.K.Placed.listed c.args.self.now.key) c.args.end) p.view c.get.result) c.pass.view_is c.get.ensures.then.1
+    subst (λ (p : PassState). EndMeans (g.K.BatchData.batch c.args.self.now.key) (listed_slot_at (g.K.BatchData.listed c.args.self.now.key) c.args.end) p.view c.get.result) c.pass.view_is c.get.ensures.then.1

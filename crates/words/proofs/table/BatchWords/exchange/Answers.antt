@@ -9,9 +9,9 @@ pub compare_exchange-requires : goal.compare_exchange-requires
 compare_exchange-requires g c =
     let seat = c.args.seat.now in
     let same = c.shared.ensures.same in (
-      c.requires.ours ∙ ap (λ w. w.table) same,
+      c.requires.same_table ∙ ap (λ w. w.table) same,
       subst (λ w. c.args.at < w.table.words) same c.requires.within,
-      subst (λ w. Allows (λ s. legal (g.K.Placed.batch w.key) (g.K.Placed.listed w.key) s.words s.views) w.table.slots seat.id seat.me c.args.at (λ n. either (n == 0) 1 n) (g.M.Play.then (step w.table.slots c.args.at 0 1 none) seat.me)) same c.requires.allows,
+      subst (λ w. Allows (λ s. legal (g.K.BatchData.batch w.key) (g.K.BatchData.listed w.key) s.words s.views) w.table.slots seat.id seat.me c.args.at (λ n. either (n == 0) 1 n) (g.M.Play.then (step w.table.slots c.args.at 0 1 none) seat.me)) same c.requires.allows,
     )
 
 pub returns-clause-then : goal.returns-clause-then

@@ -8,10 +8,10 @@ use Rattle.words.proofs.table.BatchWords.own_at.Goals as goal
 pub overflow_add-result-2 : goal.overflow_add-result-2
 overflow_add-result-2 g c =
     let words = c.self.inside in
-    let b = g.K.Placed.batch words.table.shared.key in
-    let listed = g.K.Placed.listed words.table.shared.key in
+    let b = g.K.BatchData.batch words.table.shared.key in
+    let listed = g.K.BatchData.listed words.table.shared.key in
     let laid = c.self.invariant in
-    let has = subst (λ w. (c.args.index < (g.K.Placed.batch w.key).size) × (c.args.number < words_length (g.K.Placed.batch w.key) c.args.index)) (sym c.self.view_is) c.requires.within in
+    let has = subst (λ w. (c.args.index < (g.K.BatchData.batch w.key).size) × (c.args.number < words_length (g.K.BatchData.batch w.key) c.args.index)) (sym c.self.view_is) c.requires.within in
     let room = position-below b listed (own_word c.args.index c.args.number) has in
     let every = laid.every in
     let size = laid.size in
@@ -24,10 +24,10 @@ overflow_add-result-2 g c =
 pub overflow_add-result : goal.overflow_add-result
 overflow_add-result g c =
     let words = c.self.inside in
-    let b = g.K.Placed.batch words.table.shared.key in
-    let listed = g.K.Placed.listed words.table.shared.key in
+    let b = g.K.BatchData.batch words.table.shared.key in
+    let listed = g.K.BatchData.listed words.table.shared.key in
     let laid = c.self.invariant in
-    let has = subst (λ w. (c.args.index < (g.K.Placed.batch w.key).size) × (c.args.number < words_length (g.K.Placed.batch w.key) c.args.index)) (sym c.self.view_is) c.requires.within in
+    let has = subst (λ w. (c.args.index < (g.K.BatchData.batch w.key).size) × (c.args.number < words_length (g.K.BatchData.batch w.key) c.args.index)) (sym c.self.view_is) c.requires.within in
     let room = position-below b listed (own_word c.args.index c.args.number) has in
     let every = laid.every in
     let size = laid.size in
@@ -40,10 +40,10 @@ overflow_add-result g c =
 pub returns-clause-value : goal.returns-clause-value
 returns-clause-value g c =
     let words = c.self.inside in
-    let b = g.K.Placed.batch words.table.shared.key in
-    let listed = g.K.Placed.listed words.table.shared.key in
+    let b = g.K.BatchData.batch words.table.shared.key in
+    let listed = g.K.BatchData.listed words.table.shared.key in
     let laid = c.self.invariant in
-    let has = subst (λ w. (c.args.index < (g.K.Placed.batch w.key).size) × (c.args.number < words_length (g.K.Placed.batch w.key) c.args.index)) (sym c.self.view_is) c.requires.within in
+    let has = subst (λ w. (c.args.index < (g.K.BatchData.batch w.key).size) × (c.args.number < words_length (g.K.BatchData.batch w.key) c.args.index)) (sym c.self.view_is) c.requires.within in
     let room = position-below b listed (own_word c.args.index c.args.number) has in
     let every = laid.every in
     let size = laid.size in
@@ -52,15 +52,15 @@ returns-clause-value g c =
     let all = laid.all in
     let few = laid.few in
     let same : c.index.result.now + 1 + c.args.number ≡ block_begin b c.args.index + suc c.args.number = omega arith in
-    subst (λ w. c.index.result.now + 1 + c.args.number ≡ block_begin (g.K.Placed.batch w.key) c.args.index + suc c.args.number) c.self.view_is same
+    subst (λ w. c.index.result.now + 1 + c.args.number ≡ block_begin (g.K.BatchData.batch w.key) c.args.index + suc c.args.number) c.self.view_is same
 
 pub returns-clause-within : goal.returns-clause-within
 returns-clause-within g c =
     let words = c.self.inside in
-    let b = g.K.Placed.batch words.table.shared.key in
-    let listed = g.K.Placed.listed words.table.shared.key in
+    let b = g.K.BatchData.batch words.table.shared.key in
+    let listed = g.K.BatchData.listed words.table.shared.key in
     let laid = c.self.invariant in
-    let has = subst (λ w. (c.args.index < (g.K.Placed.batch w.key).size) × (c.args.number < words_length (g.K.Placed.batch w.key) c.args.index)) (sym c.self.view_is) c.requires.within in
+    let has = subst (λ w. (c.args.index < (g.K.BatchData.batch w.key).size) × (c.args.number < words_length (g.K.BatchData.batch w.key) c.args.index)) (sym c.self.view_is) c.requires.within in
     let room = position-below b listed (own_word c.args.index c.args.number) has in
     let every = laid.every in
     let size = laid.size in

@@ -2,7 +2,7 @@ use Rattle.std.proofs.Common.{◌≡◌, ℕ, sym, ap, ◌∙◌, subst}
 use Rattle.atomic_table.specs.Table.{Allows}
 use Rattle.words.specs.Layout.{partition_at, reference_at}
 use Rattle.words.specs.Legal.{legal}
-use Rattle.words.specs.Passes.{Passing}
+use Rattle.words.specs.Passes.{PassState}
 use Rattle.words.specs.Views.{KnowsFront}
 use Rattle.words.proofs.Plays.{reads}
 use Rattle.words.proofs.Allowed.{reference_reads}
@@ -11,11 +11,11 @@ use Rattle.words.proofs.table.BatchWords.reference.Goals as goal
 pub get-requires-clause-allows : goal.get-requires-clause-allows
 get-requires-clause-allows g c =
     let key = c.args.self.now.key in
-    let b = g.K.Placed.batch key in
+    let b = g.K.BatchData.batch key in
     let seat = c.pass.inside.seat in
-    let known = subst (λ (p : Passing). KnowsFront p.view (partition_at b c.args.index c.args.number) c.args.index) (sym c.pass.view_is) c.requires.known in
-    subst (λ (w : ℕ). Allows (λ s. legal b (g.K.Placed.listed key) s.words s.views) c.args.self.now.table.slots seat.id seat.me w (λ n. n) (reads (reference_at b c.args.index c.args.number) seat.me)) (sym c.reference_spot-at.ensures.value)
-    (reference_reads b (g.K.Placed.listed key) c.args.self.now.table.slots seat.id seat.me c.pass.invariant.alive c.pass.invariant.pass c.args.index c.args.number c.requires.within c.requires.number known)
+    let known = subst (λ (p : PassState). KnowsFront p.view (partition_at b c.args.index c.args.number) c.args.index) (sym c.pass.view_is) c.requires.known in
+    subst (λ (w : ℕ). Allows (λ s. legal b (g.K.BatchData.listed key) s.words s.views) c.args.self.now.table.slots seat.id seat.me w (λ n. n) (reads (reference_at b c.args.index c.args.number) seat.me)) (sym c.reference_spot-at.ensures.value)
+    (reference_reads b (g.K.BatchData.listed key) c.args.self.now.table.slots seat.id seat.me c.pass.invariant.alive c.pass.invariant.pass c.args.index c.args.number c.requires.within c.requires.number known)
 
 pub invariant_of-pass : goal.invariant_of-pass
 invariant_of-pass g c =
@@ -26,8 +26,8 @@ pub returns-clause-same : goal.returns-clause-same
 returns-clause-same g c =
     let same = c.get.ensures.same in
     let me = c.get.ensures.then.0 in
-    let passed : Passing = record { table = c.get.new.seat.table_id; number = c.get.new.seat.id; view = c.get.new.seat.me.0; bodies = c.pass.inside.bodies } in
-    subst (λ (p : Passing). passed ≡ p) c.pass.view_is
+    let passed : PassState = record { table = c.get.new.seat.table_id; number = c.get.new.seat.id; view = c.get.new.seat.me.0; bodies = c.pass.inside.bodies } in
+    subst (λ (p : PassState). passed ≡ p) c.pass.view_is
     (λ t. record { table = same.0 t; number = same.1 t; view = (me t).0; bodies = c.pass.inside.bodies })
 
 pub returns-clause-value : goal.returns-clause-value

@@ -3,4 +3,4 @@ use Rattle.words.proofs.Plays.{reads}
 use Rattle.words.proofs.table.BatchWords.reference.Given as goal
 
 abbrev pub ghosts-get : goal.ghosts-get
-ghosts-get g a = record { then = λ _ m found n. reads (reference_at (g.K.Placed.batch a.self.now.key) a._index a._number) m found n }
+ghosts-get g a = record { then = λ _ m found n. reads (reference_at (g.K.BatchData.batch a.self.now.key) a._index a._number) m found n }

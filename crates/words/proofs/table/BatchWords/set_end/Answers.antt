@@ -4,7 +4,7 @@ use Rattle.bohm_core_base.specs.declared.event.Event.TheVariants.{End}
 use Rattle.bohm_core_base.specs.Batch.{words_length}
 use Rattle.words.specs.Layout.{listed_slot_at}
 use Rattle.words.specs.Legal.{legal}
-use Rattle.words.specs.Passes.{Passing, gone_on}
+use Rattle.words.specs.Passes.{PassState, gone_on}
 use Rattle.words.specs.Views.{Holds, In, KnowsReferences, with_event}
 use Rattle.words.proofs.Plays.{makes}
 use Rattle.words.proofs.Allowed.{ends}
@@ -13,12 +13,12 @@ use Rattle.words.proofs.table.BatchWords.set_end.Goals as goal
 pub put-requires-clause-allows : goal.put-requires-clause-allows
 put-requires-clause-allows g c =
     let key = c.args.self.now.key in
-    let b = g.K.Placed.batch key in
-    let listed = g.K.Placed.listed key in
+    let b = g.K.BatchData.batch key in
+    let listed = g.K.BatchData.listed key in
     let seat = c.pass.inside.seat in
     let slot = listed_slot_at listed c.args.end in
-    let held = subst (λ (p : Passing). (ended : List ℕ) × Holds p.view c.args.index (words_length b c.args.index) ended × ¬ (In slot ended)) (sym c.pass.view_is) c.requires.held in
-    let ready = subst (λ (p : Passing). KnowsReferences b p.view c.args.index) (sym c.pass.view_is) c.requires.ready in
+    let held = subst (λ (p : PassState). (ended : List ℕ) × Holds p.view c.args.index (words_length b c.args.index) ended × ¬ (In slot ended)) (sym c.pass.view_is) c.requires.held in
+    let ready = subst (λ (p : PassState). KnowsReferences b p.view c.args.index) (sym c.pass.view_is) c.requires.ready in
     let is = c.requires.place in
     let one : suc (b.first + c.args.index) ≡ c.args.place + 1 = omega arith in
     subst (λ (n : ℕ). Allows (λ s. legal b listed s.words s.views) c.args.self.now.table.slots seat.id seat.me c.end_at-at.result (λ _. n) (λ _. makes (End seat.id c.args.index slot) seat.me n)) one
@@ -34,6 +34,6 @@ pub returns : goal.returns
 returns g c =
     let same = c.put.ensures.same in
     let then = c.put.ensures.then in
-    let passed : Passing = record { table = c.put.new.seat.table_id; number = c.put.new.seat.id; view = c.put.new.seat.me.0; bodies = c.pass.inside.bodies } in
-    subst (λ (p : Passing). passed ≡ gone_on p (with_event p.view (End p.number c.args.index (listed_slot_at (g.K.Placed.listed c.args.self.now.key) c.args.end)))) c.pass.view_is
+    let passed : PassState = record { table = c.put.new.seat.table_id; number = c.put.new.seat.id; view = c.put.new.seat.me.0; bodies = c.pass.inside.bodies } in
+    subst (λ (p : PassState). passed ≡ gone_on p (with_event p.view (End p.number c.args.index (listed_slot_at (g.K.BatchData.listed c.args.self.now.key) c.args.end)))) c.pass.view_is
     (λ t. record { table = same.0 t; number = same.1 t; view = then.1 t; bodies = c.pass.inside.bodies })

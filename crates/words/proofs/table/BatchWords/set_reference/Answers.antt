@@ -3,7 +3,7 @@ use Rattle.atomic_table.specs.Table.{Allows}
 use Rattle.bohm_core_base.specs.Batch.{reference_words}
 use Rattle.words.specs.Layout.{partition_at, position, reference_at, reference_word}
 use Rattle.words.specs.Legal.{legal}
-use Rattle.words.specs.Passes.{Placing, placed_on}
+use Rattle.words.specs.Passes.{PlacerState, placed_on}
 use Rattle.words.specs.Views.{front_in, with_stored}
 use Rattle.words.proofs.Plays.{goes_to}
 use Rattle.words.proofs.Advancing.{stores}
@@ -11,22 +11,22 @@ use Rattle.words.proofs.table.BatchWords.set_reference.Goals as goal
 
 pub reference_spot-at-requires : goal.reference_spot-at-requires
 reference_spot-at-requires g c =
-    let b = g.K.Placed.batch c.args.self.now.key in
+    let b = g.K.BatchData.batch c.args.self.now.key in
     let front = c.placer.invariant.front in
-    let within : front_in c.placer.inside.seat.me.0 < b.size = subst (λ (p : Placing). front_in p.view < b.size) (sym c.placer.view_is) c.requires.within in
-    let number : c.args.number < length (reference_words b (front_in c.placer.inside.seat.me.0)) = subst (λ (p : Placing). c.args.number < length (reference_words b (front_in p.view))) (sym c.placer.view_is) c.requires.number in
+    let within : front_in c.placer.inside.seat.me.0 < b.size = subst (λ (p : PlacerState). front_in p.view < b.size) (sym c.placer.view_is) c.requires.within in
+    let number : c.args.number < length (reference_words b (front_in c.placer.inside.seat.me.0)) = subst (λ (p : PlacerState). c.args.number < length (reference_words b (front_in p.view))) (sym c.placer.view_is) c.requires.number in
     record { within = subst (λ (i : ℕ). (i < b.size) × (c.args.number < length (reference_words b i))) (sym front) (within, number) }
 
 pub put-requires-clause-allows : goal.put-requires-clause-allows
 put-requires-clause-allows g c =
     let key = c.args.self.now.key in
-    let b = g.K.Placed.batch key in
-    let listed = g.K.Placed.listed key in
+    let b = g.K.BatchData.batch key in
+    let listed = g.K.BatchData.listed key in
     let seat = c.placer.inside.seat in
-    let within = subst (λ (p : Placing). front_in p.view < b.size) (sym c.placer.view_is) c.requires.within in
-    let number = subst (λ (p : Placing). c.args.number < length (reference_words b (front_in p.view))) (sym c.placer.view_is) c.requires.number in
-    let mine = subst (λ (p : Placing). partition_at b (front_in p.view) c.args.number ≡ p.view.partition) (sym c.placer.view_is) c.requires.mine in
-    let right = subst (λ (p : Placing). c.args.word ≡ reference_at b (front_in p.view) c.args.number) (sym c.placer.view_is) c.requires.right in
+    let within = subst (λ (p : PlacerState). front_in p.view < b.size) (sym c.placer.view_is) c.requires.within in
+    let number = subst (λ (p : PlacerState). c.args.number < length (reference_words b (front_in p.view))) (sym c.placer.view_is) c.requires.number in
+    let mine = subst (λ (p : PlacerState). partition_at b (front_in p.view) c.args.number ≡ p.view.partition) (sym c.placer.view_is) c.requires.mine in
+    let right = subst (λ (p : PlacerState). c.args.word ≡ reference_at b (front_in p.view) c.args.number) (sym c.placer.view_is) c.requires.right in
     let at : c.reference_spot-at.result ≡ position b (reference_word (front_in seat.me.0) c.args.number) = c.reference_spot-at.ensures.value ∙ ap (λ (i : ℕ). position b (reference_word i c.args.number)) c.placer.invariant.front in
     subst (λ (w : ℕ). Allows (λ s. legal b listed s.words s.views) c.args.self.now.table.slots seat.id seat.me w (λ _. c.args.word) (λ _. goes_to (with_stored seat.me.0 c.args.number) seat.me c.args.word)) (sym at)
     (stores b listed c.args.self.now.table.slots seat.id seat.me c.placer.invariant.alive c.placer.invariant.places within c.args.number c.args.word number mine right)
@@ -47,6 +47,6 @@ pub returns : goal.returns
 returns g c =
     let same = c.put.ensures.same in
     let then = c.put.ensures.then in
-    let placed : Placing = record { table = c.put.new.seat.table_id; number = c.put.new.seat.id; view = c.put.new.seat.me.0 } in
-    subst (λ (p : Placing). placed ≡ placed_on p (with_stored p.view c.args.number)) c.placer.view_is
+    let placed : PlacerState = record { table = c.put.new.seat.table_id; number = c.put.new.seat.id; view = c.put.new.seat.me.0 } in
+    subst (λ (p : PlacerState). placed ≡ placed_on p (with_stored p.view c.args.number)) c.placer.view_is
     (λ t. record { table = same.0 t; number = same.1 t; view = (then t).0 })

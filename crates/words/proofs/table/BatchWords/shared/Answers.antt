@@ -9,8 +9,8 @@ returns-clause-same g c = sym c.self.view_is
 pub returns-clause-some : goal.returns-clause-some
 returns-clause-some g c =
     let words = c.self.inside in
-    let b = g.K.Placed.batch words.table.shared.key in
-    let listed = g.K.Placed.listed words.table.shared.key in
+    let b = g.K.BatchData.batch words.table.shared.key in
+    let listed = g.K.BatchData.listed words.table.shared.key in
     let laid = c.self.invariant in
     let size = laid.size in
     let some = laid.some in

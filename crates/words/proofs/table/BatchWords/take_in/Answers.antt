@@ -7,9 +7,9 @@ join_seat-requires g c =
     let seat = c.args.seat in
     let other = c.args.other in
     let key = c.shared.result.now.key in (
-      c.requires.ours.0 ∙ ap (λ w. w.table) c.shared.ensures.same,
-      c.requires.ours.1 ∙ ap (λ w. w.table) c.shared.ensures.same,
+      c.requires.same_table.0 ∙ ap (λ w. w.table) c.shared.ensures.same,
+      c.requires.same_table.1 ∙ ap (λ w. w.table) c.shared.ensures.same,
       c.requires.bare,
       c.shared.ensures.some,
-      joins (g.K.Placed.batch key) (g.K.Placed.listed key) seat.id seat.me.0 other.id other.me.0 c.requires.alive.0 c.requires.pass.0 c.requires.alive.1 c.requires.pass.1,
+      joins (g.K.BatchData.batch key) (g.K.BatchData.listed key) seat.id seat.me.0 other.id other.me.0 c.requires.alive.0 c.requires.pass.0 c.requires.alive.1 c.requires.pass.1,
     )

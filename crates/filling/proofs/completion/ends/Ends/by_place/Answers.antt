@@ -4,7 +4,7 @@ use Rattle.std.specs.Map.Iter.{deref_pair}
 use Rattle.std.proofs.lemmas.List.{append-nil}
 use Rattle.std.proofs.lemmas.Map.Entries.{btree_map_get_place}
 use Rattle.std.proofs.lemmas.Map.Iter.{btree_map_turn, rest_all}
-use Rattle.log_batch.specs.Supplied.{batch_in}
+use Rattle.log_batch.specs.Supplied.{batch_of}
 use Rattle.filling.specs.Ends.{ended_among}
 use Rattle.filling.proofs.Sparse.{ended-right}
 use Rattle.filling.proofs.completion.ends.Ends.by_place.Goals as goal
@@ -17,7 +17,7 @@ put_ended-requires c =
 
 pub returns : goal.returns
 returns c index within =
-    let b = batch_in c.args.batch.now in
+    let b = batch_of c.args.batch.now in
     let ends = c.args.self.now in
     let place = c.args.batch.now.first + index in
     let found = get_or c.loop-slot.groups index [] in

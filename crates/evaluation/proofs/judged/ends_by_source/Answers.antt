@@ -1,0 +1,49 @@
+use Rattle.std.proofs.Common.{◌≡◌, ◌==◌, ◌<◌, ◌+◌, ℕ, Some, Vec, Global, sym, ap, ◌∙◌, subst, arith}
+use Rattle.std.specs.Prelude.{slice_get}
+use Rattle.std.specs.List.{list_any}
+use Rattle.std.proofs.lemmas.Result.{IfOk-weaker}
+use Rattle.model_base.specs.declared.deed.Grant.{Grant}
+use Rattle.model_base.specs.Outcomes.{deed_of, deeds_before, owners}
+use Rattle.evaluation.specs.Answering.{ended_by_deed}
+use Rattle.bohm_core_base.specs.Batch.{Batch, batch_slots}
+use Rattle.bohm_core_base.specs.Serial.{serial_ends}
+use Rattle.log_batch.specs.Supplied.{batch_of}
+use Rattle.model_base.proofs.Growth.{deeds_before-stands}
+use Rattle.std.specs.List.Sorted.{IsStrictlyIncreasing}
+use Rattle.evaluation.proofs.Comes.{ends-told}
+use Rattle.evaluation.proofs.Rising.{ended-rises}
+use Rattle.evaluation.proofs.judged.ends_by_source.Goals as goal
+
+pub returns-clause-ends : goal.returns-clause-ends
+returns-clause-ends g c =
+    let ranged = c.args.batch.now in
+    let log = ranged.log.statements in
+    let index = (g.T.ReadSource.as_reader c.args.source).index in
+    let place = ranged.first + index in
+    let statement = c.statement-statement.result.now in
+    let at = subst (λ index. slice_get log (ranged.first + index) ≡ Some statement) c.reader.ensures.value c.statement-statement.ensures.at in
+    let size = ap (λ (batch : Batch). batch.size) c.requires.batch in
+    let within : index < ranged.size = omega (arith, c.reader.ensures.within, c.reader.ensures.value, size) in
+    IfOk-weaker c.judge_ends.result.0
+    (λ (places : Vec ℕ Global). places.items ≡ ended_by_deed (owners log) (deeds_before log place) (deed_of place statement.user statement.form))
+    (λ (places : Vec ℕ Global). (slot : ℕ) (grant : Grant) → slice_get (batch_slots (batch_of ranged)) slot ≡ Some grant
+    → list_any (λ at. at == grant.place) places.items ≡ serial_ends (batch_of ranged) index slot)
+    (λ places is slot grant found.
+    ap (λ list. list_any (λ at. at == grant.place) list) is
+    ∙ ends-told ranged c.log-log.ensures.of_log index within statement at c.requires.done slot grant found)
+    (c.judge_ends.ensures.value statement at)
+
+pub returns-clause-order : goal.returns-clause-order
+returns-clause-order g c =
+    let ranged = c.args.batch.now in
+    let log = ranged.log.statements in
+    let index = (g.T.ReadSource.as_reader c.args.source).index in
+    let place = ranged.first + index in
+    let statement = c.statement-statement.result.now in
+    let at = subst (λ index. slice_get log (ranged.first + index) ≡ Some statement) c.reader.ensures.value c.statement-statement.ensures.at in
+    let stands = deeds_before-stands log place in
+    IfOk-weaker c.judge_ends.result.0
+    (λ (places : Vec ℕ Global). places.items ≡ ended_by_deed (owners log) (deeds_before log place) (deed_of place statement.user statement.form))
+    (λ (places : Vec ℕ Global). IsStrictlyIncreasing places.items)
+    (λ places is. subst (λ list. IsStrictlyIncreasing list) (sym is) (ended-rises (owners log) (deeds_before log place) (deed_of place statement.user statement.form) stands.proper))
+    (c.judge_ends.ensures.value statement at)

@@ -1,0 +1,6 @@
+use Rattle.std.proofs.Common.{Some}
+use Rattle.evaluation.proofs.judged.words_by_source.Given as goal
+
+-- it is this reader all along
+abbrev pub ghosts-judge : goal.ghosts-judge
+ghosts-judge g a = record { as_reader = Some (g.T.ReadSource.as_reader a.source); work = Some (g.T.ReadSource.work a.source) }
