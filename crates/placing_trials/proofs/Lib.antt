@@ -1,3 +1,0 @@
-pub mod Knowing
-pub mod Opened
-pub mod Standing

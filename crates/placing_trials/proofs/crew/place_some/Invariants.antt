@@ -1,4 +1,0 @@
-use Rattle.placing_trials.proofs.crew.place_some.Given as goal
-
-abbrev pub invariant-loop : goal.invariant-loop
-invariant-loop g l = g.P.BatchPlacer.is_of l.batch l.placer

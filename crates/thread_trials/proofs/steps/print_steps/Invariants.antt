@@ -1,0 +1,5 @@
+use Rattle.words.specs.Passes.{IsPassOf}
+use Rattle.thread_trials.proofs.steps.print_steps.Given as goal
+
+abbrev pub invariant-loop-step : goal.invariant-loop-step
+invariant-loop-step g l = IsPassOf l.batch l.last

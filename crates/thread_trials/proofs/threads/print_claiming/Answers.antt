@@ -1,0 +1,5 @@
+use Rattle.std.proofs.Common.{arith}
+use Rattle.thread_trials.proofs.threads.print_claiming.Goals as goal
+
+pub claim-requires-clause-begins : goal.claim-requires-clause-begins
+claim-requires-clause-begins g c = c.close-closed.ensures.settled.begins c.loop-index.index (omega arith)

@@ -1,4 +1,0 @@
-pub mod Aparts
-pub mod Chains
-pub mod Holding
-pub mod Lates

@@ -1,4 +1,0 @@
-pub mod Apart
-pub mod Chained
-pub mod Holding
-pub mod Late
