@@ -6,7 +6,7 @@
 
 use crate::both::{Both, NeedAnswer};
 use crate::fault::TrialFault;
-use model_base::{Deed, Grant, Grantee, Kind, Need, Place, Revocation, Table, User};
+use model_base::{Deed, Grant, Grantee, Kind, Kinds, Need, Place, Revocation, Table, User};
 use std::alloc::Global;
 use trials_base::Generator;
 
@@ -96,7 +96,7 @@ fn revocation(place: Place, deed: &Deed) -> Revocation {
             place,
             grantor: grant.grantor,
             grantee: grant.grantee,
-            kind: grant.kind,
+            kinds: Kinds::only(grant.kind),
             table: TABLE,
         },
         Deed::Revoking(revocation) => Revocation {

@@ -2,7 +2,7 @@
 
 use crate::both::Both;
 use crate::fault::TrialFault;
-use model_base::{Grant, Grantee, Kind, Need, Place, Revocation, Table, User};
+use model_base::{Grant, Grantee, Kind, Kinds, Need, Place, Revocation, Table, User};
 use std::alloc::Global;
 
 /// What is done in an example. Grants and revocations are of reading table 0, and users go by their numbers.
@@ -62,7 +62,7 @@ fn print_taken(
         place,
         grantor: User(grantor),
         grantee: Grantee::User(User(grantee)),
-        kind: Kind::Read,
+        kinds: Kinds::only(Kind::Read),
         table: Table(0),
     };
     let ended = both.take(alloc, &revocation)?;

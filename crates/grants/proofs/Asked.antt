@@ -6,17 +6,19 @@ use Rattle.std.proofs.lemmas.Bool.{true≢false, and_parts, cases_lt}
 use Rattle.model_base.specs.declared.deed.Grant.{Grant}
 use Rattle.model_base.specs.declared.deed.Grantee.{Grantee}
 use Rattle.model_base.specs.declared.deed.Grantee.TheVariants.{User}
+use Rattle.model_base.specs.declared.deed.Kind.{Kind}
 use Rattle.model_base.specs.declared.deed.Record.{Record}
 use Rattle.model_base.specs.declared.deed.Revocation.{Revocation}
-use Rattle.model_base.specs.Privileges.{concerns, names, option_holder, same_grantee, user_of}
+use Rattle.model_base.specs.Privileges.{concerns, has_kind, names, option_holder, same_grantee, user_of}
 use Rattle.model_base.proofs.Reaching.{grantee-same, grantee-true, holder_is}
 use Rattle.model_base.proofs.Replay.{by_cases}
 use Rattle.grants_base.specs.Force.{gives_to}
 use Rattle.grants_base.specs.View.{View, flatten, grant_in, slot_at}
 use Rattle.grants.specs.Pass.{concerned}
 use Rattle.grants_base.specs.Index.{is_one_of}
-use Rattle.grants.specs.Work.{bears, has_in_force, is_named}
-use Rattle.grants_base.specs.Index.{AreAsked, is_by, is_to, passes_at}
+use Rattle.grants.specs.Work.{bears, has_in_force}
+use Rattle.grants_base.specs.Index.{AreAsked, is_about, is_by, is_to, passes_at}
+use Rattle.grants.proofs.Passing.{same_kind-same}
 use Rattle.grants.proofs.SlotLaws.{about_concerned}
 use Rattle.grants.proofs.Worklist.{borne_by}
 
@@ -30,29 +32,35 @@ in_slot (Some entry) revocation grant is =
     (λ passes. rw passes at is)
     (λ fails. let none = rw fails at is in absurd (cc))
 
+-- a concerned grant is of its kind on the revocation's table
+pub about_kind : (revocation : Revocation) (grant : Grant) (kind : Kind) → concerns revocation grant ≡ true → grant.kind ≡ kind
+    → is_about kind revocation.table grant ≡ true
+about_kind revocation grant kind about same =
+    rw (same, same_kind-same kind) (and_parts (has_kind revocation.kinds grant.kind) (revocation.table == grant.table) about).1
+
 module _ (view : View) (asked : List Grant) (are : AreAsked view asked) (revocation : Revocation) where
   -- the slot asks for the grant that it has
   asks : (passes : Grant → Bool) (k : ℕ) (grant : Grant) → concerned (slot_at view k) revocation ≡ Some grant → passes_at passes asked k ≡ passes grant
   asks passes k grant is = ap (λ found. option_map_or passes found false) (are.each k grant (in_slot (slot_at view k) revocation grant is))
 
   -- a slot that isn't found has no such grant
-  pub candidate-skipped : (grantee : Grantee) (option : Bool) (k : ℕ) → passes_at (is_to grantee revocation.kind revocation.table) asked k ≡ false
-      → has_in_force revocation grantee option (slot_at view k) ≡ false
-  candidate-skipped grantee option k skipped = by_found (concerned (slot_at view k) revocation) refl
+  pub candidate-skipped : (grantee : Grantee) (kind : Kind) (option : Bool) (k : ℕ) → passes_at (is_to grantee kind revocation.table) asked k ≡ false
+      → has_in_force revocation grantee kind option (slot_at view k) ≡ false
+  candidate-skipped grantee kind option k skipped = by_found (concerned (slot_at view k) revocation) refl
     where
       by_found : (found : Option Grant) → concerned (slot_at view k) revocation ≡ found
-          → option_map_or (gives_to grantee revocation.kind revocation.table option) found false ≡ false
+          → option_map_or (gives_to grantee kind revocation.table option) found false ≡ false
       by_found None is = refl
       by_found (Some grant) is =
-          ap (λ b. b && (grant.option || not option)) (sym (asks (is_to grantee revocation.kind revocation.table) k grant is) ∙ skipped)
+          ap (λ b. b && (grant.option || not option)) (sym (asks (is_to grantee kind revocation.table) k grant is) ∙ skipped)
 
   -- nor is it by the user
-  pub by-skipped : (user k : ℕ) (grant : Grant) → passes_at (is_by user revocation.kind revocation.table) asked k ≡ false
-      → concerned (slot_at view k) revocation ≡ Some grant → grant.grantor ≡ user → ⊥
-  by-skipped user k grant skipped is by =
-      let about : concerns revocation grant ≡ true = about_concerned (slot_at view k) revocation grant is in
-      let found : is_by user revocation.kind revocation.table grant ≡ true = rw (eq-eqb grant.grantor user by) about in
-      true≢false (sym found ∙ sym (asks (is_by user revocation.kind revocation.table) k grant is) ∙ skipped)
+  pub by-skipped : (user : ℕ) (kind : Kind) (k : ℕ) (grant : Grant) → passes_at (is_by user kind revocation.table) asked k ≡ false
+      → concerned (slot_at view k) revocation ≡ Some grant → grant.grantor ≡ user → grant.kind ≡ kind → ⊥
+  by-skipped user kind k grant skipped is by same =
+      let about = about_kind revocation grant kind (about_concerned (slot_at view k) revocation grant is) same in
+      let found : is_by user kind revocation.table grant ≡ true = rw (eq-eqb grant.grantor user by) about in
+      true≢false (sym found ∙ sym (asks (is_by user kind revocation.table) k grant is) ∙ skipped)
 
 -- a grant that gives the option is with it
 option_true : (grant : Grant) (user : ℕ) → option_holder grant ≡ Some user → grant.option ≡ true
@@ -64,41 +72,43 @@ option_true grant user is = by_option grant.option is
 
 module _ (view : View) (revocation : Revocation) where
   -- a slot without a grant in force to the user that has the option gives the user nothing
-  pub bears-skipped : (user k : ℕ) → has_in_force revocation (User user) true (slot_at view k) ≡ false → bears revocation user (slot_at view k) ≡ false
-  bears-skipped user k skipped =
-      by_cases (bears revocation user (slot_at view k))
+  pub bears-skipped : (user : ℕ) (kind : Kind) (k : ℕ) → has_in_force revocation (User user) kind true (slot_at view k) ≡ false
+      → bears revocation user kind (slot_at view k) ≡ false
+  bears-skipped user kind k skipped =
+      by_cases (bears revocation user kind (slot_at view k))
       (λ bear.
-      let by = borne_by revocation (slot_at view k) user bear in
-      let about : concerns revocation by.0 ≡ true = about_concerned (slot_at view k) revocation by.0 by.1 in
+      let by = borne_by revocation (slot_at view k) user kind bear in
+      let about = about_kind revocation by.0 kind (about_concerned (slot_at view k) revocation by.0 by.1) by.3 in
       let to : same_grantee by.0.grantee (User user) ≡ true = ap (λ g. same_grantee g (User user)) (holder_is by.0 user by.2) ∙ eq-eqb user user refl in
-      let found : gives_to (User user) revocation.kind revocation.table true by.0 ≡ true = rw (to, about, option_true by.0 user by.2) refl in
-      absurd (true≢false (sym found ∙ sym (ap (λ o. option_map_or (gives_to (User user) revocation.kind revocation.table true) o false) by.1) ∙ skipped)))
+      let found : gives_to (User user) kind revocation.table true by.0 ≡ true = rw (to, about, option_true by.0 user by.2) refl in
+      absurd (true≢false (sym found ∙ sym (ap (λ o. option_map_or (gives_to (User user) kind revocation.table true) o false) by.1) ∙ skipped)))
       (λ none. none)
 
   -- nor is a grant named where none is to the revocation's grantee
-  pub named-skipped : (k : ℕ) (grant : Grant) → has_in_force revocation revocation.grantee false (slot_at view k) ≡ false
-      → concerned (slot_at view k) revocation ≡ Some grant → names revocation grant ≡ true → ⊥
+  pub named-skipped : (kind : Kind) (k : ℕ) (grant : Grant) → has_in_force revocation revocation.grantee kind false (slot_at view k) ≡ false
+      → concerned (slot_at view k) revocation ≡ Some grant → grant.kind ≡ kind → names revocation grant ≡ true → ⊥
   unfolding names
-  named-skipped k grant skipped is named =
+  named-skipped kind k grant skipped is same named =
       let to = (and_parts (revocation.grantor == grant.grantor) (same_grantee revocation.grantee grant.grantee && concerns revocation grant) named).1 in
       let parts = and_parts (same_grantee revocation.grantee grant.grantee) (concerns revocation grant) to in
-      let found : gives_to revocation.grantee revocation.kind revocation.table false grant ≡ true =
-      rw (same-grantee grant.grantee revocation.grantee (sym (grantee-true revocation.grantee grant.grantee parts.0)), parts.1) (or-true grant.option) in
-      true≢false (sym found ∙ sym (ap (λ o. option_map_or (gives_to revocation.grantee revocation.kind revocation.table false) o false) is) ∙ skipped)
+      let about = about_kind revocation grant kind parts.1 same in
+      let found : gives_to revocation.grantee kind revocation.table false grant ≡ true =
+      rw (same-grantee grant.grantee revocation.grantee (sym (grantee-true revocation.grantee grant.grantee parts.0)), about) (or-true grant.option) in
+      true≢false (sym found ∙ sym (ap (λ o. option_map_or (gives_to revocation.grantee kind revocation.table false) o false) is) ∙ skipped)
     where
       or-true : (a : Bool) → (a || true) ≡ true
       or-true true = refl
       or-true false = refl
 
   -- up to the slot found, nothing that hasn't ended gives the user the option
-  pub none_until : (ended : List ℕ) (user from i : ℕ)
-      → ((k : ℕ) → k < from → is_one_of ended k ≡ false → bears revocation user (slot_at view k) ≡ false)
-      → ((k : ℕ) → from ≤ k → k < i → has_in_force revocation (User user) true (slot_at view k) ≡ false)
-      → (k : ℕ) → k < i → is_one_of ended k ≡ false → bears revocation user (slot_at view k) ≡ false
-  none_until ended user from i before skipped k less stays =
+  pub none_until : (ended : List ℕ) (user : ℕ) (kind : Kind) (from i : ℕ)
+      → ((k : ℕ) → k < from → is_one_of ended k ≡ false → bears revocation user kind (slot_at view k) ≡ false)
+      → ((k : ℕ) → from ≤ k → k < i → has_in_force revocation (User user) kind true (slot_at view k) ≡ false)
+      → (k : ℕ) → k < i → is_one_of ended k ≡ false → bears revocation user kind (slot_at view k) ≡ false
+  none_until ended user kind from i before skipped k less stays =
       elim (cases_lt k from) [
         | inl earlier ↦ before k earlier stays
-        | inr later ↦ bears-skipped user k (skipped k later less)
+        | inr later ↦ bears-skipped user kind k (skipped k later less)
       ]
 
 pub not_false : (b : Bool) → not b ≡ true → b ≡ false
@@ -143,34 +153,36 @@ nothing_past view revocation k grant over is = absurd (none (sym empty ∙ is))
     none e = cc
 
 -- one slot more among those that are looked at for a name
-pub record HaveNamed (view : View) (revocation : Revocation) (due : List ℕ) (from : ℕ) : Type 0 where
+pub record HaveNamed (view : View) (revocation : Revocation) (kind : Kind) (first due : List ℕ) (from : ℕ) : Type 0 where
   pub found : (j : ℕ) (grant : Grant) → j < from → concerned (slot_at view j) revocation ≡ Some grant
-      → names revocation grant ≡ true → is_one_of due j ≡ true
-  pub within : (j : ℕ) → is_one_of due j ≡ true → j < length view.slots
+      → grant.kind ≡ kind → names revocation grant ≡ true → is_one_of due j ≡ true
+  pub kept : (j : ℕ) → is_one_of first j ≡ true → is_one_of due j ≡ true
+  pub within : (j : ℕ) → is_one_of due j ≡ true → (is_one_of first j ≡ true) ⊎ (j < length view.slots)
 
-pub named_step : (view : View) (revocation : Revocation) (due more : List ℕ) (from i : ℕ)
+pub named_step : (view : View) (revocation : Revocation) (kind : Kind) (first due more : List ℕ) (from i : ℕ)
     → i < length view.slots
-    → ((k : ℕ) → from ≤ k → k < i → is_named revocation (slot_at view k) ≡ false)
-    → HaveNamed view revocation due from
+    → ((k : ℕ) (grant : Grant) → from ≤ k → k < i → concerned (slot_at view k) revocation ≡ Some grant → grant.kind ≡ kind → names revocation grant ≡ true → ⊥)
+    → HaveNamed view revocation kind first due from
     → ((j : ℕ) → is_one_of due j ≡ true → is_one_of more j ≡ true)
     → (option_map_or (names revocation) (concerned (slot_at view i) revocation) false ≡ true → is_one_of more i ≡ true)
     → ((j : ℕ) → is_one_of more j ≡ true → (is_one_of due j ≡ true) ⊎ (i ≡ j))
-    → HaveNamed view revocation more (i + 1)
-named_step view revocation due more from i there skipped so_far kept new old = record {
-  found = λ j grant less is named.
+    → HaveNamed view revocation kind first more (i + 1)
+named_step view revocation kind first due more from i there skipped so_far kept new old = record {
+  found = λ j grant less is same named.
       elim (cases_lt j i) [
         | inl earlier ↦ elim (cases_lt j from) [
-          | inl before ↦ kept j (so_far.found j grant before is named)
-          | inr after ↦ absurd (true≢false (sym named ∙ sym (ap (λ found. option_map_or (names revocation) found false) is) ∙ skipped j after earlier))
+          | inl before ↦ kept j (so_far.found j grant before is same named)
+          | inr after ↦ absurd (skipped j grant after earlier is same named)
         ]
         | inr later ↦
             let here : j ≡ i = omega arith in
             let at_i : concerned (slot_at view i) revocation ≡ Some grant = ap (λ k. concerned (slot_at view k) revocation) (sym here) ∙ is in
             ap (is_one_of more) here ∙ new (ap (λ found. option_map_or (names revocation) found false) at_i ∙ named)
       ];
+  kept = λ j is. kept j (so_far.kept j is);
   within = λ j is.
       elim (old j is) [
         | inl before ↦ so_far.within j before
-        | inr here ↦ omega (arith, there)
+        | inr here ↦ inr (omega (arith, there))
       ];
 }

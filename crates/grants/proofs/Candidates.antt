@@ -4,6 +4,7 @@ use Rattle.std.specs.Prelude.{slice_get}
 use Rattle.std.proofs.lemmas.Bool.{and_parts}
 use Rattle.model_base.specs.declared.deed.Grant.{Grant}
 use Rattle.model_base.specs.declared.deed.Grantee.{Grantee}
+use Rattle.model_base.specs.declared.deed.Kind.{Kind}
 use Rattle.model_base.specs.declared.deed.Record.{Record}
 use Rattle.model_base.specs.declared.deed.Revocation.{Revocation}
 use Rattle.model_base.specs.Privileges.{concerns}
@@ -15,14 +16,14 @@ use Rattle.grants.specs.Work.{IsNextCandidate, has_in_force}
 use Rattle.grants.proofs.Asked.{found_within, candidate-skipped}
 
 -- a slot with no such grant in force isn't open
-closed : (revocation : Revocation) (grantee : Grantee) (option : Bool) (slot : Option Record) → is_in_force (gives_to grantee revocation.kind revocation.table option) slot ≡ false
-    → has_in_force revocation grantee option slot ≡ false
-closed revocation grantee option None is = refl
-closed revocation grantee option (Some entry) is =
+closed : (revocation : Revocation) (grantee : Grantee) (kind : Kind) (option : Bool) (slot : Option Record) → is_in_force (gives_to grantee kind revocation.table option) slot ≡ false
+    → has_in_force revocation grantee kind option slot ≡ false
+closed revocation grantee kind option None is = refl
+closed revocation grantee kind option (Some entry) is =
     by_cases (is_none entry.end && concerns revocation entry.grant)
     (λ both.
     let free = (and_parts (is_none entry.end) (concerns revocation entry.grant) both).0 in
-    rw both (ap (λ b. b && gives_to grantee revocation.kind revocation.table option entry.grant) (sym free) ∙ is))
+    rw both (ap (λ b. b && gives_to grantee kind revocation.table option entry.grant) (sym free) ∙ is))
     (λ other. rw other refl)
 
 -- a slot with a grant in force is there
@@ -31,19 +32,19 @@ in_force-within [] passes i is = absurd (cc)
 in_force-within (slot ∷ slots) passes zero is = omega arith
 in_force-within (slot ∷ slots) passes (suc i) is = let less = in_force-within slots passes i is in omega arith
 
-module _ (view : View) (revocation : Revocation) (grantee : Grantee) (option : Bool) (from : ℕ) where
-  pub candidate_by_index : (found : Option ℕ) → IsFirst (λ k. is_in_force (gives_to grantee revocation.kind revocation.table option) (slot_at view k)) from found
-      → IsNextCandidate revocation grantee option view from found
-  candidate_by_index None none = record { there = tt; passed = λ k low before. closed revocation grantee option (slot_at view k) (none k low) }
+module _ (view : View) (revocation : Revocation) (grantee : Grantee) (kind : Kind) (option : Bool) (from : ℕ) where
+  pub candidate_by_index : (found : Option ℕ) → IsFirst (λ k. is_in_force (gives_to grantee kind revocation.table option) (slot_at view k)) from found
+      → IsNextCandidate revocation grantee kind option view from found
+  candidate_by_index None none = record { there = tt; passed = λ k low before. closed revocation grantee kind option (slot_at view k) (none k low) }
   candidate_by_index (Some i) some = record {
-    there = (some.0, in_force-within view.slots (gives_to grantee revocation.kind revocation.table option) i some.1);
-    passed = λ k low before. closed revocation grantee option (slot_at view k) (some.2 k low before);
+    there = (some.0, in_force-within view.slots (gives_to grantee kind revocation.table option) i some.1);
+    passed = λ k low before. closed revocation grantee kind option (slot_at view k) (some.2 k low before);
   }
 
-  pub candidate_by_slots : (asked : List Grant) → AreAsked view asked → (found : Option ℕ) → IsNext (is_to grantee revocation.kind revocation.table) asked from found
-      → IsNextCandidate revocation grantee option view from found
-  candidate_by_slots asked are None none = record { there = tt; passed = λ k low before. candidate-skipped view asked are revocation grantee option k (none k low) }
+  pub candidate_by_slots : (asked : List Grant) → AreAsked view asked → (found : Option ℕ) → IsNext (is_to grantee kind revocation.table) asked from found
+      → IsNextCandidate revocation grantee kind option view from found
+  candidate_by_slots asked are None none = record { there = tt; passed = λ k low before. candidate-skipped view asked are revocation grantee kind option k (none k low) }
   candidate_by_slots asked are (Some i) some = record {
-    there = (some.0, found_within view asked are (is_to grantee revocation.kind revocation.table) i some.1);
-    passed = λ k low before. candidate-skipped view asked are revocation grantee option k (some.2 k low before);
+    there = (some.0, found_within view asked are (is_to grantee kind revocation.table) i some.1);
+    passed = λ k low before. candidate-skipped view asked are revocation grantee kind option k (some.2 k low before);
   }

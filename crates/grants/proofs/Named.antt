@@ -1,9 +1,9 @@
 -- The next slot that may have a grant that a revocation names.
-use Rattle.std.proofs.Common.{◌≡◌, ℕ, ◌&&◌, true, false, List, Option, Some, None, is_none, refl, sym, ◌∙◌, ap, eq-eqb}
+use Rattle.std.proofs.Common.{◌≡◌, ℕ, ◌&&◌, true, false, List, Option, Some, None, is_none, refl, sym, ◌∙◌, subst, eq-eqb}
 use Rattle.std.specs.Prelude.{◌==◌}
-use Rattle.std.specs.Option.{option_map_or}
 use Rattle.std.proofs.lemmas.Bool.{true≢false, and_parts, eqb-true}
 use Rattle.model_base.specs.declared.deed.Grant.{Grant}
+use Rattle.model_base.specs.declared.deed.Kind.{Kind}
 use Rattle.model_base.specs.declared.deed.Record.{Record}
 use Rattle.model_base.specs.declared.deed.Revocation.{Revocation}
 use Rattle.model_base.specs.Privileges.{concerns, names, same_grantee}
@@ -13,68 +13,59 @@ use Rattle.grants_base.specs.Force.{gives_by, is_in_force}
 use Rattle.grants_base.specs.Index.{AreAsked, IsFirst, IsNext, is_to, passes_at}
 use Rattle.grants_base.specs.View.{View, slot_at}
 use Rattle.grants.specs.Pass.{concerned}
-use Rattle.grants.specs.Work.{IsNextNamed, is_named}
-use Rattle.grants.proofs.Asked.{candidate-skipped, found_within, named-skipped, same-grantee}
+use Rattle.grants.specs.Work.{IsNextNamed}
+use Rattle.grants.proofs.Asked.{about_kind, candidate-skipped, found_within, named-skipped, same-grantee}
 use Rattle.grants.proofs.Candidates.{in_force-within}
-
--- a grant that isn't named
-pub unnamed : (revocation : Revocation) (slot : Option Record) (grant : Grant) → is_named revocation slot ≡ false → concerned slot revocation ≡ Some grant
-    → names revocation grant ≡ true → ⊥
-unnamed revocation slot grant lacks is named =
-    true≢false (sym named ∙ sym (ap (λ found. option_map_or (names revocation) found false) is) ∙ lacks)
-
-named_if : (revocation : Revocation) (slot : Option Record) → ((grant : Grant) → concerned slot revocation ≡ Some grant → names revocation grant ≡ true → ⊥)
-    → is_named revocation slot ≡ false
-named_if revocation slot none = by_found (concerned slot revocation) refl
-  where
-    by_found : (found : Option Grant) → concerned slot revocation ≡ found → option_map_or (names revocation) found false ≡ false
-    by_found None is = refl
-    by_found (Some grant) is = by_cases (names revocation grant) (λ named. absurd (none grant is named)) (λ other. other)
 
 -- a grant that is named is by the revocation's grantor to its grantee
 other_way : (a b : ℕ) → (a == b) ≡ true → (b == a) ≡ true
 other_way a b is = eq-eqb b a (sym (eqb-true a b is))
 
-given_by : (revocation : Revocation) (grant : Grant) → names revocation grant ≡ true
-    → gives_by revocation.grantor revocation.grantee revocation.kind revocation.table grant ≡ true
+given_by : (revocation : Revocation) (kind : Kind) (grant : Grant) → grant.kind ≡ kind → names revocation grant ≡ true
+    → gives_by revocation.grantor revocation.grantee kind revocation.table grant ≡ true
 unfolding names
-given_by revocation grant named =
+given_by revocation kind grant same named =
     let parts = and_parts (revocation.grantor == grant.grantor) (same_grantee revocation.grantee grant.grantee && concerns revocation grant) named in
     let rest = and_parts (same_grantee revocation.grantee grant.grantee) (concerns revocation grant) parts.1 in
-    rw (same-grantee grant.grantee revocation.grantee (sym (grantee-true revocation.grantee grant.grantee rest.0)), rest.1, other_way revocation.grantor grant.grantor parts.0) refl
+    let about = about_kind revocation grant kind rest.1 same in
+    rw (same-grantee grant.grantee revocation.grantee (sym (grantee-true revocation.grantee grant.grantee rest.0)), about, other_way revocation.grantor grant.grantor parts.0) refl
 
--- a slot with no grant in force by the one to the other has none that is named
-unforced : (revocation : Revocation) (slot : Option Record) → is_in_force (gives_by revocation.grantor revocation.grantee revocation.kind revocation.table) slot ≡ false
-    → is_named revocation slot ≡ false
-unforced revocation None is = refl
-unforced revocation (Some entry) is =
+-- a slot with no grant in force by the one to the other has none of the kind that is named
+unforced : (revocation : Revocation) (kind : Kind) (slot : Option Record) (grant : Grant)
+    → is_in_force (gives_by revocation.grantor revocation.grantee kind revocation.table) slot ≡ false
+    → concerned slot revocation ≡ Some grant → grant.kind ≡ kind → names revocation grant ≡ true → ⊥
+unforced revocation kind None grant lacks is same named = cc
+unforced revocation kind (Some entry) grant lacks is same named =
     by_cases (is_none entry.end && concerns revocation entry.grant)
     (λ both.
     let free = (and_parts (is_none entry.end) (concerns revocation entry.grant) both).0 in
-    let lacks : gives_by revocation.grantor revocation.grantee revocation.kind revocation.table entry.grant ≡ false =
-    ap (λ b. b && gives_by revocation.grantor revocation.grantee revocation.kind revocation.table entry.grant) (sym free) ∙ is in
-    rw both (by_cases (names revocation entry.grant) (λ named. absurd (true≢false (sym (given_by revocation entry.grant named) ∙ lacks))) (λ other. other)))
-    (λ other. rw other refl)
+    let found : Some entry.grant ≡ Some grant = rw both at is in
+    let one : entry.grant ≡ grant = cc in
+    let given = given_by revocation kind grant same named in
+    let gives : gives_by revocation.grantor revocation.grantee kind revocation.table entry.grant ≡ true =
+    subst (λ (g : Grant). gives_by revocation.grantor revocation.grantee kind revocation.table g ≡ true) (sym one) given in
+    true≢false (sym (rw (free, gives) refl) ∙ lacks))
+    (λ other. let none = rw other at is in cc)
 
-module _ (view : View) (revocation : Revocation) (from : ℕ) where
+module _ (view : View) (revocation : Revocation) (kind : Kind) (from : ℕ) where
   pub named_by_index : (found : Option ℕ)
-      → IsFirst (λ k. is_in_force (gives_by revocation.grantor revocation.grantee revocation.kind revocation.table) (slot_at view k)) from found
-      → IsNextNamed revocation view from found
-  named_by_index None none = record { there = tt; passed = λ k low before. unforced revocation (slot_at view k) (none k low) }
+      → IsFirst (λ k. is_in_force (gives_by revocation.grantor revocation.grantee kind revocation.table) (slot_at view k)) from found
+      → IsNextNamed revocation kind view from found
+  named_by_index None none = record { there = tt; passed = λ k grant low before. unforced revocation kind (slot_at view k) grant (none k low) }
   named_by_index (Some i) some = record {
-    there = (some.0, in_force-within view.slots (gives_by revocation.grantor revocation.grantee revocation.kind revocation.table) i some.1);
-    passed = λ k low before. unforced revocation (slot_at view k) (some.2 k low before);
+    there = (some.0, in_force-within view.slots (gives_by revocation.grantor revocation.grantee kind revocation.table) i some.1);
+    passed = λ k grant low before. unforced revocation kind (slot_at view k) grant (some.2 k low before);
   }
 
   module _ (asked : List Grant) (are : AreAsked view asked) where
-    skipped : (k : ℕ) → passes_at (is_to revocation.grantee revocation.kind revocation.table) asked k ≡ false → is_named revocation (slot_at view k) ≡ false
-    skipped k none =
-        named_if revocation (slot_at view k)
-        (λ grant. named-skipped view revocation k grant (candidate-skipped view asked are revocation revocation.grantee false k none))
+    skipped : (k : ℕ) (grant : Grant) → passes_at (is_to revocation.grantee kind revocation.table) asked k ≡ false
+        → concerned (slot_at view k) revocation ≡ Some grant → grant.kind ≡ kind → names revocation grant ≡ true → ⊥
+    skipped k grant none =
+        named-skipped view revocation kind k grant (candidate-skipped view asked are revocation revocation.grantee kind false k none)
 
-    pub named_by_slots : (found : Option ℕ) → IsNext (is_to revocation.grantee revocation.kind revocation.table) asked from found → IsNextNamed revocation view from found
-    named_by_slots None none = record { there = tt; passed = λ k low before. skipped k (none k low) }
+    pub named_by_slots : (found : Option ℕ) → IsNext (is_to revocation.grantee kind revocation.table) asked from found → IsNextNamed revocation kind view from found
+    named_by_slots None none = record { there = tt; passed = λ k grant low before. skipped k grant (none k low) }
     named_by_slots (Some i) some = record {
-      there = (some.0, found_within view asked are (is_to revocation.grantee revocation.kind revocation.table) i some.1);
-      passed = λ k low before. skipped k (some.2 k low before);
+      there = (some.0, found_within view asked are (is_to revocation.grantee kind revocation.table) i some.1);
+      passed = λ k grant low before. skipped k grant (some.2 k low before);
     }

@@ -3,18 +3,18 @@
 ghost use Rattle.std.specs.Prelude.{◌⊎◌, ◌&&◌, ◌==◌, not, false, ◌≡◌, ◌<◌, ◌≤◌, ◌+◌, ◌++◌, ℕ, List, Some, IfOk, IsSome, OnOk, drop, length, true, if◌then◌else◌, is_some, unwrap_or};
 ghost use Rattle.std.specs.BTreeMap.{get};
 ghost use Rattle.std.specs.Option.{option_map_or};
-ghost use Rattle.std.specs.Ordering.{nat_cmp};
 ghost use Rattle.model_base.specs.Privileges.{concerns, ended_by, names};
 ghost use Rattle.model_base.specs.declared.deed.Deed.{Deed};
 ghost use Rattle.model_base.specs.declared.deed.Grant.{Grant};
-ghost use Rattle.grants.specs.Pass.{cascade, concerned, concerned_grants, outlasts};
+ghost use Rattle.grants.specs.Pass.{cascade, concerned, concerned_grants, keeps, outlasts};
 ghost use Rattle.grants_base.specs.Index.{is_one_of};
-ghost use Rattle.grants.specs.Work.{AllPassed, AreDue, AreEnds, ArePassed, IsStillBorne, IsNextCandidate, IsNextNamed, bears, keepers, slots_of};
+ghost use Rattle.grants.specs.Work.{AllPassed, AreDue, AreEnds, ArePassed, IsStillBorne, IsNextCandidate, IsNextNamed, bears, kind_holder_cmp, kind_holder, same_kind_holder, slots_of, staying};
+ghost use Rattle.grants.specs.declared.cascade.KindHolder.{KindHolder};
 ghost use Rattle.grants_base.specs.View.{ShowsDeeds, slot_at};
 
 use crate::ended::Ended;
-use grants_base::{Records, SlotSet};
-use model_base::{Grant, Grantee, Place, Revocation, User};
+use grants_base::{Records, SlotSet, kind_code};
+use model_base::{Grant, Grantee, Kind, Place, Revocation, User};
 use std::alloc::{AllocError, Global};
 use std::collections::BTreeMap;
 
@@ -33,14 +33,20 @@ fn concerned<V: Records>(view: &mut V, i: usize, revocation: &Revocation) -> Opt
     }
 }
 
-/// Whether the slot has a grant in force, of the revocation's kind and table, that gives the user the option.
-fn bears<V: Records>(view: &mut V, i: usize, revocation: &Revocation, user: User) -> bool
+/// Whether the slot has a grant in force, which the revocation speaks of, that gives the user the option of the kind.
+fn bears<V: Records>(
+    view: &mut V,
+    i: usize,
+    revocation: &Revocation,
+    user: User,
+    kind: Kind,
+) -> bool
     requires within { i < length (V.shown view.old).slots }
-    ensures value { result ≡ bears revocation.now user (slot_at (V.shown view.old) i) }
+    ensures value { result ≡ bears revocation.now user kind (slot_at (V.shown view.old) i) }
     ensures same { V.shown view.new ≡ V.shown view.old }
 {
     match concerned(view, i, revocation) {
-        Some(grant) => grant.lends_to(user),
+        Some(grant) => kind == grant.kind && grant.lends_to(user),
         None => false,
     }
 }
@@ -52,69 +58,78 @@ fn stands<V: Records>(
     revocation: &Revocation,
     ended: &Ended,
     user: User,
+    kind: Kind,
 ) -> bool
     requires within { i < length (V.shown view.old).slots }
-    ensures value { result ≡ (bears revocation.now user (slot_at (V.shown view.old) i) && not (is_one_of (slots_of ended.now.ends) i)) }
+    ensures value { result ≡ (bears revocation.now user kind (slot_at (V.shown view.old) i)
+        && not (is_one_of (slots_of ended.now.ends) i)) }
     ensures same { V.shown view.new ≡ V.shown view.old }
 {
-    !ended.contains(i) && bears(view, i, revocation, user)
+    !ended.contains(i) && bears(view, i, revocation, user, kind)
 }
 
-/// A slot at or above another such that no slot from that one on and before it has a grant in force, of the revocation's kind and
+/// A slot at or above another such that no slot from that one on and before it has a grant in force, of the kind on the revocation's
 /// table, to the grantee and with the option. None where no later slot has. It goes through the slots only where the view doesn't
 /// know which grants are in force.
 fn next_candidate<V: Records>(
     view: &mut V,
     revocation: &Revocation,
     grantee: &Grantee,
+    kind: Kind,
     from: usize,
 ) -> Option<usize>
-    ensures next { IsNextCandidate revocation.now grantee.now true (V.shown view.old) from result }
+    ensures next { IsNextCandidate revocation.now grantee.now kind true (V.shown view.old) from result }
     ensures same { V.shown view.new ≡ V.shown view.old }
 {
-    let (kind, table) = (revocation.kind, revocation.table);
+    let table = revocation.table;
     match view.next_slot_in_force(*grantee, kind, table, true, from) {
         Some(next) => next.slot,
         None => view.next_to(*grantee, kind, table, from),
     }
 }
 
-/// A slot at or above another such that no slot from that one on and before it has a grant in force that the revocation names. None where
-/// no later slot has. It goes through the slots only where the view doesn't know which grants are in force.
-fn next_named<V: Records>(view: &mut V, revocation: &Revocation, from: usize) -> Option<usize>
-    ensures next { IsNextNamed revocation.now (V.shown view.old) from result }
+/// A slot at or above another such that no slot from that one on and before it has a grant in force of the kind that the revocation
+/// names. None where no later slot has. It goes through the slots only where the view doesn't know which grants are in force.
+fn next_named<V: Records>(
+    view: &mut V,
+    revocation: &Revocation,
+    kind: Kind,
+    from: usize,
+) -> Option<usize>
+    ensures next { IsNextNamed revocation.now kind (V.shown view.old) from result }
     ensures same { V.shown view.new ≡ V.shown view.old }
 {
-    let (grantee, kind, table) = (&revocation.grantee, revocation.kind, revocation.table);
+    let (grantee, table) = (&revocation.grantee, revocation.table);
     match view.next_in_force_by(revocation.grantor, *grantee, kind, table, from) {
         Some(next) => next.slot,
         None => view.next_to(*grantee, kind, table, from),
     }
 }
 
-/// The first slot below another that gives the user the option and hasn't ended, where none below `start` does. It is not below
-/// the other where there is none.
+/// The first slot below another that gives the user the option of the kind and hasn't ended, where none below `start` does. It is not
+/// below the other where there is none.
 #[inline(always)]
 fn first_bearer<V: Records>(
     view: &mut V,
     revocation: &Revocation,
     ended: &Ended,
     user: User,
+    kind: Kind,
     start: usize,
     below: usize,
 ) -> usize
     requires within { below ≤ length (V.shown view.old).slots }
-    requires passed { ArePassed revocation.now (V.shown view.old) (slots_of ended.now.ends) user start }
-    ensures passed { ArePassed revocation.now (V.shown view.old) (slots_of ended.now.ends) user result }
-    ensures found { result < below → (bears revocation.now user (slot_at (V.shown view.old) result)
+    requires passed { ArePassed revocation.now (V.shown view.old) (slots_of ended.now.ends) user kind start }
+    ensures passed { ArePassed revocation.now (V.shown view.old) (slots_of ended.now.ends) user kind result }
+    ensures found { result < below → (bears revocation.now user kind (slot_at (V.shown view.old) result)
         && not (is_one_of (slots_of ended.now.ends) result)) ≡ true }
     ensures same { V.shown view.new ≡ V.shown view.old }
 {
     let mut from = start;
     while from < below {
-        match next_candidate(view, revocation, &Grantee::User(user), from) {
+        match next_candidate(view, revocation, &Grantee::User(user), kind, from) {
             Some(i) if i < below => {
-                if stands(view, i, revocation, ended, user) {
+                if stands(view, i, revocation, ended, user, kind) {
                     return i;
                 }
                 from = i + 1;
@@ -125,47 +140,65 @@ fn first_bearer<V: Records>(
     from
 }
 
-/// The slot below which no grant gives the user the option any more, as far as it was looked at.
-fn passed_by(asked: &BTreeMap<User, usize>, user: User) -> usize
-    ensures { result ≡ unwrap_or (get nat_cmp asked.now user) 0 }
-{
-    asked.get(&user).copied().unwrap_or(0)
+/// A user, with the code of a kind.
+#[derive(Clone, Copy, PartialEq, Eq, PartialOrd, Ord)]
+pub(crate) struct KindHolder {
+    user: User,
+    kind: u8,
 }
 
-/// Keeps that slot, if the user is one of those that are asked about.
-fn pass(asked: &mut BTreeMap<User, usize>, user: User, slot: usize)
-    ensures { (other : ℕ) → get nat_cmp asked.new other
-        ≡ (if (user == other) && is_some (get nat_cmp asked.old user)
-        then Some slot
-        else get nat_cmp asked.old other) }
+/// The user with the kind.
+fn kind_holder(user: User, kind: Kind) -> KindHolder
+    ensures { result ≡ kind_holder user kind }
 {
-    if let Some(passed) = asked.get_mut(&user) {
+    KindHolder {
+        user,
+        kind: kind_code(kind),
+    }
+}
+
+/// The slot below which no grant gives the user the option of the kind any more, as far as it was looked at.
+fn passed_by(asked: &BTreeMap<KindHolder, usize>, user: User, kind: Kind) -> usize
+    ensures { result ≡ unwrap_or (get kind_holder_cmp asked.now (kind_holder user kind)) 0 }
+{
+    asked.get(&kind_holder(user, kind)).copied().unwrap_or(0)
+}
+
+/// Keeps that slot, if the user with the kind is one of those that are asked about.
+fn pass(asked: &mut BTreeMap<KindHolder, usize>, user: User, kind: Kind, slot: usize)
+    ensures { (other : KindHolder) → get kind_holder_cmp asked.new other
+        ≡ (if same_kind_holder (kind_holder user kind) other && is_some (get kind_holder_cmp asked.old (kind_holder user kind))
+        then Some slot
+        else get kind_holder_cmp asked.old other) }
+{
+    if let Some(passed) = asked.get_mut(&kind_holder(user, kind)) {
         *passed = slot;
     }
 }
 
-/// Whether the user keeps the option by a slot below this one that hasn't ended. For a user who lost an option it goes on where
+/// Whether the user keeps the option of the kind by a slot below this one that hasn't ended. For a user who lost it, it goes on where
 /// it stopped when it was asked last.
 fn keeps<V: Records>(
     view: &mut V,
     revocation: &Revocation,
     ended: &Ended,
-    asked: &mut BTreeMap<User, usize>,
+    asked: &mut BTreeMap<KindHolder, usize>,
     user: User,
+    kind: Kind,
     below: usize,
 ) -> bool
     requires within { below ≤ length (V.shown view.old).slots }
     requires passed { AllPassed revocation.now (V.shown view.old) (slots_of ended.now.ends) asked.old }
-    ensures value { result ≡ is_one_of (keepers revocation.now (V.shown view.old) (slots_of ended.now.ends) below) user }
+    ensures value { result ≡ keeps (staying revocation.now (V.shown view.old) (slots_of ended.now.ends) below) user kind }
     ensures passed { AllPassed revocation.now (V.shown view.old) (slots_of ended.now.ends) asked.new }
     ensures same { V.shown view.new ≡ V.shown view.old }
 {
-    let start = passed_by(asked, user);
+    let start = passed_by(asked, user, kind);
     if below <= start {
         return false;
     }
-    let first = first_bearer(view, revocation, ended, user, start, below);
-    pass(asked, user, first);
+    let first = first_bearer(view, revocation, ended, user, kind, start, below);
+    pass(asked, user, kind, first);
     first < below
 }
 
@@ -176,21 +209,30 @@ fn stays<V: Records>(
     owner: User,
     revocation: &Revocation,
     ended: &Ended,
-    asked: &mut BTreeMap<User, usize>,
+    asked: &mut BTreeMap<KindHolder, usize>,
     grant: &Grant,
     slot: usize,
 ) -> bool
     requires within { slot ≤ length (V.shown view.old).slots }
     requires passed { AllPassed revocation.now (V.shown view.old) (slots_of ended.now.ends) asked.old }
     ensures value { result ≡ outlasts owner
-        (keepers revocation.now (V.shown view.old) (slots_of ended.now.ends) slot) revocation.now grant.now }
+        (staying revocation.now (V.shown view.old) (slots_of ended.now.ends) slot) revocation.now grant.now }
     ensures passed { AllPassed revocation.now (V.shown view.old) (slots_of ended.now.ends) asked.new }
     ensures same { V.shown view.new ≡ V.shown view.old }
 {
     if revocation.names(grant) {
         return false;
     }
-    owner == grant.grantor || keeps(view, revocation, ended, asked, grant.grantor, slot)
+    owner == grant.grantor
+        || keeps(
+            view,
+            revocation,
+            ended,
+            asked,
+            grant.grantor,
+            grant.kind,
+            slot,
+        )
 }
 
 /// Whether the slot has a grant in force that the revocation names.
@@ -205,6 +247,40 @@ fn is_named<V: Records>(view: &mut V, i: usize, revocation: &Revocation) -> bool
     }
 }
 
+/// Adds the slots whose grants are of the kind and the revocation names.
+#[inline(always)]
+fn add_named<V: Records>(
+    view: &mut V,
+    revocation: &Revocation,
+    kind: Kind,
+    due: &mut SlotSet,
+) -> Result<(), AllocError>
+    ensures found { OnOk result ((j : ℕ) (grant : Grant) → concerned (slot_at (V.shown view.old) j) revocation.now ≡ Some grant
+        → grant.kind ≡ kind → names revocation.now grant ≡ true → is_one_of due.new j ≡ true) }
+    ensures kept { OnOk result ((j : ℕ) → is_one_of due.old j ≡ true → is_one_of due.new j ≡ true) }
+    ensures within { OnOk result ((j : ℕ) → is_one_of due.new j ≡ true
+        → (is_one_of due.old j ≡ true) ⊎ (j < length (V.shown view.old).slots)) }
+    ensures same { V.shown view.new ≡ V.shown view.old }
+{
+    if !revocation.kinds.contains(kind) {
+        return Ok(());
+    }
+    let end = view.slots();
+    let mut from = 0;
+    while from < end {
+        match next_named(view, revocation, kind, from) {
+            Some(i) => {
+                if is_named(view, i, revocation) {
+                    due.insert(i)?;
+                }
+                from = i + 1;
+            }
+            None => return Ok(()),
+        }
+    }
+    Ok(())
+}
+
 /// The slots whose grants the revocation names.
 fn named<V: Records>(
     alloc: Global,
@@ -217,33 +293,26 @@ fn named<V: Records>(
     ensures same { V.shown view.new ≡ V.shown view.old }
 {
     let mut due = SlotSet::new(alloc);
-    let end = view.slots();
-    let mut from = 0;
-    while from < end {
-        match next_named(view, revocation, from) {
-            Some(i) => {
-                if is_named(view, i, revocation) {
-                    due.insert(i)?;
-                }
-                from = i + 1;
-            }
-            None => return Ok(due),
-        }
-    }
+    add_named(view, revocation, Kind::Read, &mut due)?;
+    add_named(view, revocation, Kind::Insert, &mut due)?;
+    add_named(view, revocation, Kind::Update, &mut due)?;
+    add_named(view, revocation, Kind::Delete, &mut due)?;
     Ok(due)
 }
 
-/// Adds the slots from one on to the last one whose grants are by the user, of the revocation's kind and table.
+/// Adds the slots from one on to the last one whose grants are by the user, of the kind on the revocation's table.
 fn add_grants_by<V: Records>(
     view: &mut V,
     user: User,
+    kind: Kind,
     revocation: &Revocation,
     start: usize,
     last: usize,
     due: &mut SlotSet,
 ) -> Result<(), AllocError>
     ensures found { OnOk result ((j : ℕ) (grant : Grant) → start ≤ j → j ≤ last
-        → concerned (slot_at (V.shown view.old) j) revocation.now ≡ Some grant → grant.grantor ≡ user → is_one_of due.new j ≡ true) }
+        → concerned (slot_at (V.shown view.old) j) revocation.now ≡ Some grant → grant.grantor ≡ user → grant.kind ≡ kind
+        → is_one_of due.new j ≡ true) }
     ensures kept { OnOk result ((j : ℕ) → is_one_of due.old j ≡ true → is_one_of due.new j ≡ true) }
     ensures within { OnOk result ((j : ℕ) → is_one_of due.new j ≡ true
         → (is_one_of due.old j ≡ true) ⊎ ((start ≤ j) × (j < length (V.shown view.old).slots))) }
@@ -252,7 +321,7 @@ fn add_grants_by<V: Records>(
     let end = view.slots();
     let mut from = start;
     while from < end {
-        match view.next_by(user, revocation.kind, revocation.table, from) {
+        match view.next_by(user, kind, revocation.table, from) {
             Some(i) if i <= last => {
                 due.insert(i)?;
                 from = i + 1;
@@ -263,22 +332,23 @@ fn add_grants_by<V: Records>(
     Ok(())
 }
 
-/// The user lost an option: the slots from this one on whose grants are by the user, of the revocation's kind and table, are due, up
-/// to the first slot that still gives the user the option. What lies above that one isn't looked at: it stays, unless that one
-/// ends too.
+/// The user lost the option of the kind: the slots from this one on whose grants are by the user, of the kind on the revocation's
+/// table, are due, up to the first slot that still gives the user the option. What lies above that one isn't looked at: it stays,
+/// unless that one ends too.
 fn lose<V: Records>(
     view: &mut V,
     user: User,
+    kind: Kind,
     revocation: &Revocation,
     ended: &Ended,
     start: usize,
     due: &mut SlotSet,
-    asked: &mut BTreeMap<User, usize>,
+    asked: &mut BTreeMap<KindHolder, usize>,
 ) -> Result<(), AllocError>
     requires { AllPassed revocation.now (V.shown view.old) (slots_of ended.now.ends) asked.old }
     ensures found { OnOk result ((j : ℕ) (grant : Grant) → start ≤ j → concerned (slot_at (V.shown view.old) j) revocation.now ≡ Some grant
-        → grant.grantor ≡ user
-        → (is_one_of due.new j ≡ true) ⊎ IsStillBorne revocation.now (V.shown view.old) (slots_of ended.now.ends) user j) }
+        → grant.grantor ≡ user → grant.kind ≡ kind
+        → (is_one_of due.new j ≡ true) ⊎ IsStillBorne revocation.now (V.shown view.old) (slots_of ended.now.ends) user kind j) }
     ensures kept { OnOk result ((j : ℕ) → is_one_of due.old j ≡ true → is_one_of due.new j ≡ true) }
     ensures within { OnOk result ((j : ℕ) → is_one_of due.new j ≡ true
         → (is_one_of due.old j ≡ true) ⊎ ((start ≤ j) × (j < length (V.shown view.old).slots))) }
@@ -286,19 +356,19 @@ fn lose<V: Records>(
     ensures same { V.shown view.new ≡ V.shown view.old }
 {
     let end = view.slots();
-    let passed = passed_by(asked, user);
-    let first = first_bearer(view, revocation, ended, user, passed, end);
-    asked.insert(user, first)?;
-    add_grants_by(view, user, revocation, start, first, due)?;
+    let passed = passed_by(asked, user, kind);
+    let first = first_bearer(view, revocation, ended, user, kind, passed, end);
+    asked.insert(kind_holder(user, kind), first)?;
+    add_grants_by(view, user, kind, revocation, start, first, due)?;
     Ok(())
 }
 
-/// The slots that are still to be judged; the users who lost an option, each with the slot below which none gives it any more, as
-/// far as it was looked at; and the slots that have ended.
+/// The slots that are still to be judged; the users who lost an option, each with its kind and the slot below which none gives it any
+/// more, as far as it was looked at; and the slots that have ended.
 #[derive(Drop)]
 struct CascadeWork {
     due: SlotSet,
-    asked: BTreeMap<User, usize>,
+    asked: BTreeMap<KindHolder, usize>,
     ended: Ended,
 }
 
@@ -322,11 +392,11 @@ fn judge<V: Records>(
     ensures passed { OnOk result (AllPassed revocation.now (V.shown view.old) (slots_of work.new.ended.ends) work.new.asked) }
     ensures whole { OnOk result (work.new.ended.places
         ++ cascade owner revocation.now
-        (keepers revocation.now (V.shown view.old) (slots_of work.new.ended.ends) next)
+        (staying revocation.now (V.shown view.old) (slots_of work.new.ended.ends) next)
         (concerned_grants revocation.now (drop next (V.shown view.old).slots))
         ≡ work.old.ended.places
         ++ cascade owner revocation.now
-        (keepers revocation.now (V.shown view.old) (slots_of work.old.ended.ends) slot)
+        (staying revocation.now (V.shown view.old) (slots_of work.old.ended.ends) slot)
         (concerned_grants revocation.now (drop slot (V.shown view.old).slots))) }
     ensures ends { OnOk result (AreEnds revocation.now (V.shown view.old) work.new.ended.ends work.new.ended.places) }
     ensures same { V.shown view.new ≡ V.shown view.old }
@@ -350,6 +420,7 @@ fn judge<V: Records>(
         lose(
             view,
             user,
+            grant.kind,
             revocation,
             &work.ended,
             next,
@@ -392,13 +463,13 @@ pub(crate) fn cascade<V: Records>(
 
 /// The places of the grants that the revocation takes out of force, in rising order: what the deeds of the view's place
 /// give, and without the revoked grants no longer do. It is the recursive revocation of Griffiths and Wade: a grant in force
-/// of this kind and table ends if the revocation names it, or if its grantor isn't the owner and has the option by no earlier
-/// grant that stays. So a cycle of grants doesn't bear itself, and a grant that an earlier way bears stays. Of this kind and
-/// table it goes through the grants by the revocation's grantor to its grantee, where the view knows which are in force, and else
-/// through all to that grantee. For each user whose option ends it goes through the grants that gave it, each once, and through those
-/// by the user up to the first that still gives it. The slots to be judged are kept in a set, in a time that grows with the logarithm
-/// of their number. Besides that it takes memory
-/// for its answer. On `Err`, out of memory. What the view shows stays in any case.
+/// of one of its kinds on its table ends if the revocation names it, or if its grantor isn't the owner and has the option of its kind
+/// by no earlier grant that stays. So a cycle of grants doesn't bear itself, and a grant that an earlier way bears stays. Of each of
+/// its kinds on its table it goes through the grants by the revocation's grantor to its grantee, where the view knows which are in
+/// force, and else through all to that grantee. For each user whose option ends it goes through the grants that gave it, each once,
+/// and through those by the user up to the first that still gives it. The slots to be judged are kept in a set, in a time that grows
+/// with the logarithm of their number. Besides that it takes memory for its answer. On `Err`, out of memory. What the view shows stays
+/// in any case.
 pub fn to_end<V: Records>(
     alloc: Global,
     view: &mut V,

@@ -2,7 +2,7 @@
 
 use crate::fault::TrialFault;
 use grants::{Book, Records, holds_option};
-use model_base::{Grant, Grantee, Kind, Place, Revocation, Table, User};
+use model_base::{Grant, Grantee, Kind, Kinds, Place, Revocation, Table, User};
 use std::alloc::Global;
 
 pub const TABLE: Table = Table(0);
@@ -27,7 +27,7 @@ pub fn unreading(place: Place, users: (u32, u32)) -> Revocation {
         place,
         grantor: User(grantor),
         grantee: Grantee::User(User(grantee)),
-        kind: Kind::Read,
+        kinds: Kinds::only(Kind::Read),
         table: TABLE,
     }
 }

@@ -93,7 +93,7 @@ and-turned true false = refl
 and-turned false true = refl
 and-turned false false = refl
 
-same_party : (holder other : Grantee) (kind kind' : Kind) (table table' : ℕ)
+pub same_party : (holder other : Grantee) (kind kind' : Kind) (table table' : ℕ)
     → (same_grantee other holder && (same_kind kind kind' && (table == table'))) ≡ same_holder (holder_of holder kind table) (holder_of other kind' table')
 same_party holder other kind kind' table table' =
     ap (λ b. b && (same_kind kind kind' && (table == table'))) (sym (holder_code-same other holder) ∙ eqb-turned (holder_code other) (holder_code holder))

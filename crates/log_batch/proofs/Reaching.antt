@@ -12,10 +12,11 @@ use Rattle.std.proofs.lemmas.List.Elements.{All-head, All-tail}
 use Rattle.std.proofs.lemmas.List.Folds.{list_any-append}
 use Rattle.model_base.specs.declared.deed.Grant.{Grant}
 use Rattle.model_base.specs.declared.deed.Grantee.TheVariants.{User}
+use Rattle.model_base.specs.declared.deed.Kind.{Kind}
+use Rattle.model_base.specs.declared.deed.Kind.TheVariants.{Read, Insert, Update, Delete}
 use Rattle.model_base.specs.declared.deed.Revocation.{Revocation}
-use Rattle.grants_base.specs.Force.{gives_by}
 use Rattle.grants_base.specs.Index.{IsNext, is_by, passes_at}
-use Rattle.model_base.specs.Privileges.{names, option_holder}
+use Rattle.model_base.specs.Privileges.{has_kind, names, option_holder}
 use Rattle.bohm_core_base.specs.Batch.{Batch, batch_slots}
 use Rattle.log_batch.specs.Earlier.{earlier_count, earlier_grants}
 use Rattle.log_batch.specs.declared.holders.Holders.{Holders}
@@ -23,11 +24,11 @@ use Rattle.log_batch.specs.declared.reach.Reach.{Reach}
 use Rattle.log_batch.specs.declared.revoked.Revoked.{Revoked}
 use Rattle.log_batch.specs.Holders.{grantor_of, has_holder, holder_of, new_holder}
 use Rattle.log_batch.specs.Listing.{is_against, is_lent, is_open, is_reached, is_revoked, lends, listed_below}
-use Rattle.log_batch.specs.Reach.{Adds, AreSeeds, IsDue, IsNextOpen, IsReach}
-use Rattle.log_batch.specs.Revoked.{has_named, is_named_by, named_by, named_with}
+use Rattle.log_batch.specs.Reach.{Adds, AddsKind, AreSeeds, IsDue, IsNextOpen, IsReach}
+use Rattle.log_batch.specs.Revoked.{has_named, is_between, is_named_by, named_by, named_with, names_of_kind}
 use Rattle.grants_base.specs.Index.{is_one_of}
 use Rattle.log_batch.proofs.HolderSets.{by-holder, same_holder-true}
-use Rattle.log_batch.proofs.RevokedSets.{named-same, names-between, same_named-true}
+use Rattle.log_batch.proofs.RevokedSets.{named-same, names-kinds, same_named-true}
 use Rattle.grants_base.proofs.Walks.{nothing}
 use Rattle.model_base.proofs.Replay.{by_cases}
 
@@ -188,7 +189,7 @@ module _ (b : Batch) where
 
   -- at first nothing is named and nothing is due
   pub seeds-none : (revoked : Revoked) (due : List ℕ) → ((grant : Grant) → is_named_by revoked grant ≡ false) → due ≡ []
-      → AreSeeds b 0 revoked due
+      → AreSeeds b (is_revoked b 0) revoked due
   seeds-none revoked due none nothing = record {
     named = none;
     all = λ j less open_j is. absurd (true≢false (sym is ∙ never (slice_get (batch_slots b) j)));
@@ -199,97 +200,110 @@ module _ (b : Batch) where
       never None = refl
       never (Some grant) = refl
 
-  module _ (index : ℕ) where
-    -- a place without a revocation
-    pub seeds-same : (revoked : Revoked) (due : List ℕ) → ((grant : Grant) → is_against (b.deed index) grant ≡ false) → AreSeeds b index revoked due
-        → AreSeeds b (suc index) revoked due
-    seeds-same revoked due none seeds = record {
-      named = λ grant. seeds.named grant ∙ sym (same grant);
-      all = λ j less open_j is. seeds.all j less open_j (sym (at (slice_get (batch_slots b) j)) ∙ is);
-      only = λ j is. (let was = seeds.only j is in (was.0, was.1, at (slice_get (batch_slots b) j) ∙ was.2));
-    }
-      where
-        same : (grant : Grant) → is_revoked b (suc index) grant ≡ is_revoked b index grant
-        same grant = rw (none grant) refl
+  -- by another test that passes the same grants
+  pub seeds-as : (passes other : Grant → Bool) (revoked : Revoked) (due : List ℕ) → ((grant : Grant) → passes grant ≡ other grant)
+      → AreSeeds b passes revoked due → AreSeeds b other revoked due
+  seeds-as passes other revoked due same seeds = record {
+    named = λ grant. seeds.named grant ∙ same grant;
+    all = λ j less open_j is. seeds.all j less open_j (at (slice_get (batch_slots b) j) ∙ is);
+    only = λ j is. (let was = seeds.only j is in (was.0, was.1, sym (at (slice_get (batch_slots b) j)) ∙ was.2));
+  }
+    where
+      at : (found : Option Grant) → option_map_or passes found false ≡ option_map_or other found false
+      at None = refl
+      at (Some grant) = same grant
 
-        at : (found : Option Grant) → option_map_or (is_revoked b (suc index)) found false ≡ option_map_or (is_revoked b index) found false
-        at None = refl
-        at (Some grant) = same grant
+  -- a place without a revocation
+  pub seeds-same : (index : ℕ) (revoked : Revoked) (due : List ℕ) → ((grant : Grant) → is_against (b.deed index) grant ≡ false)
+      → AreSeeds b (is_revoked b index) revoked due → AreSeeds b (is_revoked b (suc index)) revoked due
+  seeds-same index revoked due none =
+      seeds-as (is_revoked b index) (is_revoked b (suc index)) revoked due (λ grant. rw (none grant) refl)
 
-    module _ (revocation : Revocation) (against : (grant : Grant) → is_against (b.deed index) grant ≡ names revocation grant) where
+  -- what a revocation names of its kinds one after another is what it names
+  pub seeds-whole : (index : ℕ) (revocation : Revocation) (revoked : Revoked) (due : List ℕ) → ((grant : Grant) → is_against (b.deed index) grant ≡ names revocation grant)
+      → AreSeeds b (λ grant. names_of_kind revocation Delete grant || (names_of_kind revocation Update grant || (names_of_kind revocation Insert grant || (names_of_kind revocation Read grant || is_revoked b index grant)))) revoked due
+      → AreSeeds b (is_revoked b (suc index)) revoked due
+  seeds-whole index revocation revoked due against =
+      seeds-as (λ grant. names_of_kind revocation Delete grant || (names_of_kind revocation Update grant || (names_of_kind revocation Insert grant || (names_of_kind revocation Read grant || is_revoked b index grant))))
+      (is_revoked b (suc index)) revoked due
+      (λ grant. names-kinds revocation grant (is_revoked b index grant) ∙ ap (λ x. x || is_revoked b index grant) (sym (against grant)))
+
+  module _ (revocation : Revocation) (kind : Kind) where
+    -- a kind that the revocation doesn't speak of
+    pub kind-apart : (revoked : Revoked) (due : List ℕ) → has_kind revocation.kinds kind ≡ false → AddsKind b revocation kind revoked revoked due due
+    kind-apart revoked due apart = λ passes.
+        seeds-as passes (λ grant. names_of_kind revocation kind grant || passes grant) revoked due (λ grant. sym (ap (λ x. (x && is_between revocation kind grant) || passes grant) apart))
+
+    module _ (among : has_kind revocation.kinds kind ≡ true) (old new : Revoked) (due : List ℕ)
+        (put : (grant : Grant) → is_named_by new grant ≡ (is_between revocation kind grant || is_named_by old grant)) where
       abbrev between : Grant → Bool
-      between = gives_by revocation.grantor revocation.grantee revocation.kind revocation.table
+      between = is_between revocation kind
 
-      against-between : (grant : Grant) → is_against (b.deed index) grant ≡ between grant
-      against-between grant = against grant ∙ names-between revocation grant
+      abbrev with : (Grant → Bool) → Grant → Bool
+      with passes grant = between grant || passes grant
 
-      put-named : (old new : Revoked) → ((grant : Grant) → is_named_by new grant ≡ (names revocation grant || is_named_by old grant))
-          → ((grant : Grant) → is_named_by old grant ≡ is_revoked b index grant) → (grant : Grant) → is_named_by new grant ≡ is_revoked b (suc index) grant
-      put-named old new put named grant =
-          put grant ∙ ap (λ x. x || is_named_by old grant) (sym (against grant)) ∙ ap (λ x. is_against (b.deed index) grant || x) (named grant)
+      spoken : (more : List ℕ) (passes : Grant → Bool) → AreSeeds b (with passes) new more → AreSeeds b (λ grant. names_of_kind revocation kind grant || passes grant) new more
+      spoken more passes =
+          seeds-as (with passes) (λ grant. names_of_kind revocation kind grant || passes grant) new more (λ grant. sym (ap (λ x. (x && between grant) || passes grant) among))
 
-      -- a revocation that names what one before it named
-      pub seeds-again : (old new : Revoked) (due : List ℕ) → has_named old (named_by revocation) ≡ true
-          → ((grant : Grant) → is_named_by new grant ≡ (names revocation grant || is_named_by old grant))
-          → AreSeeds b index old due → AreSeeds b (suc index) new due
-      seeds-again old new due was put seeds = record {
-        named = put-named old new put seeds.named;
-        all = λ j less open_j is. seeds.all j less open_j (sym (at (slice_get (batch_slots b) j)) ∙ is);
-        only = λ j is. (let before = seeds.only j is in (before.0, before.1, at (slice_get (batch_slots b) j) ∙ before.2));
-      }
+      put-named : (passes : Grant → Bool) → ((grant : Grant) → is_named_by old grant ≡ passes grant) → (grant : Grant) → is_named_by new grant ≡ with passes grant
+      put-named passes named grant = put grant ∙ ap (λ x. between grant || x) (named grant)
+
+      -- one that names of the kind what one before it named
+      pub kind-again : has_named old (named_by revocation kind) ≡ true → AddsKind b revocation kind old new due due
+      kind-again was = λ passes seeds. spoken due passes (record {
+        named = put-named passes seeds.named;
+        all = λ j less open_j is. seeds.all j less open_j (sym (at passes seeds.named (slice_get (batch_slots b) j)) ∙ is);
+        only = λ j is. (let before = seeds.only j is in (before.0, before.1, at passes seeds.named (slice_get (batch_slots b) j) ∙ before.2));
+      })
         where
-          same : (grant : Grant) → is_revoked b (suc index) grant ≡ is_revoked b index grant
-          same grant =
-              by_cases (is_against (b.deed index) grant)
+          same : (passes : Grant → Bool) → ((grant : Grant) → is_named_by old grant ≡ passes grant) → (grant : Grant) → with passes grant ≡ passes grant
+          same passes named grant =
+              by_cases (between grant)
               (λ yes.
-              let here = same_named-true (named_by revocation) (named_with grant) (named-same revocation grant ∙ sym (against grant) ∙ yes) in
-              let revoked : is_revoked b index grant ≡ true = sym (seeds.named grant) ∙ ap (has_named old) (sym here) ∙ was in
+              let here = same_named-true (named_by revocation kind) (named_with grant) (named-same revocation kind grant ∙ yes) in
+              let revoked : passes grant ≡ true = sym (named grant) ∙ ap (has_named old) (sym here) ∙ was in
               rw (yes, revoked) refl)
               (λ no. rw no refl)
 
-          at : (found : Option Grant) → option_map_or (is_revoked b (suc index)) found false ≡ option_map_or (is_revoked b index) found false
-          at None = refl
-          at (Some grant) = same grant
+          at : (passes : Grant → Bool) → ((grant : Grant) → is_named_by old grant ≡ passes grant) → (found : Option Grant)
+              → option_map_or (with passes) found false ≡ option_map_or passes found false
+          at passes named None = refl
+          at passes named (Some grant) = same passes named grant
 
-      -- and one that names what none before it named
-      pub seeds-more : (old new : Revoked) (due more : List ℕ)
-          → ((grant : Grant) → is_named_by new grant ≡ (names revocation grant || is_named_by old grant))
-          → Adds b between 0 (earlier_count b) due more → AreSeeds b index old due → AreSeeds b (suc index) new more
-      seeds-more old new due more put adds seeds = record {
-        named = put-named old new put seeds.named;
-        all = λ j less open_j is. elim (parts (slice_get (batch_slots b) j) is) [
+      -- and one that names of it what none before it named
+      pub kind-more : (more : List ℕ) → Adds b between 0 (earlier_count b) due more → AddsKind b revocation kind old new due more
+      kind-more more adds = λ passes seeds. spoken more passes (record {
+        named = put-named passes seeds.named;
+        all = λ j less open_j is. elim (parts passes (slice_get (batch_slots b) j) is) [
           | inl now ↦ adds.found j (omega arith) less open_j now
           | inr before ↦ adds.kept j (seeds.all j less open_j before)
         ];
         only = λ j is. elim (adds.only j is) [
-          | inl was ↦ (let before = seeds.only j was in (before.0, before.1, later (slice_get (batch_slots b) j) before.2))
-          | inr now ↦ (now.1, now.2, first (slice_get (batch_slots b) j) now.3)
+          | inl was ↦ (let before = seeds.only j was in (before.0, before.1, later passes (slice_get (batch_slots b) j) before.2))
+          | inr now ↦ (now.1, now.2, first passes (slice_get (batch_slots b) j) now.3)
         ];
-      }
+      })
         where
-          parts : (found : Option Grant) → option_map_or (is_revoked b (suc index)) found false ≡ true
-              → (option_map_or between found false ≡ true) ⊎ (option_map_or (is_revoked b index) found false ≡ true)
-          parts None is = absurd (true≢false (sym is))
-          parts (Some grant) is =
-              elim (or_cases (is_against (b.deed index) grant) (is_revoked b index grant) is) [
-                | inl now ↦ inl (sym (against-between grant) ∙ now)
-                | inr before ↦ inr before
-              ]
+          parts : (passes : Grant → Bool) (found : Option Grant) → option_map_or (with passes) found false ≡ true
+              → (option_map_or between found false ≡ true) ⊎ (option_map_or passes found false ≡ true)
+          parts passes None is = absurd (true≢false (sym is))
+          parts passes (Some grant) is = or_cases (between grant) (passes grant) is
 
-          first : (found : Option Grant) → option_map_or between found false ≡ true → option_map_or (is_revoked b (suc index)) found false ≡ true
-          first None is = absurd (true≢false (sym is))
-          first (Some grant) is = or_first (is_against (b.deed index) grant) (is_revoked b index grant) (against-between grant ∙ is)
+          first : (passes : Grant → Bool) (found : Option Grant) → option_map_or between found false ≡ true → option_map_or (with passes) found false ≡ true
+          first passes None is = absurd (true≢false (sym is))
+          first passes (Some grant) is = or_first (between grant) (passes grant) is
 
-          later : (found : Option Grant) → option_map_or (is_revoked b index) found false ≡ true → option_map_or (is_revoked b (suc index)) found false ≡ true
-          later None is = absurd (true≢false (sym is))
-          later (Some grant) is = or_right (is_against (b.deed index) grant) (is_revoked b index grant) is
+          later : (passes : Grant → Bool) (found : Option Grant) → option_map_or passes found false ≡ true → option_map_or (with passes) found false ≡ true
+          later passes None is = absurd (true≢false (sym is))
+          later passes (Some grant) is = or_right (between grant) (passes grant) is
 
   -- who may reach a slot, by its grant
   abbrev why : List ℕ → Grant → Bool
   why listed grant = is_revoked b b.size grant || is_lent b listed grant
 
   -- the slots that are due by the revocations are those that are reached at first
-  pub due-first : (revoked : Revoked) (listed due : List ℕ) → listed ≡ [] → AreSeeds b b.size revoked due → IsDue b 0 listed due
+  pub due-first : (revoked : Revoked) (listed due : List ℕ) → listed ≡ [] → AreSeeds b (is_revoked b b.size) revoked due → IsDue b 0 listed due
   due-first revoked listed due none seeds = record {
     all = λ j low less is.
         (let parts = and_parts (is_open b j) _ is in seeds.all j less parts.0 (sym (at (slice_get (batch_slots b) j)) ∙ parts.1));

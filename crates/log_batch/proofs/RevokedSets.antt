@@ -1,22 +1,23 @@
 -- The order of what revocations name, what is in a set of it, and which grants those are.
-use Rattle.std.proofs.Common.{◌≡◌, ℕ, ◌&&◌, ◌||◌, true, cond, sym, ◌∙◌, ap}
+use Rattle.std.proofs.Common.{◌≡◌, ℕ, ◌&&◌, ◌||◌, Bool, true, false, cond, refl, sym, ◌∙◌, ap}
 use Rattle.std.specs.Prelude.{◌==◌}
 use Rattle.std.specs.BTreeMap.{is_at}
 use Rattle.std.specs.BTreeSet.{BTreeSet, contains}
 use Rattle.std.proofs.lemmas.Bool.{and_parts, eqb-true}
 use Rattle.model_base.specs.declared.deed.Grant.{Grant}
 use Rattle.model_base.specs.declared.deed.Grantee.{Grantee}
+use Rattle.model_base.specs.declared.deed.Kind.{Kind}
+use Rattle.model_base.specs.declared.deed.Kind.TheVariants.{Read, Insert, Update, Delete}
+use Rattle.model_base.specs.declared.deed.Kinds.{Kinds}
 use Rattle.model_base.specs.declared.deed.Revocation.{Revocation}
-use Rattle.model_base.specs.Privileges.{concerns, names, same_grantee}
-use Rattle.grants_base.specs.Force.{gives_by}
-use Rattle.grants_base.specs.Index.{is_to}
-use Rattle.grants_base.specs.Sides.{holder_code, kind_code}
+use Rattle.model_base.specs.Privileges.{concerns, has_kind, names, same_grantee, same_kind}
+use Rattle.grants_base.specs.Sides.{holder_code}
 use Rattle.grants_base.proofs.SideLaws.{holder_code-same}
 use Rattle.log_batch.specs.declared.holders.HolderKey.{HolderKey}
 use Rattle.log_batch.specs.declared.revoked.Named.{Named}
-use Rattle.log_batch.specs.Holders.{same_holder}
-use Rattle.log_batch.specs.Revoked.{named_by, named_cmp, named_with, same_named}
-use Rattle.log_batch.proofs.HolderSets.{and-turned, at_holder, cond-or, eqb-turned, is_eq-pair, same_holder-true, same_kind-code}
+use Rattle.log_batch.specs.Holders.{grantee_holder, holder_of, same_holder}
+use Rattle.log_batch.specs.Revoked.{is_between, named_by, named_cmp, named_with, names_of_kind, same_named}
+use Rattle.log_batch.proofs.HolderSets.{and-turned, at_holder, cond-or, eqb-turned, is_eq-pair, same_holder-true, same_party}
 
 at_named : (a b : Named) → is_at (named_cmp a) b ≡ same_named a b
 at_named a b = is_eq-pair a.grantor b.grantor _ _ (at_holder a.holder b.holder)
@@ -31,33 +32,75 @@ same_named-true a b same =
     ap (λ u. make u a.holder) (eqb-true a.grantor b.grantor parts.0)
     ∙ ap (λ h. make b.grantor h) (same_holder-true a.holder b.holder parts.1)
 
--- a revocation names a grant if it names what each of the grant's revocations does
-pub named-same : (revocation : Revocation) (grant : Grant) → same_named (named_by revocation) (named_with grant) ≡ names revocation grant
-unfolding names
-named-same revocation grant =
-    ap (λ b. (revocation.grantor == grant.grantor) && b)
-    (ap (λ b. b && ((revocation.table == grant.table) && (kind_code revocation.kind == kind_code grant.kind))) (holder_code-same revocation.grantee grant.grantee)
-    ∙ ap (λ b. same_grantee revocation.grantee grant.grantee && b)
-    (and-turned (revocation.table == grant.table) (kind_code revocation.kind == kind_code grant.kind)
-    ∙ ap (λ b. b && (revocation.table == grant.table)) (sym (same_kind-code revocation.kind grant.kind))))
+-- a grant is one of a kind that a revocation may name if it may name what each of the grant's revocations does
+pub named-same : (revocation : Revocation) (kind : Kind) (grant : Grant) → same_named (named_by revocation kind) (named_with grant) ≡ is_between revocation kind grant
+named-same revocation kind grant =
+    let holder = same_holder (holder_of revocation.grantee kind revocation.table) (grantee_holder grant) in
+    ap (λ b. b && holder) (eqb-turned revocation.grantor grant.grantor)
+    ∙ and-turned (grant.grantor == revocation.grantor) holder
+    ∙ ap (λ b. b && (grant.grantor == revocation.grantor)) (sym (same_party revocation.grantee grant.grantee kind grant.kind revocation.table grant.table))
 
--- a set with what a revocation names
-pub named_added : (old new : BTreeSet Named) (revocation : Revocation) (grant : Grant)
-    → contains named_cmp new (named_with grant) ≡ cond (is_at (named_cmp (named_by revocation)) (named_with grant)) true (contains named_cmp old (named_with grant))
-    → contains named_cmp new (named_with grant) ≡ (names revocation grant || contains named_cmp old (named_with grant))
-named_added old new revocation grant updates =
+-- a set with what a revocation names of a kind
+pub named_added : (old new : BTreeSet Named) (revocation : Revocation) (kind : Kind) (grant : Grant)
+    → contains named_cmp new (named_with grant) ≡ cond (is_at (named_cmp (named_by revocation kind)) (named_with grant)) true (contains named_cmp old (named_with grant))
+    → contains named_cmp new (named_with grant) ≡ (is_between revocation kind grant || contains named_cmp old (named_with grant))
+named_added old new revocation kind grant updates =
     updates
-    ∙ ap (λ b. cond b true (contains named_cmp old (named_with grant))) (at_named (named_by revocation) (named_with grant) ∙ named-same revocation grant)
-    ∙ cond-or (names revocation grant) (contains named_cmp old (named_with grant))
+    ∙ ap (λ b. cond b true (contains named_cmp old (named_with grant))) (at_named (named_by revocation kind) (named_with grant) ∙ named-same revocation kind grant)
+    ∙ cond-or (is_between revocation kind grant) (contains named_cmp old (named_with grant))
 
 same_grantee-turned : (a b : Grantee) → same_grantee a b ≡ same_grantee b a
 same_grantee-turned a b = sym (holder_code-same a b) ∙ eqb-turned (holder_code a) (holder_code b) ∙ holder_code-same b a
 
--- it names the grants by its grantor to its grantee, of its kind on its table
-pub names-between : (revocation : Revocation) (grant : Grant)
-    → names revocation grant ≡ gives_by revocation.grantor revocation.grantee revocation.kind revocation.table grant
+and_false : (a : Bool) → (a && false) ≡ false
+and_false true = refl
+and_false false = refl
+
+-- of the four kinds only the grant's own counts
+of_four : (kinds : Kinds) (own : Kind) (base rest : Bool)
+    → ((kinds.delete && (same_kind Delete own && base))
+    || ((kinds.update && (same_kind Update own && base)) || ((kinds.insert && (same_kind Insert own && base)) || ((kinds.read && (same_kind Read own && base)) || rest))))
+    ≡ ((has_kind kinds own && base) || rest)
+of_four kinds Read base rest = rw (and_false kinds.delete, and_false kinds.update, and_false kinds.insert) refl
+of_four kinds Insert base rest = rw (and_false kinds.delete, and_false kinds.update, and_false kinds.read) refl
+of_four kinds Update base rest = rw (and_false kinds.delete, and_false kinds.insert, and_false kinds.read) refl
+of_four kinds Delete base rest = rw (and_false kinds.update, and_false kinds.insert, and_false kinds.read) refl
+
+shuffled : (a b c d : Bool) → ((a && (b && c)) && d) ≡ (b && (d && (a && c)))
+shuffled true true true true = refl
+shuffled true true true false = refl
+shuffled true true false true = refl
+shuffled true true false false = refl
+shuffled true false c d = refl
+shuffled false true c true = refl
+shuffled false true c false = refl
+shuffled false false c d = refl
+
+taken_out : (a b c d : Bool) → (a && (b && (c && d))) ≡ (c && (a && (b && d)))
+taken_out true true c d = refl
+taken_out true false true d = refl
+taken_out true false false d = refl
+taken_out false b true d = refl
+taken_out false b false d = refl
+
+-- it names the grants by its grantor to its grantee, of its kinds on its table
+pub names-kinds : (revocation : Revocation) (grant : Grant) (rest : Bool)
+    → (names_of_kind revocation Delete grant || (names_of_kind revocation Update grant || (names_of_kind revocation Insert grant || (names_of_kind revocation Read grant || rest))))
+    ≡ (names revocation grant || rest)
 unfolding names
-names-between revocation grant =
+names-kinds revocation grant rest =
+    let by = grant.grantor == revocation.grantor in
+    let to = same_grantee grant.grantee revocation.grantee in
+    let on = revocation.table == grant.table in
+    let base = by && (to && on) in
+    let own : (kind : Kind) → is_between revocation kind grant ≡ (same_kind kind grant.kind && base) = λ kind. shuffled to (same_kind kind grant.kind) on by in
+    let named : names revocation grant ≡ (has_kind revocation.kinds grant.kind && base) =
     ap (λ b. b && (same_grantee revocation.grantee grant.grantee && concerns revocation grant)) (eqb-turned revocation.grantor grant.grantor)
-    ∙ ap (λ b. (grant.grantor == revocation.grantor) && (b && concerns revocation grant)) (same_grantee-turned revocation.grantee grant.grantee)
-    ∙ and-turned (grant.grantor == revocation.grantor) (is_to revocation.grantee revocation.kind revocation.table grant)
+    ∙ ap (λ b. by && (b && concerns revocation grant)) (same_grantee-turned revocation.grantee grant.grantee)
+    ∙ taken_out by to (has_kind revocation.kinds grant.kind) on in
+    ap (λ b. (revocation.kinds.delete && b) || (names_of_kind revocation Update grant || (names_of_kind revocation Insert grant || (names_of_kind revocation Read grant || rest)))) (own Delete)
+    ∙ ap (λ b. (revocation.kinds.delete && (same_kind Delete grant.kind && base)) || ((revocation.kinds.update && b) || (names_of_kind revocation Insert grant || (names_of_kind revocation Read grant || rest)))) (own Update)
+    ∙ ap (λ b. (revocation.kinds.delete && (same_kind Delete grant.kind && base)) || ((revocation.kinds.update && (same_kind Update grant.kind && base)) || ((revocation.kinds.insert && b) || (names_of_kind revocation Read grant || rest)))) (own Insert)
+    ∙ ap (λ b. (revocation.kinds.delete && (same_kind Delete grant.kind && base)) || ((revocation.kinds.update && (same_kind Update grant.kind && base)) || ((revocation.kinds.insert && (same_kind Insert grant.kind && base)) || ((revocation.kinds.read && b) || rest)))) (own Read)
+    ∙ of_four revocation.kinds grant.kind base rest
+    ∙ ap (λ b. b || rest) (sym named)

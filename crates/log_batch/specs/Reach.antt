@@ -1,7 +1,8 @@
 -- How far the slots are found that a batch may reach.
-use Rattle.std.specs.Prelude.{◌≡◌, ◌<◌, ◌≤◌, ◌⊎◌, ℕ, Bool, true, false, Option, Some, None, List, IfSome}
+use Rattle.std.specs.Prelude.{◌≡◌, ◌<◌, ◌≤◌, ◌||◌, ◌⊎◌, ℕ, Bool, true, false, Option, Some, None, List, IfSome}
 use Rattle.model_base.specs.declared.deed.Grant.{Grant}
 use Rattle.model_base.specs.declared.deed.Kind.{Kind}
+use Rattle.model_base.specs.declared.deed.Revocation.{Revocation}
 use Rattle.grants_base.specs.Force.{gives_by}
 use Rattle.grants_base.specs.Index.{is_by, is_one_of, passes_at}
 use Rattle.grants.specs.Work.{LiesBefore}
@@ -13,7 +14,7 @@ use Rattle.log_batch.specs.declared.reach.Reach.{Reach}
 use Rattle.log_batch.specs.declared.revoked.Revoked.{Revoked}
 use Rattle.log_batch.specs.Holders.{grantor_of, has_holder}
 use Rattle.log_batch.specs.Listing.{is_lent, is_open, is_reached, is_revoked, listed_below}
-use Rattle.log_batch.specs.Revoked.{is_named_by}
+use Rattle.log_batch.specs.Revoked.{is_named_by, names_of_kind}
 
 -- whether the grant is by the user, to the grantee where one is given, and is of the kind on the table
 abbrev pub has_party : Party → Kind → ℕ → Grant → Bool
@@ -35,13 +36,19 @@ pub record Adds (batch : Batch) (passes : Grant → Bool) (start end : ℕ) (old
       → (is_one_of old j ≡ true) ⊎ ((start ≤ j) × (j < earlier_count batch) × (is_open batch j ≡ true)
       × (passes_at passes (batch_slots batch) j ≡ true))
 
--- what the revocations name that this many places may make, and which slots before the batch are due by them
-pub record AreSeeds (batch : Batch) (count : ℕ) (revoked : Revoked) (due : List ℕ) : Type 0 where
-  pub named : (grant : Grant) → is_named_by revoked grant ≡ is_revoked batch count grant
+-- the grants that pass are those that are named, and which slots before the batch are due by them
+pub record AreSeeds (batch : Batch) (passes : Grant → Bool) (revoked : Revoked) (due : List ℕ) : Type 0 where
+  pub named : (grant : Grant) → is_named_by revoked grant ≡ passes grant
   pub all : (j : ℕ) → j < earlier_count batch → is_open batch j ≡ true
-      → passes_at (is_revoked batch count) (batch_slots batch) j ≡ true → is_one_of due j ≡ true
+      → passes_at passes (batch_slots batch) j ≡ true → is_one_of due j ≡ true
   pub only : (j : ℕ) → is_one_of due j ≡ true
-      → (j < earlier_count batch) × (is_open batch j ≡ true) × (passes_at (is_revoked batch count) (batch_slots batch) j ≡ true)
+      → (j < earlier_count batch) × (is_open batch j ≡ true) × (passes_at passes (batch_slots batch) j ≡ true)
+
+-- with the grants of a kind that a revocation names, more are named and due by them
+abbrev pub AddsKind : Batch → Revocation → Kind → Revoked → Revoked → List ℕ → List ℕ → Type 0
+AddsKind batch revocation kind old new due more =
+    (passes : Grant → Bool) → AreSeeds batch passes old due
+    → AreSeeds batch (λ grant. names_of_kind revocation kind grant || passes grant) new more
 
 -- all slots below one are found that the batch may reach, to whom they give the option, and what its revocations name
 pub record IsReach (batch : Batch) (low : ℕ) (reach : Reach) : Type 0 where

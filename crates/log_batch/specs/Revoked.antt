@@ -4,17 +4,28 @@ use Rattle.std.specs.BTreeSet.{contains}
 use Rattle.std.specs.Ordering.{nat_cmp, ordering_then}
 use Rattle.std.specs.declared.cmp.Ordering.{Ordering}
 use Rattle.model_base.specs.declared.deed.Grant.{Grant}
+use Rattle.model_base.specs.declared.deed.Kind.{Kind}
 use Rattle.model_base.specs.declared.deed.Revocation.{Revocation}
+use Rattle.model_base.specs.Privileges.{has_kind}
+use Rattle.grants_base.specs.Force.{gives_by}
 use Rattle.log_batch.specs.declared.revoked.Named.{Named}
 use Rattle.log_batch.specs.declared.revoked.Revoked.{Revoked}
 use Rattle.log_batch.specs.Holders.{grantee_holder, holder_cmp, holder_of, same_holder}
 
--- those that a revocation names
-abbrev pub named_by : Revocation → Named
-named_by revocation = record {
+-- those of a kind that a revocation names if it speaks of the kind
+abbrev pub named_by : Revocation → Kind → Named
+named_by revocation kind = record {
   grantor = revocation.grantor;
-  holder = holder_of revocation.grantee revocation.kind revocation.table;
+  holder = holder_of revocation.grantee kind revocation.table;
 }
+
+-- whether the grant is one of them: by its grantor to its grantee, of the kind on its table
+abbrev pub is_between : Revocation → Kind → Grant → Bool
+is_between revocation kind = gives_by revocation.grantor revocation.grantee kind revocation.table
+
+-- whether the revocation speaks of the kind and names the grant by it
+abbrev pub names_of_kind : Revocation → Kind → Grant → Bool
+names_of_kind revocation kind grant = has_kind revocation.kinds kind && is_between revocation kind grant
 
 -- those that a revocation of the grant names
 abbrev pub named_with : Grant → Named

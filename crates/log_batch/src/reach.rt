@@ -9,8 +9,8 @@ ghost use Rattle.bohm_core_base.specs.Batch.{batch_slots};
 ghost use Rattle.log_batch.specs.Earlier.{earlier_count, earlier_grants, records_before};
 ghost use Rattle.log_batch.specs.Supplied.{batch_of};
 ghost use Rattle.log_batch.specs.Holders.{grantor_of, has_holder, new_holder};
-ghost use Rattle.log_batch.specs.Listing.{is_open, is_reached, lends};
-ghost use Rattle.log_batch.specs.Reach.{Adds, AreSeeds, IsDue, IsNextOpen, IsReach, has_party};
+ghost use Rattle.log_batch.specs.Listing.{is_open, is_reached, is_revoked, lends};
+ghost use Rattle.log_batch.specs.Reach.{Adds, AddsKind, AreSeeds, IsDue, IsNextOpen, IsReach, has_party};
 ghost use Rattle.log_batch.specs.Revoked.{is_named_by};
 ghost use Rattle.grants_base.specs.Index.{is_one_of};
 
@@ -18,7 +18,7 @@ use crate::batch::LogBatch;
 use crate::holders::{Holders, holder_of};
 use crate::revoked::Revoked;
 use grants::NextBy;
-use model_base::{Deed, Grant, Grantee, Kind, Table, User};
+use model_base::{Deed, Grant, Grantee, Kind, Revocation, Table, User};
 use std::alloc::{AllocError, Global};
 use std::collections::BTreeSet;
 
@@ -154,8 +154,28 @@ fn add_grants(
     Ok(())
 }
 
-/// The deed of a place, if there is one and it is a revocation: the grants from before the batch that it names are due. They are
-/// looked up once for all revocations that name the same.
+/// The grants from before the batch that the revocation names are due, those of a kind. They are looked up once for all revocations
+/// that name the same.
+fn put_kind(
+    batch: &LogBatch<'_>,
+    revocation: &Revocation,
+    kind: Kind,
+    revoked: &mut Revoked,
+    due: &mut BTreeSet<usize>,
+) -> Result<(), AllocError>
+    ensures { OnOk result (AddsKind (batch_of batch.now) revocation.now kind revoked.old revoked.new due.old.keys due.new.keys) }
+{
+    if !revocation.kinds.contains(kind) {
+        return Ok(());
+    }
+    if revoked.put(revocation, kind)? {
+        let party = Party::Between(revocation.grantor, revocation.grantee);
+        add_grants(batch, &party, kind, revocation.table, 0, due)?;
+    }
+    Ok(())
+}
+
+/// The deed of a place, if there is one and it is a revocation: the grants from before the batch that it names are due, kind by kind.
 fn put_deed(
     batch: &LogBatch<'_>,
     index: usize,
@@ -164,16 +184,16 @@ fn put_deed(
     due: &mut BTreeSet<usize>,
 ) -> Result<(), AllocError>
     requires deed { deed ≡ (batch_of batch.now).deed index }
-    requires seeds { AreSeeds (batch_of batch.now) index revoked.old due.old.keys }
-    ensures { OnOk result (AreSeeds (batch_of batch.now) (suc index) revoked.new due.new.keys) }
+    requires seeds { AreSeeds (batch_of batch.now) (is_revoked (batch_of batch.now) index) revoked.old due.old.keys }
+    ensures { OnOk result (AreSeeds (batch_of batch.now) (is_revoked (batch_of batch.now) (suc index)) revoked.new due.new.keys) }
 {
     let Some(Deed::Revoking(revocation)) = deed else {
         return Ok(());
     };
-    if revoked.put(&revocation)? {
-        let party = Party::Between(revocation.grantor, revocation.grantee);
-        add_grants(batch, &party, revocation.kind, revocation.table, 0, due)?;
-    }
+    put_kind(batch, &revocation, Kind::Read, revoked, due)?;
+    put_kind(batch, &revocation, Kind::Insert, revoked, due)?;
+    put_kind(batch, &revocation, Kind::Update, revoked, due)?;
+    put_kind(batch, &revocation, Kind::Delete, revoked, due)?;
     Ok(())
 }
 
@@ -183,8 +203,8 @@ fn put_deeds(
     revoked: &mut Revoked,
     due: &mut BTreeSet<usize>,
 ) -> Result<(), AllocError>
-    requires { AreSeeds (batch_of batch.now) 0 revoked.old due.old.keys }
-    ensures { OnOk result (AreSeeds (batch_of batch.now) batch.now.size revoked.new due.new.keys) }
+    requires { AreSeeds (batch_of batch.now) (is_revoked (batch_of batch.now) 0) revoked.old due.old.keys }
+    ensures { OnOk result (AreSeeds (batch_of batch.now) (is_revoked (batch_of batch.now) batch.now.size) revoked.new due.new.keys) }
 {
     let first = batch.first_place();
     for index in 0..batch.size() {

@@ -2,28 +2,27 @@
 
 ghost use Rattle.std.specs.Prelude.{◌≡◌, ◌||◌, not, false, IfOk, OnOk};
 ghost use Rattle.model_base.specs.declared.deed.Grant.{Grant};
-ghost use Rattle.model_base.specs.Privileges.{names};
-ghost use Rattle.log_batch.specs.Revoked.{has_named, is_named_by, named_by, named_with};
+ghost use Rattle.log_batch.specs.Revoked.{has_named, is_between, is_named_by, named_by, named_with};
 
 use crate::holders::{HolderKey, holder_of};
-use model_base::{Grant, Revocation, User};
+use model_base::{Grant, Kind, Revocation, User};
 use std::alloc::{AllocError, Global};
 use std::collections::BTreeSet;
 
-/// The grants by a user to a grantee, of a kind on a table: those that a revocation names.
+/// The grants by a user to a grantee, of a kind on a table: those of the kind that a revocation names.
 #[derive(Clone, Copy, PartialEq, Eq, PartialOrd, Ord)]
 pub(crate) struct Named {
     grantor: User,
     holder: HolderKey,
 }
 
-/// The grants that a revocation names.
-fn named_by(revocation: &Revocation) -> Named
-    ensures { result ≡ named_by revocation.now }
+/// The grants of a kind that a revocation names if it speaks of the kind.
+fn named_by(revocation: &Revocation, kind: Kind) -> Named
+    ensures { result ≡ named_by revocation.now kind }
 {
     Named {
         grantor: revocation.grantor,
-        holder: holder_of(revocation.grantee, revocation.kind, revocation.table),
+        holder: holder_of(revocation.grantee, kind, revocation.table),
     }
 }
 
@@ -60,13 +59,13 @@ impl Revoked {
         self.named.contains(&named_with(grant))
     }
 
-    /// One more revocation; returns whether none of them named the same. On `Err`, out of memory.
-    pub(crate) fn put(&mut self, revocation: &Revocation) -> Result<bool, AllocError>
+    /// One more revocation, which speaks of the kind; returns whether none of them named the same of it. On `Err`, out of memory.
+    pub(crate) fn put(&mut self, revocation: &Revocation, kind: Kind) -> Result<bool, AllocError>
         ensures put { OnOk result ((grant : Grant)
-            → is_named_by self.new grant ≡ (names revocation.now grant || is_named_by self.old grant)) }
-        ensures was { IfOk result (λ is_new. is_new ≡ not (has_named self.old (named_by revocation.now))) }
+            → is_named_by self.new grant ≡ (is_between revocation.now kind grant || is_named_by self.old grant)) }
+        ensures was { IfOk result (λ is_new. is_new ≡ not (has_named self.old (named_by revocation.now kind))) }
     {
-        let named = named_by(revocation);
+        let named = named_by(revocation, kind);
         let is_new = self.named.insert(named)?;
         Ok(is_new)
     }

@@ -1,16 +1,15 @@
--- Which grants a revocation ends, the records of its kind on its table tell alone.
+-- Which grants a revocation ends, the records of its kinds on its table tell alone.
 use Rattle.std.proofs.Common.{◌≡◌, ℕ, ◌&&◌, not, Bool, true, false, List, [], ◌∷◌, ◌++◌, filter, refl, sym, ◌∙◌, ap, eq-eqb}
 use Rattle.std.specs.Prelude.{All, ◌==◌}
 use Rattle.std.proofs.lemmas.Bool.{not-true, or_right, eqb-true}
 use Rattle.std.proofs.lemmas.List.Elements.{All-nil, All-cons, All-head, All-tail, All-weaker}
 use Rattle.model_base.specs.declared.deed.Kind.{Kind}
-use Rattle.model_base.specs.declared.deed.Kind.TheVariants.{Read, Insert, Update, Delete}
 use Rattle.model_base.specs.declared.deed.Grant.{Grant}
 use Rattle.model_base.specs.declared.deed.Record.{Record}
 use Rattle.model_base.specs.declared.deed.Revocation.{Revocation}
 use Rattle.model_base.specs.declared.deed.Deed.{Deed}
 use Rattle.model_base.specs.declared.deed.Deed.TheVariants.{Revoking}
-use Rattle.model_base.specs.Privileges.{same_kind, same_grantee, concerns, names, replayed, kept, is_among, lost, ended_by, IsProper}
+use Rattle.model_base.specs.Privileges.{has_kind, same_grantee, concerns, names, replayed, kept, is_among, lost, ended_by, IsProper}
 use Rattle.model_base.specs.Laws.{IsRising}
 use Rattle.model_base.specs.Records.{records, in_force, ended_by_records, covered}
 use Rattle.model_base.proofs.Replay.{by_cases, kept-revoke, kept-replayed}
@@ -18,7 +17,7 @@ use Rattle.model_base.proofs.Parts.{part-all, part-filter, part-part, part-repla
 use Rattle.model_base.proofs.Places.{among-part, IsRising-kept}
 use Rattle.model_base.proofs.Records.{in_force-records}
 use Rattle.model_base.proofs.Recorded.{rising-unique}
-use Rattle.model_base.proofs.Covered.{contrary, is_covered, left_by, left_by-covered, left_by-other, among-covered, same_kind-true, stands-covered}
+use Rattle.model_base.proofs.Covered.{contrary, is_covered, left_by, left_by-covered, left_by-other, among-covered, stands-covered}
 use Rattle.model_base.proofs.ByTables.{taken, in_force-taken}
 
 -- each grant that passes a test is among those that pass
@@ -54,17 +53,10 @@ lost-filter test (grant ∷ before) after others same =
     (λ gone. rw (passes, here, gone) (ap (λ r. grant.place ∷ r) rest)))
     (λ fails. rw (fails, All-head Stays grant before others fails) rest)
 
--- each kind is the same as itself
-same_kind-same : (kind : Kind) → same_kind kind kind ≡ true
-same_kind-same Read = refl
-same_kind-same Insert = refl
-same_kind-same Update = refl
-same_kind-same Delete = refl
-
 module _ (owners : List ℕ) (revocation : Revocation) where
-  -- whether the revocation is of this kind on this table
+  -- whether the revocation speaks of this kind on this table
   abbrev pub is_of : Kind → ℕ → Bool
-  is_of kind table = same_kind revocation.kind kind && (revocation.table == table)
+  is_of kind table = has_kind revocation.kinds kind && (revocation.table == table)
 
   -- a revocation doesn't name what it doesn't concern
   unnamed : (grant : Grant) → not (concerns revocation grant) ≡ true → names revocation grant ≡ false
@@ -98,7 +90,7 @@ module _ (owners : List ℕ) (revocation : Revocation) where
   -- what a revocation ends, the records of some kinds on some tables tell, if they have its own: of all records whose
   -- grants in force have rising places and bear their own replay
   pub ended_by-taken : (covers : Kind → ℕ → Bool) (entries : List Record) → IsRising (in_force entries) → replayed owners [] (in_force entries) ≡ in_force entries
-      → covers revocation.kind revocation.table ≡ true
+      → ((kind : Kind) → has_kind revocation.kinds kind ≡ true → covers kind revocation.table ≡ true)
       → ended_by_records owners (taken covers entries) revocation ≡ ended_by_records owners entries revocation
   ended_by-taken covers entries rising stands cover =
       let test : Grant → Bool = is_covered owners covers in
@@ -119,25 +111,24 @@ module _ (owners : List ℕ) (revocation : Revocation) where
     where
       unconcerned : (grant : Grant) → covers grant.kind grant.table ≡ false → concerns revocation grant ≡ false
       unconcerned grant other =
-          by_cases (same_kind revocation.kind grant.kind)
+          by_cases (has_kind revocation.kinds grant.kind)
           (λ kind. by_cases (revocation.table == grant.table)
           (λ table.
-          let kinds : revocation.kind ≡ grant.kind = same_kind-true revocation.kind grant.kind kind in
           let tables : revocation.table ≡ grant.table = eqb-true revocation.table grant.table table in
-          contrary (covers revocation.kind revocation.table) cover (rw (kinds, tables) other))
+          contrary (covers grant.kind revocation.table) (cover grant.kind kind) (rw tables other))
           (λ elsewhere. rw (kind, elsewhere) refl))
           (λ differs. rw differs refl)
 
   -- those of some tables tell it of a revocation on one of them
   pub ended_by-covered : (covers : ℕ → Bool) (entries : List Record) → IsRising (in_force entries) → replayed owners [] (in_force entries) ≡ in_force entries
       → covers revocation.table ≡ true → ended_by_records owners (covered covers entries) revocation ≡ ended_by_records owners entries revocation
-  ended_by-covered covers entries rising stands cover = ended_by-taken (λ kind table. covers table) entries rising stands cover
+  ended_by-covered covers entries rising stands cover = ended_by-taken (λ kind table. covers table) entries rising stands (λ kind _. cover)
 
-  -- and those of its own kind and table
+  -- and those of its own kinds and table
   pub ended_by-concerned : (entries : List Record) → IsRising (in_force entries) → replayed owners [] (in_force entries) ≡ in_force entries
       → ended_by_records owners (filter (λ entry. concerns revocation entry.grant) entries) revocation ≡ ended_by_records owners entries revocation
   ended_by-concerned entries rising stands =
-      ended_by-taken is_of entries rising stands (rw (same_kind-same revocation.kind) (eq-eqb revocation.table revocation.table refl))
+      ended_by-taken is_of entries rising stands (λ kind here. rw here (eq-eqb revocation.table revocation.table refl))
 
   -- all records of some deeds tell what it ends after them
   pub ended_by-records : (deeds : List Deed) → IsProper owners deeds → ended_by_records owners (records owners deeds) revocation ≡ ended_by owners deeds revocation

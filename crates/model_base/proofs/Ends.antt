@@ -120,7 +120,7 @@ module _ (owners : List ℕ) where
         λ parts. end-at past deed later place (proper-front [] past (deed ∷ later) proper) (and_from before (not after) parts.0 (not_from_false after parts.1)),
       )
 
-  -- a deed that ends the only grant of a place is a revocation of its kind on its table
+  -- a deed that ends the only grant of a place is a revocation that speaks of its kind on its table
   ended-revocation : (past : List Deed) (deed : Deed) (grant : Grant) → All (λ x. x.place ≡ grant.place → x ≡ grant) (kept owners past)
       → is_ended owners past deed grant.place ≡ true
       → (revocation : Revocation) × (deed ≡ Revoking revocation) × (concerns revocation grant ≡ true)
@@ -159,12 +159,12 @@ module _ (owners : List ℕ) where
       let whole : All Alone (grants_of past ++ grants_of later) = rw (← grants-append past later) alone in
       part-all Alone (part-part (part-kept_grants owners past) (part-beginning (grants_of past) (grants_of later))) whole
 
-  -- the revocation that ended the only grant of a place: one of the later deeds, of the grant's kind on its table
+  -- the revocation that ended the only grant of a place: one of the later deeds, which speaks of the grant's kind on its table
   abbrev pub IsEndedBy : List Deed → Grant → ℕ → Type 0
   IsEndedBy deeds grant end =
       (revocation : Revocation) × Contains deeds (Revoking revocation) × (end ≡ revocation.place) × (concerns revocation grant ≡ true)
 
-  -- an end is set by a revocation of the kind on the table
+  -- an end is set by a revocation that speaks of the kind on the table
   end-revocation : (past later : List Deed) (grant : Grant) (end : ℕ) → All (λ x. x.place ≡ grant.place → x ≡ grant) (grants_of (past ++ later))
       → end_after owners past later grant.place ≡ Some end → IsEndedBy later grant end
   end-revocation past [] grant end alone is = absurd (cc)
@@ -190,7 +190,7 @@ module _ (owners : List ℕ) where
       (All-weaker (Contains (grants_of deeds)) (λ grant. (end : ℕ) → end_after owners [] deeds grant.place ≡ Some end → grant.place < end)
       (λ grant here end is. end-above [] deeds grant.place end proper is) (grants_of deeds) (All-contains_itself (grants_of deeds)))
 
-  -- and is the place of a revocation of its kind on its table
+  -- and is the place of a revocation that speaks of its kind on its table
   pub records-end_revocation : (deeds : List Deed) → IsProper owners deeds
       → All (λ entry. (end : ℕ) → entry.end ≡ Some end → IsEndedBy deeds entry.grant end) (records owners deeds)
   records-end_revocation deeds proper =

@@ -32,6 +32,15 @@ same_kind Update Update = true
 same_kind Delete Delete = true
 same_kind _ _ = false
 
+-- the one kind alone
+abbrev pub only : Kind → Kinds
+only kind = record {
+  read = same_kind kind Read;
+  insert = same_kind kind Insert;
+  update = same_kind kind Update;
+  delete = same_kind kind Delete;
+}
+
 -- whether the user owns the table; `owners` has the user who created each table, in the tables' order
 unfoldable pub owns : List ℕ → ℕ → ℕ → Bool
 owns owners user table = option_map_or (λ owner. owner == user) (slice_get owners table) false
@@ -74,9 +83,9 @@ has owners grants user need = owns owners user need.table || list_any (λ grant.
 abbrev pub option_of : Grant → Need
 option_of grant = record { table = grant.table; kind = grant.kind; option = true }
 
--- whether they speak of the same kind on the same table
+-- whether the revocation speaks of the grant's kind, on the same table
 abbrev pub concerns : Revocation → Grant → Bool
-concerns revocation grant = same_kind revocation.kind grant.kind && (revocation.table == grant.table)
+concerns revocation grant = has_kind revocation.kinds grant.kind && (revocation.table == grant.table)
 
 -- whether the revocation names the grant
 unfoldable pub names : Revocation → Grant → Bool

@@ -37,7 +37,19 @@ pub struct Kinds {
 
 impl Kinds {
     ghost use Rattle.std.specs.Prelude.{◌≡◌};
-    ghost use Rattle.model_base.specs.Privileges.{has_kind};
+    ghost use Rattle.model_base.specs.Privileges.{has_kind, only};
+
+    /// The one kind alone.
+    pub fn only(kind: Kind) -> Self
+        ensures { result ≡ only kind }
+    {
+        Kinds {
+            read: kind.is_same(Kind::Read),
+            insert: kind.is_same(Kind::Insert),
+            update: kind.is_same(Kind::Update),
+            delete: kind.is_same(Kind::Delete),
+        }
+    }
 
     /// Whether the kind is one of these.
     pub fn contains(&self, kind: Kind) -> bool
@@ -153,13 +165,13 @@ impl Grant {
     }
 }
 
-/// The revocation of its grantor's earlier grants of one kind on one table to one user, or to all.
+/// The revocation of its grantor's earlier grants of some kinds on one table to one user, or to all.
 #[derive(Clone, Copy, PartialEq, Eq, Debug)]
 pub struct Revocation {
     pub place: Place,
     pub grantor: User,
     pub grantee: Grantee,
-    pub kind: Kind,
+    pub kinds: Kinds,
     pub table: Table,
 }
 
@@ -171,10 +183,10 @@ impl Revocation {
     pub fn concerns(&self, grant: &Grant) -> bool
         ensures { result ≡ concerns self.now grant.now }
     {
-        self.kind.is_same(grant.kind) && self.table == grant.table
+        self.kinds.contains(grant.kind) && self.table == grant.table
     }
 
-    /// Whether it names the grant: its grantor made that to its grantee, of its kind on its table.
+    /// Whether it names the grant: its grantor made that to its grantee, of one of its kinds on its table.
     #[tactic(auto, unfolding(crate::specs::Privileges::names))]
     pub fn names(&self, grant: &Grant) -> bool
         ensures { result ≡ names self.now grant.now }

@@ -58,7 +58,7 @@ pub fn records_rise()
     ensures cut { (place : ℕ) (entries : List Record) → IsPart (recorded (cut place entries)) (recorded entries) }
 {}
 
-/// A record's end lies above its grant's place, and is the place of a revocation of the grant's kind on its table.
+/// A record's end lies above its grant's place, and is the place of a revocation that speaks of the grant's kind on its table.
 pub fn ends_are_revocations()
     ensures above { (owners : List ℕ) (deeds : List Deed)
         → IsProper owners deeds
@@ -117,9 +117,9 @@ pub fn covered_records_tell()
         → cut place (covered covers entries) ≡ covered covers (cut place entries) }
 {}
 
-/// Which grants a revocation ends, the records say, those of some tables with its own among them, and even those of its kind on its table
-/// alone. This holds of all records whose grants in force have rising places and bear their own replay, as do those of proper deeds, and
-/// those of some tables.
+/// Which grants a revocation ends, the records say, those of some tables with its own among them, and even those of its kinds on its
+/// table alone. This holds of all records whose grants in force have rising places and bear their own replay, as do those of proper
+/// deeds, and those of some tables.
 pub fn records_tell_what_revocations_end()
     ensures all { (owners : List ℕ) (deeds : List Deed) (revocation : Revocation)
         → IsProper owners deeds

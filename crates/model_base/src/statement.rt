@@ -203,7 +203,7 @@ pub enum DeedForm {
         option: bool,
     },
     Revoke {
-        kind: Kind,
+        kinds: Kinds,
         table: Table,
         grantee: Grantee,
     },
@@ -242,14 +242,14 @@ impl DeedForm {
                 option,
             }),
             DeedForm::Revoke {
-                kind,
+                kinds,
                 table,
                 grantee,
             } => Deed::Revoking(Revocation {
                 place,
                 grantor: user,
                 grantee,
-                kind,
+                kinds,
                 table,
             }),
         }

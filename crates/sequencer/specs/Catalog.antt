@@ -7,6 +7,7 @@ use Rattle.model_base.specs.declared.statement.Step.{Step}
 use Rattle.model_base.specs.declared.statement.DeedForm.{DeedForm}
 use Rattle.model_base.specs.declared.statement.Form.{Form}
 use Rattle.model_base.specs.declared.statement.Statement.{Statement}
+use Rattle.model_base.specs.Privileges.{only}
 use Rattle.log_text.specs.Statement.{Sentence}
 use Rattle.line_words.specs.declared.access.RawAccess.{RawAccess}
 use Rattle.log_text.specs.declared.statement.RawDeed.{RawDeed}
@@ -56,7 +57,7 @@ abbrev pub numbered_deed : Names → RawDeed → DeedForm
 numbered_deed names (RawDeed.Grant kind table grantee option) =
     DeedForm.Grant kind (number_of names.tables table) (numbered_grantee names.users grantee) option
 numbered_deed names (RawDeed.Revoke kind table grantee) =
-    DeedForm.Revoke kind (number_of names.tables table) (numbered_grantee names.users grantee)
+    DeedForm.Revoke (only kind) (number_of names.tables table) (numbered_grantee names.users grantee)
 
 -- what a statement asks for, with its names by number
 abbrev pub numbered_form : Names → RawForm → Form

@@ -15,17 +15,17 @@ loop-from-preserved g c =
     let asked = g.V.Records.asked c.loop-from.view in
     let are : AreAsked view asked = subst (λ (v : View). AreAsked v asked) c.loop-from.invariant.same c.in-Some.ensures.asked in
     let i = c.in-Some.i in
-    let within : i < length view.slots = found_within view asked are (is_by c.args.user revocation.kind revocation.table) i c.in-Some.ensures.next.1 in
+    let within : i < length view.slots = found_within view asked are (is_by c.args.user c.args.kind revocation.table) i c.in-Some.ensures.next.1 in
     let more = slot_more c.loop-from.due c.insert.new.self i c.in_ok-insert-in-Some.ensures.ok in
     record {
       same = c.in-Some.ensures.same ∙ c.loop-from.invariant.same;
       slots = c.slots-end.ensures;
       start = omega (arith, c.loop-from.invariant.start, c.in-Some.ensures.next.0);
-      found = λ j grant from less is by.
+      found = λ j grant from less is by kind.
           elim (cases_lt j i) [
             | inl earlier ↦ elim (cases_lt j c.loop-from.from) [
-              | inl before ↦ more j ∙ or_right (i == j) (is_one_of c.loop-from.due j) (c.loop-from.invariant.found j grant from before is by)
-              | inr after ↦ absurd (by-skipped view asked are revocation c.args.user j grant (c.in-Some.ensures.next.2 j after earlier) is by)
+              | inl before ↦ more j ∙ or_right (i == j) (is_one_of c.loop-from.due j) (c.loop-from.invariant.found j grant from before is by kind)
+              | inr after ↦ absurd (by-skipped view asked are revocation c.args.user c.args.kind j grant (c.in-Some.ensures.next.2 j after earlier) is by kind)
             ]
             | inr later ↦ let here : i ≡ j = omega arith in more j ∙ or_first (i == j) (is_one_of c.loop-from.due j) (eq-eqb i j here)
           ];
@@ -38,29 +38,29 @@ loop-from-preserved g c =
     }
 
 pub returns-in_default-clause-found : goal.returns-in_default-clause-found
-returns-in_default-clause-found g c = λ j grant from low is by.
+returns-in_default-clause-found g c = λ j grant from low is by kind.
     let view = g.V.Records.shown c.args.view.now in
     let asked = g.V.Records.asked c.loop-from.view in
     let are : AreAsked view asked = subst (λ (v : View). AreAsked v asked) c.loop-from.invariant.same c.in-Some.ensures.asked in
     elim (cases_lt j c.loop-from.from) [
-      | inl before ↦ c.loop-from.invariant.found j grant from before is by
-      | inr after ↦ absurd (by-skipped view asked are c.args.revocation.now c.args.user j grant (c.in-Some.ensures.next.2 j after (omega (arith, low, c.if-i-last.false))) is by)
+      | inl before ↦ c.loop-from.invariant.found j grant from before is by kind
+      | inr after ↦ absurd (by-skipped view asked are c.args.revocation.now c.args.user c.args.kind j grant (c.in-Some.ensures.next.2 j after (omega (arith, low, c.if-i-last.false))) is by kind)
     ]
 
 pub returns-in_default-2-clause-found : goal.returns-in_default-2-clause-found
-returns-in_default-2-clause-found g c = λ j grant from low is by.
+returns-in_default-2-clause-found g c = λ j grant from low is by kind.
     let view = g.V.Records.shown c.args.view.now in
     let asked = g.V.Records.asked c.loop-from.view in
     let are : AreAsked view asked = subst (λ (v : View). AreAsked v asked) c.loop-from.invariant.same c.in_default.ensures.asked in
     elim (cases_lt j c.loop-from.from) [
-      | inl before ↦ c.loop-from.invariant.found j grant from before is by
-      | inr after ↦ absurd (by-skipped view asked are c.args.revocation.now c.args.user j grant (c.in_default.ensures.next j after) is by)
+      | inl before ↦ c.loop-from.invariant.found j grant from before is by kind
+      | inr after ↦ absurd (by-skipped view asked are c.args.revocation.now c.args.user c.args.kind j grant (c.in_default.ensures.next j after) is by kind)
     ]
 
 pub returns-clause-found : goal.returns-clause-found
-returns-clause-found g c = λ j grant from low is by.
+returns-clause-found g c = λ j grant from low is by kind.
     let view = g.V.Records.shown c.args.view.now in
     elim (cases_lt j (length view.slots)) [
-      | inl within ↦ c.loop-from.invariant.found j grant from (omega (arith, c.loop-from-test.false, c.slots-end.ensures)) is by
+      | inl within ↦ c.loop-from.invariant.found j grant from (omega (arith, c.loop-from-test.false, c.slots-end.ensures)) is by kind
       | inr over ↦ absurd (nothing_past view c.args.revocation.now j grant over is)
     ]

@@ -3,7 +3,7 @@ use Rattle.std.specs.Prelude.{IfNone}
 use Rattle.std.proofs.lemmas.List.{append-nil}
 use Rattle.std.proofs.Math.ListN.{drop_of_length-le}
 use Rattle.grants.specs.Pass.{cascade, concerned_grants}
-use Rattle.grants.specs.Work.{AllPassed, AreDue, AreEnds, keepers, slots_of}
+use Rattle.grants.specs.Work.{AllPassed, AreDue, AreEnds, slots_of, staying}
 use Rattle.grants_base.specs.Index.{is_one_of}
 use Rattle.grants_base.specs.View.{ShowsDeeds, View}
 use Rattle.grants.proofs.SlotLaws.{pass_ends}
@@ -98,7 +98,7 @@ returns-clause-ended g c = λ owners deeds shows.
     over_free revocation view owner borne c.loop-slot.work.due (slots_of c.loop-slot.work.ended.ends) c.loop-slot.next c.loop-slot.invariant.due (end - c.loop-slot.next) c.loop-slot.next end
     (omega (arith, c.loop-slot.invariant.next)) (omega arith) (omega arith) (λ j _ _. ap (λ (due : List ℕ). is_one_of due j) (subst (λ (found : Option ℕ). IfNone found (c.loop-slot.work.due ≡ [])) (nothing c.pop_first.result c.in_default.not-Some) c.pop_first.ensures.none)) in
     let none : drop end view.slots ≡ [] = drop_of_length-le view.slots (omega arith) in
-    sym (ap (λ slots. c.loop-slot.work.ended.places ++ cascade owner revocation (keepers revocation view (slots_of c.loop-slot.work.ended.ends) end) (concerned_grants revocation slots)) none ∙ append-nil c.loop-slot.work.ended.places)
+    sym (ap (λ slots. c.loop-slot.work.ended.places ++ cascade owner revocation (staying revocation view (slots_of c.loop-slot.work.ended.ends) end) (concerned_grants revocation slots)) none ∙ append-nil c.loop-slot.work.ended.places)
     ∙ ap (λ rest. c.loop-slot.work.ended.places ++ rest) on
     ∙ c.loop-slot.invariant.whole borne
     ∙ pass_ends view owners deeds revocation owner here owned

@@ -1,8 +1,9 @@
 use Rattle.std.proofs.Common.{◌≡◌, ◌<◌, ◌≤◌, ◌++◌, Some, length, true, false, refl, sym, ◌∙◌, ap, subst, arith, inl, ℕ}
 use Rattle.std.specs.Prelude.{◌⊎◌}
+use Rattle.model_base.specs.declared.deed.Kind.{Kind}
 use Rattle.grants.specs.Pass.{concerned, outlasts}
 use Rattle.grants_base.specs.Index.{is_one_of}
-use Rattle.grants.specs.Work.{AllPassed, IsStillBorne, keepers, slots_of}
+use Rattle.grants.specs.Work.{AllPassed, IsStillBorne, slots_of, staying}
 use Rattle.grants_base.specs.View.{View, slot_at}
 use Rattle.grants.proofs.Asking.{passed_ended}
 use Rattle.grants.proofs.EndedLaws.{are_more, end_more}
@@ -23,8 +24,8 @@ returns-then-stays-clause-whole g c =
     let view = g.V.Records.shown c.args.view.now in
     let ended = slots_of c.args.work.now.ended.ends in
     let found : concerned (slot_at view c.args.slot) c.args.revocation.now ≡ Some c.in-Some.grant = sym c.in-Some.ensures.value in
-    let told : outlasts c.args.owner (keepers c.args.revocation.now view ended c.args.slot) c.args.revocation.now c.in-Some.grant ≡ true =
-    ap (λ (v : View). outlasts c.args.owner (keepers c.args.revocation.now v ended c.args.slot) c.args.revocation.now c.in-Some.grant) (sym c.in-Some.ensures.same) ∙ sym c.stays.ensures.value ∙ c.if-stays.true in
+    let told : outlasts c.args.owner (staying c.args.revocation.now view ended c.args.slot) c.args.revocation.now c.in-Some.grant ≡ true =
+    ap (λ (v : View). outlasts c.args.owner (staying c.args.revocation.now v ended c.args.slot) c.args.revocation.now c.in-Some.grant) (sym c.in-Some.ensures.same) ∙ sym c.stays.ensures.value ∙ c.if-stays.true in
     rw (c.requires.next)
     (ap (λ rest. c.args.work.now.ended.places ++ rest)
     (over_staying c.args.revocation.now view c.args.owner ended c.args.slot c.in-Some.grant c.requires.within found (unended_at ended c.args.slot c.requires.behind) told))
@@ -40,11 +41,12 @@ returns-in_ok-lose-clause-due g c =
     (end_more c.args.work.now.ended.ends c.push.new.self.ends (record { slot = c.args.slot; place = c.args.revocation.now.place }) c.in_ok-push.ensures.ends)
     c.in_ok-lose.ensures.kept
     (λ j is. subst (λ (v : View). (is_one_of c.args.work.now.due j ≡ true) ⊎ ((c.args.next ≤ j) × (j < length v.slots))) same (c.in_ok-lose.ensures.within j is))
-    (λ j other heir from here.
+    (λ j other heir kind from here.
     let who = by other.grantor (sym c.in-Some-option_holder.is ∙ c.option_holder.ensures ∙ heir) in
-    subst (λ (v : View). (is_one_of c.lose.new.due j ≡ true) ⊎ IsStillBorne c.args.revocation.now v (slots_of c.push.new.self.ends) other.grantor j) same
-    (subst (λ user. (is_one_of c.lose.new.due j ≡ true) ⊎ IsStillBorne c.args.revocation.now seen (slots_of c.push.new.self.ends) user j) (sym who)
-    (c.in_ok-lose.ensures.found j other from (ap (λ (v : View). concerned (slot_at v j) c.args.revocation.now) same ∙ here) who)))
+    subst (λ (v : View). (is_one_of c.lose.new.due j ≡ true) ⊎ IsStillBorne c.args.revocation.now v (slots_of c.push.new.self.ends) other.grantor other.kind j) same
+    (subst (λ (of : Kind). (is_one_of c.lose.new.due j ≡ true) ⊎ IsStillBorne c.args.revocation.now seen (slots_of c.push.new.self.ends) other.grantor of j) kind
+    (subst (λ user. (is_one_of c.lose.new.due j ≡ true) ⊎ IsStillBorne c.args.revocation.now seen (slots_of c.push.new.self.ends) user c.in-Some.grant.kind j) (sym who)
+    (c.in_ok-lose.ensures.found j other from (ap (λ (v : View). concerned (slot_at v j) c.args.revocation.now) same ∙ here) who (sym kind)))))
   where
     by : (grantor : ℕ) → Some c.in-Some-option_holder.user ≡ Some grantor → grantor ≡ c.in-Some-option_holder.user
     by grantor same = cc
@@ -54,8 +56,8 @@ returns-in_ok-lose-clause-whole g c =
     let view = g.V.Records.shown c.args.view.now in
     let ended = slots_of c.args.work.now.ended.ends in
     let found : concerned (slot_at view c.args.slot) c.args.revocation.now ≡ Some c.in-Some.grant = sym c.in-Some.ensures.value in
-    let told : outlasts c.args.owner (keepers c.args.revocation.now view ended c.args.slot) c.args.revocation.now c.in-Some.grant ≡ false =
-    ap (λ (v : View). outlasts c.args.owner (keepers c.args.revocation.now v ended c.args.slot) c.args.revocation.now c.in-Some.grant) (sym c.in-Some.ensures.same) ∙ sym c.stays.ensures.value ∙ c.if-stays.false in
+    let told : outlasts c.args.owner (staying c.args.revocation.now view ended c.args.slot) c.args.revocation.now c.in-Some.grant ≡ false =
+    ap (λ (v : View). outlasts c.args.owner (staying c.args.revocation.now v ended c.args.slot) c.args.revocation.now c.in-Some.grant) (sym c.in-Some.ensures.same) ∙ sym c.stays.ensures.value ∙ c.if-stays.false in
     whole_ending c.args.revocation.now view c.args.owner c.args.work.now.ended.places c.push.new.self.places ended (slots_of c.push.new.self.ends) c.args.slot c.args.next c.in-Some.grant
     c.requires.next c.requires.within c.in_ok-push.ensures.places found (end_more c.args.work.now.ended.ends c.push.new.self.ends (record { slot = c.args.slot; place = c.args.revocation.now.place }) c.in_ok-push.ensures.ends) told
 
@@ -66,15 +68,15 @@ returns-in_default-option_holder-clause-due g c =
     due_more c.args.revocation.now view c.args.slot c.args.work.now.due c.args.work.now.due (slots_of c.args.work.now.ended.ends) (slots_of c.push.new.self.ends) c.in-Some.grant c.args.next
     (omega (arith, c.requires.next)) c.requires.due found
     (end_more c.args.work.now.ended.ends c.push.new.self.ends (record { slot = c.args.slot; place = c.args.revocation.now.place }) c.in_ok-push.ensures.ends)
-    (λ j is. is) (λ j is. inl is) (λ j other heir from here. absurd (c.in_default-option_holder.not-Some other.grantor (c.option_holder.ensures ∙ heir)))
+    (λ j is. is) (λ j is. inl is) (λ j other heir kind from here. absurd (c.in_default-option_holder.not-Some other.grantor (c.option_holder.ensures ∙ heir)))
 
 pub returns-in_default-option_holder-clause-whole : goal.returns-in_default-option_holder-clause-whole
 returns-in_default-option_holder-clause-whole g c =
     let view = g.V.Records.shown c.args.view.now in
     let ended = slots_of c.args.work.now.ended.ends in
     let found : concerned (slot_at view c.args.slot) c.args.revocation.now ≡ Some c.in-Some.grant = sym c.in-Some.ensures.value in
-    let told : outlasts c.args.owner (keepers c.args.revocation.now view ended c.args.slot) c.args.revocation.now c.in-Some.grant ≡ false =
-    ap (λ (v : View). outlasts c.args.owner (keepers c.args.revocation.now v ended c.args.slot) c.args.revocation.now c.in-Some.grant) (sym c.in-Some.ensures.same) ∙ sym c.stays.ensures.value ∙ c.if-stays.false in
+    let told : outlasts c.args.owner (staying c.args.revocation.now view ended c.args.slot) c.args.revocation.now c.in-Some.grant ≡ false =
+    ap (λ (v : View). outlasts c.args.owner (staying c.args.revocation.now v ended c.args.slot) c.args.revocation.now c.in-Some.grant) (sym c.in-Some.ensures.same) ∙ sym c.stays.ensures.value ∙ c.if-stays.false in
     whole_ending c.args.revocation.now view c.args.owner c.args.work.now.ended.places c.push.new.self.places ended (slots_of c.push.new.self.ends) c.args.slot c.args.next c.in-Some.grant
     c.requires.next c.requires.within c.in_ok-push.ensures.places found (end_more c.args.work.now.ended.ends c.push.new.self.ends (record { slot = c.args.slot; place = c.args.revocation.now.place }) c.in_ok-push.ensures.ends) told
 
