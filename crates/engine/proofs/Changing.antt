@@ -180,7 +180,7 @@ module _ (own : List ℕ) (place : ℕ) (world : World) (statement : Statement) 
 module _ (place user : ℕ) where
   deed-placed : (deed : DeedForm) → place_of (deed_at place user deed) ≡ place
   deed-placed (DeedForm.Grant kind table grantee option) = refl
-  deed-placed (DeedForm.Revoke kinds table grantee) = refl
+  deed-placed (DeedForm.Revoke kinds table grantees) = refl
 
   placed-of : (form : Form) (one : Deed) → deed_of place user form ≡ Some one → place_of one ≡ place
   placed-of (Form.Create table columns) one is = absurd (cc)

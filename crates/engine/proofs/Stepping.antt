@@ -70,7 +70,7 @@ deed-table tables place user deed known = All-cons (λ made. table_of_deed made 
   where
     low : (one : DeedForm) → All (λ table. table < tables) (deed_tables (Form.Deed one)) → table_of_deed (deed_at place user one) < tables
     low (DeedForm.Grant kind table grantee option) on = All-head (λ t. t < tables) table [] on
-    low (DeedForm.Revoke kinds table grantee) on = All-head (λ t. t < tables) table [] on
+    low (DeedForm.Revoke kinds table grantees) on = All-head (λ t. t < tables) table [] on
 
 deed-known : (tables place user : ℕ) (form : Form) → IsKnown tables form → All (λ made. table_of_deed made < tables) (option_to_list (deed_of place user form))
 deed-known tables place user (Form.Run accesses steps (Some deed)) known = deed-table tables place user deed known

@@ -74,7 +74,7 @@ module _ (own : List ℕ) (place : ℕ) (world : World) (statement : Statement) 
   -- what a deed results in is of its kind
   deed_kind : (deed : DeedForm) → deed_done own world (Some (deed_at place statement.user deed)) ≡ deed_told (places_ended_by (deed_done own world (Some (deed_at place statement.user deed)))) (Some deed)
   deed_kind (DeedForm.Grant kind table grantee option) = refl
-  deed_kind (DeedForm.Revoke kinds table grantee) = refl
+  deed_kind (DeedForm.Revoke kinds table grantees) = refl
 
   form_kind : (form : Form) → deed_done own world (deed_of place statement.user form) ≡ deed_told (places_ended_by (deed_done own world (deed_of place statement.user form))) (deed_form form)
   form_kind (Form.Create table columns) = refl

@@ -31,10 +31,10 @@ done-any : (place user : ℕ) (form : Form) (words ended other : List ℕ) → (
 done-any place user (Form.Create table columns) words ended other same = refl
 done-any place user (Form.Run accesses steps None) words ended other same = refl
 done-any place user (Form.Run accesses steps (Some (DeedForm.Grant kind table grantee option))) words ended other same = refl
-done-any place user (Form.Run accesses steps (Some (DeedForm.Revoke kinds table grantee))) words ended other same =
+done-any place user (Form.Run accesses steps (Some (DeedForm.Revoke kinds table grantees))) words ended other same =
     ap (λ list. Outcome.Done (numbers_from 4 (min (slice_index words 3) 8) words) (DeedDone.Revoked list)) (same _ refl)
 done-any place user (Form.Deed (DeedForm.Grant kind table grantee option)) words ended other same = refl
-done-any place user (Form.Deed (DeedForm.Revoke kinds table grantee)) words ended other same =
+done-any place user (Form.Deed (DeedForm.Revoke kinds table grantees)) words ended other same =
     ap (λ list. Outcome.Done (numbers_from 4 (min (slice_index words 3) 8) words) (DeedDone.Revoked list)) (same _ refl)
 
 told-any : (place user : ℕ) (form : Form) (words ended other : List ℕ)

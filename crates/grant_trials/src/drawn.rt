@@ -6,7 +6,9 @@
 
 use crate::both::{Both, NeedAnswer};
 use crate::fault::TrialFault;
-use model_base::{Deed, Grant, Grantee, Kind, Kinds, Need, Place, Revocation, Table, User};
+use model_base::{
+    Deed, Grant, Grantee, Grantees, Kind, Kinds, Need, Place, Revocation, Table, User,
+};
 use std::alloc::Global;
 use trials_base::Generator;
 
@@ -95,7 +97,7 @@ fn revocation(place: Place, deed: &Deed) -> Revocation {
         Deed::Granting(grant) => Revocation {
             place,
             grantor: grant.grantor,
-            grantee: grant.grantee,
+            grantees: Grantees::of(grant.grantee),
             kinds: Kinds::only(grant.kind),
             table: TABLE,
         },

@@ -2,7 +2,7 @@
 
 use crate::both::Both;
 use crate::fault::TrialFault;
-use model_base::{Grant, Grantee, Kind, Kinds, Need, Place, Revocation, Table, User};
+use model_base::{Grant, Grantee, Grantees, Kind, Kinds, Need, Place, Revocation, Table, User};
 use std::alloc::Global;
 
 /// What is done in an example. Grants and revocations are of reading table 0, and users go by their numbers.
@@ -61,7 +61,7 @@ fn print_taken(
     let revocation = Revocation {
         place,
         grantor: User(grantor),
-        grantee: Grantee::User(User(grantee)),
+        grantees: Grantees::of(Grantee::User(User(grantee))),
         kinds: Kinds::only(Kind::Read),
         table: Table(0),
     };

@@ -9,8 +9,8 @@ use Rattle.model_base.specs.declared.deed.Grantee.TheVariants.{User}
 use Rattle.model_base.specs.declared.deed.Kind.{Kind}
 use Rattle.model_base.specs.declared.deed.Record.{Record}
 use Rattle.model_base.specs.declared.deed.Revocation.{Revocation}
-use Rattle.model_base.specs.Privileges.{concerns, has_kind, names, option_holder, same_grantee, user_of}
-use Rattle.model_base.proofs.Reaching.{grantee-same, grantee-true, holder_is}
+use Rattle.model_base.specs.Privileges.{concerns, has_grantee, has_kind, names, option_holder, same_grantee, user_of}
+use Rattle.model_base.proofs.Reaching.{grantee-same, holder_is}
 use Rattle.model_base.proofs.Replay.{by_cases}
 use Rattle.grants_base.specs.Force.{gives_to}
 use Rattle.grants_base.specs.View.{View, flatten, grant_in, slot_at}
@@ -84,17 +84,16 @@ module _ (view : View) (revocation : Revocation) where
       absurd (true≢false (sym found ∙ sym (ap (λ o. option_map_or (gives_to (User user) kind revocation.table true) o false) by.1) ∙ skipped)))
       (λ none. none)
 
-  -- nor is a grant named where none is to the revocation's grantee
-  pub named-skipped : (kind : Kind) (k : ℕ) (grant : Grant) → has_in_force revocation revocation.grantee kind false (slot_at view k) ≡ false
-      → concerned (slot_at view k) revocation ≡ Some grant → grant.kind ≡ kind → names revocation grant ≡ true → ⊥
+  -- nor is a grant to a grantee named where none is to it
+  pub named-skipped : (grantee : Grantee) (kind : Kind) (k : ℕ) (grant : Grant) → has_in_force revocation grantee kind false (slot_at view k) ≡ false
+      → concerned (slot_at view k) revocation ≡ Some grant → grant.grantee ≡ grantee → grant.kind ≡ kind → names revocation grant ≡ true → ⊥
   unfolding names
-  named-skipped kind k grant skipped is same named =
-      let to = (and_parts (revocation.grantor == grant.grantor) (same_grantee revocation.grantee grant.grantee && concerns revocation grant) named).1 in
-      let parts = and_parts (same_grantee revocation.grantee grant.grantee) (concerns revocation grant) to in
+  named-skipped grantee kind k grant skipped is to same named =
+      let by = and_parts (revocation.grantor == grant.grantor) (has_grantee revocation.grantees grant.grantee && concerns revocation grant) named in
+      let parts = and_parts (has_grantee revocation.grantees grant.grantee) (concerns revocation grant) by.1 in
       let about = about_kind revocation grant kind parts.1 same in
-      let found : gives_to revocation.grantee kind revocation.table false grant ≡ true =
-      rw (same-grantee grant.grantee revocation.grantee (sym (grantee-true revocation.grantee grant.grantee parts.0)), about) (or-true grant.option) in
-      true≢false (sym found ∙ sym (ap (λ o. option_map_or (gives_to revocation.grantee kind revocation.table false) o false) is) ∙ skipped)
+      let found : gives_to grantee kind revocation.table false grant ≡ true = rw (same-grantee grant.grantee grantee to, about) (or-true grant.option) in
+      true≢false (sym found ∙ sym (ap (λ o. option_map_or (gives_to grantee kind revocation.table false) o false) is) ∙ skipped)
     where
       or-true : (a : Bool) → (a || true) ≡ true
       or-true true = refl
@@ -153,26 +152,26 @@ nothing_past view revocation k grant over is = absurd (none (sym empty ∙ is))
     none e = cc
 
 -- one slot more among those that are looked at for a name
-pub record HaveNamed (view : View) (revocation : Revocation) (kind : Kind) (first due : List ℕ) (from : ℕ) : Type 0 where
+pub record HaveNamed (view : View) (revocation : Revocation) (grantee : Grantee) (kind : Kind) (first due : List ℕ) (from : ℕ) : Type 0 where
   pub found : (j : ℕ) (grant : Grant) → j < from → concerned (slot_at view j) revocation ≡ Some grant
-      → grant.kind ≡ kind → names revocation grant ≡ true → is_one_of due j ≡ true
+      → grant.grantee ≡ grantee → grant.kind ≡ kind → names revocation grant ≡ true → is_one_of due j ≡ true
   pub kept : (j : ℕ) → is_one_of first j ≡ true → is_one_of due j ≡ true
   pub within : (j : ℕ) → is_one_of due j ≡ true → (is_one_of first j ≡ true) ⊎ (j < length view.slots)
 
-pub named_step : (view : View) (revocation : Revocation) (kind : Kind) (first due more : List ℕ) (from i : ℕ)
+pub named_step : (view : View) (revocation : Revocation) (grantee : Grantee) (kind : Kind) (first due more : List ℕ) (from i : ℕ)
     → i < length view.slots
-    → ((k : ℕ) (grant : Grant) → from ≤ k → k < i → concerned (slot_at view k) revocation ≡ Some grant → grant.kind ≡ kind → names revocation grant ≡ true → ⊥)
-    → HaveNamed view revocation kind first due from
+    → ((k : ℕ) (grant : Grant) → from ≤ k → k < i → concerned (slot_at view k) revocation ≡ Some grant → grant.grantee ≡ grantee → grant.kind ≡ kind → names revocation grant ≡ true → ⊥)
+    → HaveNamed view revocation grantee kind first due from
     → ((j : ℕ) → is_one_of due j ≡ true → is_one_of more j ≡ true)
     → (option_map_or (names revocation) (concerned (slot_at view i) revocation) false ≡ true → is_one_of more i ≡ true)
     → ((j : ℕ) → is_one_of more j ≡ true → (is_one_of due j ≡ true) ⊎ (i ≡ j))
-    → HaveNamed view revocation kind first more (i + 1)
-named_step view revocation kind first due more from i there skipped so_far kept new old = record {
-  found = λ j grant less is same named.
+    → HaveNamed view revocation grantee kind first more (i + 1)
+named_step view revocation grantee kind first due more from i there skipped so_far kept new old = record {
+  found = λ j grant less is to same named.
       elim (cases_lt j i) [
         | inl earlier ↦ elim (cases_lt j from) [
-          | inl before ↦ kept j (so_far.found j grant before is same named)
-          | inr after ↦ absurd (skipped j grant after earlier is same named)
+          | inl before ↦ kept j (so_far.found j grant before is to same named)
+          | inr after ↦ absurd (skipped j grant after earlier is to same named)
         ]
         | inr later ↦
             let here : j ≡ i = omega arith in

@@ -88,18 +88,19 @@ fn next_candidate<V: Records>(
     }
 }
 
-/// A slot at or above another such that no slot from that one on and before it has a grant in force of the kind that the revocation
-/// names. None where no later slot has. It goes through the slots only where the view doesn't know which grants are in force.
+/// A slot at or above another such that no slot from that one on and before it has a grant in force to the grantee, of the kind, that the
+/// revocation names. None where no later slot has. It goes through the slots only where the view doesn't know which grants are in force.
 fn next_named<V: Records>(
     view: &mut V,
     revocation: &Revocation,
+    grantee: &Grantee,
     kind: Kind,
     from: usize,
 ) -> Option<usize>
-    ensures next { IsNextNamed revocation.now kind (V.shown view.old) from result }
+    ensures next { IsNextNamed revocation.now grantee.now kind (V.shown view.old) from result }
     ensures same { V.shown view.new ≡ V.shown view.old }
 {
-    let (grantee, table) = (&revocation.grantee, revocation.table);
+    let table = revocation.table;
     match view.next_in_force_by(revocation.grantor, *grantee, kind, table, from) {
         Some(next) => next.slot,
         None => view.next_to(*grantee, kind, table, from),
@@ -247,16 +248,17 @@ fn is_named<V: Records>(view: &mut V, i: usize, revocation: &Revocation) -> bool
     }
 }
 
-/// Adds the slots whose grants are of the kind and the revocation names.
+/// Adds the slots whose grants are to the grantee, of the kind, and the revocation names.
 #[inline(always)]
 fn add_named<V: Records>(
     view: &mut V,
     revocation: &Revocation,
+    grantee: &Grantee,
     kind: Kind,
     due: &mut SlotSet,
 ) -> Result<(), AllocError>
     ensures found { OnOk result ((j : ℕ) (grant : Grant) → concerned (slot_at (V.shown view.old) j) revocation.now ≡ Some grant
-        → grant.kind ≡ kind → names revocation.now grant ≡ true → is_one_of due.new j ≡ true) }
+        → grant.grantee ≡ grantee.now → grant.kind ≡ kind → names revocation.now grant ≡ true → is_one_of due.new j ≡ true) }
     ensures kept { OnOk result ((j : ℕ) → is_one_of due.old j ≡ true → is_one_of due.new j ≡ true) }
     ensures within { OnOk result ((j : ℕ) → is_one_of due.new j ≡ true
         → (is_one_of due.old j ≡ true) ⊎ (j < length (V.shown view.old).slots)) }
@@ -268,7 +270,7 @@ fn add_named<V: Records>(
     let end = view.slots();
     let mut from = 0;
     while from < end {
-        match next_named(view, revocation, kind, from) {
+        match next_named(view, revocation, grantee, kind, from) {
             Some(i) => {
                 if is_named(view, i, revocation) {
                     due.insert(i)?;
@@ -278,6 +280,27 @@ fn add_named<V: Records>(
             None => return Ok(()),
         }
     }
+    Ok(())
+}
+
+/// Adds the slots whose grants are to the grantee and the revocation names.
+fn add_named_to<V: Records>(
+    view: &mut V,
+    revocation: &Revocation,
+    grantee: &Grantee,
+    due: &mut SlotSet,
+) -> Result<(), AllocError>
+    ensures found { OnOk result ((j : ℕ) (grant : Grant) → concerned (slot_at (V.shown view.old) j) revocation.now ≡ Some grant
+        → grant.grantee ≡ grantee.now → names revocation.now grant ≡ true → is_one_of due.new j ≡ true) }
+    ensures kept { OnOk result ((j : ℕ) → is_one_of due.old j ≡ true → is_one_of due.new j ≡ true) }
+    ensures within { OnOk result ((j : ℕ) → is_one_of due.new j ≡ true
+        → (is_one_of due.old j ≡ true) ⊎ (j < length (V.shown view.old).slots)) }
+    ensures same { V.shown view.new ≡ V.shown view.old }
+{
+    add_named(view, revocation, grantee, Kind::Read, due)?;
+    add_named(view, revocation, grantee, Kind::Insert, due)?;
+    add_named(view, revocation, grantee, Kind::Update, due)?;
+    add_named(view, revocation, grantee, Kind::Delete, due)?;
     Ok(())
 }
 
@@ -293,10 +316,10 @@ fn named<V: Records>(
     ensures same { V.shown view.new ≡ V.shown view.old }
 {
     let mut due = SlotSet::new(alloc);
-    add_named(view, revocation, Kind::Read, &mut due)?;
-    add_named(view, revocation, Kind::Insert, &mut due)?;
-    add_named(view, revocation, Kind::Update, &mut due)?;
-    add_named(view, revocation, Kind::Delete, &mut due)?;
+    let grantees = revocation.grantees.as_slice();
+    for grantee in grantees {
+        add_named_to(view, revocation, grantee, &mut due)?;
+    }
     Ok(due)
 }
 
@@ -465,7 +488,7 @@ pub(crate) fn cascade<V: Records>(
 /// give, and without the revoked grants no longer do. It is the recursive revocation of Griffiths and Wade: a grant in force
 /// of one of its kinds on its table ends if the revocation names it, or if its grantor isn't the owner and has the option of its kind
 /// by no earlier grant that stays. So a cycle of grants doesn't bear itself, and a grant that an earlier way bears stays. Of each of
-/// its kinds on its table it goes through the grants by the revocation's grantor to its grantee, where the view knows which are in
+/// its kinds on its table it goes through the grants by the revocation's grantor to each of its grantees, where the view knows which are in
 /// force, and else through all to that grantee. For each user whose option ends it goes through the grants that gave it, each once,
 /// and through those by the user up to the first that still gives it. The slots to be judged are kept in a set, in a time that grows
 /// with the logarithm of their number. Besides that it takes memory for its answer. On `Err`, out of memory. What the view shows stays

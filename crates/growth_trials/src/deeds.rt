@@ -6,7 +6,7 @@ ghost use Rattle.grants_base.specs.Book.{IsLater};
 use crate::fault::TrialFault;
 use crate::refusal::print_refused;
 use grants::{Book, Creation, End, Records, holds_option, to_end};
-use model_base::{Grant, Grantee, Kind, Kinds, Place, Record, Revocation, Table, User};
+use model_base::{Grant, Grantee, Grantees, Kind, Kinds, Place, Record, Revocation, Table, User};
 use std::alloc::{AllocError, Global};
 
 /// How many tables are created, by the first deeds.
@@ -218,7 +218,7 @@ fn unlink() -> Revocation {
     Revocation {
         place: REVOKED,
         grantor: User(4),
-        grantee: Grantee::User(User(5)),
+        grantees: Grantees::of(Grantee::User(User(5))),
         kinds: Kinds::only(Kind::Read),
         table: Table(0),
     }

@@ -2,7 +2,7 @@
 
 use crate::fault::TrialFault;
 use grants::{Book, Records, holds_option};
-use model_base::{Grant, Grantee, Kind, Kinds, Place, Revocation, Table, User};
+use model_base::{Grant, Grantee, Grantees, Kind, Kinds, Place, Revocation, Table, User};
 use std::alloc::Global;
 
 pub const TABLE: Table = Table(0);
@@ -26,7 +26,7 @@ pub fn unreading(place: Place, users: (u32, u32)) -> Revocation {
     Revocation {
         place,
         grantor: User(grantor),
-        grantee: Grantee::User(User(grantee)),
+        grantees: Grantees::of(Grantee::User(User(grantee))),
         kinds: Kinds::only(Kind::Read),
         table: TABLE,
     }

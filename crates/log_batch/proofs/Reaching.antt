@@ -11,6 +11,7 @@ use Rattle.std.proofs.lemmas.Bool.Decides.{nat_tests}
 use Rattle.std.proofs.lemmas.List.Elements.{All-head, All-tail}
 use Rattle.std.proofs.lemmas.List.Folds.{list_any-append}
 use Rattle.model_base.specs.declared.deed.Grant.{Grant}
+use Rattle.model_base.specs.declared.deed.Grantee.{Grantee}
 use Rattle.model_base.specs.declared.deed.Grantee.TheVariants.{User}
 use Rattle.model_base.specs.declared.deed.Kind.{Kind}
 use Rattle.model_base.specs.declared.deed.Kind.TheVariants.{Read, Insert, Update, Delete}
@@ -24,11 +25,11 @@ use Rattle.log_batch.specs.declared.reach.Reach.{Reach}
 use Rattle.log_batch.specs.declared.revoked.Revoked.{Revoked}
 use Rattle.log_batch.specs.Holders.{grantor_of, has_holder, holder_of, new_holder}
 use Rattle.log_batch.specs.Listing.{is_against, is_lent, is_open, is_reached, is_revoked, lends, listed_below}
-use Rattle.log_batch.specs.Reach.{Adds, AddsKind, AreSeeds, IsDue, IsNextOpen, IsReach}
-use Rattle.log_batch.specs.Revoked.{has_named, is_between, is_named_by, named_by, named_with, names_of_kind}
+use Rattle.log_batch.specs.Reach.{Adds, AddsGrantees, AddsKind, AreSeeds, IsDue, IsNextOpen, IsReach}
+use Rattle.log_batch.specs.Revoked.{has_named, is_between, is_named_by, named_by, named_with, names_of_kind, names_to}
 use Rattle.grants_base.specs.Index.{is_one_of}
 use Rattle.log_batch.proofs.HolderSets.{by-holder, same_holder-true}
-use Rattle.log_batch.proofs.RevokedSets.{named-same, names-kinds, same_named-true}
+use Rattle.log_batch.proofs.RevokedSets.{and_false, named-same, names-kinds, names-more, names-to, same_named-true}
 use Rattle.grants_base.proofs.Walks.{nothing}
 use Rattle.model_base.proofs.Replay.{by_cases}
 
@@ -219,38 +220,59 @@ module _ (b : Batch) where
   seeds-same index revoked due none =
       seeds-as (is_revoked b index) (is_revoked b (suc index)) revoked due (λ grant. rw (none grant) refl)
 
-  -- what a revocation names of its kinds one after another is what it names
+  -- what a revocation names to all its grantees is what it names
   pub seeds-whole : (index : ℕ) (revocation : Revocation) (revoked : Revoked) (due : List ℕ) → ((grant : Grant) → is_against (b.deed index) grant ≡ names revocation grant)
-      → AreSeeds b (λ grant. names_of_kind revocation Delete grant || (names_of_kind revocation Update grant || (names_of_kind revocation Insert grant || (names_of_kind revocation Read grant || is_revoked b index grant)))) revoked due
+      → AreSeeds b (λ grant. names_to revocation revocation.grantees grant || is_revoked b index grant) revoked due
       → AreSeeds b (is_revoked b (suc index)) revoked due
   seeds-whole index revocation revoked due against =
-      seeds-as (λ grant. names_of_kind revocation Delete grant || (names_of_kind revocation Update grant || (names_of_kind revocation Insert grant || (names_of_kind revocation Read grant || is_revoked b index grant))))
-      (is_revoked b (suc index)) revoked due
-      (λ grant. names-kinds revocation grant (is_revoked b index grant) ∙ ap (λ x. x || is_revoked b index grant) (sym (against grant)))
+      seeds-as (λ grant. names_to revocation revocation.grantees grant || is_revoked b index grant) (is_revoked b (suc index)) revoked due
+      (λ grant. ap (λ x. x || is_revoked b index grant) (sym (names-to revocation grant) ∙ sym (against grant)))
 
-  module _ (revocation : Revocation) (kind : Kind) where
+  -- what it names to a grantee of its kinds one after another is what it names to the grantee
+  pub kinds-whole : (revocation : Revocation) (grantee : Grantee) (passes : Grant → Bool) (revoked : Revoked) (due : List ℕ)
+      → AreSeeds b (λ grant. names_of_kind revocation grantee Delete grant || (names_of_kind revocation grantee Update grant || (names_of_kind revocation grantee Insert grant || (names_of_kind revocation grantee Read grant || passes grant)))) revoked due
+      → AreSeeds b (λ grant. names_to revocation (grantee ∷ []) grant || passes grant) revoked due
+  kinds-whole revocation grantee passes revoked due =
+      seeds-as (λ grant. names_of_kind revocation grantee Delete grant || (names_of_kind revocation grantee Update grant || (names_of_kind revocation grantee Insert grant || (names_of_kind revocation grantee Read grant || passes grant))))
+      (λ grant. names_to revocation (grantee ∷ []) grant || passes grant) revoked due (λ grant. names-kinds revocation grantee grant (passes grant))
+
+  -- to no grantee it names nothing
+  pub grantees-none : (revocation : Revocation) (revoked : Revoked) (due : List ℕ) → AddsGrantees b revocation [] revoked revoked due due
+  grantees-none revocation revoked due = λ passes.
+      seeds-as passes (λ grant. names_to revocation [] grant || passes grant) revoked due (λ grant. sym (ap (λ x. x || passes grant) (and_false (revocation.grantor == grant.grantor))))
+
+  -- to one grantee more
+  pub grantees-more : (revocation : Revocation) (grantees : List Grantee) (grantee : Grantee) (old new newest : Revoked) (due more most : List ℕ)
+      → AddsGrantees b revocation grantees old new due more → AddsGrantees b revocation (grantee ∷ []) new newest more most
+      → AddsGrantees b revocation (grantees ++ grantee ∷ []) old newest due most
+  grantees-more revocation grantees grantee old new newest due more most adds further = λ passes seeds.
+      seeds-as (λ grant. names_to revocation (grantee ∷ []) grant || (names_to revocation grantees grant || passes grant))
+      (λ grant. names_to revocation (grantees ++ grantee ∷ []) grant || passes grant) newest most
+      (λ grant. names-more revocation grantees grantee grant (passes grant)) (further (λ grant. names_to revocation grantees grant || passes grant) (adds passes seeds))
+
+  module _ (revocation : Revocation) (grantee : Grantee) (kind : Kind) where
     -- a kind that the revocation doesn't speak of
-    pub kind-apart : (revoked : Revoked) (due : List ℕ) → has_kind revocation.kinds kind ≡ false → AddsKind b revocation kind revoked revoked due due
+    pub kind-apart : (revoked : Revoked) (due : List ℕ) → has_kind revocation.kinds kind ≡ false → AddsKind b revocation grantee kind revoked revoked due due
     kind-apart revoked due apart = λ passes.
-        seeds-as passes (λ grant. names_of_kind revocation kind grant || passes grant) revoked due (λ grant. sym (ap (λ x. (x && is_between revocation kind grant) || passes grant) apart))
+        seeds-as passes (λ grant. names_of_kind revocation grantee kind grant || passes grant) revoked due (λ grant. sym (ap (λ x. (x && is_between revocation grantee kind grant) || passes grant) apart))
 
     module _ (among : has_kind revocation.kinds kind ≡ true) (old new : Revoked) (due : List ℕ)
-        (put : (grant : Grant) → is_named_by new grant ≡ (is_between revocation kind grant || is_named_by old grant)) where
+        (put : (grant : Grant) → is_named_by new grant ≡ (is_between revocation grantee kind grant || is_named_by old grant)) where
       abbrev between : Grant → Bool
-      between = is_between revocation kind
+      between = is_between revocation grantee kind
 
       abbrev with : (Grant → Bool) → Grant → Bool
       with passes grant = between grant || passes grant
 
-      spoken : (more : List ℕ) (passes : Grant → Bool) → AreSeeds b (with passes) new more → AreSeeds b (λ grant. names_of_kind revocation kind grant || passes grant) new more
+      spoken : (more : List ℕ) (passes : Grant → Bool) → AreSeeds b (with passes) new more → AreSeeds b (λ grant. names_of_kind revocation grantee kind grant || passes grant) new more
       spoken more passes =
-          seeds-as (with passes) (λ grant. names_of_kind revocation kind grant || passes grant) new more (λ grant. sym (ap (λ x. (x && between grant) || passes grant) among))
+          seeds-as (with passes) (λ grant. names_of_kind revocation grantee kind grant || passes grant) new more (λ grant. sym (ap (λ x. (x && between grant) || passes grant) among))
 
       put-named : (passes : Grant → Bool) → ((grant : Grant) → is_named_by old grant ≡ passes grant) → (grant : Grant) → is_named_by new grant ≡ with passes grant
       put-named passes named grant = put grant ∙ ap (λ x. between grant || x) (named grant)
 
       -- one that names of the kind what one before it named
-      pub kind-again : has_named old (named_by revocation kind) ≡ true → AddsKind b revocation kind old new due due
+      pub kind-again : has_named old (named_by revocation grantee kind) ≡ true → AddsKind b revocation grantee kind old new due due
       kind-again was = λ passes seeds. spoken due passes (record {
         named = put-named passes seeds.named;
         all = λ j less open_j is. seeds.all j less open_j (sym (at passes seeds.named (slice_get (batch_slots b) j)) ∙ is);
@@ -261,7 +283,7 @@ module _ (b : Batch) where
           same passes named grant =
               by_cases (between grant)
               (λ yes.
-              let here = same_named-true (named_by revocation kind) (named_with grant) (named-same revocation kind grant ∙ yes) in
+              let here = same_named-true (named_by revocation grantee kind) (named_with grant) (named-same revocation grantee kind grant ∙ yes) in
               let revoked : passes grant ≡ true = sym (named grant) ∙ ap (has_named old) (sym here) ∙ was in
               rw (yes, revoked) refl)
               (λ no. rw no refl)
@@ -272,7 +294,7 @@ module _ (b : Batch) where
           at passes named (Some grant) = same passes named grant
 
       -- and one that names of it what none before it named
-      pub kind-more : (more : List ℕ) → Adds b between 0 (earlier_count b) due more → AddsKind b revocation kind old new due more
+      pub kind-more : (more : List ℕ) → Adds b between 0 (earlier_count b) due more → AddsKind b revocation grantee kind old new due more
       kind-more more adds = λ passes seeds. spoken more passes (record {
         named = put-named passes seeds.named;
         all = λ j less open_j is. elim (parts passes (slice_get (batch_slots b) j) is) [

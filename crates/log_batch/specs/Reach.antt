@@ -1,6 +1,7 @@
 -- How far the slots are found that a batch may reach.
 use Rattle.std.specs.Prelude.{◌≡◌, ◌<◌, ◌≤◌, ◌||◌, ◌⊎◌, ℕ, Bool, true, false, Option, Some, None, List, IfSome}
 use Rattle.model_base.specs.declared.deed.Grant.{Grant}
+use Rattle.model_base.specs.declared.deed.Grantee.{Grantee}
 use Rattle.model_base.specs.declared.deed.Kind.{Kind}
 use Rattle.model_base.specs.declared.deed.Revocation.{Revocation}
 use Rattle.grants_base.specs.Force.{gives_by}
@@ -14,7 +15,7 @@ use Rattle.log_batch.specs.declared.reach.Reach.{Reach}
 use Rattle.log_batch.specs.declared.revoked.Revoked.{Revoked}
 use Rattle.log_batch.specs.Holders.{grantor_of, has_holder}
 use Rattle.log_batch.specs.Listing.{is_lent, is_open, is_reached, is_revoked, listed_below}
-use Rattle.log_batch.specs.Revoked.{is_named_by, names_of_kind}
+use Rattle.log_batch.specs.Revoked.{is_named_by, names_of_kind, names_to}
 
 -- whether the grant is by the user, to the grantee where one is given, and is of the kind on the table
 abbrev pub has_party : Party → Kind → ℕ → Grant → Bool
@@ -44,11 +45,17 @@ pub record AreSeeds (batch : Batch) (passes : Grant → Bool) (revoked : Revoked
   pub only : (j : ℕ) → is_one_of due j ≡ true
       → (j < earlier_count batch) × (is_open batch j ≡ true) × (passes_at passes (batch_slots batch) j ≡ true)
 
--- with the grants of a kind that a revocation names, more are named and due by them
-abbrev pub AddsKind : Batch → Revocation → Kind → Revoked → Revoked → List ℕ → List ℕ → Type 0
-AddsKind batch revocation kind old new due more =
+-- with the grants of a kind to a grantee that a revocation names, more are named and due by them
+abbrev pub AddsKind : Batch → Revocation → Grantee → Kind → Revoked → Revoked → List ℕ → List ℕ → Type 0
+AddsKind batch revocation grantee kind old new due more =
     (passes : Grant → Bool) → AreSeeds batch passes old due
-    → AreSeeds batch (λ grant. names_of_kind revocation kind grant || passes grant) new more
+    → AreSeeds batch (λ grant. names_of_kind revocation grantee kind grant || passes grant) new more
+
+-- and so with those to some grantees
+abbrev pub AddsGrantees : Batch → Revocation → List Grantee → Revoked → Revoked → List ℕ → List ℕ → Type 0
+AddsGrantees batch revocation grantees old new due more =
+    (passes : Grant → Bool) → AreSeeds batch passes old due
+    → AreSeeds batch (λ grant. names_to revocation grantees grant || passes grant) new more
 
 -- all slots below one are found that the batch may reach, to whom they give the option, and what its revocations name
 pub record IsReach (batch : Batch) (low : ℕ) (reach : Reach) : Type 0 where

@@ -10,7 +10,7 @@ ghost use Rattle.log_batch.specs.Earlier.{earlier_count, earlier_grants, records
 ghost use Rattle.log_batch.specs.Supplied.{batch_of};
 ghost use Rattle.log_batch.specs.Holders.{grantor_of, has_holder, new_holder};
 ghost use Rattle.log_batch.specs.Listing.{is_open, is_reached, is_revoked, lends};
-ghost use Rattle.log_batch.specs.Reach.{Adds, AddsKind, AreSeeds, IsDue, IsNextOpen, IsReach, has_party};
+ghost use Rattle.log_batch.specs.Reach.{Adds, AddsGrantees, AddsKind, AreSeeds, IsDue, IsNextOpen, IsReach, has_party};
 ghost use Rattle.log_batch.specs.Revoked.{is_named_by};
 ghost use Rattle.grants_base.specs.Index.{is_one_of};
 
@@ -154,28 +154,65 @@ fn add_grants(
     Ok(())
 }
 
-/// The grants from before the batch that the revocation names are due, those of a kind. They are looked up once for all revocations
-/// that name the same.
+/// The grants from before the batch to the grantee that the revocation names are due, those of a kind. They are looked up once for all
+/// revocations that name the same.
 fn put_kind(
     batch: &LogBatch<'_>,
     revocation: &Revocation,
+    grantee: &Grantee,
     kind: Kind,
     revoked: &mut Revoked,
     due: &mut BTreeSet<usize>,
 ) -> Result<(), AllocError>
-    ensures { OnOk result (AddsKind (batch_of batch.now) revocation.now kind revoked.old revoked.new due.old.keys due.new.keys) }
+    ensures { OnOk result (AddsKind (batch_of batch.now) revocation.now grantee.now kind
+        revoked.old revoked.new due.old.keys due.new.keys) }
 {
     if !revocation.kinds.contains(kind) {
         return Ok(());
     }
-    if revoked.put(revocation, kind)? {
-        let party = Party::Between(revocation.grantor, revocation.grantee);
+    if revoked.put(revocation, grantee, kind)? {
+        let party = Party::Between(revocation.grantor, *grantee);
         add_grants(batch, &party, kind, revocation.table, 0, due)?;
     }
     Ok(())
 }
 
-/// The deed of a place, if there is one and it is a revocation: the grants from before the batch that it names are due, kind by kind.
+/// The grants from before the batch to the grantee that the revocation names are due, kind by kind.
+fn put_grantee(
+    batch: &LogBatch<'_>,
+    revocation: &Revocation,
+    grantee: &Grantee,
+    revoked: &mut Revoked,
+    due: &mut BTreeSet<usize>,
+) -> Result<(), AllocError>
+    ensures { OnOk result (AddsGrantees (batch_of batch.now) revocation.now (grantee.now ∷ [])
+        revoked.old revoked.new due.old.keys due.new.keys) }
+{
+    put_kind(batch, revocation, grantee, Kind::Read, revoked, due)?;
+    put_kind(batch, revocation, grantee, Kind::Insert, revoked, due)?;
+    put_kind(batch, revocation, grantee, Kind::Update, revoked, due)?;
+    put_kind(batch, revocation, grantee, Kind::Delete, revoked, due)?;
+    Ok(())
+}
+
+/// The grants from before the batch that the revocation names are due, grantee by grantee.
+fn put_revocation(
+    batch: &LogBatch<'_>,
+    revocation: &Revocation,
+    revoked: &mut Revoked,
+    due: &mut BTreeSet<usize>,
+) -> Result<(), AllocError>
+    ensures { OnOk result (AddsGrantees (batch_of batch.now) revocation.now revocation.now.grantees
+        revoked.old revoked.new due.old.keys due.new.keys) }
+{
+    let grantees = revocation.grantees.as_slice();
+    for grantee in grantees {
+        put_grantee(batch, revocation, grantee, revoked, due)?;
+    }
+    Ok(())
+}
+
+/// The deed of a place, if there is one and it is a revocation: the grants from before the batch that it names are due.
 fn put_deed(
     batch: &LogBatch<'_>,
     index: usize,
@@ -190,10 +227,7 @@ fn put_deed(
     let Some(Deed::Revoking(revocation)) = deed else {
         return Ok(());
     };
-    put_kind(batch, &revocation, Kind::Read, revoked, due)?;
-    put_kind(batch, &revocation, Kind::Insert, revoked, due)?;
-    put_kind(batch, &revocation, Kind::Update, revoked, due)?;
-    put_kind(batch, &revocation, Kind::Delete, revoked, due)?;
+    put_revocation(batch, &revocation, revoked, due)?;
     Ok(())
 }
 

@@ -49,7 +49,7 @@ accesses_need tables (access ∷ accesses) within =
 deed_needs : (tables : ℕ) (deed : DeedForm) → table_of deed < tables → All (λ (need : Need). need.table < tables) (needs_of_deed deed)
 deed_needs tables (DeedForm.Grant kind table grantee option) less =
     All-cons (λ (need : Need). need.table < tables) _ [] less (All-nil (λ (need : Need). need.table < tables))
-deed_needs tables (DeedForm.Revoke kind table grantee) less = All-nil (λ (need : Need). need.table < tables)
+deed_needs tables (DeedForm.Revoke kinds table grantees) less = All-nil (λ (need : Need). need.table < tables)
 
 named-form : (user : ℕ) (form : Form) (tables : ℕ) → All (λ access. access.key.table < tables) (accesses_of form) → All (λ t. t < tables) (deed_tables form)
     → NeedsWithin tables (record { user = user; form = form })

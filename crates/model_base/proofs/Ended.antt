@@ -9,7 +9,7 @@ use Rattle.model_base.specs.declared.deed.Record.{Record}
 use Rattle.model_base.specs.declared.deed.Revocation.{Revocation}
 use Rattle.model_base.specs.declared.deed.Deed.{Deed}
 use Rattle.model_base.specs.declared.deed.Deed.TheVariants.{Revoking}
-use Rattle.model_base.specs.Privileges.{has_kind, same_grantee, concerns, names, replayed, kept, is_among, lost, ended_by, IsProper}
+use Rattle.model_base.specs.Privileges.{has_grantee, has_kind, concerns, names, replayed, kept, is_among, lost, ended_by, IsProper}
 use Rattle.model_base.specs.Laws.{IsRising}
 use Rattle.model_base.specs.Records.{records, in_force, ended_by_records, covered}
 use Rattle.model_base.proofs.Replay.{by_cases, kept-revoke, kept-replayed}
@@ -61,7 +61,7 @@ module _ (owners : List ℕ) (revocation : Revocation) where
   -- a revocation doesn't name what it doesn't concern
   unnamed : (grant : Grant) → not (concerns revocation grant) ≡ true → names revocation grant ≡ false
   unfolding names
-  unnamed grant other = rw (not-true (concerns revocation grant) other) (and_false (revocation.grantor == grant.grantor) (same_grantee revocation.grantee grant.grantee))
+  unnamed grant other = rw (not-true (concerns revocation grant) other) (and_false (revocation.grantor == grant.grantor) (has_grantee revocation.grantees grant.grantee))
     where
       and_false : (a b : Bool) → (a && (b && false)) ≡ false
       and_false true true = refl

@@ -47,7 +47,7 @@ take-next (suc n) (x ∷ xs) =
 -- the deed of a form has its place
 deed_at-place : (place user : ℕ) (form : DeedForm) → place_of (deed_at place user form) ≡ place
 deed_at-place place user (DeedForm.Grant kind table grantee option) = refl
-deed_at-place place user (DeedForm.Revoke kinds table grantee) = refl
+deed_at-place place user (DeedForm.Revoke kinds table grantees) = refl
 
 -- the deed of a statement has its place
 pub deed_of-place : (place user : ℕ) (form : Form) (deed : Deed) → deed_of place user form ≡ Some deed → place_of deed ≡ place
@@ -88,7 +88,7 @@ module _ (owners : List ℕ) (place user : ℕ) (deeds : List Deed) (below : All
   may_follow-form (DeedForm.Grant kind table grantee option) held =
       let need : Need = record { table = table; kind = kind; option = true } in
       (below, not-false (holds owners deeds user need) (find-none_one (λ need. not (holds owners deeds user need)) need held))
-  may_follow-form (DeedForm.Revoke kinds table grantee) held = below
+  may_follow-form (DeedForm.Revoke kinds table grantees) held = below
 
   pub may_follow : (form : Form) (deed : Deed) → find (λ need. not (holds owners deeds user need)) (needs form) ≡ None
       → deed_of place user form ≡ Some deed → MayFollow owners deeds deed

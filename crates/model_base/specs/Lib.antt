@@ -1,6 +1,7 @@
 pub mod Rows
 pub mod Values
 pub mod Registers
+pub mod Grantees
 pub mod Privileges
 pub mod Body
 pub mod Outcomes

@@ -51,7 +51,7 @@ needs_of_access access = map (need_of access) (kinds_in access.kinds)
 -- a grant needs its kind with the option, a revocation nothing
 abbrev pub needs_of_deed : DeedForm → List Need
 needs_of_deed (DeedForm.Grant kind table grantee option) = record { table = table; kind = kind; option = true } ∷ []
-needs_of_deed (DeedForm.Revoke kinds table grantee) = []
+needs_of_deed (DeedForm.Revoke kinds table grantees) = []
 
 -- what a statement's user must hold, in the order in which it is checked
 abbrev pub needs : Form → List Need
@@ -63,8 +63,8 @@ needs (Form.Deed deed) = needs_of_deed deed
 abbrev pub deed_at : ℕ → ℕ → DeedForm → Deed
 deed_at place user (DeedForm.Grant kind table grantee option) =
     Granting (record { place = place; grantor = user; grantee = grantee; kind = kind; table = table; option = option })
-deed_at place user (DeedForm.Revoke kinds table grantee) =
-    Revoking (record { place = place; grantor = user; grantee = grantee; kinds = kinds; table = table })
+deed_at place user (DeedForm.Revoke kinds table grantees) =
+    Revoking (record { place = place; grantor = user; grantees = grantees; kinds = kinds; table = table })
 
 -- the deed that a statement makes at a place, if its body completes
 abbrev pub deed_of : ℕ → ℕ → Form → Option Deed

@@ -51,6 +51,10 @@ same_grantee (User user) (User other) = user == other
 same_grantee Public Public = true
 same_grantee _ _ = false
 
+-- whether the grantee is among these
+abbrev pub has_grantee : List Grantee → Grantee → Bool
+has_grantee grantees grantee = list_any (λ other. same_grantee other grantee) grantees
+
 -- whether what is granted to the grantee is granted to the user: PUBLIC is every user, where no option is needed
 abbrev pub reaches : Grantee → ℕ → Bool → Bool
 reaches (User grantee) user option = grantee == user
@@ -90,7 +94,7 @@ concerns revocation grant = has_kind revocation.kinds grant.kind && (revocation.
 -- whether the revocation names the grant
 unfoldable pub names : Revocation → Grant → Bool
 names revocation grant =
-    (revocation.grantor == grant.grantor) && (same_grantee revocation.grantee grant.grantee && concerns revocation grant)
+    (revocation.grantor == grant.grantor) && (has_grantee revocation.grantees grant.grantee && concerns revocation grant)
 
 -- whether the deed is a revocation that names the grant
 abbrev pub revokes : Deed → Grant → Bool

@@ -3,7 +3,9 @@
 //! After P. P. Griffiths and B. W. Wade, "An Authorization Mechanism for a Relational Database System", ACM TODS 1
 //! (1976), and R. Fagin, "On an Authorization Mechanism", ACM TODS 3 (1978).
 
+use crate::limits::MOST_GRANTEES;
 use crate::name::{Place, Table, User};
+use std::marker::Model;
 
 /// What a privilege lets its holder do with the rows of a table.
 #[derive(Clone, Copy, PartialEq, Eq, Debug)]
@@ -111,6 +113,62 @@ impl Grantee {
     }
 }
 
+/// From one to `MOST_GRANTEES` grantees, each once, in order, kept in the value itself, so that a copy doesn't allocate.
+#[derive(Clone, Copy, PartialEq, Eq, Debug)]
+pub struct Grantees {
+    len: u8,
+    grantees: [Grantee; MOST_GRANTEES],
+}
+
+impl Model for Grantees {
+    ghost use Rattle.std.specs.Prelude.{List};
+    ghost use Rattle.model_base.specs.declared.deed.Grantee.{Grantee};
+
+    ghost Value = { List Grantee };
+
+    ghost use Rattle.model_base.specs.Grantees.{grantees_of, IsPadded, padded, padded-undoes};
+
+    ghost view = { grantees_of };
+
+    ghost invariant = { IsPadded };
+
+    ghost inverse = { padded };
+
+    ghost inverse_ok = { padded-undoes };
+}
+
+impl Grantees {
+    ghost use Rattle.std.specs.Prelude.{◌≡◌, ◌≤◌, ◌∷◌, [], length};
+    ghost use Rattle.model_base.specs.Grantees.{AreDistinct};
+    ghost use Rattle.model_base.specs.Privileges.{has_grantee};
+
+    /// The one grantee alone.
+    pub fn of(grantee: Grantee) -> Self
+        ensures { result ≡ grantee ∷ [] }
+    {
+        let mut grantees = [Grantee::Public; MOST_GRANTEES];
+        grantees[0] = grantee;
+        Grantees { len: 1, grantees }
+    }
+
+    /// The grantees, in order.
+    pub fn as_slice(&self) -> &[Grantee]
+        ensures value { result.now ≡ self.now }
+        ensures some { 1 ≤ length self.now }
+        ensures most { length self.now ≤ MOST_GRANTEES }
+        ensures apart { AreDistinct self.now }
+    {
+        &self.grantees[..self.len as usize]
+    }
+
+    /// Whether the grantee is one of these.
+    pub fn contains(&self, grantee: &Grantee) -> bool
+        ensures { result ≡ has_grantee self.now grantee.now }
+    {
+        self.as_slice().iter().any(|other| other.is_same(*grantee))
+    }
+}
+
 /// One grant of one kind on one table to one user, or to all, with the place of its transaction.
 #[derive(Clone, Copy, PartialEq, Eq, Debug)]
 pub struct Grant {
@@ -165,12 +223,12 @@ impl Grant {
     }
 }
 
-/// The revocation of its grantor's earlier grants of some kinds on one table to one user, or to all.
+/// The revocation of its grantor's earlier grants of some kinds on one table to some users, or to all.
 #[derive(Clone, Copy, PartialEq, Eq, Debug)]
 pub struct Revocation {
     pub place: Place,
     pub grantor: User,
-    pub grantee: Grantee,
+    pub grantees: Grantees,
     pub kinds: Kinds,
     pub table: Table,
 }
@@ -186,12 +244,14 @@ impl Revocation {
         self.kinds.contains(grant.kind) && self.table == grant.table
     }
 
-    /// Whether it names the grant: its grantor made that to its grantee, of one of its kinds on its table.
+    /// Whether it names the grant: its grantor made that to one of its grantees, of one of its kinds on its table.
     #[tactic(auto, unfolding(crate::specs::Privileges::names))]
     pub fn names(&self, grant: &Grant) -> bool
         ensures { result ≡ names self.now grant.now }
     {
-        self.grantor == grant.grantor && self.grantee.is_same(grant.grantee) && self.concerns(grant)
+        self.grantor == grant.grantor
+            && self.grantees.contains(&grant.grantee)
+            && self.concerns(grant)
     }
 }
 

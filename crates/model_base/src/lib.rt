@@ -22,7 +22,7 @@ mod reference;
 mod row;
 mod statement;
 
-pub use deed::{Cause, Deed, Grant, Grantee, Kind, Kinds, Need, Record, Revocation};
+pub use deed::{Cause, Deed, Grant, Grantee, Grantees, Kind, Kinds, Need, Record, Revocation};
 pub use growing_laws::earlier_places_stand;
 pub use hash_seed::HashSeed;
 pub use laws::{
@@ -32,9 +32,9 @@ pub use laws::{
     public_is_every_user, revocations_add_none,
 };
 pub use limits::{
-    MOST_ACCESSES, MOST_BATCH_STATEMENTS, MOST_COLUMNS, MOST_KEPT_BATCHES, MOST_NAME_BYTES,
-    MOST_NAMES, MOST_OUTPUTS, MOST_PARTITIONS, MOST_PLACES, MOST_REGISTERS, MOST_STEPS,
-    MOST_VALUES, MOST_WORKERS,
+    MOST_ACCESSES, MOST_BATCH_STATEMENTS, MOST_COLUMNS, MOST_GRANTEES, MOST_KEPT_BATCHES,
+    MOST_NAME_BYTES, MOST_NAMES, MOST_OUTPUTS, MOST_PARTITIONS, MOST_PLACES, MOST_REGISTERS,
+    MOST_STEPS, MOST_VALUES, MOST_WORKERS,
 };
 pub use list::Items;
 pub use name::{Place, RowNumber, Table, User};

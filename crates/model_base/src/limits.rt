@@ -21,6 +21,9 @@ pub const MOST_VALUES: usize = MOST_COLUMNS;
 
 const _: () = prove!(MOST_OUTPUTS <= MOST_VALUES);
 
+/// Grantees of a revocation.
+pub const MOST_GRANTEES: usize = 8;
+
 /// Bytes of a user's or a table's name; a longer name is refused.
 pub const MOST_NAME_BYTES: usize = 32;
 

@@ -1,6 +1,6 @@
 //! The statements of a log.
 
-use crate::deed::{Deed, Grant, Grantee, Kind, Kinds, Revocation};
+use crate::deed::{Deed, Grant, Grantee, Grantees, Kind, Kinds, Revocation};
 use crate::limits::{MOST_COLUMNS, MOST_REGISTERS};
 use crate::list::Items;
 use crate::name::{Place, RowNumber, Table, User};
@@ -205,7 +205,7 @@ pub enum DeedForm {
     Revoke {
         kinds: Kinds,
         table: Table,
-        grantee: Grantee,
+        grantees: Grantees,
     },
 }
 
@@ -244,11 +244,11 @@ impl DeedForm {
             DeedForm::Revoke {
                 kinds,
                 table,
-                grantee,
+                grantees,
             } => Deed::Revoking(Revocation {
                 place,
                 grantor: user,
-                grantee,
+                grantees,
                 kinds,
                 table,
             }),

@@ -193,7 +193,7 @@ accesses_needs_length (access ∷ accesses) =
 
 deed_needs_length : (deed : DeedForm) → length (needs_of_deed deed) ≤ 1
 deed_needs_length (DeedForm.Grant kind table grantee option) = omega arith
-deed_needs_length (DeedForm.Revoke kinds table grantee) = omega arith
+deed_needs_length (DeedForm.Revoke kinds table grantees) = omega arith
 
 -- a statement has at most four needs for each access, and one for its deed
 pub needs_length : (form : Form) → length (needs form) ≤ 4 * length (accesses_of form) + 1

@@ -130,7 +130,7 @@ deed_form (Form.Deed deed) = Some deed
 abbrev pub deed_told : List ℕ → Option DeedForm → DeedDone
 deed_told ended None = DeedDone.None
 deed_told ended (Some (DeedForm.Grant kind table grantee option)) = DeedDone.Granted
-deed_told ended (Some (DeedForm.Revoke kinds table grantee)) = DeedDone.Revoked ended
+deed_told ended (Some (DeedForm.Revoke kinds table grantees)) = DeedDone.Revoked ended
 
 -- a completed transaction: of the words after word 3 this many are outputs as that says, and at most `MOST_OUTPUTS`
 abbrev pub done_from : Form → List ℕ → List ℕ → Outcome

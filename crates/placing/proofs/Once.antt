@@ -134,7 +134,7 @@ tables-needed form = map (λ (need : Need). need.table) (flat_map needs_of_acces
 
 deed-tables : (numbers : List ℕ) (deed : DeedForm) → with_numbers numbers (map (λ (need : Need). need.table) (needs_of_deed deed) ++ table_of deed ∷ []) ≡ with_number numbers (table_of deed)
 deed-tables numbers (DeedForm.Grant kind table grantee option) = again numbers table
-deed-tables numbers (DeedForm.Revoke kinds table grantee) = refl
+deed-tables numbers (DeedForm.Revoke kinds table grantees) = refl
 
 with_deed : (form : Form) → with_numbers (with_numbers [] (tables-needed form)) (deed_tables form) ≡ with_numbers [] (map (λ (need : Need). need.table) (needs form) ++ deed_tables form)
 with_deed (Form.Create table columns) = refl

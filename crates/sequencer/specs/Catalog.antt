@@ -57,7 +57,7 @@ abbrev pub numbered_deed : Names → RawDeed → DeedForm
 numbered_deed names (RawDeed.Grant kind table grantee option) =
     DeedForm.Grant kind (number_of names.tables table) (numbered_grantee names.users grantee) option
 numbered_deed names (RawDeed.Revoke kind table grantee) =
-    DeedForm.Revoke (only kind) (number_of names.tables table) (numbered_grantee names.users grantee)
+    DeedForm.Revoke (only kind) (number_of names.tables table) (numbered_grantee names.users grantee ∷ [])
 
 -- what a statement asks for, with its names by number
 abbrev pub numbered_form : Names → RawForm → Form

@@ -10,7 +10,7 @@ use crate::catalog::Catalog;
 use crate::refused::Refused;
 use crate::testing::{is_repeated, test_skip};
 use log_text::{RawAccess, RawDeed, RawStep};
-use model_base::{Access, DeedForm, Grantee, Items, Key, Kinds, Step, Table};
+use model_base::{Access, DeedForm, Grantee, Grantees, Items, Key, Kinds, Step, Table};
 
 /// The deed with its table and its grantee by number.
 pub(crate) fn deed_form(deed: &RawDeed<'_>, table: Table, grantee: Grantee) -> DeedForm
@@ -28,7 +28,7 @@ pub(crate) fn deed_form(deed: &RawDeed<'_>, table: Table, grantee: Grantee) -> D
         RawDeed::Revoke { kind, .. } => DeedForm::Revoke {
             kinds: Kinds::only(*kind),
             table,
-            grantee,
+            grantees: Grantees::of(grantee),
         },
     }
 }

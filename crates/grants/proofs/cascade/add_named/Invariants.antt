@@ -13,7 +13,7 @@ invariant-loop-from g l = record {
   same : g.V.Records.shown l.view ≡ g.V.Records.shown l.initial.view;
   slots : l.end ≡ length (g.V.Records.shown l.initial.view).slots;
   found : (j : ℕ) (grant : Grant) → j < l.from → concerned (slot_at (g.V.Records.shown l.initial.view) j) l.revocation ≡ Some grant
-      → grant.kind ≡ l.kind → names l.revocation grant ≡ true → is_one_of l.due j ≡ true;
+      → grant.grantee ≡ l.grantee → grant.kind ≡ l.kind → names l.revocation grant ≡ true → is_one_of l.due j ≡ true;
   kept : (j : ℕ) → is_one_of l.initial.due j ≡ true → is_one_of l.due j ≡ true;
   within : (j : ℕ) → is_one_of l.due j ≡ true → (is_one_of l.initial.due j ≡ true) ⊎ (j < length (g.V.Records.shown l.initial.view).slots);
 }
