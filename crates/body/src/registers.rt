@@ -1,7 +1,9 @@
 //! What the steps that only use registers do.
 
-ghost use Rattle.std.specs.Prelude.{◌≡◌, pos, slice_index_or};
-ghost use Rattle.model_base.specs.Body.{Machine, computed, flag, put, put_fitting, read_register};
+ghost use Rattle.std.specs.Prelude.{◌≡◌, List, pos, slice_index_or};
+ghost use Rattle.model_base.specs.declared.statement.Access.{Access};
+ghost use Rattle.model_base.specs.declared.statement.Step.{Step};
+ghost use Rattle.model_base.specs.Body.{Machine, computed, flag, perform, put, put_fitting, read_register};
 ghost use Rattle.body.specs.Work.{effect_of, if_fits};
 
 use crate::steps::StepEnd;
@@ -63,4 +65,25 @@ pub(crate) fn compute(
         Some(value) => write(registers, to, value),
         None => StepEnd::Aborts(Reason::Overflow),
     }
+}
+
+/// Goes on, unless the register holds 0.
+pub(crate) fn check(registers: &[i64; MOST_REGISTERS], of: Register) -> StepEnd
+    ensures { (accesses : List Access) (m : Machine) → m.registers ≡ registers.now
+        → effect_of result m ≡ perform accesses (Step.Check of) m }
+{
+    if read(registers, of) == 0 {
+        StepEnd::Aborts(Reason::Check)
+    } else {
+        StepEnd::GoesOn(0)
+    }
+}
+
+/// Passes over this many steps, unless the register holds 0.
+pub(crate) fn skip(registers: &[i64; MOST_REGISTERS], of: Register, steps: u32) -> StepEnd
+    ensures { (accesses : List Access) (m : Machine) → m.registers ≡ registers.now
+        → effect_of result m ≡ perform accesses (Step.Skip of steps) m }
+{
+    let passed = if read(registers, of) == 0 { 0 } else { steps };
+    StepEnd::GoesOn(passed)
 }

@@ -10,7 +10,7 @@ ghost use Rattle.body.specs.Shown.{WindowShows, with_rows};
 ghost use Rattle.body.specs.Work.{IsPlace, Performs};
 
 use crate::ending::BodyEnd;
-use crate::registers::{compute, flag, read, write};
+use crate::registers::{check, compute, flag, read, skip, write};
 use crate::window::Window;
 use model_base::{
     Access, Kind, MOST_ACCESSES, MOST_COLUMNS, MOST_OUTPUTS, MOST_REGISTERS, Reason, Register,
@@ -23,6 +23,23 @@ pub(crate) enum StepEnd {
     GoesOn(u32),
     Aborts(Reason),
     Undeclared,
+}
+
+/// A column of a row, as a step names it.
+#[derive(Clone, Copy)]
+struct CellName {
+    table: Table,
+    row: RowName,
+    column: u32,
+}
+
+impl CellName {
+    /// The column of this number of the row.
+    fn new(table: Table, row: RowName, column: u32) -> Self
+        ensures { result ≡ record { table = table; row = row; column = column } }
+    {
+        CellName { table, row, column }
+    }
 }
 
 /// The number of a row, as a step gives it.
@@ -95,46 +112,44 @@ fn has(
     }
 }
 
-/// A column of the row.
+/// The number in a column of a row.
 fn load(
     accesses: &[Access],
     window: &Window,
     registers: &mut [i64; MOST_REGISTERS],
     to: Register,
-    table: Table,
-    row: RowName,
-    column: u32,
+    cell: CellName,
 ) -> StepEnd
     requires { length accesses.now ≤ MOST_ACCESSES }
-    ensures { Performs accesses.now (Step.Load to table row column) window.now registers.old result window.now registers.new }
+    ensures { Performs accesses.now (Step.Load to cell.table cell.row cell.column)
+        window.now registers.old result window.now registers.new }
 {
-    match place_of(accesses, registers, Kind::Read, table, row) {
+    match place_of(accesses, registers, Kind::Read, cell.table, cell.row) {
         None => StepEnd::Undeclared,
         Some(place) => match window.row(place) {
             None => StepEnd::Aborts(Reason::NoRow),
-            Some(found) => { write(registers, to, found.column(column)) }
+            Some(found) => { write(registers, to, found.column(cell.column)) }
         },
     }
 }
 
-/// Writes a number into a column of the row.
+/// Writes a number into a column of a row.
 fn store(
     accesses: &[Access],
     window: &mut Window,
     registers: &[i64; MOST_REGISTERS],
-    table: Table,
-    row: RowName,
-    column: u32,
+    cell: CellName,
     from: Register,
 ) -> StepEnd
     requires { length accesses.now ≤ MOST_ACCESSES }
-    ensures effect { Performs accesses.now (Step.Store table row column from) window.old registers.now result window.new registers.now }
+    ensures effect { Performs accesses.now (Step.Store cell.table cell.row cell.column from)
+        window.old registers.now result window.new registers.now }
     ensures outputs { window.new.outputs ≡ window.old.outputs }
 {
-    match place_of(accesses, registers, Kind::Update, table, row) {
+    match place_of(accesses, registers, Kind::Update, cell.table, cell.row) {
         None => StepEnd::Undeclared,
         Some(place) => {
-            if window.set_column(place, column, read(registers, from)) {
+            if window.set_column(place, cell.column, read(registers, from)) {
                 StepEnd::GoesOn(0)
             } else {
                 StepEnd::Aborts(Reason::NoRow)
@@ -232,29 +247,25 @@ fn perform(
             table,
             row,
             column,
-        } => load(accesses, window, registers, *to, *table, *row, *column),
+        } => {
+            let cell = CellName::new(*table, *row, *column);
+            load(accesses, window, registers, *to, cell)
+        }
         Step::Store {
             table,
             row,
             column,
             from,
-        } => store(accesses, window, registers, *table, *row, *column, *from),
+        } => {
+            let cell = CellName::new(*table, *row, *column);
+            store(accesses, window, registers, cell, *from)
+        }
         Step::Insert { table, row, from } => insert(
             accesses, window, registers, *table, *row, from,
         ),
         Step::Delete { table, row } => delete(accesses, window, registers, *table, *row),
-        Step::Check { of } => {
-            if read(registers, *of) == 0 {
-                StepEnd::Aborts(Reason::Check)
-            } else {
-                StepEnd::GoesOn(0)
-            }
-        }
-        Step::Skip { of, steps } => StepEnd::GoesOn(if read(registers, *of) == 0 {
-            0
-        } else {
-            *steps
-        }),
+        Step::Check { of } => check(registers, *of),
+        Step::Skip { of, steps } => skip(registers, *of, *steps),
         Step::Out { of } => {
             window.push_output(read(registers, *of));
             StepEnd::GoesOn(0)

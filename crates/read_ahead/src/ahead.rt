@@ -10,6 +10,27 @@ use model_base::Statement;
 use sequencer::{Catalog, Recent, StatementBuffers};
 use std::alloc::Global;
 
+/// What reading one line after another uses again: the buffers of lines and of statements, and the user and the table that were found last.
+#[derive(Drop)]
+pub(crate) struct ReadBuffers<'a> {
+    alloc: Global,
+    recent: Recent,
+    lines: LineBuffers<'a>,
+    pub(crate) statements: StatementBuffers,
+}
+
+impl<'a> ReadBuffers<'a> {
+    /// Buffers for nothing yet. It doesn't allocate.
+    pub(crate) fn new(alloc: Global) -> Self {
+        ReadBuffers {
+            alloc,
+            recent: Recent::new(),
+            lines: LineBuffers::new(alloc),
+            statements: StatementBuffers::new(alloc),
+        }
+    }
+}
+
 /// What was found of a line.
 #[derive(Drop)]
 pub enum Found {
@@ -44,21 +65,18 @@ fn found_faulty(fault: LineFault) -> Found
 
 /// Reads a line, and numbers its statement by the names of an earlier place.
 pub(crate) fn found_of<'a>(
-    alloc: Global,
     catalog: &Catalog,
-    recent: &mut Recent,
     line: &'a [u8],
-    room: &mut StatementBuffers,
-    raw: &mut LineBuffers<'a>,
+    buffers: &mut ReadBuffers<'a>,
 ) -> Found
     ensures { IsFoundOf catalog.now line.now result }
 {
-    let statement = match read_line(alloc, line, raw) {
+    let statement = match read_line(buffers.alloc, line, &mut buffers.lines) {
         Ok(statement) => statement,
         Err(fault) => return found_faulty(fault),
     };
-    let foretold = catalog.foretell(recent, &statement, room);
-    raw.take_back(statement);
+    let foretold = catalog.foretell(&mut buffers.recent, &statement, &mut buffers.statements);
+    buffers.lines.take_back(statement);
     match foretold {
         Some(statement) => Found::Known(statement),
         None => Found::Unread,

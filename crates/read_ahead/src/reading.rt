@@ -3,11 +3,10 @@
 ghost use Rattle.std.specs.Prelude.{◌<◌, ◌≤◌, ◌+◌, All, IfSome, length};
 ghost use Rattle.read_ahead.specs.Ahead.{IsAhead};
 
-use crate::ahead::{Ahead, Found, found_of};
+use crate::ahead::{Ahead, Found, ReadBuffers, found_of};
 use crate::piece::Piece;
 use line_io::cut_line;
-use log_text::LineBuffers;
-use sequencer::{Catalog, Recent, StatementBuffers};
+use sequencer::Catalog;
 use std::alloc::Global;
 
 /// How many lines of a piece are read before their turn, at most: what they become is kept until then.
@@ -16,13 +15,10 @@ pub const MOST_LINES_AHEAD: usize = 4096;
 /// Reads the line that begins at an index of the bytes, puts what was found of it after the others of the piece, and returns how many bytes
 /// it takes. None where no line is whole there, or where memory was refused.
 fn read_next<'a>(
-    alloc: Global,
     catalog: &Catalog,
     bytes: &'a [u8],
     at: usize,
-    recent: &mut Recent,
-    room: &mut StatementBuffers,
-    raw: &mut LineBuffers<'a>,
+    buffers: &mut ReadBuffers<'a>,
     piece: &mut Piece,
 ) -> Option<usize>
     requires { at ≤ length bytes.now }
@@ -31,9 +27,9 @@ fn read_next<'a>(
 {
     let (line, count) = cut_line(&bytes[at..])?;
     if let Found::Known(statement) = piece.spare() {
-        room.take_back(statement);
+        buffers.statements.take_back(statement);
     }
-    let found = found_of(alloc, catalog, recent, line, room, raw);
+    let found = found_of(catalog, line, buffers);
     let from = at;
     if piece.put(Ahead { from, count, found }) {
         Some(count)
@@ -46,32 +42,20 @@ fn read_next<'a>(
 /// their statements by these names. It leaves the catalog as it is. It reads no more than `MOST_LINES_AHEAD`, and ends early
 /// where memory is refused. What the piece held is of no more use.
 fn read_lines<'a>(
-    alloc: Global,
     catalog: &Catalog,
     bytes: &'a [u8],
     from: usize,
     to: usize,
-    raw: &mut LineBuffers<'a>,
+    buffers: &mut ReadBuffers<'a>,
     piece: &mut Piece,
 )
     requires { from ≤ length bytes.now }
     ensures { All (IsAhead catalog.now bytes.now) piece.new }
 {
     piece.clear();
-    let mut recent = Recent::new();
-    let mut room = StatementBuffers::new(alloc);
     let mut at = from;
     'lines: while at < to && piece.len() < MOST_LINES_AHEAD {
-        match read_next(
-            alloc,
-            catalog,
-            bytes,
-            at,
-            &mut recent,
-            &mut room,
-            raw,
-            piece,
-        ) {
+        match read_next(catalog, bytes, at, buffers, piece) {
             Some(count) => at += count,
             None => break,
         }
@@ -90,8 +74,8 @@ pub fn foretell_lines(
     requires { from ≤ length bytes.now }
     ensures { All (IsAhead catalog.now bytes.now) result }
 {
-    let mut raw = LineBuffers::new(alloc);
-    read_lines(alloc, catalog, bytes, from, to, &mut raw, &mut piece);
+    let mut buffers = ReadBuffers::new(alloc);
+    read_lines(catalog, bytes, from, to, &mut buffers, &mut piece);
     piece.drop_spare();
     piece
 }

@@ -1,13 +1,12 @@
 -- What the statements of src/admitting.rt ask for, what entering their users asks of names, and what is taken out of a step.
 use Rattle.std.specs.Prelude.{◌≡◌, ◌≢◌, ◌++◌, ◌∷◌, [], ℕ, MatchResult, None, Option, Result, Some, List}
 use Rattle.log_text.specs.Statement.{Sentence}
-use Rattle.line_words.specs.declared.access.RawAccess.{RawAccess}
 use Rattle.log_text.specs.declared.statement.RawDeed.{RawDeed}
 use Rattle.log_text.specs.declared.statement.RawForm.{RawForm}
-use Rattle.log_text.specs.declared.statement.RawStep.{RawStep}
 use Rattle.sequencer.specs.Names.{with_name}
 use Rattle.sequencer.specs.Catalog.{Names, with_grantee}
 use Rattle.sequencer.specs.Refusal.{deed_refusal, or_refused, users_refusal}
+use Rattle.sequencer.specs.declared.raw_run.RawRun.{RawRun}
 use Rattle.sequencer.specs.declared.refused.Refused.{Refused}
 use Rattle.sequencer.specs.declared.refused.Refused.TheVariants.{NoMemory}
 
@@ -20,9 +19,9 @@ Appends result found old new value =
 abbrev pub create_by : List ℕ → List ℕ → ℕ → Sentence
 create_by user table columns = record { user = user; form = RawForm.Create table columns }
 
--- a user asks for a RUN of these accesses and steps, with this deed if there is one
-abbrev pub run_by : List ℕ → List RawAccess → List RawStep → Option RawDeed → Sentence
-run_by user accesses steps deed = record { user = user; form = RawForm.Run accesses steps deed }
+-- a user asks for the RUN
+abbrev pub run_sentence : RawRun → Sentence
+run_sentence run = record { user = run.user.now; form = RawForm.Run run.accesses.now run.steps.now run.deed.now }
 
 -- a user asks for a deed by itself
 abbrev pub deed_by : List ℕ → RawDeed → Sentence

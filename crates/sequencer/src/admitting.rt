@@ -5,17 +5,18 @@ ghost use Rattle.log_text.specs.LineBuffers.{sentence_of};
 ghost use Rattle.log_text.specs.Statement.{IsInGrammar};
 ghost use Rattle.sequencer.specs.Names.{number_of};
 ghost use Rattle.sequencer.specs.Catalog.{numbered, numbered_deed, with_statement, with_user};
-ghost use Rattle.sequencer.specs.Admitting.{create_by, deed_by, entry_refusal, run_by, with_users};
+ghost use Rattle.sequencer.specs.Admitting.{create_by, deed_by, entry_refusal, run_sentence, with_users};
 ghost use Rattle.sequencer.specs.Known.{HasRoom};
 ghost use Rattle.sequencer.specs.Whole.{HasFilledRows, IsAccepted};
 ghost use Rattle.sequencer.specs.Refusal.{IsRefusal, refusal};
 
 use crate::catalog::Catalog;
 use crate::numbering::deed_form;
+use crate::raw_run::RawRun;
 use crate::refused::Refused;
 use crate::statement_buffers::StatementBuffers;
 use crate::testing::{names_in, test_name};
-use log_text::{LineBuffers, Name, RawAccess, RawDeed, RawForm, RawStatement, RawStep};
+use log_text::{LineBuffers, Name, RawDeed, RawForm, RawStatement};
 use model_base::{DeedForm, Form, MOST_PLACES, Statement, Table, User};
 use std::mem;
 
@@ -73,31 +74,27 @@ impl Catalog {
     #[tactic(auto, using(crate::proofs::RefusalLemmas::refusal_of_test))]
     fn admit_run(
         &mut self,
-        user: &Name<'_>,
-        accesses: &[RawAccess<'_>],
-        steps: &[RawStep<'_>],
-        deed: &Option<RawDeed<'_>>,
+        run: &RawRun<'_, '_>,
         room: &mut StatementBuffers,
         kept: &mut Vec<Statement>,
     ) -> Result<(), Refused>
         requires kept { vec_len kept.old < vec_capacity kept.old }
         requires place { self.old.places < MOST_PLACES }
-        requires room { HasRoom room.old (RawForm.Run accesses.now steps.now deed.now) }
-        ensures ok { OnOk result (kept.new.items ≡ kept.old.items
-            ++ numbered self.old (run_by user.now accesses.now steps.now deed.now) ∷ []) }
-        ensures passes { OnOk result (refusal self.old (run_by user.now accesses.now steps.now deed.now) ≡ None) }
-        ensures names { OnOk result (self.new ≡ with_statement self.old (run_by user.now accesses.now steps.now deed.now)) }
-        ensures refused { IfErr result (λ r. IsRefusal r (refusal self.old (run_by user.now accesses.now steps.now deed.now))) }
+        requires room { HasRoom room.old (run_sentence run.now).form }
+        ensures ok { OnOk result (kept.new.items ≡ kept.old.items ++ numbered self.old (run_sentence run.now) ∷ []) }
+        ensures passes { OnOk result (refusal self.old (run_sentence run.now) ≡ None) }
+        ensures names { OnOk result (self.new ≡ with_statement self.old (run_sentence run.now)) }
+        ensures refused { IfErr result (λ r. IsRefusal r (refusal self.old (run_sentence run.now))) }
         ensures err { OnErr result (self.new ≡ self.old) }
         ensures none { OnErr result (kept.new.items ≡ kept.old.items) }
     {
         let mut recent = self.recent;
         let found = mem::replace(&mut room.accesses, Vec::new(self.alloc));
-        let accesses = self.numbered_accesses(&mut recent, accesses, found)?;
+        let accesses = self.numbered_accesses(&mut recent, run.accesses, found)?;
         let found = mem::replace(&mut room.steps, Vec::new(self.alloc));
-        let steps = self.numbered_steps(&mut recent, steps, found)?;
+        let steps = self.numbered_steps(&mut recent, run.steps, found)?;
         self.recent = recent;
-        let (user, deed) = self.enter_users(user, deed)?;
+        let (user, deed) = self.enter_users(run.user, run.deed)?;
         self.places += 1;
         kept.push_reserved(Statement {
             user,
@@ -231,14 +228,15 @@ impl Catalog {
                 accesses,
                 steps,
                 deed,
-            } => self.admit_run(
-                user,
-                accesses.as_slice(),
-                steps.as_slice(),
-                deed,
-                room,
-                kept,
-            ),
+            } => {
+                let run = RawRun {
+                    user,
+                    accesses: accesses.as_slice(),
+                    steps: steps.as_slice(),
+                    deed,
+                };
+                self.admit_run(&run, room, kept)
+            }
             RawForm::Deed(deed) => self.admit_deed(user, deed, kept),
         }
     }
@@ -272,13 +270,12 @@ impl Catalog {
         {
             return Err(self.refused_run(read));
         }
-        self.admit_run(
-            &read.user,
-            &read.accesses,
-            &read.steps,
-            &read.deed,
-            room,
-            kept,
-        )
+        let run = RawRun {
+            user: &read.user,
+            accesses: &read.accesses,
+            steps: &read.steps,
+            deed: &read.deed,
+        };
+        self.admit_run(&run, room, kept)
     }
 }

@@ -1,7 +1,7 @@
 //! How a statement is numbered before its turn, by the names of an earlier place.
 
 ghost use Rattle.std.specs.Prelude.{◌≡◌, ◌<◌, ◌+◌, IfSome, OnErr, OnOk, OnSome, length, true};
-ghost use Rattle.sequencer.specs.Admitting.{deed_by, run_by};
+ghost use Rattle.sequencer.specs.Admitting.{deed_by, run_sentence};
 ghost use Rattle.sequencer.specs.Catalog.{numbered_deed, numbered_form, numbered_grantee};
 ghost use Rattle.sequencer.specs.Foretelling.{Begins, Foretells, Knows, KnowsDeed, KnowsDeedIn, is_known_grantee, with_one_place, with_tables_of};
 ghost use Rattle.sequencer.specs.Known.{HasRoom};
@@ -10,9 +10,10 @@ ghost use Rattle.std.specs.Option.{option_map};
 
 use crate::catalog::Catalog;
 use crate::numbering::deed_form;
+use crate::raw_run::RawRun;
 use crate::statement_buffers::StatementBuffers;
 use crate::testing::names_in;
-use log_text::{LineBuffers, Name, RawAccess, RawDeed, RawForm, RawGrantee, RawStatement, RawStep};
+use log_text::{Name, RawDeed, RawForm, RawGrantee, RawStatement};
 use model_base::{DeedForm, Form, Grantee, MOST_PLACES, Statement, Table, User};
 use std::alloc::AllocError;
 use std::mem;
@@ -94,29 +95,26 @@ impl Catalog {
     fn foretell_run(
         &self,
         recent: &mut Recent,
-        user: &Name<'_>,
-        accesses: &[RawAccess<'_>],
-        steps: &[RawStep<'_>],
-        deed: &Option<RawDeed<'_>>,
+        run: &RawRun<'_, '_>,
         room: &mut StatementBuffers,
     ) -> Option<Statement>
-        requires { HasRoom room.old (RawForm.Run accesses.now steps.now deed.now) }
+        requires { HasRoom room.old (run_sentence run.now).form }
         ensures number { IfSome result (λ s. s ≡ record {
-          user = number_of self.now.users user.now;
-          form = numbered_form self.now (RawForm.Run accesses.now steps.now deed.now);
+          user = number_of self.now.users run.now.user.now;
+          form = numbered_form self.now (run_sentence run.now).form;
         }) }
-        ensures knows { OnSome result (Knows self.now (run_by user.now accesses.now steps.now deed.now)) }
+        ensures knows { OnSome result (Knows self.now (run_sentence run.now)) }
     {
-        let user = self.foretold_user(recent, user)?;
+        let user = self.foretold_user(recent, run.user)?;
         let found = mem::replace(&mut room.accesses, Vec::new(self.alloc));
-        let Ok(accesses) = self.numbered_accesses(&mut recent.table, accesses, found) else {
+        let Ok(accesses) = self.numbered_accesses(&mut recent.table, run.accesses, found) else {
             return None;
         };
         let found = mem::replace(&mut room.steps, Vec::new(self.alloc));
-        let Ok(steps) = self.numbered_steps(&mut recent.table, steps, found) else {
+        let Ok(steps) = self.numbered_steps(&mut recent.table, run.steps, found) else {
             return None;
         };
-        let deed = self.foretold_last_deed(recent, deed)?;
+        let deed = self.foretold_last_deed(recent, run.deed)?;
         Some(Statement {
             user,
             form: Form::Run {
@@ -169,14 +167,15 @@ impl Catalog {
                 accesses,
                 steps,
                 deed,
-            } => self.foretell_run(
-                recent,
-                user,
-                accesses.as_slice(),
-                steps.as_slice(),
-                deed,
-                room,
-            ),
+            } => {
+                let run = RawRun {
+                    user,
+                    accesses: accesses.as_slice(),
+                    steps: steps.as_slice(),
+                    deed,
+                };
+                self.foretell_run(recent, &run, room)
+            }
             RawForm::Deed(deed) => self.foretell_deed(recent, user, deed),
         }
     }

@@ -19,6 +19,7 @@ mod log;
 mod names;
 mod numbering;
 mod past;
+mod raw_run;
 mod refused;
 mod statement_buffers;
 mod tail;
