@@ -2,7 +2,7 @@
 
 use crate::rows::Rows;
 use crate::version::Version;
-use crate::writes::{Written, cut_writes, note_absent, note_if};
+use crate::writes::{Written, cut_writes, note_absent, note_if_absent};
 use body::{RowSource, Window};
 use model_base::{Access, HashSeed, Key, MOST_ACCESSES, Place, Row, Statement};
 use std::alloc::{AllocError, Global};
@@ -208,7 +208,7 @@ impl Chains {
         }
         self.absent.reserve(1)?;
         self.rows.put(place, access.key, row, found)?;
-        note_if(&mut self.absent, row.is_none(), place, access.key);
+        note_if_absent(&mut self.absent, place, access.key, row);
         Ok(())
     }
 

@@ -1,13 +1,13 @@
 //! Places of the log that wrote a key, in order.
 
 ghost use Rattle.std.specs.Prelude.{◌≡◌, ◌+◌, ◌++◌, ◌∷◌, [], ◌<◌, ◌≤◌, ℕ, IfSome, IfNone, List, if◌then◌else◌, filter, length, map, nat_lt};
-ghost use Rattle.std.specs.Option.{option_to_list};
+ghost use Rattle.std.specs.Option.{is_none, option_to_list};
 ghost use Rattle.std.specs.VecDeque.{deque_capacity, deque_len};
 ghost use Rattle.chains.specs.Kept.{AreWrittenInOrder, IsFrom, is_absent, written_by};
 ghost use Rattle.chains.specs.declared.writes.Written.{Written as Noted};
 
 use crate::version::Version;
-use model_base::{Key, Place};
+use model_base::{Key, Place, Row};
 use std::collections::VecDeque;
 
 /// A place of the log that wrote a key.
@@ -31,15 +31,21 @@ pub(crate) fn take_write_below(writes: &mut VecDeque<Written>, mark: Place) -> O
     if below { writes.pop_front() } else { None }
 }
 
-/// Adds the place of a version after the others, where that is asked for.
-pub(crate) fn note_if(writes: &mut VecDeque<Written>, asked: bool, place: Place, key: Key)
+/// Adds the place of a version after the others, if the row is absent in it.
+pub(crate) fn note_if_absent(
+    writes: &mut VecDeque<Written>,
+    place: Place,
+    key: Key,
+    row: &Option<Row>,
+)
     requires { deque_len writes.old < deque_capacity writes.old }
-    ensures items { writes.new.items ≡ (if asked then writes.old.items ++ record { place = place; key = key } ∷ [] else writes.old.items) }
+    ensures items { writes.new.items ≡ (if is_none row.now then writes.old.items ++ record { place = place; key = key } ∷ [] else writes.old.items) }
     ensures len { deque_len writes.new ≤ deque_len writes.old + 1 }
     ensures capacity { deque_capacity writes.new ≡ deque_capacity writes.old }
 {
-    if asked {
-        writes.push_back_reserved(Written { place, key });
+    match row {
+        None => writes.push_back_reserved(Written { place, key }),
+        Some(_) => {}
     }
 }
 
@@ -49,7 +55,7 @@ pub(crate) fn note_absent(writes: &mut VecDeque<Written>, versions: &[Version])
     ensures { writes.new.items ≡ writes.old.items ++ map written_by (filter is_absent versions.now) }
 {
     for version in versions {
-        note_if(writes, version.row.is_none(), version.place, version.key);
+        note_if_absent(writes, version.place, version.key, &version.row);
     }
 }
 

@@ -1,5 +1,5 @@
 -- A call from its claim to its answer.
-use Rattle.std.proofs.Common.{◌≡◌, ℕ, true, false, true≢false, List, [], ◌∷◌, ◌++◌, length, refl, sym, ap, ◌∙◌, subst, inl, inr, ⊎_elim, arith}
+use Rattle.std.proofs.Common.{◌≡◌, ℕ, false, true≢false, List, [], ◌∷◌, ◌++◌, length, refl, sym, ap, ◌∙◌, subst, inl, inr, ⊎_elim, arith}
 use Rattle.bohm_core_base.specs.declared.event.Event.TheVariants.{Claim}
 use Rattle.bohm_core_base.specs.Batch.{Batch}
 use Rattle.words.specs.declared.knowledge.Knowledge.{Knowledge}

@@ -13,17 +13,6 @@ use crate::batch::Batch;
 use crate::fills::Fills;
 use words::{Holding, Pass};
 
-/// The place that a reference names, if any.
-fn named(word: u64) -> Option<usize>
-    ensures { reference_word result ≡ word }
-{
-    if word == 0 {
-        None
-    } else {
-        Some((word - 1) as usize)
-    }
-}
-
 impl<K: Fills> Batch<K> {
     // The place that a reference of a placed place names, or none for what was there before the batch: one load.
     pub(crate) fn referred(
@@ -40,7 +29,7 @@ impl<K: Fills> Batch<K> {
         ensures value { reference_word result ≡ reference (K.batch self.now.key) index number }
     {
         let _places = self.key.places();
-        named(self.words.reference(holding, index, number))
+        self.words.reference(holding, index, number)
     }
 
     // A partition that was found not to have placed the place, if any: one load of each front, or none where the pass knows that

@@ -1,3 +1,3 @@
-pub mod Numbers
+pub mod NeedsLeft
 pub mod Padding
 pub mod Undoing

@@ -1,3 +1,4 @@
 pub mod Room
 pub mod Words
+pub mod Needs
 pub mod Places

@@ -7,16 +7,27 @@ ghost use Rattle.own_words.specs.Words.{cause_word, first_detail, outcome_word, 
 use crate::numbering::need_number;
 use model_base::{Cause, Form, Outcome, Outputs, Reason};
 
+/// Word 0 of a place that was done.
+pub const DONE: u64 = 1;
+/// Word 0 of a place that created a table.
+pub(crate) const CREATED: u64 = 2;
+/// Word 0 of a place that was denied.
+pub const DENIED: u64 = 3;
+/// Word 0 of a place whose body was aborted.
+pub(crate) const ABORTED: u64 = 4;
+/// Word 0 of a place whose body touched an undeclared row.
+pub(crate) const UNDECLARED: u64 = 5;
+
 /// Which kind of outcome it is.
 pub(crate) fn outcome_word(outcome: &Outcome) -> u64
     ensures { result ≡ outcome_word outcome.now }
 {
     match outcome {
-        Outcome::Done { .. } => 1,
-        Outcome::Created => 2,
-        Outcome::Denied { .. } => 3,
-        Outcome::Aborted { .. } => 4,
-        Outcome::Undeclared { .. } => 5,
+        Outcome::Done { .. } => DONE,
+        Outcome::Created => CREATED,
+        Outcome::Denied { .. } => DENIED,
+        Outcome::Aborted { .. } => ABORTED,
+        Outcome::Undeclared { .. } => UNDECLARED,
     }
 }
 

@@ -6,21 +6,22 @@ ghost use Rattle.model_base.specs.Outcomes.{kind_if, kinds_in, need_of, needs, n
 ghost use Rattle.own_words.specs.Words.{aborted_from, cause_from, deed_form, deed_told, denied_from, done_from, numbers_from, outcome_from, row_of, signed};
 
 use crate::bits::value_of;
+use crate::coding::{ABORTED, CREATED, DENIED, DONE};
 use crate::numbering::need_at;
 use model_base::{
     Cause, DeedDone, DeedForm, Form, Items, MOST_COLUMNS, MOST_OUTPUTS, MOST_VALUES, Outcome,
     Place, Reason, Row, Values,
 };
 
-/// A word, or 0 past the last.
-fn word(words: &[u64], index: usize) -> u64
+/// The word of an index, or 0 past the last.
+pub fn word_at(words: &[u64], index: usize) -> u64
     ensures { result ≡ slice_index words.now index }
 {
     if index < words.len() { words[index] } else { 0 }
 }
 
 /// The words after the first few.
-fn behind(words: &[u64], first: usize) -> &[u64]
+pub fn words_after(words: &[u64], first: usize) -> &[u64]
     ensures { result.now ≡ drop first words.now }
 {
     if first <= words.len() {
@@ -47,7 +48,7 @@ fn numbers_from(first: usize, count: usize, words: &[u64]) -> Values
     ensures { result ≡ numbers_from first count words.now }
 {
     let mut numbers = Values::new();
-    let words = front(behind(words, first), count);
+    let words = front(words_after(words, first), count);
     for word in words {
         numbers.push(value_of(*word));
     }
@@ -60,7 +61,7 @@ pub fn row_of(columns: u8, words: &[u64]) -> Option<Row>
     requires { columns ≤ MOST_COLUMNS }
     ensures { result ≡ row_of columns words.now }
 {
-    if word(words, 0) == 0 {
+    if word_at(words, 0) == 0 {
         None
     } else {
         Some(numbers_from(1, columns as usize, words))
@@ -93,7 +94,7 @@ fn deed_form(form: &Form) -> Option<DeedForm>
 fn done_from(form: &Form, words: &[u64], ended: Items<Place>) -> Outcome
     ensures { result ≡ done_from form.now words.now ended }
 {
-    let count = word(words, 3).min(MOST_OUTPUTS as u64);
+    let count = word_at(words, 3).min(MOST_OUTPUTS as u64);
     Outcome::Done {
         outputs: numbers_from(4, count as usize, words),
         deed: deed_told(ended, deed_form(form)),
@@ -142,12 +143,12 @@ fn aborted_from(step: u64, word: u64) -> Outcome
 pub fn decoded(form: &Form, words: &[u64], ended: Items<Place>) -> Outcome
     ensures { result ≡ outcome_from form.now words.now ended }
 {
-    let detail = word(words, 1);
-    match word(words, 0) {
-        1 => done_from(form, words, ended),
-        2 => Outcome::Created,
-        3 => denied_from(form, detail, cause_from(word(words, 2))),
-        4 => aborted_from(detail, word(words, 2)),
+    let detail = word_at(words, 1);
+    match word_at(words, 0) {
+        DONE => done_from(form, words, ended),
+        CREATED => Outcome::Created,
+        DENIED => denied_from(form, detail, cause_from(word_at(words, 2))),
+        ABORTED => aborted_from(detail, word_at(words, 2)),
         _ => Outcome::Undeclared { step: detail },
     }
 }

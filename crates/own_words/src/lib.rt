@@ -5,18 +5,21 @@
 //! each column. What a revocation ended isn't in the words.
 //!
 //! `OwnWords` has up to `MOST_OWN_WORDS` in itself. `put_header` and `push_row` write them, `decoded` and `row_of` read
-//! them; `decoding_undoes_coding` and `rows_are_told` are the laws. Nothing allocates.
+//! them, and `word_at` one of them, of which word 0 is `DONE` or `DENIED` where the outcome is. `decoding_undoes_coding`
+//! and `rows_are_told` are the laws. Nothing allocates.
 #![tactic(auto)]
 
 mod bits;
 mod coding;
 mod decoding;
 mod laws;
+mod needs;
 mod numbering;
 mod room;
 
 pub use bits::{bits_of, value_of};
-pub use decoding::{decoded, row_of};
+pub use coding::{DENIED, DONE};
+pub use decoding::{decoded, row_of, word_at, words_after};
 pub use laws::{decoding_undoes_coding, lengths, rows_are_told, words_fit};
 pub use numbering::outputs_of;
 pub use room::{MOST_OWN_WORDS, OwnWords};

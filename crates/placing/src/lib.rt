@@ -24,4 +24,4 @@ pub use part::{Found, Part};
 pub use partition::{partition_of, partition_of_table};
 pub use placer::place;
 pub use refs::{Refs, merge};
-pub use tables::find_tables;
+pub use tables::{find_tables, has_need};

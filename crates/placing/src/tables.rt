@@ -23,7 +23,7 @@ fn add_table(tables: &mut Vec<Table>, table: Table) -> Result<(), AllocError>
 }
 
 /// Whether the access needs anything.
-fn has_need(access: &Access) -> bool
+pub fn has_need(access: &Access) -> bool
     ensures { result ≡ has_need access.now }
 {
     access.kinds.read || access.kinds.insert || access.kinds.update || access.kinds.delete

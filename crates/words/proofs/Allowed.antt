@@ -16,7 +16,7 @@ use Rattle.bohm_core_base.specs.Laws.{actor_of}
 use Rattle.bohm_core_base.specs.Machine.{State, all_below, all_ended, all_filled, all_ready, change, end_of, front_of, guard, hold_of, is_free, is_held_by, must_end, next_word, none_ended, own_of, reach, with_hold}
 use Rattle.bohm_core_base.proofs.Reach.{done-right, ends-right, shown-serial, word-rests}
 use Rattle.words.specs.declared.knowledge.Knowledge.{Knowledge}
-use Rattle.words.specs.Layout.{claim_word, own_word, reference_word, front_word, end_word, claim_code, end_code, listed_slot_at, partition_at, position, reference_at, shown, ShowsState}
+use Rattle.words.specs.Layout.{claim_word, own_word, reference_word, front_word, end_word, claim_code, optional_word, listed_slot_at, partition_at, position, reference_at, shown, ShowsState}
 use Rattle.words.specs.Legal.{Fits, Lawful, events_by, legal}
 use Rattle.words.specs.Meanings.{HoldsWhole}
 use Rattle.words.specs.Views.{Holds, In, IsSettled, KnowsFront, KnowsPast, KnowsReferences, front_in, with_all_placed, with_event, with_front, with_known}
@@ -264,7 +264,7 @@ module _ (b : Batch) (listed : List ℕ) (slots by : ℕ) (me : Me ℕ Knowledge
         let slot_within = r.1.slots.within end has in
         let ok = may-end b listed s.words s.views r.0 by me.0 r.1 at alive pass i slot js below slot_within h out knows serial in
         let within : slot < length state.ends = (let len = (has-all b r.1.sound r.0).ends in omega arith) in
-        let stored : suc (b.first + i) ≡ shown listed (change b state (End by i slot)) (end_word end) = ap end_code (sym (get_or-set_same state.ends slot (Some (b.first + i)) None within)) in (
+        let stored : suc (b.first + i) ≡ shown listed (change b state (End by i slot)) (end_word end) = ap optional_word (sym (get_or-set_same state.ends slot (Some (b.first + i)) None within)) in (
           with_event me.0 (End by i slot),
           keeps,
           tt,

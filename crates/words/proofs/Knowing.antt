@@ -18,7 +18,7 @@ use Rattle.bohm_core_base.proofs.Kept.{rests}
 use Rattle.bohm_core_base.proofs.Steps.{done-is}
 use Rattle.bohm_core_base.proofs.View.{deeds-done, end-seen, rests-tables, table-ready}
 use Rattle.words.specs.declared.knowledge.Knowledge.{Knowledge}
-use Rattle.words.specs.Layout.{end_code, end_told as told}
+use Rattle.words.specs.Layout.{optional_in, optional_word}
 use Rattle.words.specs.Legal.{Fits, IsFrontSighted, IsSighted, Lawful, legal}
 use Rattle.words.specs.Meanings.{EndMeans, FoundHeld}
 use Rattle.words.specs.Views.{Holds, In, IsSettled, KnowsFront, KnowsPast, KnowsReferences, track, with_all_placed, with_front, with_known, with_sighting}
@@ -35,9 +35,10 @@ pub all-in : {A : Type 0} (test : A → Bool) (l : List A) → ((x : A) → In x
 all-in test [] each = refl
 all-in test (x ∷ l) each = rw (each x (inl refl)) (all-in test l (λ y h. each y (inr h)))
 
-pub told-code : (end : Option ℕ) → told (end_code end) ≡ end
-told-code None = refl
-told-code (Some q) = refl
+-- what may be missing is given by its word, and each word by what it gives
+pub optional_in-optional_word : (number : Option ℕ) → optional_in (optional_word number) ≡ number
+optional_in-optional_word None = refl
+optional_in-optional_word (Some number) = refl
 
 pub knows_more : (b : Batch) (es : List Event) (by : ℕ) (v : Knowledge) (i : ℕ) → Fits b es by v → hold_of (reach b es) i ≡ Done → Fits b es by (with_known v i)
 knows_more b es by v i f q = record {
@@ -121,19 +122,22 @@ module _ (b : Batch) (listed words : List ℕ) (views : List Knowledge) (es : Li
       done-is (hold_of now i) (deeds-before settled.0 settled.1 settled.4 settled.5 i settled.2 settled.6)
 
   -- what an end says
-  pub tells-end : (slot word : ℕ) → slot < length (batch_slots b) → word ≡ end_code (end_of now slot) → EndMeans b slot v word
+  pub tells-end : (slot word : ℕ) → slot < length (batch_slots b) → word ≡ optional_word (end_of now slot) → EndMeans b slot v (optional_in word)
   tells-end slot word within is = record {
     none_or = by_end (end_of now slot) refl;
     ended = λ i whole known.
-        is ∙ ap end_code ((done-right b law.sound es i (mine.knows i known)).ends slot within (serial-ends-from b i slot (b.first + i) whole refl));
+        given ∙ (done-right b law.sound es i (mine.knows i known)).ends slot within (serial-ends-from b i slot (b.first + i) whole refl);
     below = λ i below knows named.
-        ap (λ w. end_below (b.first + i) (told w)) is ∙ ap (λ e. end_below (b.first + i) e) (told-code (end_of now slot))
+        ap (λ e. end_below (b.first + i) e) given
         ∙ end-seen b law.sound now (reach-keeps b law.sound es) i slot within (deeds-before i (table_at b slot) knows named);
   }
     where
-      by_end : (end : Option ℕ) → end_of now slot ≡ end → (word ≡ 0) ⊎ ((place : ℕ) × (word ≡ suc place) × (whole_end b slot ≡ Some place))
-      by_end None set = inl (is ∙ ap end_code set)
-      by_end (Some q) set = inr (q, is ∙ ap end_code set, ends-right b law.sound es slot q set)
+      given : optional_in word ≡ end_of now slot
+      given = ap optional_in is ∙ optional_in-optional_word (end_of now slot)
+
+      by_end : (end : Option ℕ) → end_of now slot ≡ end → (optional_in word ≡ None) ⊎ ((place : ℕ) × (optional_in word ≡ Some place) × (whole_end b slot ≡ Some place))
+      by_end None set = inl (given ∙ set)
+      by_end (Some q) set = inr (q, given ∙ set, ends-right b law.sound es slot q set)
 
   -- the word i is only read
   abbrev pub Read : ℕ → Knowledge → Type 0

@@ -1,5 +1,5 @@
 -- What a pass knows of fronts over steps.
-use Rattle.std.proofs.Common.{◌⊎◌, ◌<◌, ◌≤◌, ℕ, [], ◌∷◌, refl, inl, inr, ⊎_elim, arith}
+use Rattle.std.proofs.Common.{◌<◌, ◌≤◌, ℕ, [], ◌∷◌, refl, inl, inr, ⊎_elim, arith}
 use Rattle.bohm_core_base.specs.Batch.{Batch}
 use Rattle.words.specs.declared.knowledge.Knowledge.{Knowledge}
 use Rattle.words.specs.Views.{In, KeepsFronts, KnowsFront, KnowsPast, joined, with_front}

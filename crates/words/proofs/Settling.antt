@@ -14,7 +14,7 @@ use Rattle.bohm_core_base.specs.Serial.{serial_words, whole_end}
 use Rattle.bohm_core_base.proofs.Reach.{done-right, ends-right, words-begun}
 use Rattle.words.specs.declared.knowledge.Knowledge.{Knowledge}
 use Rattle.words.specs.Closing.{HasBeginning, HasItsReferences, IsSettledBy, ClosedLayout, claim_in, end_word_in, own_in}
-use Rattle.words.specs.Layout.{block_begin, claim_code, claim_word, end_begin, end_code, end_word, own_word, listed_slot_at, partition_at, reference_begin, reference_word}
+use Rattle.words.specs.Layout.{block_begin, claim_code, claim_word, end_begin, optional_word, end_word, own_word, listed_slot_at, partition_at, reference_begin, reference_word}
 use Rattle.words.specs.Legal.{Lawful}
 use Rattle.words.proofs.Past.{placed-reference}
 use Rattle.words.proofs.Showing.{position-below}
@@ -50,7 +50,7 @@ module _ (b : Batch) (listed : List ℕ) (layout : ClosedLayout) (views : List K
   own-at : (i m : ℕ) → i < b.size → m < words_length b i → own_in layout i m ≡ get_or (own_of (reach b es) i) m 0
   own-at i m below within = ap (λ (n : ℕ). get_or layout.words (n + suc m) 0) (begin i below) ∙ law.shows.at (own_word i m) (below, within) tt
 
-  end-at : (r : ℕ) → r < length listed → end_word_in layout r ≡ end_code (end_of (reach b es) (listed_slot_at listed r))
+  end-at : (r : ℕ) → r < length listed → end_word_in layout r ≡ optional_word (end_of (reach b es) (listed_slot_at listed r))
   end-at r has = ap (λ (n : ℕ). get_or layout.words (n + r) 0) end ∙ law.shows.at (end_word r) has tt
 
   done-at : (i : ℕ) → i < b.size → claim_in layout i ≡ 2 → hold_of (reach b es) i ≡ Done
@@ -61,7 +61,7 @@ module _ (b : Batch) (listed : List ℕ) (layout : ClosedLayout) (views : List K
       let begun = words-begun b law.sound es i in
       own-at i m below within ∙ beginning (own_of (reach b es) i) begun.0 (serial_words b i) m begun.1
 
-  by_end : (r : ℕ) (seen : Option ℕ) → end_of (reach b es) (listed_slot_at listed r) ≡ seen → end_word_in layout r ≡ end_code seen
+  by_end : (r : ℕ) (seen : Option ℕ) → end_of (reach b es) (listed_slot_at listed r) ≡ seen → end_word_in layout r ≡ optional_word seen
       → (end_word_in layout r ≡ 0) ⊎ ((place : ℕ) × (end_word_in layout r ≡ suc place) × (whole_end b (listed_slot_at listed r) ≡ Some place))
   by_end r None is shows = inl shows
   by_end r (Some q) is shows = inr (q, shows, ends-right b law.sound es (listed_slot_at listed r) q is)
@@ -75,7 +75,7 @@ module _ (b : Batch) (listed : List ℕ) (layout : ClosedLayout) (views : List K
     own = λ i m below within two. own-at i m below within
         ∙ ap (λ (own : List ℕ). get_or own m 0) (done-right b law.sound es i (done-at i below two)).words;
     ended = λ i r below has ends two. end-at r has
-        ∙ ap end_code ((done-right b law.sound es i (done-at i below two)).ends (listed_slot_at listed r) (law.slots.within r has) ends);
+        ∙ ap optional_word ((done-right b law.sound es i (done-at i below two)).ends (listed_slot_at listed r) (law.slots.within r has) ends);
     begun = λ i below. (length (own_of (reach b es) i), begun-at i below);
     end = λ r has. by_end r (end_of (reach b es) (listed_slot_at listed r)) refl (end-at r has);
   }

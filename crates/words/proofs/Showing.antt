@@ -9,7 +9,7 @@ use Rattle.bohm_core_base.specs.declared.hold.Hold.{Hold}
 use Rattle.bohm_core_base.specs.declared.hold.Hold.TheVariants.{Free}
 use Rattle.bohm_core_base.specs.Batch.{Batch, reference_words, words_length}
 use Rattle.bohm_core_base.specs.Machine.{State, front_of, own_of, start, with_hold}
-use Rattle.words.specs.Layout.{Meaning, claim_word, own_word, reference_word, front_word, end_word, claim_code, end_code, listed_slot_at, IsListed, block_begin, block_length, reference_begin, front_begin, total, Counts, Has, position, partition_at, reference_at, shown, ShowsState}
+use Rattle.words.specs.Layout.{Meaning, claim_word, own_word, reference_word, front_word, end_word, claim_code, optional_word, listed_slot_at, IsListed, block_begin, block_length, reference_begin, front_begin, total, Counts, Has, position, partition_at, reference_at, shown, ShowsState}
 use Rattle.words.specs.Legal.{IsStored}
 use Rattle.words.proofs.Members.{replicate-same}
 
@@ -273,7 +273,7 @@ module _ (b : Batch) where
     end-others s r end apart within (reference_word j q) has other = refl
     end-others s r end apart within (front_word p) has other = refl
     end-others s r end apart within (end_word q) has other =
-        ap end_code (get_or-set_other s.ends (listed_slot_at listed r) (listed_slot_at listed q) end None (λ same. other (ap end_word (apart.apart q r has within same))))
+        ap optional_word (get_or-set_other s.ends (listed_slot_at listed r) (listed_slot_at listed q) end None (λ same. other (ap end_word (apart.apart q r has within same))))
 
     -- at first all words are 0
     pub shows-start : IsListed b listed → ShowsState b listed (replicate (total b listed) 0) (start b)
@@ -287,7 +287,7 @@ module _ (b : Batch) where
         zero-shown (own_word i m) has counts = ap (λ (own : List ℕ). get_or own m 0) (replicate-same b.size i [])
         zero-shown (reference_word i r) has counts = absurd (let none : front_of (start b) (partition_at b i r) ≡ 0 = replicate-same b.partitions (partition_at b i r) 0 in omega arith)
         zero-shown (front_word p) has counts = replicate-same b.partitions p 0
-        zero-shown (end_word r) has counts = ap end_code (apart.unended r has)
+        zero-shown (end_word r) has counts = ap optional_word (apart.unended r has)
 
 pub push-at : (l : List ℕ) (x : ℕ) → get_or (l ++ x ∷ []) (length l) 0 ≡ x
 push-at [] x = refl

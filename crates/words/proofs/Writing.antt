@@ -1,16 +1,16 @@
 -- A row in which references and fronts are stored word by word.
-use Rattle.std.proofs.Common.{◌≡◌, ◌≢◌, ◌⊎◌, ℕ, suc, ◌<◌, Bool, true, false, true≢false, List, length, get_or, set, refl, sym, ap, ◌∙◌, inl, inr, ⊎_elim, arith, length-set, get_or-set_same, replicate}
+use Rattle.std.proofs.Common.{◌≡◌, ◌≢◌, ℕ, suc, ◌<◌, Bool, true, false, true≢false, List, length, get_or, set, refl, sym, ap, ◌∙◌, inl, inr, ⊎_elim, arith, length-set, get_or-set_same, replicate}
 use Rattle.std.proofs.lemmas.Bool.{cases_eq}
 use Rattle.std.proofs.lemmas.List.{get_or-set_other, length-replicate}
 use mathlib.Core.Logic.{dite}
 use native.Mathlib.Decide.{ℕ_discrete}
 use Rattle.bohm_core_base.specs.Batch.{Batch, IsSoundBatch, reference_words}
 use Rattle.bohm_core_base.specs.Machine.{reach}
-use Rattle.words.specs.Layout.{Counts, Has, IsListed, Meaning, ShowsState, claim_code, claim_word, end_code, end_word, front_word, listed_slot_at, own_word, position, reference_at, reference_word, shown, total}
+use Rattle.words.specs.Layout.{Counts, Has, IsListed, Meaning, ShowsState, claim_code, claim_word, optional_word, end_word, front_word, listed_slot_at, own_word, position, reference_at, reference_word, shown, total}
 use Rattle.words.specs.Written.{IsWritten, is_other}
 use Rattle.words.proofs.Members.{replicate-same}
 use Rattle.words.proofs.Past.{placed-reference}
-use Rattle.words.proofs.Placings.{placed, placed-blank, placed-ends, placed-free, placed-front, placings}
+use Rattle.words.proofs.Placings.{placed-blank, placed-ends, placed-free, placed-front, placings}
 use Rattle.words.proofs.Showing.{position-apart, position-below}
 
 module _ (b : Batch) (listed : List ℕ) where
@@ -125,7 +125,7 @@ module _ (b : Batch) (listed : List ℕ) where
       at (own_word i m) has counts = was.others (own_word i m) has refl ∙ sym (ap (λ (own : List ℕ). get_or own m 0) (placed-blank b sound i))
       at (end_word r) has counts =
           was.others (end_word r) has refl
-          ∙ sym (ap end_code (placed-ends b sound (listed_slot_at listed r) ∙ slots.unended r has))
+          ∙ sym (ap optional_word (placed-ends b sound (listed_slot_at listed r) ∙ slots.unended r has))
       at (front_word p) has counts = was.fronts p has has ∙ sym (placed-front b sound p has)
       at (reference_word i r) has counts =
           was.references i r has.0 has.1 (inl has.0)

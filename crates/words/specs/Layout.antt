@@ -33,15 +33,15 @@ claim_code Free = 0
 claim_code (Held actor) = 1
 claim_code Done = 2
 
--- an end as a word: 0 for none, else one more than the place
-abbrev pub end_code : Option ℕ → ℕ
-end_code None = 0
-end_code (Some place) = suc place
+-- a number that may be missing as a word, as an end or a reference: 0 for none, else one more than the number
+abbrev pub optional_word : Option ℕ → ℕ
+optional_word None = 0
+optional_word (Some number) = suc number
 
--- the end that such a word says
-abbrev pub end_told : ℕ → Option ℕ
-end_told zero = None
-end_told (suc place) = Some place
+-- the number of such a word
+abbrev pub optional_in : ℕ → Option ℕ
+optional_in zero = None
+optional_in (suc number) = Some number
 
 -- the slot of a listed end
 abbrev pub listed_slot_at : List ℕ → ℕ → ℕ
@@ -104,7 +104,7 @@ shown listed state (claim_word index) = claim_code (hold_of state index)
 shown listed state (own_word index number) = slice_index_or (own_of state index) number 0
 shown listed state (reference_word index number) = slice_index_or (stored_references_of state index) number 0
 shown listed state (front_word partition) = front_of state partition
-shown listed state (end_word end) = end_code (end_of state (listed_slot_at listed end))
+shown listed state (end_word end) = optional_word (end_of state (listed_slot_at listed end))
 
 -- a reference counts only below the front of its partition, and every other word does
 abbrev pub Counts : Batch → State → Meaning → Type 0

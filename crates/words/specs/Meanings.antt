@@ -1,5 +1,5 @@
 -- What each step tells its pass.
-use Rattle.std.specs.Prelude.{◌≡◌, ◌⊎◌, ◌<◌, ◌≤◌, ◌+◌, ℕ, suc, false, true, Some, length, List, []}
+use Rattle.std.specs.Prelude.{◌≡◌, ◌⊎◌, ◌<◌, ◌≤◌, ◌+◌, ℕ, false, true, Option, None, Some, length, List, []}
 use Rattle.model_base.specs.Records.{end_below}
 use Rattle.bohm_core_base.specs.declared.event.Event.TheVariants.{Claim}
 use Rattle.bohm_core_base.specs.Batch.{Batch, is_listed, batch_slots, reference_words, table_at, words_length}
@@ -9,7 +9,7 @@ use Rattle.words.specs.declared.claims.Claimed.{Claimed}
 use Rattle.words.specs.declared.claims.Claimed.TheVariants.{Won, Held, Done}
 use Rattle.words.specs.declared.claims.Seen.{Seen}
 use Rattle.words.specs.declared.claims.Seen.TheVariants as seen
-use Rattle.words.specs.Layout.{end_told, partition_at}
+use Rattle.words.specs.Layout.{partition_at}
 use Rattle.words.specs.Views.{Holds, In, KnowsFront, KnowsReferences, front_in, with_event, with_known, with_sighting}
 
 -- the pass holds the place itself, or found it held by another, which a sole pass never does
@@ -31,15 +31,15 @@ LookMeans index view seen.Held after = FoundHeld index view after
 LookMeans index view seen.Done after = after ≡ with_known view index
 
 -- what a load of a slot's end says: no end, or that by the serial run of the whole batch
-pub record EndMeans (batch : Batch) (slot : ℕ) (view : Knowledge) (word : ℕ) : Type 0 where
-  pub none_or : (word ≡ 0) ⊎ ((place : ℕ) × (word ≡ suc place) × (whole_end batch slot ≡ Some place))
+pub record EndMeans (batch : Batch) (slot : ℕ) (view : Knowledge) (end : Option ℕ) : Type 0 where
+  pub none_or : (end ≡ None) ⊎ ((place : ℕ) × (end ≡ Some place) × (whole_end batch slot ≡ Some place))
   -- the latter where the pass knows the ending place done
-  pub ended : (index : ℕ) → whole_end batch slot ≡ Some (batch.first + index) → In index view.known → word ≡ suc (batch.first + index)
+  pub ended : (index : ℕ) → whole_end batch slot ≡ Some (batch.first + index) → In index view.known → end ≡ Some (batch.first + index)
   -- for a place of which the pass knows done all that it is referred to, and on whose tables the slot's grant is, the end
   -- below the place is that of the serial run
   pub below : (index : ℕ) → index < batch.size → KnowsReferences batch view index
       → is_listed (batch.tables index) (table_at batch slot) ≡ true
-      → end_below (batch.first + index) (end_told word) ≡ end_below (batch.first + index) (whole_end batch slot)
+      → end_below (batch.first + index) end ≡ end_below (batch.first + index) (whole_end batch slot)
 
 -- the pass holds the place and has stored all that the place has to store: so it may finish it
 abbrev pub HoldsWhole : Batch → Knowledge → ℕ → Type 0

@@ -10,6 +10,13 @@ use crate::batch_data::BatchData;
 use crate::table::{BatchWords, Holding};
 use std::marker::Brand;
 
+/// The claim of a place that is free.
+pub const FREE: u64 = 0;
+/// The claim of a place that a pass holds.
+pub const HELD: u64 = 1;
+/// The claim of a place that is done.
+pub const DONE: u64 = 2;
+
 /// What a claim found.
 #[derive(Clone, Copy, PartialEq, Eq, Debug)]
 pub enum Claimed {
@@ -48,8 +55,8 @@ impl<K: BatchData> BatchWords<K> {
         let at = self.claim_at(index);
         let found = self.exchange::<Brand>(&mut pass.seat, at, index);
         match found {
-            0 => Claimed::Won,
-            1 => Claimed::Held,
+            FREE => Claimed::Won,
+            HELD => Claimed::Held,
             _ => Claimed::Done,
         }
     }
@@ -67,8 +74,8 @@ impl<K: BatchData> BatchWords<K> {
         let at = self.claim_at(index);
         let found = self.get::<Brand>(&mut pass.seat, at, index, 0);
         match found {
-            0 => Seen::Free,
-            1 => Seen::Held,
+            FREE => Seen::Free,
+            HELD => Seen::Held,
             _ => Seen::Done,
         }
     }
@@ -81,6 +88,6 @@ impl<K: BatchData> BatchWords<K> {
         ensures { pass.new ≡ gone_on pass.old (with_event pass.old.view (GiveBack pass.old.number index)) }
     {
         let at = self.claim_at(index);
-        self.put::<Brand>(&mut pass.seat, at, 0, index, 0);
+        self.put::<Brand>(&mut pass.seat, at, FREE, index, 0);
     }
 }

@@ -3,11 +3,14 @@
 ghost use Rattle.std.specs.Prelude.{◌≡◌, ◌<◌, ◌+◌, suc, length, slice_index, true};
 ghost use Rattle.std.specs.Mem.Slots.{slots_len, IsFull};
 ghost use Rattle.words.specs.Closing.{HasItsReferences, IsSettledBy, LastWith, claim_in, end_word_in, own_in, reference_in};
+ghost use Rattle.words.specs.Layout.{optional_word};
 ghost use Rattle.words.specs.Passes.{IsPassOf};
 
 use crate::batch_data::BatchData;
+use crate::optional::{index_in, number_in};
 use crate::table::{BatchWords, Pass};
 use atomic_table::Closed as Stood;
+use model_base::Place;
 use std::alloc::Global;
 use std::marker::Model;
 
@@ -70,7 +73,7 @@ impl<K: BatchData> BatchWords<K> {
 }
 
 impl Closed {
-    /// The claim of a place: 0 if it is free, 1 if a pass held it, 2 if it is done.
+    /// The claim of a place: `FREE`, `HELD` by a pass, or `DONE`.
     pub fn claim(&self, index: usize) -> u64
         requires begins { index < length self.now.begins }
         requires within { slice_index self.now.begins index < length self.now.words }
@@ -88,21 +91,23 @@ impl Closed {
         self.stood.word(self.begins[index] + 1 + number)
     }
 
-    /// The reference of a number of a place: 0 for what was there before the batch, or one more than the index of a place.
-    pub fn reference(&self, index: usize, number: usize) -> u64
+    /// The reference of a number of a place: the index of a place, or none for what was there before the batch.
+    pub fn reference(&self, index: usize, number: usize) -> Option<usize>
         requires begins { index < length self.now.references }
         requires within { slice_index self.now.references index + number < length self.now.words }
-        ensures { result ≡ reference_in self.now index number }
+        ensures { optional_word result ≡ reference_in self.now index number }
     {
-        self.stood.word(self.references[index] + number)
+        let word = self.stood.word(self.references[index] + number);
+        index_in(word)
     }
 
-    /// A listed end: 0, or one more than the place that ended the record.
-    pub fn end(&self, end: usize) -> u64
+    /// A listed end, if it is set: the place that ended the record.
+    pub fn end(&self, end: usize) -> Option<Place>
         requires { self.now.ends + end < length self.now.words }
-        ensures { result ≡ end_word_in self.now end }
+        ensures { optional_word result ≡ end_word_in self.now end }
     {
-        self.stood.word(self.ends + end)
+        let word = self.stood.word(self.ends + end);
+        number_in(word)
     }
 }
 

@@ -10,6 +10,8 @@ ghost use Rattle.words.specs.Meanings.{EndMeans, HoldsWhole};
 ghost use Rattle.words.specs.Views.{Holds, In, KnowsReferences, with_event, with_known};
 
 use crate::batch_data::BatchData;
+use crate::claims::DONE;
+use crate::optional::number_in;
 use crate::table::{BatchWords, Holding};
 use model_base::Place;
 use std::marker::Brand;
@@ -59,7 +61,7 @@ impl<K: BatchData> BatchWords<K> {
         ensures { pass.new ≡ gone_on pass.old (with_known (with_event pass.old.view (Finish pass.old.number index)) index) }
     {
         let at = self.claim_at(index);
-        self.put::<Brand>(&mut pass.seat, at, 2, index, 0);
+        self.put::<Brand>(&mut pass.seat, at, DONE, index, 0);
     }
 
     /// The own word of a number of a place that the pass knows done: one load. It is the serial run's.
@@ -74,16 +76,17 @@ impl<K: BatchData> BatchWords<K> {
         self.get::<Brand>(&mut pass.seat, at, index, number)
     }
 
-    /// A listed end: 0, or one more than the place that ends the record by the serial run. One load. It is not 0 where the
-    /// pass knows the ending place done; and for a place of which the pass knows all references done, and on one of whose
-    /// tables the grant is, the end that is read tells below the place what the serial run's does.
-    pub fn end(&self, pass: &mut Holding, end: usize) -> u64
+    /// A listed end, if it is set: the place that ends the record by the serial run. One load. It is set where the pass knows the ending
+    /// place done; and for a place of which the pass knows all references done, and on one of whose tables the grant is, the end that is
+    /// read tells below the place what the serial run's does.
+    pub fn end(&self, pass: &mut Holding, end: usize) -> Option<Place>
         requires same_table { IsPassOf self.now pass.old }
         requires listed { end < length (K.listed self.now.key) }
         ensures same { pass.new ≡ pass.old }
         ensures tells { EndMeans (K.batch self.now.key) (listed_slot_at (K.listed self.now.key) end) pass.old.view result }
     {
         let at = self.end_at(end);
-        self.get::<Brand>(&mut pass.seat, at, 0, end)
+        let word = self.get::<Brand>(&mut pass.seat, at, 0, end);
+        number_in(word)
     }
 }

@@ -2,12 +2,13 @@
 
 ghost use Rattle.std.specs.Prelude.{◌≡◌, ◌<◌, ◌+◌, length, false, true};
 ghost use Rattle.bohm_core_base.specs.Batch.{reference_words};
-ghost use Rattle.words.specs.Layout.{partition_at, reference_at};
+ghost use Rattle.words.specs.Layout.{optional_word, partition_at, reference_at};
 ghost use Rattle.words.specs.Passes.{IsPassOf, IsPlacerOf, cut_placer, gone_on, placed_on};
 ghost use Rattle.words.specs.Meanings.{FrontMeans, StoredAll};
 ghost use Rattle.words.specs.Views.{In, KnowsFront, KnowsPast, front_in, with_all_placed, with_cut, with_front, with_placing, with_stored};
 
 use crate::batch_data::BatchData;
+use crate::optional::index_in;
 use crate::table::{BatchWords, Holding, Pass, Placer};
 use std::marker::Brand;
 
@@ -114,17 +115,18 @@ impl<K: BatchData> BatchWords<K> {
         pass.placed = true;
     }
 
-    /// A reference of a place that the pass knows its partition to have placed: 0 for what was there before the batch, or one more than the
-    /// index of a place. One load.
-    pub fn reference(&self, pass: &mut Holding, index: usize, number: usize) -> u64
+    /// A reference of a place that the pass knows its partition to have placed: the index of a place, or none for what was there before the
+    /// batch. One load.
+    pub fn reference(&self, pass: &mut Holding, index: usize, number: usize) -> Option<usize>
         requires same_table { IsPassOf self.now pass.old }
         requires within { index < (K.batch self.now.key).size }
         requires number { number < length (reference_words (K.batch self.now.key) index) }
         requires known { KnowsFront pass.old.view (partition_at (K.batch self.now.key) index number) index }
         ensures same { pass.new ≡ pass.old }
-        ensures value { result ≡ reference_at (K.batch self.now.key) index number }
+        ensures value { optional_word result ≡ reference_at (K.batch self.now.key) index number }
     {
         let at = self.reference_spot(index, number);
-        self.get::<Brand>(&mut pass.seat, at, index, number)
+        let word = self.get::<Brand>(&mut pass.seat, at, index, number);
+        index_in(word)
     }
 }

@@ -18,13 +18,14 @@ mod fronts;
 mod holding;
 mod knowledge;
 mod laws;
+mod optional;
 mod steps;
 mod table;
 mod words;
 mod written;
 
 pub use batch_data::{BatchData, MOST_REFERENCES_OF_A_PLACE, MOST_WORDS_OF_A_PLACE};
-pub use claims::{Claimed, Seen};
+pub use claims::{Claimed, DONE, FREE, HELD, Seen};
 pub use close::Closed;
 pub use knowledge::Knowledge;
 pub use laws::{

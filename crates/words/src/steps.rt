@@ -10,6 +10,7 @@ ghost use Rattle.words.specs.Layout.{claim_word, end_word, front_word, own_word,
 ghost use Rattle.words.specs.Views.{joined, split_left, split_right};
 
 use crate::batch_data::BatchData;
+use crate::claims::{FREE, HELD};
 use crate::knowledge::Knowledge;
 use crate::table::{BatchWords, Rule};
 use atomic_table::{Play, Seat, Shared, Split};
@@ -95,7 +96,7 @@ impl<K: BatchData> BatchWords<K> {
         ensures same { (seat.new.table_id ≡ seat.old.table_id) × (seat.new.id ≡ seat.old.id) }
         ensures then { M.then (step self.now.table.slots at 0 1 none) seat.old.me result seat.new.me }
     {
-        self.shared().compare_exchange::<M>(seat, at, 0, 1)
+        self.shared().compare_exchange::<M>(seat, at, FREE, HELD)
     }
 
     // A store.

@@ -1,4 +1,4 @@
-use Rattle.std.proofs.Common.{◌≡◌, ◌<◌, length, sym, subst, arith}
+use Rattle.std.proofs.Common.{◌≡◌, ◌<◌, sym, subst, arith}
 use Rattle.bohm_core_base.specs.Batch.{Batch, IsSoundBatch}
 use Rattle.words.specs.Layout.{partition_at}
 use Rattle.words.specs.Views.{KnowsFront}

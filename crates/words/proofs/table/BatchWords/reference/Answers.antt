@@ -8,8 +8,8 @@ use Rattle.words.proofs.Plays.{reads}
 use Rattle.words.proofs.Allowed.{reference_reads}
 use Rattle.words.proofs.table.BatchWords.reference.Goals as goal
 
-pub get-requires-clause-allows : goal.get-requires-clause-allows
-get-requires-clause-allows g c =
+pub get-word-requires-clause-allows : goal.get-word-requires-clause-allows
+get-word-requires-clause-allows g c =
     let key = c.args.self.now.key in
     let b = g.K.BatchData.batch key in
     let seat = c.pass.inside.seat in
@@ -19,16 +19,16 @@ get-requires-clause-allows g c =
 
 pub invariant_of-pass : goal.invariant_of-pass
 invariant_of-pass g c =
-    let me = c.get.ensures.then.0 in
+    let me = c.get-word.ensures.then.0 in
     record { bare = ap (λ m. m.1) me ∙ c.pass.invariant.bare; alive = ap (λ m. m.0.spent) me ∙ c.pass.invariant.alive; pass = ap (λ m. m.0.placer) me ∙ c.pass.invariant.pass; placed = λ yes. ap (λ m. m.0.placed) me ∙ c.pass.invariant.placed yes }
 
 pub returns-clause-same : goal.returns-clause-same
 returns-clause-same g c =
-    let same = c.get.ensures.same in
-    let me = c.get.ensures.then.0 in
-    let passed : PassState = record { table = c.get.new.seat.table_id; number = c.get.new.seat.id; view = c.get.new.seat.me.0; bodies = c.pass.inside.bodies } in
+    let same = c.get-word.ensures.same in
+    let me = c.get-word.ensures.then.0 in
+    let passed : PassState = record { table = c.get-word.new.seat.table_id; number = c.get-word.new.seat.id; view = c.get-word.new.seat.me.0; bodies = c.pass.inside.bodies } in
     subst (λ (p : PassState). passed ≡ p) c.pass.view_is
     (λ t. record { table = same.0 t; number = same.1 t; view = (me t).0; bodies = c.pass.inside.bodies })
 
 pub returns-clause-value : goal.returns-clause-value
-returns-clause-value g c = c.get.ensures.then.1
+returns-clause-value g c = c.index_in.ensures ∙ c.get-word.ensures.then.1
