@@ -3,6 +3,7 @@ pub mod LogBatch
 pub mod Laws
 pub mod Named
 pub mod Referred
+pub mod StateBefore
 pub mod Supplied
 pub mod Earlier
 pub mod Holders

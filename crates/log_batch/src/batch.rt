@@ -3,23 +3,22 @@
 ghost use Rattle.std.specs.Prelude.{◌≡◌, ◌<◌, ◌≤◌, ◌+◌, ◌*◌, ◌-◌, ◌++◌, ℕ, List, None, Some, length, slice_get, slice_index_or, ◌^◌, IfOk, IfSome, OnOk, false, true};
 ghost use Rattle.std.specs.Option.{MatchOption, option_to_list};
 ghost use Rattle.model_base.specs.Records.{grants_of};
-ghost use Rattle.model_base.specs.Outcomes.{deeds_before, owners, rows_before};
+ghost use Rattle.model_base.specs.Outcomes.{rows_before};
 ghost use Rattle.model_base.specs.References.{batch_references, references};
-ghost use Rattle.grants_base.specs.Book.{ShowsBook};
 ghost use Rattle.grants_base.specs.Force.{gives_by, gives_to, is_in_force};
 ghost use Rattle.grants_base.specs.InForce.{IsNextInForce};
 ghost use Rattle.grants_base.specs.Index.{IsFirst, IsNext, is_by, is_to};
-ghost use Rattle.chains.specs.Store.{IsRight};
 ghost use Rattle.sequencer.specs.Whole.{IsAccepted, IsWhole};
 ghost use Rattle.bohm_core_base.specs.Batch.{batch_slots, reference_words};
 ghost use Rattle.bohm_core_base.specs.Machine.{end_of, start};
 ghost use Rattle.log_batch.specs.Laws.{IsOfLog};
 ghost use Rattle.log_batch.specs.Earlier.{earlier_count, earlier_grants, own_grants, records_before};
 ghost use Rattle.log_batch.specs.Named.{grants_named};
+ghost use Rattle.log_batch.specs.StateBefore.{IsStateBefore};
 
 use crate::referred::{References, reference_counts};
-use chains::Chains;
-use grants::{Book, IndexedGrants, NextBy, NextInForce, Records};
+use crate::state_before::StateBefore;
+use grants::{IndexedGrants, NextBy, NextInForce, Records};
 use model_base::{
     Deed, Grant, Grantee, Key, Kind, MOST_ACCESSES, MOST_PARTITIONS, MOST_PLACES, Place, Reference,
     Row, Statement, Table, User,
@@ -36,8 +35,7 @@ use std::ops::Range;
 pub struct LogBatch<'a> {
     alloc: Global,
     log: &'a LogTail,
-    chains: &'a Chains,
-    book: &'a Book,
+    before: StateBefore<'a>,
     references: References,
     named: IndexedGrants,
     first: Place,
@@ -67,7 +65,7 @@ impl<'a> Model for LogBatch<'a> {
           partitions = batch.partitions;
           placed = is_found batch.references;
         })
-        batch.log.now.dropped batch.chains.now batch.book.now batch.references batch.named };
+        batch.log.now.dropped batch.before batch.references batch.named };
 }
 
 /// Appends the grant to the others, if the deed is one.
@@ -106,8 +104,7 @@ impl<'a> LogBatch<'a> {
     fn of(
         alloc: Global,
         log: &'a LogTail,
-        chains: &'a Chains,
-        book: &'a Book,
+        before: StateBefore<'a>,
         range: Range<Place>,
         partitions: usize,
         references: References,
@@ -117,9 +114,7 @@ impl<'a> LogBatch<'a> {
         requires kept { log.now.dropped ≤ range.start }
         requires order { range.start ≤ range.end }
         requires within { range.end ≤ length log.now.log.statements }
-        requires ends { chains.now.end ≡ range.start }
-        requires right { IsRight log.now.log.statements chains.now }
-        requires book { ShowsBook book.now (owners log.now.log.statements) (deeds_before log.now.log.statements range.start) }
+        requires before { IsStateBefore log.now.log.statements range.start before }
         requires references { AreAtHand log.now.log.statements range.start (range.end - range.start) references }
         ensures { IfOk result (λ batch. batch ≡ record {
           log = log.now.log;
@@ -131,13 +126,12 @@ impl<'a> LogBatch<'a> {
     {
         let _dropped = log.dropped();
         let _len = log.len();
-        let _mark = chains.mark();
+        let _mark = before.chains.mark();
         let named = named_grants(alloc, log, range.start..range.end)?;
         Ok(LogBatch {
             alloc,
             log,
-            chains,
-            book,
+            before,
             references,
             named,
             first: range.start,
@@ -152,8 +146,7 @@ impl<'a> LogBatch<'a> {
     pub fn new(
         alloc: Global,
         log: &'a LogTail,
-        chains: &'a Chains,
-        book: &'a Book,
+        before: StateBefore<'a>,
         range: Range<Place>,
         partitions: usize,
         references: Refs,
@@ -163,9 +156,7 @@ impl<'a> LogBatch<'a> {
         requires kept { log.now.dropped ≤ range.start }
         requires order { range.start ≤ range.end }
         requires within { range.end ≤ length log.now.log.statements }
-        requires ends { chains.now.end ≡ range.start }
-        requires right { IsRight log.now.log.statements chains.now }
-        requires book { ShowsBook book.now (owners log.now.log.statements) (deeds_before log.now.log.statements range.start) }
+        requires before { IsStateBefore log.now.log.statements range.start before }
         requires references { references ≡ batch_references log.now.log.statements range.start range.end }
         ensures { IfOk result (λ batch. batch ≡ record {
           log = log.now.log;
@@ -176,7 +167,7 @@ impl<'a> LogBatch<'a> {
         }) }
     {
         let found = References::Found(references);
-        Self::of(alloc, log, chains, book, range, partitions, found)
+        Self::of(alloc, log, before, range, partitions, found)
     }
 
     /// The places of the range as a batch that isn't placed: no reference is looked for, and of each place only the number of
@@ -185,8 +176,7 @@ impl<'a> LogBatch<'a> {
     pub fn open(
         alloc: Global,
         log: &'a LogTail,
-        chains: &'a Chains,
-        book: &'a Book,
+        before: StateBefore<'a>,
         range: Range<Place>,
         partitions: usize,
     ) -> Result<Self, AllocError>
@@ -195,9 +185,7 @@ impl<'a> LogBatch<'a> {
         requires kept { log.now.dropped ≤ range.start }
         requires order { range.start ≤ range.end }
         requires within { range.end ≤ length log.now.log.statements }
-        requires ends { chains.now.end ≡ range.start }
-        requires right { IsRight log.now.log.statements chains.now }
-        requires book { ShowsBook book.now (owners log.now.log.statements) (deeds_before log.now.log.statements range.start) }
+        requires before { IsStateBefore log.now.log.statements range.start before }
         ensures { IfOk result (λ batch. batch ≡ record {
           log = log.now.log;
           first = range.start;
@@ -208,7 +196,7 @@ impl<'a> LogBatch<'a> {
     {
         let counts = reference_counts(alloc, log, range.start..range.end)?;
         let counted = References::Counted(counts);
-        Self::of(alloc, log, chains, book, range, partitions, counted)
+        Self::of(alloc, log, before, range, partitions, counted)
     }
 
     /// The log.
@@ -300,7 +288,7 @@ impl<'a> LogBatch<'a> {
     pub fn row_before(&self, key: Key) -> Option<Row>
         ensures { result ≡ rows_before self.now.log.statements self.now.first key.table key.row }
     {
-        match self.chains.row_before(self.first, key) {
+        match self.before.chains.row_before(self.first, key) {
             Ok(row) => row,
             Err(_) => None,
         }
@@ -310,7 +298,7 @@ impl<'a> LogBatch<'a> {
     pub fn slot_count(&self) -> usize
         ensures { result ≡ length (batch_slots (batch_of self.now)) }
     {
-        self.book.records().len() + self.named.len()
+        self.before.book.records().len() + self.named.len()
     }
 
     /// The grant of a slot.
@@ -318,7 +306,7 @@ impl<'a> LogBatch<'a> {
         requires { slot < length (batch_slots (batch_of self.now)) }
         ensures { slice_get (batch_slots (batch_of self.now)) slot ≡ Some result }
     {
-        let records = self.book.records();
+        let records = self.before.book.records();
         if slot < records.len() {
             records[slot].grant
         } else {
@@ -331,7 +319,7 @@ impl<'a> LogBatch<'a> {
         requires { slot < length (batch_slots (batch_of self.now)) }
         ensures { result ≡ end_of (start (batch_of self.now)) slot }
     {
-        let records = self.book.records();
+        let records = self.before.book.records();
         if slot < records.len() {
             records[slot].end
         } else {
@@ -344,7 +332,7 @@ impl<'a> LogBatch<'a> {
         ensures value { result ≡ earlier_count (batch_of self.now) }
         ensures within { result ≤ length (batch_slots (batch_of self.now)) }
     {
-        self.book.records().len()
+        self.before.book.records().len()
     }
 
     /// The least slot at or above this one whose grant was made before the batch and is to the grantee, of the kind on the table, in force
@@ -358,7 +346,7 @@ impl<'a> LogBatch<'a> {
     ) -> Option<usize>
         ensures { IsNext (is_to grantee.now kind table) (earlier_grants (batch_of self.now)) from result }
     {
-        let mut view = self.book.at(self.first);
+        let mut view = self.before.book.at(self.first);
         view.next_to(*grantee, kind, table, from)
     }
 
@@ -367,7 +355,7 @@ impl<'a> LogBatch<'a> {
     pub fn earlier_by(&self, user: User, kind: Kind, table: Table, from: usize) -> Option<usize>
         ensures { IsNext (is_by user kind table) (earlier_grants (batch_of self.now)) from result }
     {
-        let mut view = self.book.at(self.first);
+        let mut view = self.before.book.at(self.first);
         view.next_by(user, kind, table, from)
     }
 
@@ -385,7 +373,7 @@ impl<'a> LogBatch<'a> {
         ensures { IfSome result (λ next.
             IsNextInForce (gives_to grantee kind table option) (records_before (batch_of self.now)) from next) }
     {
-        let mut view = self.book.at(self.first);
+        let mut view = self.before.book.at(self.first);
         view.next_in_force(grantee, kind, table, option, from)
     }
 
@@ -403,7 +391,7 @@ impl<'a> LogBatch<'a> {
             IsFirst (λ k. is_in_force (gives_by user grantee kind table)
             (slice_get (records_before (batch_of self.now)) k)) from next.slot) }
     {
-        let mut view = self.book.at(self.first);
+        let mut view = self.before.book.at(self.first);
         view.next_in_force_by(user, grantee, kind, table, from)
     }
 

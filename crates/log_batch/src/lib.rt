@@ -21,6 +21,7 @@ mod own_length;
 mod reach;
 mod referred;
 mod revoked;
+mod state_before;
 
 pub use batch::LogBatch;
 pub use ended::ended_slots;
@@ -32,3 +33,4 @@ pub use laws::{
 };
 pub use log_words::LogWords;
 pub use own_length::{columns_of, header_length, words_length};
+pub use state_before::StateBefore;

@@ -12,7 +12,7 @@ returns c =
     let s = c.self.inside in
     let range = range_of record { log = s.log.now.log; first = s.first; size = s.size; partitions = s.partitions; placed = is_found s.references } in
     let found = length c.records.result.now in
-    let count = ap (λ (entries : List Record). length entries) c.records.ensures.records ∙ book-count range s.book.now c.self.invariant.book.same in
+    let count = ap (λ (entries : List Record). length entries) c.records.ensures.records ∙ book-count range s.before.book.now c.self.invariant.before.book.same in
     record {
       value = subst (λ (ranged : LogRange). found ≡ earlier_count (batch_of ranged)) c.self.view_is count;
       within =

@@ -17,6 +17,6 @@ returns c =
     let passes = gives_to c.args.grantee c.args.kind c.args.table c.args.option in
     let Told : Entries → ℕ → Type 0 = λ (book : Entries). λ (place : ℕ). IfSome c.next_in_force.result (λ next. ShowsNextInForce passes (view_of book place) c.args.from next) in
     let book = subst (λ (book : Entries). Told book c.at-view.result.place) c.at-view.ensures.book c.next_in_force.ensures.next in
-    let place = subst (λ (place : ℕ). Told s.book.now place) c.at-view.ensures.place book in
+    let place = subst (λ (place : ℕ). Told s.before.book.now place) c.at-view.ensures.place book in
     subst (λ (ranged : LogRange). IfSome c.next_in_force.result (λ next. IsNextInForce passes (records_before (batch_of ranged)) c.args.from next)) c.self.view_is
-    (next-at-start s.book.now s.log.now.log.statements s.first c.self.invariant.book.same passes c.args.from c.next_in_force.result place)
+    (next-at-start s.before.book.now s.log.now.log.statements s.first c.self.invariant.before.book.same passes c.args.from c.next_in_force.result place)

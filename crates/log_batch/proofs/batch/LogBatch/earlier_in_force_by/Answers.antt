@@ -17,6 +17,6 @@ returns c =
     let passes = gives_by c.args.user c.args.grantee c.args.kind c.args.table in
     let Told : Entries → ℕ → Type 0 = λ (book : Entries). λ (place : ℕ). IfSome c.next_in_force_by.result (λ next. IsFirst (λ k. is_in_force passes (slot_at (view_of book place) k)) c.args.from next.slot) in
     let book = subst (λ (book : Entries). Told book c.at-view.result.place) c.at-view.ensures.book c.next_in_force_by.ensures.next in
-    let place = subst (λ (place : ℕ). Told s.book.now place) c.at-view.ensures.place book in
+    let place = subst (λ (place : ℕ). Told s.before.book.now place) c.at-view.ensures.place book in
     subst (λ (ranged : LogRange). IfSome c.next_in_force_by.result (λ next. IsFirst (λ k. is_in_force passes (slice_get (records_before (batch_of ranged)) k)) c.args.from next.slot)) c.self.view_is
-    (by-at-start s.book.now s.log.now.log.statements s.first c.self.invariant.book.same passes c.args.from c.next_in_force_by.result place)
+    (by-at-start s.before.book.now s.log.now.log.statements s.first c.self.invariant.before.book.same passes c.args.from c.next_in_force_by.result place)

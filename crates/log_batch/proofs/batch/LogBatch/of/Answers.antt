@@ -17,7 +17,7 @@ invariant_of-result c =
     let end : first + (c.args.range.end - first) ≡ c.args.range.end = omega arith in
     let named = c.in_ok-named.named in
     let marked = c.mark-mark.ensures.within in
-    let ends = c.requires.ends in
+    let ends = c.requires.before.ends in
     record {
       whole = c.dropped-dropped.ensures.whole;
       few = c.len-len.ensures.most;
@@ -26,12 +26,10 @@ invariant_of-result c =
       within = (let within = c.requires.within in omega arith);
       kept = c.requires.kept;
       begins = omega arith;
-      ends = ends;
-      right = c.requires.right;
-      book = c.requires.book;
+      before = c.requires.before;
       references = c.requires.references;
       slots =
-          ap (λ (entries : List Record). recorded entries ++ named) c.requires.book.same
+          ap (λ (entries : List Record). recorded entries ++ named) c.requires.before.book.same
           ∙ ap (λ (grants : List Grant). grants ++ named) (recorded-records (owners log) (deeds_before log first))
           ∙ ap (λ (grants : List Grant). grants_of (deeds_before log first) ++ grants) c.in_ok-named.ensures
           ∙ sym (slots-split (range_of record { log = c.args.log.now.log; first = first; size = c.args.range.end - first; partitions = c.args.partitions; placed = is_found c.args.references }));
