@@ -12,8 +12,9 @@ use Rattle.bohm_base.specs.declared.fault.EngineFault.{EngineFault}
 use Rattle.engine.specs.Engine.{finished}
 use Rattle.batched_text.specs.Batching.{Deals, IsBatchReady, IsOpen, ReportsLines}
 use Rattle.batched_text.specs.Faults.{IsOfBatch}
-use Rattle.batched_text.specs.Foretold.{BeginsFrom, Runs, TakesAt, TakesFrom, log_names}
+use Rattle.batched_text.specs.Foretold.{BeginsFrom, IsReadyAt, Runs, TakesAt, TakesFrom, log_names}
 use Rattle.batched_text.specs.declared.batching.Batching.{Batching}
+use Rattle.batched_text.specs.declared.buffered.Buffered.{Buffered}
 use Rattle.batched_text.specs.declared.history.Plan.{Plan}
 use Rattle.batched_text.proofs.Cutting.{dealt}
 use Rattle.batched_text.proofs.ForetoldLines.{begins_dealt}
@@ -33,49 +34,47 @@ pending_begun : (bytes : List ℕ) (from : ℕ) (old new : Batching) → new.pen
 pending_begun bytes from old new same = λ behind input out held so.
     subst (HasBegunReport input out held) (sym same) (begun_batched total input (prepend_known (drop from bytes) behind) out held _ _ _ _ _ so)
 
-module _ (plan : Plan) (bytes : List ℕ) (given : ℕ) where
+module _ (plan : Plan) (buffered : Buffered) where
   -- no line
-  pub runs_none : (from : ℕ) (batching : Batching) → from ≤ length bytes → IsBatchReady plan batching (length bytes - from) given
-      → Runs plan bytes given from batching batching (Ok from)
+  pub runs_none : (from : ℕ) (batching : Batching) → from ≤ length buffered.bytes.now → IsReadyAt plan batching buffered from
+      → Runs plan buffered from batching batching (Ok from)
   runs_none from batching within ready = record {
     within = within;
     ready = ready;
     taken = λ behind input out held so. so;
-    begun = taken_begun bytes from from batching batching (λ behind input out held so. so);
+    begun = taken_begun buffered.bytes.now from from batching batching (λ behind input out held so. so);
     begins = begins_same (log_names batching);
     err = tt;
   }
 
-  pub runs_start : (batching : Batching) → IsBatchReady plan batching (length bytes) given
-      → Runs plan bytes given 0 batching batching (Ok 0)
-  runs_start batching ready =
-      runs_none 0 batching (omega arith)
-      (record { room = ready.room; bounded = λ left. ready.bounded (omega (arith, left)); numbered = omega (arith, ready.numbered) })
+  pub ready_start : (batching : Batching) → IsBatchReady plan batching (length buffered.bytes.now) buffered.given → IsReadyAt plan batching buffered 0
+  ready_start batching ready =
+      record { room = ready.room; bounded = λ left. ready.bounded (omega (arith, left)); numbered = omega (arith, ready.numbered) }
 
   -- memory was refused or no thread started, and what was pending is
   pub runs_fault : (from : ℕ) (old new : Batching) (result : Result ℕ EngineFault) → new.pending.items ≡ old.pending.items
-      → IsErrAnd result (IsOfBatch plan.settings.workers) → Runs plan bytes given from old new result
+      → IsErrAnd result (IsOfBatch plan.settings.workers) → Runs plan buffered from old new result
   runs_fault from old new (Ok to) same is = absurd is
   runs_fault from old new (Err fault) same is = record {
     within = tt;
     ready = tt;
     taken = tt;
-    begun = pending_begun bytes from old new same;
+    begun = pending_begun buffered.bytes.now from old new same;
     begins = tt;
     err = is;
   }
 
   -- one line, which was taken, and then its batch was reported if that is full
-  pub runs_line : (from count : ℕ) (old mid new : Batching) → IsBatchReady plan old (length bytes - from) given → TakesAt bytes from count old mid
+  pub runs_line : (from count : ℕ) (old mid new : Batching) → IsReadyAt plan old buffered from → TakesAt buffered.bytes.now from count old mid
       → new.engine.log ≡ mid.engine.log → new.number ≡ mid.number
       → ReportsLines mid.engine.log (finished mid.engine) (finished new.engine) mid.waiting.items new.waiting.items mid.number mid.pending.items new.pending.items
-      → IsOpen plan new → Runs plan bytes given from old new (Ok (from + count))
+      → IsOpen plan new → Runs plan buffered from old new (Ok (from + count))
   runs_line from count old mid new ready taken log number reports room =
       let deals : Deals taken.reading old new = dealt taken.reading old mid new taken.takes log number reports in
-      let takes : TakesFrom bytes from (from + count) old new =
+      let takes : TakesFrom buffered.bytes.now from (from + count) old new =
       λ behind input out held so.
-      batched_step input (prepend_known (drop from bytes) behind) (prepend_known (drop (from + count) bytes) behind) out held taken.line taken.reading old new so
-      (took_at bytes from count taken.line taken.at behind) taken.reads deals (within_open plan old ready.room)
+      batched_step input (prepend_known (drop from buffered.bytes.now) behind) (prepend_known (drop (from + count) buffered.bytes.now) behind) out held taken.line taken.reading old new so
+      (took_at buffered.bytes.now from count taken.line taken.at behind) taken.reads deals (within_open plan old ready.room)
       (record { whole = room.filling.whole; within = within_open plan new room }) in
       record {
         within = taken.at.within;
@@ -85,14 +84,14 @@ module _ (plan : Plan) (bytes : List ℕ) (given : ℕ) where
           numbered = omega (arith, taken.at.some, taken.at.within, deals.number, ready.numbered);
         };
         taken = takes;
-        begun = taken_begun bytes from (from + count) old new takes;
+        begun = taken_begun buffered.bytes.now from (from + count) old new takes;
         begins = begins_dealt taken.reading old new deals;
         err = tt;
       }
 
   -- one run of lines, and then another
-  pub runs_then : (from at : ℕ) (old mid new : Batching) (result : Result ℕ EngineFault) → Runs plan bytes given from old mid (Ok at)
-      → Runs plan bytes given at mid new result → Runs plan bytes given from old new result
+  pub runs_then : (from at : ℕ) (old mid new : Batching) (result : Result ℕ EngineFault) → Runs plan buffered from old mid (Ok at)
+      → Runs plan buffered at mid new result → Runs plan buffered from old new result
   runs_then from at old mid new (Ok to) first second = record {
     within = second.within;
     ready = second.ready;
@@ -111,33 +110,33 @@ module _ (plan : Plan) (bytes : List ℕ) (given : ℕ) where
   }
 
   -- a fault that is passed on
-  pub runs_told : (from : ℕ) (old new : Batching) (fault : EngineFault) (result : Result ℕ EngineFault) → Runs plan bytes given from old new (Err fault)
-      → IsErrAnd result (λ other. other ≡ fault) → Runs plan bytes given from old new result
+  pub runs_told : (from : ℕ) (old new : Batching) (fault : EngineFault) (result : Result ℕ EngineFault) → Runs plan buffered from old new (Err fault)
+      → IsErrAnd result (λ other. other ≡ fault) → Runs plan buffered from old new result
   runs_told from old new fault (Ok to) runs is = absurd is
   runs_told from old new fault (Err other) runs is =
-      subst (λ (f : EngineFault). Runs plan bytes given from old new (Err f)) (sym is) runs
+      subst (λ (f : EngineFault). Runs plan buffered from old new (Err f)) (sym is) runs
 
   -- the lines that wait are reported though their batch isn't full
-  pub runs_early : (from to : ℕ) (old mid new : Batching) → Runs plan bytes given from old mid (Ok to) → new.engine.log ≡ mid.engine.log
+  pub runs_early : (from to : ℕ) (old mid new : Batching) → Runs plan buffered from old mid (Ok to) → new.engine.log ≡ mid.engine.log
       → new.number ≡ mid.number
       → ReportsLines mid.engine.log (finished mid.engine) (finished new.engine) mid.waiting.items new.waiting.items mid.number mid.pending.items new.pending.items
-      → IsOpen plan new → Runs plan bytes given from old new (Ok to)
+      → IsOpen plan new → Runs plan buffered from old new (Ok to)
   runs_early from to old mid new runs log number reports room =
-      let taken : TakesFrom bytes from to old new =
+      let taken : TakesFrom buffered.bytes.now from to old new =
       λ behind input out held so.
-      batched_early input (prepend_known (drop to bytes) behind) out held mid new (runs.taken behind input out held so) log number reports
+      batched_early input (prepend_known (drop to buffered.bytes.now) behind) out held mid new (runs.taken behind input out held so) log number reports
       (record { whole = room.filling.whole; within = within_open plan new room }) in
       record {
         within = runs.within;
         ready = record { room = room; bounded = runs.ready.bounded; numbered = omega (arith, runs.ready.numbered, number) };
         taken = taken;
-        begun = taken_begun bytes from to old new taken;
+        begun = taken_begun buffered.bytes.now from to old new taken;
         begins = subst (λ (l : Accepted). Begins (log_names old) l.names) (sym log) runs.begins;
         err = tt;
       }
 
-  pub runs_early_fault : (from to : ℕ) (old mid new : Batching) (result : Result ℕ EngineFault) → Runs plan bytes given from old mid (Ok to)
-      → new.pending.items ≡ mid.pending.items → IsErrAnd result (IsOfBatch plan.settings.workers) → Runs plan bytes given from old new result
+  pub runs_early_fault : (from to : ℕ) (old mid new : Batching) (result : Result ℕ EngineFault) → Runs plan buffered from old mid (Ok to)
+      → new.pending.items ≡ mid.pending.items → IsErrAnd result (IsOfBatch plan.settings.workers) → Runs plan buffered from old new result
   runs_early_fault from to old mid new (Ok other) runs same is = absurd is
   runs_early_fault from to old mid new (Err fault) runs same is = record {
     within = tt;
@@ -145,13 +144,13 @@ module _ (plan : Plan) (bytes : List ℕ) (given : ℕ) where
     taken = tt;
     begun = λ behind input out held so.
         subst (HasBegunReport input out held) (sym same)
-        (begun_batched total input (prepend_known (drop to bytes) behind) out held _ _ _ _ _ (runs.taken behind input out held so));
+        (begun_batched total input (prepend_known (drop to buffered.bytes.now) behind) out held _ _ _ _ _ (runs.taken behind input out held so));
     begins = tt;
     err = is;
   }
 
   -- and that fault is passed on
-  pub runs_early_told : (from to : ℕ) (old mid new : Batching) (fault : EngineFault) (result : Result ℕ EngineFault) → Runs plan bytes given from old mid (Ok to)
-      → new.pending.items ≡ mid.pending.items → IsOfBatch plan.settings.workers fault → IsErrAnd result (λ other. other ≡ fault) → Runs plan bytes given from old new result
+  pub runs_early_told : (from to : ℕ) (old mid new : Batching) (fault : EngineFault) (result : Result ℕ EngineFault) → Runs plan buffered from old mid (Ok to)
+      → new.pending.items ≡ mid.pending.items → IsOfBatch plan.settings.workers fault → IsErrAnd result (λ other. other ≡ fault) → Runs plan buffered from old new result
   runs_early_told from to old mid new fault result runs same stops is =
       runs_told from old new fault result (runs_early_fault from to old mid new (Err fault) runs same stops) is

@@ -12,6 +12,7 @@ use Rattle.bohm_base.specs.declared.fault.EngineFault.{EngineFault}
 use Rattle.batched_text.specs.Faults.{IsOfBatch}
 use Rattle.batched_text.specs.Batching.{BatchedUpTo, IsBatchReady, Takes}
 use Rattle.batched_text.specs.declared.batching.Batching.{Batching}
+use Rattle.batched_text.specs.declared.buffered.Buffered.{Buffered}
 use Rattle.batched_text.specs.declared.history.Plan.{Plan}
 
 -- the names of the log
@@ -52,13 +53,17 @@ BeginsFrom bytes from old new =
     → BatchedUpTo input (prepend_known (drop from bytes) behind) out held old
     → HasBegunReport input out held new.pending.items
 
+-- a further line can be dealt with where the lines up to an index of the buffered bytes are reported or wait
+abbrev pub IsReadyAt : Plan → Batching → Buffered → ℕ → Type 0
+IsReadyAt plan batching buffered from = IsBatchReady plan batching (length buffered.bytes.now - from) buffered.given
+
 -- what a run of lines from an index of the bytes on resulted in, whose answer is the index before which all is dealt with: further lines
 -- can be dealt with, and the names begin as they did; and in any case a beginning of the report is written
-pub record Runs (plan : Plan) (bytes : List ℕ) (given from : ℕ) (old new : Batching)
+pub record Runs (plan : Plan) (buffered : Buffered) (from : ℕ) (old new : Batching)
     (result : Result ℕ EngineFault) : Type 0 where
-  pub within : IfOk result (λ to. to ≤ length bytes)
-  pub ready : IfOk result (λ to. IsBatchReady plan new (length bytes - to) given)
-  pub taken : IfOk result (λ to. TakesFrom bytes from to old new)
-  pub begun : BeginsFrom bytes from old new
+  pub within : IfOk result (λ to. to ≤ length buffered.bytes.now)
+  pub ready : IfOk result (λ to. IsReadyAt plan new buffered to)
+  pub taken : IfOk result (λ to. TakesFrom buffered.bytes.now from to old new)
+  pub begun : BeginsFrom buffered.bytes.now from old new
   pub begins : OnOk result (Begins (log_names old) (log_names new))
   pub err : IfErr result (IsOfBatch plan.settings.workers)

@@ -7,8 +7,9 @@ ghost use Rattle.batched_text.specs.Faults.{IsOfBatch, of_batch};
 ghost use Rattle.batched_text.specs.History.{KeepsAll, NoneWait, dropped_by};
 ghost use Rattle.batched_text.specs.Settings.{are_within_limits, mark_behind};
 
-use crate::history::{History, Plan};
+use crate::history::History;
 use crate::reporting::put_lines;
+use crate::runner::Runner;
 use crate::settings::{Settings, mark_behind};
 use bohm_base::{EngineFault, LineOutcome};
 use engine::{Crew, Engine, RunFault};
@@ -93,24 +94,23 @@ fn text_fault(fault: RunFault) -> EngineFault
 /// was.
 #[tactic(auto, using(crate::proofs::Faults::stops_batch))]
 fn run_waiting<T: Threads + Wait + Sync>(
-    rt: &T,
-    alloc: Global,
+    runner: &Runner<T>,
     engine: &mut Engine,
-    settings: &Settings,
 ) -> Result<(), EngineFault>
-    requires settings { are_within_limits settings.now ≡ true }
-    requires mark { engine.old.store.mark ≤ mark_behind settings.now (finished engine.old) (length engine.old.log.statements) }
-    ensures stops { IfErr result (IsOfBatch settings.now.workers) }
+    requires settings { are_within_limits runner.now.plan.settings ≡ true }
+    requires mark { engine.old.store.mark ≤ mark_behind runner.now.plan.settings (finished engine.old) (length engine.old.log.statements) }
+    ensures stops { IfErr result (IsOfBatch runner.now.plan.settings.workers) }
     ensures log { engine.new.log ≡ engine.old.log }
     ensures dropped { engine.new.dropped ≡ engine.old.dropped }
     ensures all { OnOk result (finished engine.new ≡ length engine.old.log.statements) }
     ensures mark { OnOk result (engine.new.store.mark ≡ (if nat_lt (finished engine.old) (length engine.old.log.statements)
-        then mark_behind settings.now (finished engine.old) (length engine.old.log.statements) else engine.old.store.mark)) }
+        then mark_behind runner.now.plan.settings (finished engine.old) (length engine.old.log.statements) else engine.old.store.mark)) }
 {
+    let settings = &runner.plan.settings;
     let start = engine.finished();
     let end = engine.log().len();
     if start < end {
-        match engine.run_to(rt, alloc, end, crew_of(settings), &NoGate) {
+        match engine.run_to(runner.rt, runner.alloc, end, crew_of(settings), &NoGate) {
             Ok(()) => trim_to(engine, mark_behind(settings, start, end)),
             Err(fault) => return Err(text_fault(fault)),
         }
@@ -134,14 +134,12 @@ fn forget_finished(engine: &mut Engine, history: History)
 /// Then what is finished is forgotten, unless all of it is kept. After an error what was pending is.
 #[tactic(auto, using(crate::proofs::Faults::stops_memory, crate::proofs::Faults::stops_told))]
 pub(crate) fn report_batch<T: Threads + Wait + Sync>(
-    rt: &T,
-    alloc: Global,
+    runner: &Runner<T>,
     batching: &mut Batching,
-    plan: &Plan,
 ) -> Result<(), EngineFault>
-    requires filling { IsFilling plan.now batching.old }
-    ensures stops { IfErr result (IsOfBatch plan.now.settings.workers) }
-    ensures kept { OnOk result (batching.new.engine.dropped ≡ dropped_by plan.now.history batching.new.engine) }
+    requires filling { IsFilling runner.now.plan batching.old }
+    ensures stops { IfErr result (IsOfBatch runner.now.plan.settings.workers) }
+    ensures kept { OnOk result (batching.new.engine.dropped ≡ dropped_by runner.now.plan.history batching.new.engine) }
     ensures told { OnOk result (batching.new.pending.items ≡ batching.old.pending.items ++ lines_text batching.old.engine.log
         (batching.old.number - length batching.old.waiting.items) (finished batching.old.engine) batching.old.waiting.items) }
     ensures err { OnErr result (batching.new.pending.items ≡ batching.old.pending.items) }
@@ -151,11 +149,11 @@ pub(crate) fn report_batch<T: Threads + Wait + Sync>(
     ensures all { OnOk result (finished batching.new.engine ≡ length batching.old.engine.log.statements) }
     ensures mark { OnOk result (batching.new.engine.store.mark
         ≡ (if nat_lt (finished batching.old.engine) (length batching.old.engine.log.statements)
-        then mark_behind plan.now.settings (finished batching.old.engine) (length batching.old.engine.log.statements)
+        then mark_behind runner.now.plan.settings (finished batching.old.engine) (length batching.old.engine.log.statements)
         else batching.old.engine.store.mark)) }
 {
     let place = batching.engine.finished();
-    run_waiting(rt, alloc, &mut batching.engine, &plan.settings)?;
+    run_waiting(runner, &mut batching.engine)?;
     let first = batching.number - batching.waiting.len() as u64;
     batching.text.clear();
     put_lines(
@@ -167,30 +165,28 @@ pub(crate) fn report_batch<T: Threads + Wait + Sync>(
     )?;
     batching.pending.extend_from_slice(&batching.text)?;
     batching.waiting.clear();
-    forget_finished(&mut batching.engine, plan.history);
+    forget_finished(&mut batching.engine, runner.plan.history);
     Ok(())
 }
 
 /// Reports the waiting lines, as `report_batch`, if their batch is full.
 #[tactic(auto, using(crate::proofs::Faults::stops_memory, crate::proofs::Faults::stops_told))]
 pub(crate) fn report_full<T: Threads + Wait + Sync>(
-    rt: &T,
-    alloc: Global,
+    runner: &Runner<T>,
     batching: &mut Batching,
-    plan: &Plan,
 ) -> Result<(), EngineFault>
-    requires filling { IsFilling plan.now batching.old }
-    ensures stops { IfErr result (IsOfBatch plan.now.settings.workers) }
+    requires filling { IsFilling runner.now.plan batching.old }
+    ensures stops { IfErr result (IsOfBatch runner.now.plan.settings.workers) }
     ensures reports { OnOk result (ReportsLines batching.old.engine.log (finished batching.old.engine) (finished batching.new.engine)
         batching.old.waiting.items batching.new.waiting.items batching.old.number batching.old.pending.items batching.new.pending.items) }
     ensures log { OnOk result (batching.new.engine.log ≡ batching.old.engine.log) }
     ensures number { OnOk result (batching.new.number ≡ batching.old.number) }
-    ensures room { OnOk result (IsOpen plan.now batching.new) }
+    ensures room { OnOk result (IsOpen runner.now.plan batching.new) }
     ensures err { OnErr result (batching.new.pending.items ≡ batching.old.pending.items) }
 {
     let waiting = batching.engine.log().len() - batching.engine.finished();
-    if waiting >= plan.settings.batch {
-        report_batch(rt, alloc, batching, plan)?;
+    if waiting >= runner.plan.settings.batch {
+        report_batch(runner, batching)?;
     }
     Ok(())
 }
@@ -198,23 +194,21 @@ pub(crate) fn report_full<T: Threads + Wait + Sync>(
 /// Reports the waiting lines, as `report_batch`, though their batch isn't full, unless all that is finished is kept.
 #[tactic(auto, using(crate::proofs::Faults::stops_memory, crate::proofs::Faults::stops_told))]
 pub(crate) fn report_early<T: Threads + Wait + Sync>(
-    rt: &T,
-    alloc: Global,
+    runner: &Runner<T>,
     batching: &mut Batching,
-    plan: &Plan,
 ) -> Result<(), EngineFault>
-    requires room { IsOpen plan.now batching.old }
-    ensures stops { IfErr result (IsOfBatch plan.now.settings.workers) }
+    requires room { IsOpen runner.now.plan batching.old }
+    ensures stops { IfErr result (IsOfBatch runner.now.plan.settings.workers) }
     ensures reports { OnOk result (ReportsLines batching.old.engine.log (finished batching.old.engine) (finished batching.new.engine)
         batching.old.waiting.items batching.new.waiting.items batching.old.number batching.old.pending.items batching.new.pending.items) }
     ensures log { OnOk result (batching.new.engine.log ≡ batching.old.engine.log) }
     ensures number { OnOk result (batching.new.number ≡ batching.old.number) }
-    ensures room { OnOk result (IsOpen plan.now batching.new) }
-    ensures none { OnOk result (NoneWait plan.now.history batching.new.waiting.items) }
+    ensures room { OnOk result (IsOpen runner.now.plan batching.new) }
+    ensures none { OnOk result (NoneWait runner.now.plan.history batching.new.waiting.items) }
     ensures err { OnErr result (batching.new.pending.items ≡ batching.old.pending.items) }
 {
-    match plan.history {
+    match runner.plan.history {
         History::Kept => Ok(()),
-        History::Dropped => report_batch(rt, alloc, batching, plan),
+        History::Dropped => report_batch(runner, batching),
     }
 }

@@ -4,19 +4,19 @@ ghost use Rattle.std.specs.Prelude.{◌≡◌, ◌<◌, ◌≤◌, ◌-◌, ◌^
 ghost use Rattle.log_text.specs.Statement.{IsInGrammar, Sentence};
 ghost use Rattle.sequencer.specs.Foretelling.{IsForetold};
 ghost use Rattle.report.specs.Report.{faulty, read};
-ghost use Rattle.batched_text.specs.Batching.{IsBatchReady, Takes};
-ghost use Rattle.batched_text.specs.Foretold.{Runs, TakesAt, WasReadAhead, WereReadAhead, log_names};
+ghost use Rattle.batched_text.specs.Batching.{Takes};
+ghost use Rattle.batched_text.specs.Foretold.{IsReadyAt, Runs, TakesAt, WasReadAhead, WereReadAhead, log_names};
 
 use crate::batching::{Batching, report_early, report_full};
-use crate::history::Plan;
+use crate::buffered::Buffered;
 use crate::lines::take_line;
+use crate::runner::Runner;
 use bohm_base::{EngineFault, LineOutcome};
 use engine::Engine;
 use line_io::cut_line;
 use log_text::{LineBuffers, LineFault};
 use model_base::{MOST_PLACES, Statement};
 use read_ahead::{Ahead, Found};
-use std::alloc::Global;
 use std::sync::Wait;
 use std::thread::Threads;
 
@@ -105,76 +105,67 @@ fn take_ahead<'a>(
 /// Deals with the line that begins at an index of the bytes: it waits for the end of its batch, or its batch is reported. It returns the
 /// index before which all is dealt with then, which is the same where no line is whole there.
 fn report_next<'a, T: Threads + Wait + Sync>(
-    rt: &T,
-    alloc: Global,
+    runner: &Runner<T>,
     batching: &mut Batching,
-    plan: &Plan,
-    bytes: &'a [u8],
+    buffered: &Buffered<'a>,
     from: usize,
-    given: u64,
     raw: &mut LineBuffers<'a>,
 ) -> Result<usize, EngineFault>
-    requires within { from < length bytes.now }
-    requires ready { IsBatchReady plan.now batching.old (length bytes.now - from) given }
+    requires within { from < length buffered.now.bytes.now }
+    requires ready { IsReadyAt runner.now.plan batching.old buffered.now from }
     ensures order { IfOk result (λ to. from ≤ to) }
-    ensures runs { Runs plan.now bytes.now given from batching.old batching.new result }
+    ensures runs { Runs runner.now.plan buffered.now from batching.old batching.new result }
 {
-    let Some(count) = take_next(batching, bytes, from, raw)? else {
+    let Some(count) = take_next(batching, buffered.bytes, from, raw)? else {
         return Ok(from);
     };
     let _dropped = batching.engine.log().dropped();
-    report_full(rt, alloc, batching, plan)?;
+    report_full(runner, batching)?;
     Ok(from + count)
 }
 
 /// Deals with a line that was read ahead, as `report_next`, if the lines before an index end where it begins.
 fn report_one<'a, T: Threads + Wait + Sync>(
-    rt: &T,
-    alloc: Global,
+    runner: &Runner<T>,
     batching: &mut Batching,
-    plan: &Plan,
-    bytes: &'a [u8],
+    buffered: &Buffered<'a>,
     ahead: &mut Ahead,
     from: usize,
-    given: u64,
     raw: &mut LineBuffers<'a>,
 ) -> Result<usize, EngineFault>
-    requires within { from ≤ length bytes.now }
-    requires ready { IsBatchReady plan.now batching.old (length bytes.now - from) given }
-    requires ahead { WasReadAhead (log_names batching.old) bytes.now ahead.old }
-    ensures { Runs plan.now bytes.now given from batching.old batching.new result }
+    requires within { from ≤ length buffered.now.bytes.now }
+    requires ready { IsReadyAt runner.now.plan batching.old buffered.now from }
+    requires ahead { WasReadAhead (log_names batching.old) buffered.now.bytes.now ahead.old }
+    ensures { Runs runner.now.plan buffered.now from batching.old batching.new result }
 {
     if ahead.from != from {
         return Ok(from);
     }
-    let Some(count) = take_ahead(batching, bytes, ahead, raw)? else {
+    let Some(count) = take_ahead(batching, buffered.bytes, ahead, raw)? else {
         return Ok(from);
     };
     let _dropped = batching.engine.log().dropped();
-    report_full(rt, alloc, batching, plan)?;
+    report_full(runner, batching)?;
     Ok(from + count)
 }
 
 /// Deals with the lines that begin from one index of the bytes on and before another, as `report_next`.
 pub(crate) fn report_until<'a, T: Threads + Wait + Sync>(
-    rt: &T,
-    alloc: Global,
+    runner: &Runner<T>,
     batching: &mut Batching,
-    plan: &Plan,
-    bytes: &'a [u8],
+    buffered: &Buffered<'a>,
     from: usize,
     to: usize,
-    given: u64,
     raw: &mut LineBuffers<'a>,
 ) -> Result<usize, EngineFault>
-    requires within { from ≤ length bytes.now }
-    requires ready { IsBatchReady plan.now batching.old (length bytes.now - from) given }
-    requires to_within { to ≤ length bytes.now }
-    ensures { Runs plan.now bytes.now given from batching.old batching.new result }
+    requires within { from ≤ length buffered.now.bytes.now }
+    requires ready { IsReadyAt runner.now.plan batching.old buffered.now from }
+    requires to_within { to ≤ length buffered.now.bytes.now }
+    ensures { Runs runner.now.plan buffered.now from batching.old batching.new result }
 {
     let mut at = from;
     'lines: while at < to {
-        let next = report_next(rt, alloc, batching, plan, bytes, at, given, raw)?;
+        let next = report_next(runner, batching, buffered, at, raw)?;
         let is_stuck = next == at;
         at = next;
         if is_stuck {
@@ -200,25 +191,22 @@ fn give_back(engine: &mut Engine, lines: &mut [Ahead])
 /// not read ahead is read now, and one that was is passed over where it doesn't begin where the lines before it end. It returns the
 /// index before which all is dealt with then.
 fn report_each<'a, T: Threads + Wait + Sync>(
-    rt: &T,
-    alloc: Global,
+    runner: &Runner<T>,
     batching: &mut Batching,
-    plan: &Plan,
-    bytes: &'a [u8],
+    buffered: &Buffered<'a>,
     lines: &mut [Ahead],
     from: usize,
-    given: u64,
     raw: &mut LineBuffers<'a>,
 ) -> Result<usize, EngineFault>
-    requires within { from ≤ length bytes.now }
-    requires ready { IsBatchReady plan.now batching.old (length bytes.now - from) given }
-    requires ahead { WereReadAhead (log_names batching.old) bytes.now lines.old }
-    ensures { Runs plan.now bytes.now given from batching.old batching.new result }
+    requires within { from ≤ length buffered.now.bytes.now }
+    requires ready { IsReadyAt runner.now.plan batching.old buffered.now from }
+    requires ahead { WereReadAhead (log_names batching.old) buffered.now.bytes.now lines.old }
+    ensures { Runs runner.now.plan buffered.now from batching.old batching.new result }
 {
     let mut at = from;
     'turns: for ahead in lines.iter_mut() {
-        let next = report_until(rt, alloc, batching, plan, bytes, at, ahead.from, given, raw)?;
-        at = report_one(rt, alloc, batching, plan, bytes, ahead, next, given, raw)?;
+        let next = report_until(runner, batching, buffered, at, ahead.from, raw)?;
+        at = report_one(runner, batching, buffered, ahead, next, raw)?;
     }
     Ok(at)
 }
@@ -226,23 +214,20 @@ fn report_each<'a, T: Threads + Wait + Sync>(
 /// Deals with lines that were read ahead, as `report_each`. Then it reports the lines that wait, unless all is kept, and gives back what
 /// was dropped.
 fn report_group<'a, T: Threads + Wait + Sync>(
-    rt: &T,
-    alloc: Global,
+    runner: &Runner<T>,
     batching: &mut Batching,
-    plan: &Plan,
-    bytes: &'a [u8],
+    buffered: &Buffered<'a>,
     lines: &mut [Ahead],
     from: usize,
-    given: u64,
     raw: &mut LineBuffers<'a>,
 ) -> Result<usize, EngineFault>
-    requires within { from ≤ length bytes.now }
-    requires ready { IsBatchReady plan.now batching.old (length bytes.now - from) given }
-    requires ahead { WereReadAhead (log_names batching.old) bytes.now lines.old }
-    ensures { Runs plan.now bytes.now given from batching.old batching.new result }
+    requires within { from ≤ length buffered.now.bytes.now }
+    requires ready { IsReadyAt runner.now.plan batching.old buffered.now from }
+    requires ahead { WereReadAhead (log_names batching.old) buffered.now.bytes.now lines.old }
+    ensures { Runs runner.now.plan buffered.now from batching.old batching.new result }
 {
-    let at = report_each(rt, alloc, batching, plan, bytes, lines, from, given, raw)?;
-    report_early(rt, alloc, batching, plan)?;
+    let at = report_each(runner, batching, buffered, lines, from, raw)?;
+    report_early(runner, batching)?;
     give_back(&mut batching.engine, lines);
     Ok(at)
 }
@@ -250,24 +235,21 @@ fn report_group<'a, T: Threads + Wait + Sync>(
 /// Deals with lines that were read ahead, as `report_group`, as many at a time as a batch has places: a statement stays with its line but
 /// for that time. So what a piece's statements hold lies in memory in the order in which it is read and filled again.
 pub(crate) fn report_foretold<'a, T: Threads + Wait + Sync>(
-    rt: &T,
-    alloc: Global,
+    runner: &Runner<T>,
     batching: &mut Batching,
-    plan: &Plan,
-    bytes: &'a [u8],
+    buffered: &Buffered<'a>,
     lines: &mut [Ahead],
     from: usize,
-    given: u64,
     raw: &mut LineBuffers<'a>,
 ) -> Result<usize, EngineFault>
-    requires within { from ≤ length bytes.now }
-    requires ready { IsBatchReady plan.now batching.old (length bytes.now - from) given }
-    requires ahead { WereReadAhead (log_names batching.old) bytes.now lines.old }
-    ensures { Runs plan.now bytes.now given from batching.old batching.new result }
+    requires within { from ≤ length buffered.now.bytes.now }
+    requires ready { IsReadyAt runner.now.plan batching.old buffered.now from }
+    requires ahead { WereReadAhead (log_names batching.old) buffered.now.bytes.now lines.old }
+    ensures { Runs runner.now.plan buffered.now from batching.old batching.new result }
 {
     let mut at = from;
-    'groups: for group in lines.chunks_mut(plan.settings.batch as usize) {
-        at = report_group(rt, alloc, batching, plan, bytes, group, at, given, raw)?;
+    'groups: for group in lines.chunks_mut(runner.plan.settings.batch as usize) {
+        at = report_group(runner, batching, buffered, group, at, raw)?;
     }
     Ok(at)
 }

@@ -10,6 +10,7 @@
 #![tactic(auto)]
 
 mod batching;
+mod buffered;
 mod foretold;
 mod history;
 mod laws;
@@ -18,6 +19,7 @@ mod lookahead;
 mod quiet;
 mod reaching;
 mod reporting;
+mod runner;
 mod running;
 mod settings;
 mod stretches;

@@ -11,11 +11,10 @@ ghost use Rattle.batched_text.specs.Faults.{IsOfBatch};
 ghost use Rattle.batched_text.specs.LineRead.{reading_by};
 
 use crate::batching::{Batching, report_full};
-use crate::history::Plan;
+use crate::runner::Runner;
 use bohm_base::{EngineFault, LineOutcome, faulty_line, refused_line};
 use engine::Engine;
 use log_text::{LineBuffers, LineFault, read_into};
-use std::alloc::Global;
 use std::sync::Wait;
 use std::thread::Threads;
 
@@ -91,22 +90,20 @@ pub(crate) fn take_line<'a>(
 /// Takes a line, as `take_line`, and reports the waiting lines if their batch is full. On `Err` what was pending is.
 #[tactic(auto, using(crate::proofs::Faults::stops_memory, crate::proofs::Faults::stops_told))]
 pub(crate) fn deal<'a, T: Threads + Wait + Sync>(
-    rt: &T,
-    alloc: Global,
+    runner: &Runner<T>,
     batching: &mut Batching,
-    plan: &Plan,
     line: &'a [u8],
     raw: &mut LineBuffers<'a>,
 ) -> Result<(), EngineFault>
-    requires room { IsOpen plan.now batching.old }
+    requires room { IsOpen runner.now.plan batching.old }
     requires number { batching.old.number < 2 ^ 64 - 1 }
     ensures dealt { OnOk result ((reading : ParsedLine) × (ReadsAs line.now reading × Deals reading batching.old batching.new)) }
-    ensures room { OnOk result (IsOpen plan.now batching.new) }
+    ensures room { OnOk result (IsOpen runner.now.plan batching.new) }
     ensures pending { OnErr result (batching.new.pending.items ≡ batching.old.pending.items) }
-    ensures err { IfErr result (IsOfBatch plan.now.settings.workers) }
+    ensures err { IfErr result (IsOfBatch runner.now.plan.settings.workers) }
 {
     take_line(batching, line, raw)?;
     let _dropped = batching.engine.log().dropped();
-    report_full(rt, alloc, batching, plan)?;
+    report_full(runner, batching)?;
     Ok(())
 }

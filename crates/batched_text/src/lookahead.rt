@@ -1,14 +1,14 @@
 //! By what lines are read before their turn.
 
-ghost use Rattle.std.specs.Prelude.{◌≡◌, ◌≤◌, OnOk, length, true};
+ghost use Rattle.std.specs.Prelude.{◌≡◌, ◌≤◌, OnOk, true};
 ghost use Rattle.sequencer.specs.Catalog.{no_names};
 ghost use Rattle.sequencer.specs.Foretelling.{Begins};
-ghost use Rattle.batched_text.specs.Batching.{IsBatchReady};
-ghost use Rattle.batched_text.specs.Foretold.{Runs, log_names};
+ghost use Rattle.batched_text.specs.Foretold.{IsReadyAt, Runs, log_names};
 
 use crate::batching::Batching;
-use crate::history::Plan;
-use crate::stretches::{Ran, run_ahead};
+use crate::buffered::Buffered;
+use crate::runner::Runner;
+use crate::stretches::{Extent, Ran, run_ahead};
 use bohm_base::EngineFault;
 use model_base::HashSeed;
 use read_ahead::Piece;
@@ -103,33 +103,29 @@ impl Lookahead {
     /// Deals with a stretch of the bytes, as `run_ahead`.
     fn run<T: Threads + Wait + Sync>(
         &mut self,
-        rt: &T,
-        alloc: Global,
+        runner: &Runner<T>,
         batching: Batching,
-        plan: &Plan,
-        bytes: &[u8],
-        given: u64,
+        buffered: &Buffered,
     ) -> Ran
         requires begins { Begins self.old.names (log_names batching) }
-        requires ready { IsBatchReady plan.now batching (length bytes.now) given }
-        ensures ran { Runs plan.now bytes.now given 0 batching result.batching result.result }
+        requires ready { IsReadyAt runner.now.plan batching buffered.now 0 }
+        ensures ran { Runs runner.now.plan buffered.now 0 batching result.batching result.result }
         ensures names { self.new.names ≡ self.old.names }
     {
-        let to = self.next_stretch(bytes.len());
-        let count = self.pieces_of(to);
-        let spare = mem::replace(&mut self.spare, Vec::new(alloc));
-        let (ran, spare) = run_ahead::<Brand, T>(
-            rt,
-            alloc,
-            batching,
-            plan,
-            &self.names,
-            bytes,
+        let to = self.next_stretch(buffered.bytes.len());
+        let extent = Extent {
             to,
-            count,
-            self.ahead.threads,
+            pieces: self.pieces_of(to),
+            threads: self.ahead.threads,
+        };
+        let spare = mem::replace(&mut self.spare, Vec::new(runner.alloc));
+        let (ran, spare) = run_ahead::<Brand, T>(
+            runner,
+            batching,
+            &self.names,
+            buffered,
+            &extent,
             spare,
-            given,
         );
         self.spare = spare;
         ran
@@ -139,24 +135,21 @@ impl Lookahead {
 /// Deals with whole lines at the front of the bytes, a stretch of them, with lines read before their turn. It returns how many bytes
 /// those lines are.
 pub(crate) fn report_stretch<T: Threads + Wait + Sync>(
-    rt: &T,
-    alloc: Global,
+    runner: &Runner<T>,
     lookahead: &mut Lookahead,
     batching: &mut Batching,
-    plan: &Plan,
-    bytes: &[u8],
-    given: u64,
+    buffered: &Buffered,
 ) -> Result<usize, EngineFault>
     requires begins { Begins lookahead.old.names (log_names batching.old) }
-    requires ready { IsBatchReady plan.now batching.old (length bytes.now) given }
-    ensures runs { Runs plan.now bytes.now given 0 batching.old batching.new result }
+    requires ready { IsReadyAt runner.now.plan batching.old buffered.now 0 }
+    ensures runs { Runs runner.now.plan buffered.now 0 batching.old batching.new result }
     ensures names { OnOk result (Begins lookahead.new.names (log_names batching.new)) }
 {
-    let before = mem::replace(batching, Batching::new(alloc));
+    let before = mem::replace(batching, Batching::new(runner.alloc));
     let Ran {
         batching: after,
         result,
-    } = lookahead.run(rt, alloc, before, plan, bytes, given);
+    } = lookahead.run(runner, before, buffered);
     *batching = after;
     let taken = result?;
     lookahead.learn(batching.engine.log().catalog());

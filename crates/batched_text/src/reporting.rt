@@ -35,32 +35,35 @@ pub fn put_place(text: &mut Vec<u8>, engine: &Engine, place: Place) -> Result<()
     )
 }
 
-/// Appends the report's line for a place to the text, as `put_place`, by the statements and outcomes that are kept, the first of which are
-/// those of the place before which they were dropped.
-#[inline(always)]
-fn put_kept(
-    text: &mut Vec<u8>,
-    engine: &Engine,
-    statements: &[Statement],
-    outcomes: &[Outcome],
+/// An engine, with the statements and outcomes that it keeps, the first of which are those of the place before which they were dropped.
+#[derive(Drop)]
+struct KeptPlaces<'a> {
+    engine: &'a Engine,
+    statements: &'a [Statement],
+    outcomes: &'a [Outcome],
     dropped: Place,
-    place: Place,
-) -> Result<(), AllocError>
-    requires run { IsRun engine.now }
-    requires whole { IsWhole engine.now.log }
-    requires statements { statements.now ≡ drop engine.now.dropped engine.now.log.statements }
-    requires outcomes { outcomes.now ≡ drop engine.now.dropped engine.now.outcomes }
-    requires dropped { dropped ≡ engine.now.dropped }
-    requires kept { engine.now.dropped ≤ place }
-    requires within { place < finished engine.now }
-    ensures { OnOk result (text.new.items ≡ text.old.items ++ place_text engine.now.log.statements engine.now.log.names.tables place) }
+    ghost of_log: { statements.now ≡ drop engine.now.dropped engine.now.log.statements },
+    ghost of_run: { outcomes.now ≡ drop engine.now.dropped engine.now.outcomes },
+    ghost since: { dropped ≡ engine.now.dropped },
+}
+
+/// Appends the report's line for a place to the text, as `put_place`.
+#[inline(always)]
+fn put_kept(text: &mut Vec<u8>, kept: &KeptPlaces<'_>, place: Place) -> Result<(), AllocError>
+    requires run { IsRun kept.now.engine.now }
+    requires whole { IsWhole kept.now.engine.now.log }
+    requires kept { kept.now.engine.now.dropped ≤ place }
+    requires within { place < finished kept.now.engine.now }
+    ensures { OnOk result (text.new.items
+        ≡ text.old.items ++ place_text kept.now.engine.now.log.statements kept.now.engine.now.log.names.tables place) }
 {
-    let index = (place - dropped) as usize;
+    let (statements, outcomes) = (kept.statements, kept.outcomes);
+    let index = (place - kept.dropped) as usize;
     let statement = &statements[index];
     let outcome = &outcomes[index];
     put_outcome(
         text,
-        engine.log().catalog().tables(),
+        kept.engine.log().catalog().tables(),
         place,
         &statement.form,
         outcome,
@@ -71,26 +74,20 @@ fn put_kept(
 #[inline(always)]
 fn put_line(
     text: &mut Vec<u8>,
-    engine: &Engine,
-    statements: &[Statement],
-    outcomes: &[Outcome],
-    dropped: Place,
+    kept: &KeptPlaces<'_>,
     number: u64,
     place: Place,
     line: LineOutcome,
 ) -> Result<(), AllocError>
-    requires run { IsRun engine.now }
-    requires whole { IsWhole engine.now.log }
-    requires statements { statements.now ≡ drop engine.now.dropped engine.now.log.statements }
-    requires outcomes { outcomes.now ≡ drop engine.now.dropped engine.now.outcomes }
-    requires dropped { dropped ≡ engine.now.dropped }
-    requires kept { engine.now.dropped ≤ place }
-    requires within { place + places_of line ≤ finished engine.now }
-    ensures { OnOk result (text.new.items
-        ≡ text.old.items ++ line_outcome_text engine.now.log.statements engine.now.log.names.tables number place line) }
+    requires run { IsRun kept.now.engine.now }
+    requires whole { IsWhole kept.now.engine.now.log }
+    requires kept { kept.now.engine.now.dropped ≤ place }
+    requires within { place + places_of line ≤ finished kept.now.engine.now }
+    ensures { OnOk result (text.new.items ≡ text.old.items
+        ++ line_outcome_text kept.now.engine.now.log.statements kept.now.engine.now.log.names.tables number place line) }
 {
     match line {
-        LineOutcome::Accepted => put_kept(text, engine, statements, outcomes, dropped, place),
+        LineOutcome::Accepted => put_kept(text, kept, place),
         LineOutcome::Faulty(fault) => put_fault(text, number, fault),
         LineOutcome::Refused(refused) => put_refused(text, number, refused),
     }
@@ -115,12 +112,16 @@ pub fn put_lines(
     let dropped = log.dropped();
     let statements = log.kept_statements();
     let outcomes = engine.kept_outcomes();
+    let kept = KeptPlaces {
+        engine,
+        statements,
+        outcomes,
+        dropped,
+    };
     let mut number = number;
     let mut place = place;
     for line in lines {
-        put_line(
-            text, engine, statements, outcomes, dropped, number, place, *line,
-        )?;
+        put_line(text, &kept, number, place, *line)?;
         number += 1;
         place += line.places();
     }

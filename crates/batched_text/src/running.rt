@@ -11,16 +11,18 @@ ghost use Rattle.sequencer.specs.Foretelling.{Begins};
 ghost use Rattle.engine.specs.Engine.{finished};
 ghost use Rattle.batched_text.specs.Batching.{BatchedTurn, EndsBatching, Gathers, HasBegunReportOfRead, IsBatchReady, IsFresh, IsLogOfText, IsOpen, standing_at};
 ghost use Rattle.batched_text.specs.Faults.{of_text};
-ghost use Rattle.batched_text.specs.Foretold.{Runs, log_names};
+ghost use Rattle.batched_text.specs.Foretold.{IsReadyAt, Runs, log_names};
 ghost use Rattle.batched_text.specs.History.{IsTrimmedBy, NoneWait, dropped_by};
 ghost use Rattle.batched_text.specs.ReadBytes.{IfRead};
 ghost use Rattle.batched_text.specs.Settings.{IsTrimmed, are_within_limits};
 
 use crate::batching::{Batching, report_batch, report_early};
+use crate::buffered::Buffered;
 use crate::foretold::report_until;
 use crate::history::{History, Plan};
 use crate::lines::deal;
 use crate::lookahead::{Lookahead, ReadingAhead, report_stretch};
+use crate::runner::Runner;
 use crate::settings::{Settings, are_within_limits};
 use bohm_base::{EngineFault as TextFault, LineOutcome};
 use engine::{Engine, EngineFault};
@@ -82,79 +84,72 @@ fn next_line<R: Read>(
 /// Takes the next line, and reports its batch if that is full. False at the end of the input.
 #[tactic(auto, using(crate::proofs::Faults::several_told, crate::proofs::Faults::several_kept))]
 fn report_line<T: Threads + Wait + Sync, R: Read>(
-    rt: &T,
-    alloc: Global,
+    runner: &Runner<T>,
     reader: &mut Counted<R>,
     lines: &mut LineReader,
     batching: &mut Batching,
-    plan: &Plan,
 ) -> Result<bool, TextFault>
-    requires ready { IsBatchReady plan.now batching.old (length (ahead lines.old)) reader.old.given }
+    requires ready { IsBatchReady runner.now.plan batching.old (length (ahead lines.old)) reader.old.given }
     requires nothing { batching.old.pending.items ≡ [] }
-    requires none { NoneWait plan.now.history batching.old.waiting.items }
-    ensures turn { (held : Option (List ℕ)) → BatchedTurn plan.now result
+    requires none { NoneWait runner.now.plan.history batching.old.waiting.items }
+    ensures turn { (held : Option (List ℕ)) → BatchedTurn runner.now.plan result
         (standing_at (ahead lines.old) (R.remaining reader.old.inner) reader.old.given held batching.old)
         (standing_at (ahead lines.new) (R.remaining reader.new.inner) reader.new.given held batching.new) }
     ensures reads { reader.new.errors ≡ read_errors result reader.old.errors }
     ensures begins { OnOk result (Begins (log_names batching.old) (log_names batching.new)) }
     ensures err { IfErr result (λ f. f ≢ TextFault.Write) }
-    ensures alone { IfErr result (λ f. f ≡ TextFault.Spawn → 1 < plan.now.settings.workers) }
+    ensures alone { IfErr result (λ f. f ≡ TextFault.Spawn → 1 < runner.now.plan.settings.workers) }
 {
     if !next_line(
         reader,
         lines,
-        plan.history,
+        runner.plan.history,
         &batching.waiting,
         &batching.pending,
     )? {
         return Ok(false);
     }
-    let mut raw = LineBuffers::new(alloc);
-    deal(rt, alloc, batching, plan, lines.line(), &mut raw)?;
+    let mut raw = LineBuffers::new(runner.alloc);
+    deal(runner, batching, lines.line(), &mut raw)?;
     Ok(true)
 }
 
 /// Deals with whole lines at the front of the bytes: a stretch of them, with lines read before their turn, where threads are to do so
 /// and it pays, and otherwise all of them, which share one room. It returns how many bytes those lines are.
 fn deal_at_hand<T: Threads + Wait + Sync>(
-    rt: &T,
-    alloc: Global,
+    runner: &Runner<T>,
     lookahead: &mut Lookahead,
     batching: &mut Batching,
-    plan: &Plan,
-    bytes: &[u8],
-    given: u64,
+    buffered: &Buffered,
 ) -> Result<usize, TextFault>
     requires begins { Begins lookahead.old.names (log_names batching.old) }
-    requires ready { IsBatchReady plan.now batching.old (length bytes.now) given }
-    ensures runs { Runs plan.now bytes.now given 0 batching.old batching.new result }
+    requires ready { IsReadyAt runner.now.plan batching.old buffered.now 0 }
+    ensures runs { Runs runner.now.plan buffered.now 0 batching.old batching.new result }
     ensures names { OnOk result (Begins lookahead.new.names (log_names batching.new)) }
 {
-    if lookahead.is_for(bytes.len()) {
-        return report_stretch(rt, alloc, lookahead, batching, plan, bytes, given);
+    let to = buffered.bytes.len();
+    if lookahead.is_for(to) {
+        return report_stretch(runner, lookahead, batching, buffered);
     }
-    let (to, raw) = (bytes.len(), &mut LineBuffers::new(alloc));
-    report_until(rt, alloc, batching, plan, bytes, 0, to, given, raw)
+    let mut raw = LineBuffers::new(runner.alloc);
+    report_until(runner, batching, buffered, 0, to, &mut raw)
 }
 
 /// Deals with whole lines at the front of the bytes, as `deal_at_hand`. Then it reports the lines that wait, unless all is kept.
 fn report_at_hand<T: Threads + Wait + Sync>(
-    rt: &T,
-    alloc: Global,
+    runner: &Runner<T>,
     lookahead: &mut Lookahead,
     batching: &mut Batching,
-    plan: &Plan,
-    bytes: &[u8],
-    given: u64,
+    buffered: &Buffered,
 ) -> Result<usize, TextFault>
     requires begins { Begins lookahead.old.names (log_names batching.old) }
-    requires ready { IsBatchReady plan.now batching.old (length bytes.now) given }
-    ensures runs { Runs plan.now bytes.now given 0 batching.old batching.new result }
+    requires ready { IsReadyAt runner.now.plan batching.old buffered.now 0 }
+    ensures runs { Runs runner.now.plan buffered.now 0 batching.old batching.new result }
     ensures names { OnOk result (Begins lookahead.new.names (log_names batching.new)) }
-    ensures none { OnOk result (NoneWait plan.now.history batching.new.waiting.items) }
+    ensures none { OnOk result (NoneWait runner.now.plan.history batching.new.waiting.items) }
 {
-    let taken = deal_at_hand(rt, alloc, lookahead, batching, plan, bytes, given)?;
-    report_early(rt, alloc, batching, plan)?;
+    let taken = deal_at_hand(runner, lookahead, batching, buffered)?;
+    report_early(runner, batching)?;
     Ok(taken)
 }
 
@@ -162,35 +157,37 @@ fn report_at_hand<T: Threads + Wait + Sync>(
 /// report.
 #[tactic(auto, using(crate::proofs::Faults::several_told, crate::proofs::Faults::several_kept))]
 fn report_turn<T: Threads + Wait + Sync, R: Read, W: Write>(
-    rt: &T,
-    alloc: Global,
+    runner: &Runner<T>,
     reader: &mut Counted<R>,
     writer: &mut Counted<W>,
     lines: &mut LineReader,
     lookahead: &mut Lookahead,
     batching: &mut Batching,
-    plan: &Plan,
 ) -> Result<bool, TextFault>
-    requires ready { IsBatchReady plan.now batching.old (length (ahead lines.old)) reader.old.given }
+    requires ready { IsBatchReady runner.now.plan batching.old (length (ahead lines.old)) reader.old.given }
     requires nothing { batching.old.pending.items ≡ [] }
-    requires none { NoneWait plan.now.history batching.old.waiting.items }
+    requires none { NoneWait runner.now.plan.history batching.old.waiting.items }
     requires begins { Begins lookahead.old.names (log_names batching.old) }
     ensures names { result ≡ Ok true → Begins lookahead.new.names (log_names batching.new) }
     ensures nothing { result ≡ Ok true → batching.new.pending.items ≡ [] }
-    ensures none { result ≡ Ok true → NoneWait plan.now.history batching.new.waiting.items }
-    ensures turn { BatchedTurn plan.now result
+    ensures none { result ≡ Ok true → NoneWait runner.now.plan.history batching.new.waiting.items }
+    ensures turn { BatchedTurn runner.now.plan result
         (standing_at (ahead lines.old) (R.remaining reader.old.inner) reader.old.given (W.contents writer.old.inner) batching.old)
         (standing_at (ahead lines.new) (R.remaining reader.new.inner) reader.new.given (W.contents writer.new.inner) batching.new) }
     ensures reads { reader.new.errors ≡ read_errors result reader.old.errors }
     ensures writes { writer.new.errors ≡ write_errors result writer.old.errors }
     ensures flushes { writer.new.flushes ≡ writer.old.flushes }
-    ensures alone { IfErr result (λ f. f ≡ TextFault.Spawn → 1 < plan.now.settings.workers) }
+    ensures alone { IfErr result (λ f. f ≡ TextFault.Spawn → 1 < runner.now.plan.settings.workers) }
 {
-    if !report_line(rt, alloc, reader, lines, batching, plan)? {
+    if !report_line(runner, reader, lines, batching)? {
         return Ok(false);
     }
     let bytes = lines.bytes_ahead();
-    let taken = report_at_hand(rt, alloc, lookahead, batching, plan, bytes, reader.given)?;
+    let buffered = Buffered {
+        bytes,
+        given: reader.given,
+    };
+    let taken = report_at_hand(runner, lookahead, batching, &buffered)?;
     lines.take_ahead(taken);
     write_pending(writer, &mut batching.pending)?;
     Ok(true)
@@ -199,28 +196,26 @@ fn report_turn<T: Threads + Wait + Sync, R: Read, W: Write>(
 /// Takes lines to the end of the input, as `report_turn`.
 #[tactic(auto, using(crate::proofs::Faults::several_told, crate::proofs::Faults::several_kept))]
 fn report_rest<T: Threads + Wait + Sync, R: Read, W: Write>(
-    rt: &T,
-    alloc: Global,
+    runner: &Runner<T>,
     reader: &mut Counted<R>,
     writer: &mut Counted<W>,
     lines: &mut LineReader,
     lookahead: &mut Lookahead,
     batching: &mut Batching,
-    plan: &Plan,
 ) -> Result<(), TextFault>
-    requires ready { IsBatchReady plan.now batching.old (length (ahead lines.old)) reader.old.given }
+    requires ready { IsBatchReady runner.now.plan batching.old (length (ahead lines.old)) reader.old.given }
     requires nothing { batching.old.pending.items ≡ [] }
-    requires none { NoneWait plan.now.history batching.old.waiting.items }
+    requires none { NoneWait runner.now.plan.history batching.old.waiting.items }
     requires begins { Begins lookahead.old.names (log_names batching.old) }
-    ensures ends { EndsBatching plan.now result
+    ensures ends { EndsBatching runner.now.plan result
         (standing_at (ahead lines.old) (R.remaining reader.old.inner) reader.old.given (W.contents writer.old.inner) batching.old)
         (R.remaining reader.new.inner) (W.contents writer.new.inner) batching.new }
     ensures reads { reader.new.errors ≡ read_errors result reader.old.errors }
     ensures writes { writer.new.errors ≡ write_errors result writer.old.errors }
     ensures flushes { writer.new.flushes ≡ writer.old.flushes }
-    ensures alone { IfErr result (λ f. f ≡ TextFault.Spawn → 1 < plan.now.settings.workers) }
+    ensures alone { IfErr result (λ f. f ≡ TextFault.Spawn → 1 < runner.now.plan.settings.workers) }
 {
-    'lines: while report_turn(rt, alloc, reader, writer, lines, lookahead, batching, plan)? {}
+    'lines: while report_turn(runner, reader, writer, lines, lookahead, batching)? {}
     Ok(())
 }
 
@@ -237,17 +232,15 @@ fn lines_for(alloc: Global, reading: ReadingAhead) -> Result<LineReader, AllocEr
 /// Takes the lines of the input from the first to the last, and runs and reports each batch as it is full.
 #[tactic(auto, using(crate::proofs::Faults::several_told, crate::proofs::Faults::several_kept))]
 fn report_lines<T: Threads + Wait + Sync, R: Read, W: Write>(
-    rt: &T,
-    alloc: Global,
+    runner: &Runner<T>,
     reader: &mut Counted<R>,
     writer: &mut Counted<W>,
     batching: &mut Batching,
-    plan: &Plan,
     reading: ReadingAhead,
 ) -> Result<(), TextFault>
-    requires within { are_within_limits plan.now.settings ≡ true }
+    requires within { are_within_limits runner.now.plan.settings ≡ true }
     requires first { IsFresh batching.old }
-    ensures room { OnOk result (IsOpen plan.now batching.new) }
+    ensures room { OnOk result (IsOpen runner.now.plan batching.new) }
     ensures done { OnOk result (Gathers (R.remaining reader.old.inner) (R.remaining reader.new.inner) (W.contents writer.old.inner)
         (W.contents writer.new.inner) batching.new) }
     ensures begun { HasBegunReport (R.remaining reader.old.inner) (W.contents writer.old.inner) (W.contents writer.new.inner)
@@ -257,40 +250,29 @@ fn report_lines<T: Threads + Wait + Sync, R: Read, W: Write>(
     ensures reads { reader.new.errors ≡ read_errors result reader.old.errors }
     ensures writes { writer.new.errors ≡ write_errors result writer.old.errors }
     ensures flushes { writer.new.flushes ≡ writer.old.flushes }
-    ensures alone { IfErr result (λ f. f ≡ TextFault.Spawn → 1 < plan.now.settings.workers) }
+    ensures alone { IfErr result (λ f. f ≡ TextFault.Spawn → 1 < runner.now.plan.settings.workers) }
 {
-    let mut lines = lines_for(alloc, reading)?;
+    let mut lines = lines_for(runner.alloc, reading)?;
     let seed = batching.engine.log().catalog().seed();
-    let mut lookahead = Lookahead::seeded(alloc, reading, seed);
-    report_rest(
-        rt,
-        alloc,
-        reader,
-        writer,
-        &mut lines,
-        &mut lookahead,
-        batching,
-        plan,
-    )
+    let mut lookahead = Lookahead::seeded(runner.alloc, reading, seed);
+    report_rest(runner, reader, writer, &mut lines, &mut lookahead, batching)
 }
 
 /// Takes the lines of the input, and runs and reports all of it, the end of the report still pending.
 #[tactic(auto, using(crate::proofs::Faults::several_told, crate::proofs::Faults::several_kept))]
 fn report_all<T: Threads + Wait + Sync, R: Read, W: Write>(
-    rt: &T,
-    alloc: Global,
+    runner: &Runner<T>,
     reader: &mut Counted<R>,
     writer: &mut Counted<W>,
     batching: &mut Batching,
-    plan: &Plan,
     reading: ReadingAhead,
 ) -> Result<(), TextFault>
-    requires within { are_within_limits plan.now.settings ≡ true }
+    requires within { are_within_limits runner.now.plan.settings ≡ true }
     requires first { IsFresh batching.old }
-    ensures kept { OnOk result (batching.new.engine.dropped ≡ dropped_by plan.now.history batching.new.engine) }
+    ensures kept { OnOk result (batching.new.engine.dropped ≡ dropped_by runner.now.plan.history batching.new.engine) }
     ensures log { OnOk result (IsLogOfText (R.remaining reader.old.inner) batching.new.engine.log) }
     ensures all { OnOk result (finished batching.new.engine ≡ length batching.new.engine.log.statements) }
-    ensures trimmed { OnOk result (IsTrimmedBy plan.now.history plan.now.settings batching.new.engine) }
+    ensures trimmed { OnOk result (IsTrimmedBy runner.now.plan.history runner.now.plan.settings batching.new.engine) }
     ensures done { OnOk result (HasReport (R.remaining reader.old.inner) (W.contents writer.old.inner) (W.contents writer.new.inner)
         batching.new.pending.items) }
     ensures begun { HasBegunReport (R.remaining reader.old.inner) (W.contents writer.old.inner) (W.contents writer.new.inner)
@@ -300,10 +282,10 @@ fn report_all<T: Threads + Wait + Sync, R: Read, W: Write>(
     ensures reads { reader.new.errors ≡ read_errors result reader.old.errors }
     ensures writes { writer.new.errors ≡ write_errors result writer.old.errors }
     ensures flushes { writer.new.flushes ≡ writer.old.flushes }
-    ensures alone { IfErr result (λ f. f ≡ TextFault.Spawn → 1 < plan.now.settings.workers) }
+    ensures alone { IfErr result (λ f. f ≡ TextFault.Spawn → 1 < runner.now.plan.settings.workers) }
 {
-    report_lines(rt, alloc, reader, writer, batching, plan, reading)?;
-    report_batch(rt, alloc, batching, plan)?;
+    report_lines(runner, reader, writer, batching, reading)?;
+    report_batch(runner, batching)?;
     Ok(())
 }
 
@@ -323,20 +305,18 @@ fn end_report<W: Write>(writer: &mut Counted<W>) -> Result<(), TextFault>
 /// flushed. No line was dealt with before.
 #[tactic(auto, using(crate::proofs::Faults::several_told, crate::proofs::Faults::several_kept))]
 fn run_batches<T: Threads + Wait + Sync, R: Read, W: Write>(
-    rt: &T,
-    alloc: Global,
+    runner: &Runner<T>,
     reader: &mut Counted<R>,
     writer: &mut Counted<W>,
     batching: &mut Batching,
-    plan: &Plan,
     reading: ReadingAhead,
 ) -> Result<(), TextFault>
-    requires within { are_within_limits plan.now.settings ≡ true }
+    requires within { are_within_limits runner.now.plan.settings ≡ true }
     requires first { IsFresh batching.old }
     ensures log { OnOk result (IsLogOfText (R.remaining reader.old.inner) batching.new.engine.log) }
     ensures all { OnOk result (finished batching.new.engine ≡ length batching.new.engine.log.statements) }
-    ensures trimmed { OnOk result (IsTrimmedBy plan.now.history plan.now.settings batching.new.engine) }
-    ensures kept { OnOk result (batching.new.engine.dropped ≡ dropped_by plan.now.history batching.new.engine) }
+    ensures trimmed { OnOk result (IsTrimmedBy runner.now.plan.history runner.now.plan.settings batching.new.engine) }
+    ensures kept { OnOk result (batching.new.engine.dropped ≡ dropped_by runner.now.plan.history batching.new.engine) }
     ensures done { OnOk result (IfSome (R.remaining reader.old.inner) (λ input. (text : List ℕ)
         × (IsReport input text × Appends (W.contents writer.old.inner) (W.contents writer.new.inner) text))) }
     ensures begun { IfSome (R.remaining reader.old.inner) (λ input. (text : List ℕ)
@@ -347,9 +327,9 @@ fn run_batches<T: Threads + Wait + Sync, R: Read, W: Write>(
     ensures write { result ≡ Err TextFault.Write → writer.old.errors < 2 ^ 64 - 1 → writer.old.errors < writer.new.errors }
     ensures whole { OnOk result ((reader.new.errors ≡ reader.old.errors) × (writer.new.errors ≡ writer.old.errors)) }
     ensures flushed { OnOk result ((writer.new.flushes ≡ raised writer.old.flushes) × (writer.new.is_flushed ≡ true)) }
-    ensures alone { IfErr result (λ f. f ≡ TextFault.Spawn → 1 < plan.now.settings.workers) }
+    ensures alone { IfErr result (λ f. f ≡ TextFault.Spawn → 1 < runner.now.plan.settings.workers) }
 {
-    let ended = report_all(rt, alloc, reader, writer, batching, plan, reading);
+    let ended = report_all(runner, reader, writer, batching, reading);
     let written = write_out(writer, &batching.pending);
     ended?;
     written?;
@@ -357,17 +337,15 @@ fn run_batches<T: Threads + Wait + Sync, R: Read, W: Write>(
     Ok(())
 }
 
-/// Reads, runs and reports a log as `run_batches`, but keeps nothing that is finished.
+/// Reads, runs and reports a log as `run_batches`, but keeps nothing that is finished, whatever the plan says.
 fn report_batches<T: Threads + Wait + Sync, R: Read, W: Write>(
-    rt: &T,
-    alloc: Global,
+    runner: &Runner<T>,
     reader: &mut Counted<R>,
     writer: &mut Counted<W>,
     batching: &mut Batching,
-    settings: &Settings,
     reading: ReadingAhead,
 ) -> Result<(), TextFault>
-    requires within { are_within_limits settings.now ≡ true }
+    requires within { are_within_limits runner.now.plan.settings ≡ true }
     requires first { IsFresh batching.old }
     ensures dropped { OnOk result (batching.new.engine.dropped ≡ finished batching.new.engine) }
     ensures done { OnOk result (IfSome (R.remaining reader.old.inner) (λ input. (text : List ℕ)
@@ -380,13 +358,18 @@ fn report_batches<T: Threads + Wait + Sync, R: Read, W: Write>(
     ensures write { result ≡ Err TextFault.Write → writer.old.errors < 2 ^ 64 - 1 → writer.old.errors < writer.new.errors }
     ensures whole { OnOk result ((reader.new.errors ≡ reader.old.errors) × (writer.new.errors ≡ writer.old.errors)) }
     ensures flushed { OnOk result ((writer.new.flushes ≡ raised writer.old.flushes) × (writer.new.is_flushed ≡ true)) }
-    ensures alone { IfErr result (λ f. f ≡ TextFault.Spawn → 1 < settings.now.workers) }
+    ensures alone { IfErr result (λ f. f ≡ TextFault.Spawn → 1 < runner.now.plan.settings.workers) }
 {
     let plan = Plan {
-        settings: *settings,
+        settings: runner.plan.settings,
         history: History::Dropped,
     };
-    run_batches(rt, alloc, reader, writer, batching, &plan, reading)
+    let runner = Runner {
+        rt: runner.rt,
+        alloc: runner.alloc,
+        plan,
+    };
+    run_batches(&runner, reader, writer, batching, reading)
 }
 
 /// The fault of a run, as one of an engine.
@@ -483,12 +466,9 @@ pub fn run_text_seeded<T: Threads + Wait + Sync, R: Read, W: Write>(
     if !are_within_limits(settings) {
         return Err(EngineFault::BadSettings);
     }
-    let plan = Plan {
-        settings: *settings,
-        history: History::Kept,
-    };
     let mut batching = Batching::seeded(alloc, seed);
-    match run_batches(rt, alloc, reader, writer, &mut batching, &plan, NONE_AHEAD) {
+    let runner = Runner::new(rt, alloc, *settings);
+    match run_batches(&runner, reader, writer, &mut batching, NONE_AHEAD) {
         Ok(()) => Ok(batching.engine),
         Err(fault) => Err(engine_fault(fault)),
     }
@@ -562,15 +542,8 @@ pub fn report_text_seeded<T: Threads + Wait + Sync, R: Read, W: Write>(
         return Err(EngineFault::BadSettings);
     }
     let mut batching = Batching::seeded(alloc, seed);
-    match report_batches(
-        rt,
-        alloc,
-        reader,
-        writer,
-        &mut batching,
-        settings,
-        NONE_AHEAD,
-    ) {
+    let runner = Runner::new(rt, alloc, *settings);
+    match report_batches(&runner, reader, writer, &mut batching, NONE_AHEAD) {
         Ok(()) => Ok(()),
         Err(fault) => Err(engine_fault(fault)),
     }
@@ -637,5 +610,6 @@ pub fn report_in_order_seeded<T: Threads + Wait + Sync, R: Read, W: Write>(
     ensures alone { result ≢ Err TextFault.Spawn }
 {
     let mut batching = Batching::seeded(alloc, seed);
-    report_batches(rt, alloc, reader, writer, &mut batching, &IN_ORDER, reading)
+    let runner = Runner::new(rt, alloc, IN_ORDER);
+    report_batches(&runner, reader, writer, &mut batching, reading)
 }

@@ -1,19 +1,18 @@
 //! A stretch of the buffered bytes: its lines are dealt with in order, while further threads read those of its later pieces.
 
-ghost use Rattle.std.specs.Prelude.{◌≡◌, ◌≤◌, ◌-◌, length};
+ghost use Rattle.std.specs.Prelude.{◌≡◌, ◌≤◌, length};
 ghost use Rattle.std.specs.Thread.{IsSync};
 ghost use Rattle.sequencer.specs.Foretelling.{Begins};
-ghost use Rattle.batched_text.specs.Batching.{IsBatchReady};
-ghost use Rattle.batched_text.specs.Foretold.{Runs, log_names};
+ghost use Rattle.batched_text.specs.Foretold.{IsReadyAt, Runs, log_names};
 
 use crate::batching::Batching;
+use crate::buffered::Buffered;
 use crate::foretold::{report_foretold, report_until};
-use crate::history::Plan;
+use crate::runner::Runner;
 use bohm_base::EngineFault;
 use log_text::LineBuffers;
 use read_ahead::{Basis, Piece, Stretch};
 use sequencer::Catalog;
-use std::alloc::Global;
 use std::sync::Wait;
 use std::thread;
 use std::thread::Threads;
@@ -21,66 +20,73 @@ use std::thread::Threads;
 /// Bytes of the report after which a stretch is left, so that they are written.
 const MOST_TEXT_BYTES: usize = 1 << 20;
 
+/// How far a stretch goes, in how many pieces, and how many further threads read these.
+#[derive(Clone, Copy)]
+pub(crate) struct Extent {
+    pub(crate) to: usize,
+    pub(crate) pieces: usize,
+    pub(crate) threads: usize,
+}
+
+/// A stretch of the buffered bytes, and the names by which its pieces are read.
+#[derive(Drop)]
+struct StretchAhead<'a, B: Basis> {
+    names: &'a Catalog,
+    buffered: Buffered<'a>,
+    stretch: &'a Stretch<B>,
+    ghost by_names: { names.now ≡ B.names },
+    ghost of_bytes: { buffered.bytes.now ≡ B.bytes },
+}
+
 /// Deals with the lines up to the end of a piece, by what was found of them if it was read by now. It returns the index before which all
 /// is dealt with then.
 fn report_piece<'a, B: Basis, T: Threads + Wait + Sync>(
-    rt: &T,
-    alloc: Global,
+    runner: &Runner<T>,
     batching: &mut Batching,
-    plan: &Plan,
-    bytes: &'a [u8],
-    stretch: &Stretch<B>,
+    ahead: &StretchAhead<'a, B>,
     piece: usize,
     from: usize,
-    given: u64,
     raw: &mut LineBuffers<'a>,
 ) -> Result<usize, EngineFault>
-    requires bytes { bytes.now ≡ B.bytes }
     requires names { Begins B.names (log_names batching.old) }
-    requires within { from ≤ length bytes.now }
-    requires ready { IsBatchReady plan.now batching.old (length bytes.now - from) given }
-    ensures { Runs plan.now bytes.now given from batching.old batching.new result }
+    requires within { from ≤ length ahead.now.buffered.bytes.now }
+    requires ready { IsReadyAt runner.now.plan batching.old ahead.now.buffered from }
+    ensures { Runs runner.now.plan ahead.now.buffered from batching.old batching.new result }
 {
+    let stretch = ahead.stretch;
+    let buffered = &ahead.buffered;
     let end = stretch.end_of(piece);
     let Some(read) = stretch.take(piece) else {
-        return report_until(rt, alloc, batching, plan, bytes, from, end, given, raw);
+        return report_until(runner, batching, buffered, from, end, raw);
     };
     let (mut lines, count) = read.into_lines();
     let found = &mut lines[..count];
-    let at = report_foretold(rt, alloc, batching, plan, bytes, found, from, given, raw)?;
+    let at = report_foretold(runner, batching, buffered, found, from, raw)?;
     stretch.give_back(Piece::over(lines));
-    report_until(rt, alloc, batching, plan, bytes, at, end, given, raw)
+    report_until(runner, batching, buffered, at, end, raw)
 }
 
-/// Deals with the lines of a stretch, piece by piece, as `report_piece`. Where a piece isn't read yet it reads others by these names,
-/// as `Stretch::read_until`. Where much is pending it leaves the stretch after a piece.
+/// Deals with the lines of a stretch, piece by piece, as `report_piece`. Where a piece isn't read yet it reads others, as
+/// `Stretch::read_until`. Where much is pending it leaves the stretch after a piece.
 fn report_pieces<'a, B: Basis, T: Threads + Wait + Sync>(
-    rt: &T,
-    alloc: Global,
+    runner: &Runner<T>,
     batching: &mut Batching,
-    plan: &Plan,
-    names: &Catalog,
-    bytes: &'a [u8],
-    stretch: &Stretch<B>,
-    given: u64,
+    ahead: &StretchAhead<'a, B>,
     raw: &mut LineBuffers<'a>,
 ) -> Result<usize, EngineFault>
-    requires names { names.now ≡ B.names }
-    requires bytes { bytes.now ≡ B.bytes }
     requires begins { Begins B.names (log_names batching.old) }
-    requires ready { IsBatchReady plan.now batching.old (length bytes.now) given }
-    ensures { Runs plan.now bytes.now given 0 batching.old batching.new result }
+    requires ready { IsReadyAt runner.now.plan batching.old ahead.now.buffered 0 }
+    ensures { Runs runner.now.plan ahead.now.buffered 0 batching.old batching.new result }
 {
+    let stretch = ahead.stretch;
     let mut at = 0;
     'turns: for piece in 0..stretch.len() {
         if batching.pending.len() >= MOST_TEXT_BYTES {
             break;
         }
         stretch.pass(piece);
-        stretch.read_until(names, bytes, piece);
-        at = report_piece(
-            rt, alloc, batching, plan, bytes, stretch, piece, at, given, raw,
-        )?;
+        stretch.read_until(ahead.names, ahead.buffered.bytes, piece);
+        at = report_piece(runner, batching, ahead, piece, at, raw)?;
     }
     stretch.pass(stretch.len());
     Ok(at)
@@ -95,108 +101,96 @@ pub(crate) struct Ran {
 
 /// Deals with the lines of a stretch, as `report_pieces`, with what was dealt with before passed in and out.
 fn run_stretch<B: Basis, T: Threads + Wait + Sync>(
-    rt: &T,
-    alloc: Global,
+    runner: &Runner<T>,
     mut batching: Batching,
-    plan: &Plan,
-    names: &Catalog,
-    bytes: &[u8],
-    stretch: &Stretch<B>,
-    given: u64,
+    ahead: &StretchAhead<B>,
 ) -> Ran
-    requires names { names.now ≡ B.names }
-    requires bytes { bytes.now ≡ B.bytes }
     requires begins { Begins B.names (log_names batching) }
-    requires ready { IsBatchReady plan.now batching (length bytes.now) given }
-    ensures { Runs plan.now bytes.now given 0 batching result.batching result.result }
+    requires ready { IsReadyAt runner.now.plan batching ahead.now.buffered 0 }
+    ensures { Runs runner.now.plan ahead.now.buffered 0 batching result.batching result.result }
 {
-    let mut raw = LineBuffers::new(alloc);
-    let result = report_pieces(
-        rt,
-        alloc,
-        &mut batching,
-        plan,
-        names,
-        bytes,
-        stretch,
-        given,
-        &mut raw,
-    );
+    let mut raw = LineBuffers::new(runner.alloc);
+    let result = report_pieces(runner, &mut batching, ahead, &mut raw);
     Ran { batching, result }
 }
 
-/// Deals with the lines of a stretch, as `run_stretch`, while this many further threads read its pieces by these names, as
-/// `Stretch::read_all`. Where no thread can be started the caller reads them first.
+/// Deals with the lines of a stretch, as `run_stretch`, while this many further threads read its pieces, as `Stretch::read_all`. Where no
+/// thread can be started the caller reads them first.
 fn run_beside<B: Basis + Send + Sync, T: Threads + Wait + Sync>(
-    rt: &T,
-    alloc: Global,
+    runner: &Runner<T>,
     batching: Batching,
-    plan: &Plan,
-    names: &Catalog,
-    bytes: &[u8],
-    stretch: &Stretch<B>,
+    ahead: &StretchAhead<B>,
     threads: usize,
-    given: u64,
 ) -> Ran
-    requires names { names.now ≡ B.names }
-    requires bytes { bytes.now ≡ B.bytes }
     requires begins { Begins B.names (log_names batching) }
-    requires ready { IsBatchReady plan.now batching (length bytes.now) given }
-    ensures { Runs plan.now bytes.now given 0 batching result.batching result.result }
+    requires ready { IsReadyAt runner.now.plan batching ahead.now.buffered 0 }
+    ensures { Runs runner.now.plan ahead.now.buffered 0 batching result.batching result.result }
 {
     if threads == 0 {
-        return run_stretch(rt, alloc, batching, plan, names, bytes, stretch, given);
+        return run_stretch(runner, batching, ahead);
     }
     let fewer = threads - 1;
+    let (rt, alloc, plan) = (runner.rt, runner.alloc, runner.plan);
+    let (names, stretch) = (ahead.names, ahead.stretch);
+    let Buffered { bytes, given } = ahead.buffered;
     let (_, ran) = thread::join(
         rt,
         move || -> ()
             requires { (names.now ≡ B.names) × (bytes.now ≡ B.bytes) }
         { stretch.read_all(names, bytes) },
         move || -> Ran
-            requires { IsSync T.row × (names.now ≡ B.names) × (bytes.now ≡ B.bytes)
-                × Begins B.names (log_names batching) × IsBatchReady plan.now batching (length bytes.now) given }
-            ensures { Runs plan.entry.now bytes.entry.now given 0 batching result.batching result.result }
+            requires { IsSync T.row × (names.now ≡ B.names) × (bytes.now ≡ B.bytes) × Begins B.names (log_names batching)
+                × IsReadyAt plan batching (record { bytes = bytes; given = given }) 0 }
+            ensures { Runs plan (record { bytes = bytes.entry; given = given }) 0 batching result.batching result.result }
         {
-            run_beside(
-                rt, alloc, batching, plan, names, bytes, stretch, fewer, given,
-            )
+            let runner = Runner { rt, alloc, plan };
+            let buffered = Buffered { bytes, given };
+            let ahead = StretchAhead {
+                names,
+                buffered,
+                stretch,
+            };
+            run_beside(&runner, batching, &ahead, fewer)
         },
     );
     ran
 }
 
-/// Deals with the lines of the bytes before an index, in this many pieces, as `run_beside`. It fills the spare pieces, and gives back those
-/// that may be filled again. Where memory for the pieces is refused nothing is dealt with.
+/// Deals with the lines of the front of the bytes, as `run_beside`, with lines read before their turn by these names. It fills the spare
+/// pieces, and gives back those that may be filled again. Where memory for the pieces is refused nothing is dealt with.
 pub(crate) fn run_ahead<B: Basis + Send + Sync, T: Threads + Wait + Sync>(
-    rt: &T,
-    alloc: Global,
+    runner: &Runner<T>,
     batching: Batching,
-    plan: &Plan,
     names: &Catalog,
-    bytes: &[u8],
-    to: usize,
-    count: usize,
-    threads: usize,
+    buffered: &Buffered,
+    extent: &Extent,
     spare: Vec<Piece>,
-    given: u64,
 ) -> (Ran, Vec<Piece>)
-    requires within { to ≤ length bytes.now }
+    requires within { extent.now.to ≤ length buffered.now.bytes.now }
     requires names { names.now ≡ B.names }
-    requires bytes { bytes.now ≡ B.bytes }
+    requires bytes { buffered.now.bytes.now ≡ B.bytes }
     requires begins { Begins B.names (log_names batching) }
-    requires ready { IsBatchReady plan.now batching (length bytes.now) given }
-    ensures { Runs plan.now bytes.now given 0 batching result.0.batching result.0.result }
+    requires ready { IsReadyAt runner.now.plan batching buffered.now 0 }
+    ensures { Runs runner.now.plan buffered.now 0 batching result.0.batching result.0.result }
 {
-    let Ok(stretch) = Stretch::<B>::new(alloc, bytes, to, count, spare) else {
+    let Ok(stretch) = Stretch::<B>::new(
+        runner.alloc,
+        buffered.bytes,
+        extent.to,
+        extent.pieces,
+        spare,
+    ) else {
         let ran = Ran {
             batching,
             result: Ok(0),
         };
-        return (ran, Vec::new(alloc));
+        return (ran, Vec::new(runner.alloc));
     };
-    let ran = run_beside(
-        rt, alloc, batching, plan, names, bytes, &stretch, threads, given,
-    );
+    let ahead = StretchAhead {
+        names,
+        buffered: *buffered,
+        stretch: &stretch,
+    };
+    let ran = run_beside(runner, batching, &ahead, extent.threads);
     (ran, stretch.into_spare())
 }

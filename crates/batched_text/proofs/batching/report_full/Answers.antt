@@ -7,7 +7,7 @@ use Rattle.batched_text.proofs.batching.report_full.Goals as goal
 pub returns-in_ok-report_batch-clause-reports : goal.returns-in_ok-report_batch-clause-reports
 returns-in_ok-report_batch-clause-reports g c =
     let put = c.in_ok-report_batch.ensures in
-    reports_all c.args.plan.now c.args.batching.now c.report_batch.new.batching
+    reports_all c.args.runner.now.plan c.args.batching.now c.report_batch.new.batching
     (record { log = put.log; left = put.left; number = put.number; all = put.all; mark = put.mark })
     c.requires.filling put.told
 
@@ -20,16 +20,16 @@ returns-in_ok-report_batch-clause-room g c =
     let waiting : ℕ = c.len.result - c.finished.result in
     let all : waiting + finished old.engine ≡ length old.engine.log.statements =
     omega (arith, count, c.finished.ensures.count, c.requires.filling.counted) in
-    open_next c.args.plan.now old c.report_batch.new.batching
+    open_next c.args.runner.now.plan old c.report_batch.new.batching
     (record { log = put.log; left = put.left; number = put.number; all = put.all; mark = put.mark })
-    c.requires.filling (due c.args.plan.now.history c.args.plan.now.settings old.engine waiting (omega (arith, c.if-waiting-plan.true)) all) put.kept
+    c.requires.filling (due c.args.runner.now.plan.history c.args.runner.now.plan.settings old.engine waiting (omega (arith, c.if-waiting-runner.true)) all) put.kept
 
-pub returns-else-waiting-plan-clause-reports : goal.returns-else-waiting-plan-clause-reports
-returns-else-waiting-plan-clause-reports g c = reports_none c.args.batching.now c.requires.filling.few
+pub returns-else-waiting-runner-clause-reports : goal.returns-else-waiting-runner-clause-reports
+returns-else-waiting-runner-clause-reports g c = reports_none c.args.batching.now c.requires.filling.few
 
-pub returns-else-waiting-plan-clause-room : goal.returns-else-waiting-plan-clause-room
-returns-else-waiting-plan-clause-room g c =
+pub returns-else-waiting-runner-clause-room : goal.returns-else-waiting-runner-clause-room
+returns-else-waiting-runner-clause-room g c =
     let old = c.args.batching.now in
     let count : c.len.result ≡ length old.engine.log.statements =
     omega (arith, c.len.ensures.count, ap (λ (log : Accepted). length log.statements) c.log.ensures.value) in
-    record { filling = c.requires.filling; less = omega (arith, c.if-waiting-plan.false, count, c.finished.ensures.count, c.requires.filling.counted) }
+    record { filling = c.requires.filling; less = omega (arith, c.if-waiting-runner.false, count, c.finished.ensures.count, c.requires.filling.counted) }

@@ -7,6 +7,6 @@ abbrev pub invariant-groups : goal.invariant-groups
 invariant-groups g l = record {
   can_next : (goal.iterator-groups g).can_next l.group-iterator;
   is_finite : (goal.iterator-groups g).is_finite l.group-iterator;
-  runs : Runs l.plan l.bytes l.given l.initial.at l.initial.batching l.batching (Ok l.at);
-  ahead : WereReadAhead (log_names l.batching) l.bytes (chunks_mut_rest l.group-iterator);
+  runs : Runs l.runner.plan l.buffered l.initial.at l.initial.batching l.batching (Ok l.at);
+  ahead : WereReadAhead (log_names l.batching) l.buffered.bytes.now (chunks_mut_rest l.group-iterator);
 }

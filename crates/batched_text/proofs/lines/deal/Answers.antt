@@ -6,7 +6,7 @@ use Rattle.batched_text.proofs.lines.deal.Goals as goal
 pub report_full-requires-clause-filling : goal.report_full-requires-clause-filling
 report_full-requires-clause-filling g c κs within =
     let took = c.in_ok-take_line.ensures.ok in
-    filled c.args.plan.now c.args.batching.now c.take_line.new.batching took.0 c.requires.room took.1.1
+    filled c.args.runner.now.plan c.args.batching.now c.take_line.new.batching took.0 c.requires.room took.1.1
     (subst IsWhole c.log.ensures.value c.dropped-dropped.ensures.whole)
 
 pub returns-clause-dealt : goal.returns-clause-dealt

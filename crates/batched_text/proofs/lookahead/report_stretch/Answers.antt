@@ -9,7 +9,7 @@ use Rattle.batched_text.proofs.lookahead.report_stretch.Goals as goal
 
 pub returns-in_err-taken-clause-runs : goal.returns-in_err-taken-clause-runs
 returns-in_err-taken-clause-runs g c =
-    runs_told c.args.plan.now c.args.bytes.now c.args.given 0 c.args.batching.now c.run-after.result.batching c.in_err-taken.field-0.0 c.from_residual.result
+    runs_told c.args.runner.now.plan c.args.buffered.now 0 c.args.batching.now c.run-after.result.batching c.in_err-taken.field-0.0 c.from_residual.result
     (rw (c.replace-before.ensures.value, c.in_err-taken.was) at c.run-after.ensures.ran) c.from_residual.ensures.1
 
 pub learn-requires : goal.learn-requires

@@ -23,33 +23,33 @@ kept_at kept all dropped place index found is within at here =
 
 pub put_outcome-requires : goal.put_outcome-requires
 put_outcome-requires c =
-    let run : Run = c.args.engine.now in
+    let run : Run = c.args.kept.now.engine.now in
     let log : Accepted = run.log in
     let tables : c.tables.result.now ≡ log.names.tables =
     c.tables.ensures.names ∙ ap (λ (n : Names). n.tables) (c.catalog.ensures ∙ ap (λ (l : Accepted). l.names) c.log.ensures.value) in
-    let here = kept_at c.args.outcomes.now run.outcomes run.dropped c.args.place (c.args.place - c.args.dropped) c.index-outcomes-index.result c.requires.outcomes c.requires.kept
-    (ap (λ (n : ℕ). c.args.place - n) c.requires.dropped) c.index-outcomes-index.is in
+    let here = kept_at c.args.kept.now.outcomes.now run.outcomes run.dropped c.args.place (c.args.place - c.args.kept.now.dropped) c.index-outcomes-index.result c.args.kept.now.of_run c.requires.kept
+    (ap (λ (n : ℕ). c.args.place - n) c.args.kept.now.since) c.index-outcomes-index.is in
     subst (λ (ts : List (List ℕ)). IsNamed (length ts) c.index-outcomes-index.result) (sym tables)
     (outcome-named log c.args.place c.index-outcomes-index.result c.requires.whole
     (finished_at run c.requires.run c.args.place c.index-outcomes-index.result c.requires.within here))
 
 pub returns : goal.returns
 returns c =
-    let run : Run = c.args.engine.now in
+    let run : Run = c.args.kept.now.engine.now in
     let log : Accepted = run.log in
     let place = c.args.place in
     let found : Outcome = c.index-outcomes-index.result in
     let statement : Statement = c.index-statements-index.result in
-    let index : place - c.args.dropped ≡ place - run.dropped = ap (λ (n : ℕ). place - n) c.requires.dropped in
+    let index : place - c.args.kept.now.dropped ≡ place - run.dropped = ap (λ (n : ℕ). place - n) c.args.kept.now.since in
     let tables : c.tables.result.now ≡ log.names.tables =
     c.tables.ensures.names ∙ ap (λ (n : Names). n.tables) (c.catalog.ensures ∙ ap (λ (l : Accepted). l.names) c.log.ensures.value) in
     let came : outcome log.statements place ≡ Some found =
     finished_at run c.requires.run place found c.requires.within
-    (kept_at c.args.outcomes.now run.outcomes run.dropped place (place - c.args.dropped) found c.requires.outcomes c.requires.kept index c.index-outcomes-index.is) in
+    (kept_at c.args.kept.now.outcomes.now run.outcomes run.dropped place (place - c.args.kept.now.dropped) found c.args.kept.now.of_run c.requires.kept index c.index-outcomes-index.is) in
     let low : place < length log.statements = omega (arith, c.requires.within, c.requires.run.within) in
     let stands : slice_get log.statements place ≡ Some statement =
     slice_get-get_or log.statements place statement low
-    ∙ ap (λ (s : Statement). Some s) (sym (kept_at c.args.statements.now log.statements run.dropped place (place - c.args.dropped) statement c.requires.statements c.requires.kept index
+    ∙ ap (λ (s : Statement). Some s) (sym (kept_at c.args.kept.now.statements.now log.statements run.dropped place (place - c.args.kept.now.dropped) statement c.args.kept.now.of_log c.requires.kept index
     c.index-statements-index.is)) in
     let spelled =
     ap (λ (ts : List (List ℕ)). outcome_text ts place statement.form found) tables

@@ -26,7 +26,7 @@ returns-clause-all g c = c.in_ok-report_batch.ensures.all ∙ ap (λ (log : Acce
 pub returns-clause-trimmed : goal.returns-clause-trimmed
 returns-clause-trimmed g c =
     let put = c.in_ok-report_batch.ensures in
-    trimmed_all c.args.plan.now c.report_lines.new.batching c.report_batch.new.batching
+    trimmed_all c.args.runner.now.plan c.report_lines.new.batching c.report_batch.new.batching
     (record { log = put.log; left = put.left; number = put.number; all = put.all; mark = put.mark })
     c.in_ok-report_lines.ensures.room.filling
 

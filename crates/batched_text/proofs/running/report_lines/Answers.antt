@@ -18,7 +18,7 @@ returns-in_err-lines-clause-begun_read g c = read_begun_start total _ _ _ c.requ
 
 pub report_rest-requires-clause-ready : goal.report_rest-requires-clause-ready
 report_rest-requires-clause-ready g c κs within = record {
-  room = open_first c.args.plan.now c.args.batching.now c.requires.within c.requires.first;
+  room = open_first c.args.runner.now.plan c.args.batching.now c.requires.within c.requires.first;
   bounded = search rules;
   numbered = search rules;
 }
@@ -38,7 +38,7 @@ returns-clause-begun_read g c =
     c.report_rest.ensures.ends.begun_read _ _ (batched_start _ _ _ c.args.batching.now c.in_ok-lines.ensures c.requires.first)
 
 pub report_rest-requires-clause-none : goal.report_rest-requires-clause-none
-report_rest-requires-clause-none g c κs within = none_wait c.args.plan.now.history _ c.requires.first.nobody
+report_rest-requires-clause-none g c κs within = none_wait c.args.runner.now.plan.history _ c.requires.first.nobody
 
 pub report_rest-requires-clause-begins : goal.report_rest-requires-clause-begins
 report_rest-requires-clause-begins g c κs within =

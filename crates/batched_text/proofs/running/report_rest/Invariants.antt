@@ -12,8 +12,8 @@ abbrev pub invariant-lines : goal.invariant-lines
 invariant-lines g l = record {
   names : Begins l.lookahead.names (log_names l.batching);
   nothing : l.batching.pending.items ≡ [];
-  none : NoneWait l.plan.history l.batching.waiting.items;
-  ready : IsBatchReady l.plan l.batching (length (ahead l.lines)) l.reader.given;
+  none : NoneWait l.runner.plan.history l.batching.waiting.items;
+  ready : IsBatchReady l.runner.plan l.batching (length (ahead l.lines)) l.reader.given;
   batched : (input out : Option (List ℕ))
       → BatchedUpTo input (prepend_known (ahead l.initial.lines) (g.R.Read.remaining l.initial.reader.inner)) out (g.W.Write.contents l.initial.writer.inner) l.initial.batching
       → BatchedUpTo input (prepend_known (ahead l.lines) (g.R.Read.remaining l.reader.inner)) out (g.W.Write.contents l.writer.inner) l.batching;

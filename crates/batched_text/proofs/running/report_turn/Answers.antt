@@ -4,6 +4,7 @@ use Rattle.log_text.proofs.Total.{total}
 use Rattle.batched_text.proofs.Ended.{batched_written, begun_cut}
 use Rattle.batched_text.proofs.Faults.{reads_told, writes_told}
 use Rattle.batched_text.proofs.ReadSofar.{read_begun_cut, run_begun}
+use Rattle.batched_text.proofs.RunLines.{ready_start}
 use Rattle.batched_text.proofs.Sofar.{begun_batched}
 use Rattle.batched_text.proofs.running.report_turn.Goals as goal
 
@@ -90,7 +91,8 @@ returns-clause-turn g c =
 pub report_at_hand-requires-clause-ready : goal.report_at_hand-requires-clause-ready
 report_at_hand-requires-clause-ready g c κs within =
     let took = (rw c.if-not-branch.false at (c.in_ok-report_line.ensures.turn (g.W.Write.contents c.args.writer.now.inner)).taken) refl in
-    rw c.bytes_ahead-bytes.ensures took.ready
+    ready_start c.args.runner.now.plan (record { bytes = c.bytes_ahead-bytes.result; given = c.report_line.new.reader.given }) c.report_line.new.batching
+    (rw c.bytes_ahead-bytes.ensures took.ready)
 
 pub returns-in_err-taken-clause-reads : goal.returns-in_err-taken-clause-reads
 returns-in_err-taken-clause-reads g c =
