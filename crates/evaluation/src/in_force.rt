@@ -161,7 +161,6 @@ fn next_earlier<T: ReadSource>(
         && is_in_force (is_sought sought.now) (slot_at (seen_view (seen_at batch.now (T.as_reader source.old).index)) k)) start next.slot) }
     ensures same { (T.as_reader source.new ≡ T.as_reader source.old) × (T.work source.new ≡ T.work source.old) }
 {
-    let _log = batch.log();
     let count = batch.earlier_count();
     let mut from = start;
     while from < count {
@@ -194,7 +193,6 @@ fn next_own<T: ReadSource>(
         start result }
     ensures same { (T.as_reader source.new ≡ T.as_reader source.old) × (T.work source.new ≡ T.work source.old) }
 {
-    let _log = batch.log();
     let count = batch.slot_count();
     let mut from = start;
     while from < count {
@@ -250,7 +248,6 @@ fn last_earlier<T: ReadSource>(
         (λ k. nat_lt k (earlier_count (batch_of batch.now))) last.place) }
     ensures same { (T.as_reader source.new ≡ T.as_reader source.old) × (T.work source.new ≡ T.work source.old) }
 {
-    let _log = batch.log();
     let count = batch.earlier_count();
     let mut place = before;
     let mut from = 0;
@@ -283,7 +280,6 @@ fn last_own<T: ReadSource>(
     ensures last { result ≡ greatest_end (is_sought sought.now) (entries (seen_view (seen_at batch.now (T.as_reader source.old).index))) }
     ensures same { (T.as_reader source.new ≡ T.as_reader source.old) × (T.work source.new ≡ T.work source.old) }
 {
-    let _log = batch.log();
     let count = batch.slot_count();
     let mut place = before.place;
     let mut from = start;

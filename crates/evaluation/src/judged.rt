@@ -21,9 +21,17 @@ use crate::rows::show_rows;
 use body::Window;
 use log_batch::LogBatch;
 use model_base::Place;
-use own_words::OwnWords;
+use own_words::{DONE, OwnWords, word_at};
 use std::alloc::{AllocError, Global};
 use std::marker::{Brand, PhantomData};
+
+/// Whether own words say that their place was done.
+#[tactic(auto, unfolding(bohm_core_base::specs::Batch::was_done))]
+pub fn was_done(own: &[u64]) -> bool
+    ensures { result ≡ was_done own.now }
+{
+    word_at(own, 0) == DONE
+}
 
 /// Writes all own words of the reader in the place of those that were there, and gives the reader again.
 fn judge<T: ReadSource, P: Pinned>(batch: &LogBatch<'_>, source: T, words: &mut OwnWords) -> T
@@ -36,7 +44,6 @@ fn judge<T: ReadSource, P: Pinned>(batch: &LogBatch<'_>, source: T, words: &mut 
     ensures kept { Some (T.work result) ≡ P.work }
 {
     let mut source = source;
-    let _log = batch.log();
     let statement = batch.statement(source.reader());
     let columns = batch.log().all_columns();
     let mut rows = Window::new();
@@ -64,30 +71,28 @@ pub fn words_by_source<T: ReadSource>(batch: &LogBatch<'_>, source: T, words: &m
     ensures serial { words.new ≡ serial_words (batch_of batch.now) (T.as_reader source).index }
     ensures same { (T.as_reader result ≡ T.as_reader source) × (T.work result ≡ T.work source) }
 {
-    let _log = batch.log();
     let _statement = batch.statement(source.reader());
     judge::<T, Brand>(batch, source, words)
 }
 
-/// The places of the grants that the reader's deed takes out of force, and the reader again.
+/// The reader again, and the places of the grants that its deed takes out of force.
 fn judge_ends<T: ReadSource, P: Pinned>(
     alloc: Global,
     batch: &LogBatch<'_>,
     source: T,
-) -> (Result<Vec<Place>, AllocError>, T)
+) -> (T, Result<Vec<Place>, AllocError>)
     requires batch { (T.as_reader source).batch ≡ batch_of batch.now }
     requires place { Some (T.as_reader source) ≡ P.as_reader }
     requires kept { Some (T.work source) ≡ P.work }
     ensures value { (statement : Statement)
         → slice_get batch.now.log.statements (batch.now.first + (T.as_reader source).index) ≡ Some statement
-        → IfOk result.0 (λ places. places.items
+        → IfOk result.1 (λ places. places.items
         ≡ ended_by_deed (owners batch.now.log.statements)
         (deeds_before batch.now.log.statements (batch.now.first + (T.as_reader source).index))
         (deed_of (batch.now.first + (T.as_reader source).index) statement.user statement.form)) }
-    ensures place { Some (T.as_reader result.1) ≡ P.as_reader }
-    ensures kept { Some (T.work result.1) ≡ P.work }
+    ensures place { Some (T.as_reader result.0) ≡ P.as_reader }
+    ensures kept { Some (T.work result.0) ≡ P.work }
 {
-    let _log = batch.log();
     let statement = batch.statement(source.reader());
     let mut records = ShownRecords::<'_, T, P> {
         batch,
@@ -100,24 +105,23 @@ fn judge_ends<T: ReadSource, P: Pinned>(
         source,
         pinned: _,
     } = records;
-    (places, source)
+    (source, places)
 }
 
-/// The places of the grants whose records the reader ends, if its own words say that it was done: a slot's record is one of these exactly
-/// if its grant's place is among them. They are in rising order. And the reader again. An error means out of memory.
+/// The reader again, and the places of the grants whose records it ends, if `was_done` says of its own words that it was done: a slot's
+/// record is one of these exactly if its grant's place is among them. They are in rising order. An error means out of memory.
 pub fn ends_by_source<T: ReadSource>(
     alloc: Global,
     batch: &LogBatch<'_>,
     source: T,
-) -> (Result<Vec<Place>, AllocError>, T)
+) -> (T, Result<Vec<Place>, AllocError>)
     requires batch { (T.as_reader source).batch ≡ batch_of batch.now }
     requires done { was_done (serial_words (batch_of batch.now) (T.as_reader source).index) ≡ true }
-    ensures ends { IfOk result.0 (λ places. (slot : ℕ) (grant : Grant) → slice_get (batch_slots (batch_of batch.now)) slot ≡ Some grant
+    ensures ends { IfOk result.1 (λ places. (slot : ℕ) (grant : Grant) → slice_get (batch_slots (batch_of batch.now)) slot ≡ Some grant
         → list_any (λ place. place == grant.place) places.items ≡ serial_ends (batch_of batch.now) (T.as_reader source).index slot) }
-    ensures order { IfOk result.0 (λ places. IsStrictlyIncreasing places.items) }
-    ensures same { (T.as_reader result.1 ≡ T.as_reader source) × (T.work result.1 ≡ T.work source) }
+    ensures order { IfOk result.1 (λ places. IsStrictlyIncreasing places.items) }
+    ensures same { (T.as_reader result.0 ≡ T.as_reader source) × (T.work result.0 ≡ T.work source) }
 {
-    let _log = batch.log();
     let _statement = batch.statement(source.reader());
     judge_ends::<T, Brand>(alloc, batch, source)
 }

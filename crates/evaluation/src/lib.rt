@@ -20,7 +20,7 @@ mod revoking;
 mod rows;
 mod tables;
 
-pub use judged::{ends_by_source, words_by_source};
+pub use judged::{ends_by_source, was_done, words_by_source};
 pub use laws::{outcomes_fit_their_forms, words_tell_outcomes};
 pub use place_words::own_words;
 pub use read_source::ReadSource;

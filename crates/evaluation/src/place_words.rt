@@ -19,16 +19,9 @@ ghost use Rattle.evaluation.specs.Judged.{cells_at};
 use crate::judging::judged;
 use body::Window;
 use grants::Records;
-use model_base::{Access, MOST_ACCESSES, MOST_COLUMNS, Statement, Table};
+use log_batch::columns_in;
+use model_base::{Access, MOST_ACCESSES, MOST_COLUMNS, Statement};
 use own_words::OwnWords;
-
-/// How many columns the table has.
-fn columns_of(columns: &[u8], table: Table) -> u8
-    requires { table < length columns.now }
-    ensures { result ≡ columns_in columns.now table }
-{
-    columns[table.0 as usize]
-}
 
 /// Appends the version cells to the other words: the window's row of each access that may change its row, in order.
 fn push_cells(words: &mut OwnWords, columns: &[u8], accesses: &[Access], window: &Window)
@@ -42,7 +35,7 @@ fn push_cells(words: &mut OwnWords, columns: &[u8], accesses: &[Access], window:
 {
     for (place, access) in accesses.iter().enumerate() {
         if access.is_writing() {
-            let count = columns_of(columns, access.key.table);
+            let count = columns_in(columns, access.key.table);
             words.push_row(count, window.row(place).as_ref());
         }
     }

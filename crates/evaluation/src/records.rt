@@ -62,7 +62,6 @@ pub(crate) fn grant_shown<T: ReadSource>(
     ensures value { result ≡ grant_in (slot_at (seen_view (seen_at batch.now (T.as_reader source.old).index)) slot) }
     ensures same { (T.as_reader source.new ≡ T.as_reader source.old) × (T.work source.new ≡ T.work source.old) }
 {
-    let _log = batch.log();
     let index = source.reader();
     let first = batch.first_place();
     let grant = batch.grant(slot);
@@ -124,7 +123,6 @@ fn shown_next<T: ReadSource>(
         ShowsNextInForce (is_sought sought.now) (seen_view (seen_at batch.now (T.as_reader source.old).index)) from next) }
     ensures same { (T.as_reader source.new ≡ T.as_reader source.old) × (T.work source.new ≡ T.work source.old) }
 {
-    let _log = batch.log();
     let statement = batch.statement(source.reader());
     if !is_on(statement, sought.table) {
         return None;
@@ -154,12 +152,10 @@ impl<T: ReadSource, P: Pinned> Records for ShownRecords<'_, T, P> {
     ghost asked = { λ records. batch_slots (batch_of records.batch.now) };
 
     fn at(&self) -> Place {
-        let _log = self.batch.log();
         self.batch.first_place() + self.source.reader() as u64
     }
 
     fn covers(&self, table: Table) -> bool {
-        let _log = self.batch.log();
         is_on(self.batch.statement(self.source.reader()), table)
     }
 
@@ -169,7 +165,6 @@ impl<T: ReadSource, P: Pinned> Records for ShownRecords<'_, T, P> {
     }
 
     fn slots(&self) -> usize {
-        let _log = self.batch.log();
         self.batch.slot_count()
     }
 

@@ -115,7 +115,6 @@ pub(crate) fn show_rows<T: ReadSource>(batch: &LogBatch, source: &mut T, window:
     ensures fresh { window.new.outputs ≡ [] }
     ensures same { (T.as_reader source.new ≡ T.as_reader source.old) × (T.work source.new ≡ T.work source.old) }
 {
-    let _log = batch.log();
     let index = source.reader();
     let statement = batch.statement(index);
     let accesses = statement.accesses();

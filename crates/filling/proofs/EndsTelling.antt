@@ -121,8 +121,3 @@ module _ (b : Batch) (sound : IsSoundBatch b) (index : ℕ) (ends : Ends) (all :
 pub told-below : (b : Batch) (place : ℕ) (ends : Ends) (slot end : ℕ) → AreSerialEnds b ends → noted_end ends slot ≡ Some end
     → end_below place (Some end) ≡ end_below place (whole_end b slot)
 told-below b place ends slot end told is = ap (end_below place) (sym (told.whole slot end is))
-
--- a word that isn't 0 tells the place that is one less
-pub taken-some : (slot word : ℕ) (old new : Ends) → word ≢ 0 → NotesOneMore slot (word - 1) old new → NotesWord slot word old new
-taken-some slot zero old new some tells = absurd (some refl)
-taken-some slot (suc word) old new some tells = (let one : suc word - 1 ≡ word = omega arith in subst (λ end. NotesOneMore slot end old new) one tells)

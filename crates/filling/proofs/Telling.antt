@@ -10,7 +10,7 @@ use Rattle.bohm_core_base.proofs.Whole.{is_end-some}
 use Rattle.log_batch.specs.Keys.{Key}
 use Rattle.evaluation.specs.ReadSource.{IsDeedBefore, IsReferred, PassWork}
 use Rattle.words.specs.declared.knowledge.Knowledge.{Knowledge}
-use Rattle.words.specs.Layout.{IsListed, end_told}
+use Rattle.words.specs.Layout.{IsListed}
 use Rattle.words.specs.Passes.{IsPassOf, PassState, Words, gone_on}
 use Rattle.words.specs.Meanings.{EndMeans, FoundHeld}
 use Rattle.words.specs.Views.{HoldsNone, In, IsSettled, KnowsReferences, with_known, with_sighting}
@@ -27,14 +27,12 @@ referred-known b v i other knows is =
 pub deed-settled : (b : Batch) (v : Knowledge) (i other : ℕ) → i < b.size → KnowsReferences b v i → IsDeedBefore (record { batch = b; index = i }) other → IsSettled b v other
 deed-settled b v i other within knows is = (i, is.table, is.before, within, knows, is.listed, is.deed)
 
--- an end that is known, and one that a word says
+-- an end that is known, and one that a load gives
 pub end-early : (b : Batch) (v : Knowledge) (slot : ℕ) (end : Option ℕ) → whole_end b slot ≡ end → IsEndBelow b v slot end
 end-early b v slot end is index within knows listed = ap (end_below (b.first + index)) (sym is)
 
-pub end-word : (b : Batch) (v : Knowledge) (slot at word : ℕ) (end : Option ℕ) → at ≡ slot → EndMeans b at v word → end ≡ end_told word → IsEndBelow b v slot end
-end-word b v slot at word end same tells is =
-    subst (λ s. IsEndBelow b v s end) same
-    (λ index within knows listed. ap (end_below (b.first + index)) is ∙ tells.below index within knows listed)
+pub end-word : (b : Batch) (v : Knowledge) (slot at : ℕ) (end : Option ℕ) → at ≡ slot → EndMeans b at v end → IsEndBelow b v slot end
+end-word b v slot at end same tells = subst (λ s. IsEndBelow b v s end) same tells.below
 
 -- a slot without a word has the end that it has before the batch
 pub end-unlisted : (b : Batch) (listed : List ℕ) (slot : ℕ) → IsListed b listed → slot < length (batch_slots b)
@@ -94,19 +92,19 @@ only-learns pass after knows work =
       sightings = ap (λ (w : PassWork). w.sightings) work;
     }
 
--- whether a place that is known done ended the record, by the end that its word says
-pub record-ended : (b : Batch) (v : Knowledge) (slot word index : ℕ) (end : Option ℕ) → EndMeans b slot v word → In index v.known → end ≡ end_told word
+-- whether a place that is known done ended the record, by the end that a load gives
+pub record-ended : (b : Batch) (v : Knowledge) (slot index : ℕ) (end : Option ℕ) → EndMeans b slot v end → In index v.known
     → is_end (b.first + index) end ≡ serial_ends b index slot
 unfolding serial_ends
-record-ended b v slot word index end tells known is =
+record-ended b v slot index end tells known =
     let place = b.first + index in
     ⊎_elim
-    (λ zero.
-    let none : is_end place end ≡ false = ap (is_end place) (is ∙ ap end_told zero) in
+    (λ none.
+    let stays : is_end place end ≡ false = ap (is_end place) none in
     by_cases (is_end place (whole_end b slot))
-    (λ ends. absurd (let word-is = tells.ended index (is_end-some place (whole_end b slot) ends) known in omega arith))
-    (λ stays. none ∙ sym stays))
-    (λ some. ap (is_end place) (is ∙ ap end_told some.1) ∙ ap (is_end place) (sym some.2))
+    (λ ends. ap (is_end place) (tells.ended index (is_end-some place (whole_end b slot) ends) known ∙ sym (is_end-some place (whole_end b slot) ends)))
+    (λ other. stays ∙ sym other))
+    (λ some. ap (is_end place) (some.1 ∙ sym some.2))
     tells.none_or
 
 -- and where it finds a place done it only learns that

@@ -9,6 +9,7 @@ ghost use Rattle.filling.specs.Bodies.{has_body, runs_at, says_denied};
 
 use crate::key::RangeKey;
 use model_base::Form;
+use own_words::{DENIED, word_at};
 use words::Holding;
 
 // Whether the statement is a transaction, which alone has a body.
@@ -22,22 +23,11 @@ fn has_body(form: &Form) -> bool
     }
 }
 
-// Whether own words don't say that their place was denied.
-fn says_admitted(own: &[u64]) -> bool
-    ensures { result ≡ not (says_denied own.now) }
-{
-    match own {
-        [outcome, ..] => *outcome != 3,
-        [] => true,
-    }
-}
-
 // Whether a body is run for a statement that has these own words.
 fn runs_body(form: &Form, own: &[u64]) -> bool
     ensures { result ≡ (has_body form.now && not (says_denied own.now)) }
 {
-    let admitted = says_admitted(own);
-    has_body(form) && admitted
+    has_body(form) && word_at(own, 0) != DENIED
 }
 
 // Counts the body of a place that has these own words, if one is run for it.
@@ -49,7 +39,6 @@ pub(crate) fn count_run(key: &RangeKey<'_>, holding: &mut Holding, index: usize,
     ensures bodies { holding.new.bodies ≡ counted_more holding.old.bodies (runs_at key.now.batch index) }
 {
     let batch = key.batch();
-    let _log = batch.log();
     let statement = batch.statement(index);
     if runs_body(&statement.form, own) {
         holding.count_body();

@@ -21,7 +21,7 @@ use crate::reader::{Named, PassReader};
 use bohm_core_base::{
     records_end_by_done_places, records_end_by_revocations, slots_stand_in_order,
 };
-use evaluation::ends_by_source;
+use evaluation::{ends_by_source, was_done};
 use log_batch::LogBatch;
 use model_base::{Deed, Place};
 use std::alloc::AllocError;
@@ -50,16 +50,16 @@ pub(crate) fn has_revocation(batch: &LogBatch, index: usize) -> bool
     }
 }
 
-// Whether the place was done and has a revocation, where it is known whether it was done.
-fn was_revoking(batch: &LogBatch, index: usize, done: bool) -> bool
+// Whether a place that has these own words was done and has a revocation.
+fn was_revoking(batch: &LogBatch, index: usize, own: &[u64]) -> bool
     requires within { index < batch.now.size }
-    requires done { done ≡ was_done (serial_words (batch_of batch.now) index) }
+    requires own { own.now ≡ serial_words (batch_of batch.now) index }
     ensures done { IsTrue result → was_done (serial_words (batch_of batch.now) index) ≡ true }
     ensures yes { IsTrue result → IsRevocation (batch_of batch.now) index }
     ensures no { result ≡ false → was_done (serial_words (batch_of batch.now) index) ≡ true → ¬ (IsRevocation (batch_of batch.now) index) }
 {
     let revokes = has_revocation(batch, index);
-    done && revokes
+    was_done(own) && revokes
 }
 
 // No end, which is what any other place sets.
@@ -102,7 +102,7 @@ fn judge_places<'b, 'a, N: Named>(
     words: &'b BatchWords<RangeKey<'a>>,
     holding: Holding,
     index: usize,
-) -> (Result<Vec<Place>, AllocError>, Holding)
+) -> (Holding, Result<Vec<Place>, AllocError>)
     requires same_table { IsPassOf words.now holding }
     requires key { words.now.key ≡ key.now }
     requires within { index < key.now.batch.size }
@@ -111,12 +111,12 @@ fn judge_places<'b, 'a, N: Named>(
     requires named { Some words.now ≡ N.words }
     requires knows { KeepsKnown N.known holding.view.known }
     requires done { was_done (serial_words (batch_of key.now.batch) index) ≡ true }
-    ensures ends { IfOk result.0 (λ places. (slot : ℕ) (grant : Grant) → slice_get (batch_slots (batch_of key.now.batch)) slot ≡ Some grant
+    ensures ends { IfOk result.1 (λ places. (slot : ℕ) (grant : Grant) → slice_get (batch_slots (batch_of key.now.batch)) slot ≡ Some grant
         → list_any (λ place. place == grant.place) places.items ≡ serial_ends (batch_of key.now.batch) index slot) }
-    ensures order { IfOk result.0 (λ places. IsStrictlyIncreasing places.items) }
-    ensures same_table { IsPassOf words.now result.1 }
-    ensures knows { KeepsKnown N.known result.1.view.known }
-    ensures work { work_of result.1 ≡ work_of holding }
+    ensures order { IfOk result.1 (λ places. IsStrictlyIncreasing places.items) }
+    ensures same_table { IsPassOf words.now result.0 }
+    ensures knows { KeepsKnown N.known result.0.view.known }
+    ensures work { work_of result.0 ≡ work_of holding }
 {
     let reader = PassReader::<'_, '_, N> {
         key,
@@ -125,7 +125,7 @@ fn judge_places<'b, 'a, N: Named>(
         index,
         named: PhantomData,
     };
-    let (places, reader) = ends_by_source(key.batch().alloc(), key.batch(), reader);
+    let (reader, places) = ends_by_source(key.batch().alloc(), key.batch(), reader);
     let PassReader {
         key: _,
         words: _,
@@ -133,7 +133,7 @@ fn judge_places<'b, 'a, N: Named>(
         index: _,
         named: _,
     } = reader;
-    (places, holding)
+    (holding, places)
 }
 
 // The places of the grants that a done place ends, in rising order, by a pass that knows the place placed and all done that it is referred
@@ -143,19 +143,19 @@ pub(crate) fn places_told<'b, 'a>(
     words: &'b BatchWords<RangeKey<'a>>,
     holding: Holding,
     index: usize,
-) -> (Result<Vec<Place>, AllocError>, Holding)
+) -> (Holding, Result<Vec<Place>, AllocError>)
     requires same_table { IsPassOf words.now holding }
     requires key { words.now.key ≡ key.now }
     requires within { index < key.now.batch.size }
     requires past { KnowsPast (batch_of key.now.batch) holding.view index }
     requires ready { KnowsReferences (batch_of key.now.batch) holding.view index }
     requires done { was_done (serial_words (batch_of key.now.batch) index) ≡ true }
-    ensures ends { IfOk result.0 (λ places. (slot : ℕ) (grant : Grant) → slice_get (batch_slots (batch_of key.now.batch)) slot ≡ Some grant
+    ensures ends { IfOk result.1 (λ places. (slot : ℕ) (grant : Grant) → slice_get (batch_slots (batch_of key.now.batch)) slot ≡ Some grant
         → list_any (λ place. place == grant.place) places.items ≡ serial_ends (batch_of key.now.batch) index slot) }
-    ensures order { IfOk result.0 (λ places. IsStrictlyIncreasing places.items) }
-    ensures same { IsSamePass holding result.1 }
-    ensures bodies { result.1.bodies ≡ holding.bodies }
-    ensures learns { OnlyLearns holding.view result.1.view }
+    ensures order { IfOk result.1 (λ places. IsStrictlyIncreasing places.items) }
+    ensures same { IsSamePass holding result.0 }
+    ensures bodies { result.0.bodies ≡ holding.bodies }
+    ensures learns { OnlyLearns holding.view result.0.view }
 {
     judge_places::<Brand>(key, words, holding, index)
 }
@@ -178,33 +178,33 @@ fn ends_numbered(
     numbers_of(key, places)
 }
 
-// The numbers of the ends that a place sets, which for a place that isn't done or has no revocation are none. The pass knows done all that
-// it is referred to, and only learns. An error means out of memory, which only a revocation may have.
+// The numbers of the ends that a place with these own words sets, which for one that wasn't done or has no revocation are none. The pass
+// knows done all that it is referred to, and only learns. An error means out of memory, which only a revocation may have.
 pub(crate) fn ends_of<'b, 'a>(
     key: &'b RangeKey<'a>,
     words: &'b BatchWords<RangeKey<'a>>,
     holding: Holding,
     index: usize,
-    done: bool,
-) -> (Result<Vec<usize>, AllocError>, Holding)
+    own: &[u64],
+) -> (Holding, Result<Vec<usize>, AllocError>)
     requires same_table { IsPassOf words.now holding }
     requires key { words.now.key ≡ key.now }
     requires within { index < key.now.batch.size }
     requires past { KnowsPast (batch_of key.now.batch) holding.view index }
     requires ready { KnowsReferences (batch_of key.now.batch) holding.view index }
-    requires done { done ≡ was_done (serial_words (batch_of key.now.batch) index) }
-    ensures ends { IfOk result.0 (λ ends. IsEnding (batch_of key.now.batch) key.now.slots index ends.items) }
-    ensures revokes { OnErr result.0 (IsRevocation (batch_of key.now.batch) index) }
-    ensures same { IsSamePass holding result.1 }
-    ensures bodies { result.1.bodies ≡ holding.bodies }
-    ensures learns { OnlyLearns holding.view result.1.view }
+    requires own { own.now ≡ serial_words (batch_of key.now.batch) index }
+    ensures ends { IfOk result.1 (λ ends. IsEnding (batch_of key.now.batch) key.now.slots index ends.items) }
+    ensures revokes { OnErr result.1 (IsRevocation (batch_of key.now.batch) index) }
+    ensures same { IsSamePass holding result.0 }
+    ensures bodies { result.0.bodies ≡ holding.bodies }
+    ensures learns { OnlyLearns holding.view result.0.view }
 {
-    if !was_revoking(key.batch(), index, done) {
-        return (Ok(no_ends(key, index)), holding);
+    if !was_revoking(key.batch(), index, own) {
+        return (holding, Ok(no_ends(key, index)));
     }
-    let (places, holding) = places_told(key, words, holding, index);
+    let (holding, places) = places_told(key, words, holding, index);
     match places {
-        Ok(places) => (ends_numbered(key, index, places.as_slice()), holding),
-        Err(fault) => (Err(fault), holding),
+        Ok(places) => (holding, ends_numbered(key, index, places.as_slice())),
+        Err(fault) => (holding, Err(fault)),
     }
 }

@@ -1,7 +1,6 @@
 //! Fills a place of a batch of a log.
 
 ghost use Rattle.std.specs.Prelude.{◌≡◌, ◌<◌, []};
-ghost use Rattle.bohm_core_base.specs.Batch.{was_done};
 ghost use Rattle.bohm_core_base.specs.Serial.{serial_words};
 ghost use Rattle.log_batch.specs.Supplied.{batch_of};
 ghost use Rattle.words.specs.Passes.{IsPassOf};
@@ -17,17 +16,6 @@ use filling_base::{Fills, learning_comes_before_storing, store};
 use own_words::OwnWords;
 use std::alloc::AllocError;
 use words::{BatchData, BatchWords, Holding, passes_keep_the_fronts_that_they_know};
-
-// Whether own words say that their place was done.
-#[tactic(auto, unfolding(bohm_core_base::specs::Batch::was_done))]
-fn says_done(own: &OwnWords) -> bool
-    ensures { result ≡ was_done own.now }
-{
-    match own.as_slice() {
-        [outcome, ..] => *outcome == 1,
-        [] => false,
-    }
-}
 
 // Stores the own words of a place that is held with nothing stored, sets its ends and finishes it.
 fn store_place<'a>(
@@ -70,7 +58,7 @@ impl Fills for RangeKey<'_> {
         passes_keep_the_fronts_that_they_know();
         let mut own = OwnWords::new();
         let holding = own_told(self, words, holding, index, &mut own);
-        let (ends, holding) = ends_of(self, words, holding, index, says_done(&own));
+        let (holding, ends) = ends_of(self, words, holding, index, own.as_slice());
         match ends {
             Ok(ends) => {
                 let mut holding = store_place(self, words, holding, index, &own, ends.as_slice());

@@ -1,20 +1,19 @@
 //! What a pass loads of others for a place of which it knows all references done.
 
-ghost use Rattle.std.specs.Prelude.{◌≡◌, ◌<◌, ℕ, None, length};
+ghost use Rattle.std.specs.Prelude.{◌≡◌, ◌<◌, None, length};
 ghost use Rattle.bohm_core_base.specs.Batch.{batch_slots, was_done};
 ghost use Rattle.bohm_core_base.specs.Machine.{end_of, start};
 ghost use Rattle.bohm_core_base.specs.Serial.{serial_words};
 ghost use Rattle.log_batch.specs.Supplied.{batch_of};
 ghost use Rattle.evaluation.specs.ReadSource.{IsDeedBefore};
-ghost use Rattle.words.specs.Layout.{end_told, listed_slot_at};
 ghost use Rattle.words.specs.Passes.{IsPassOf, gone_on};
-ghost use Rattle.words.specs.Meanings.{EndMeans};
 ghost use Rattle.words.specs.Views.{KnowsReferences, with_known};
 ghost use Rattle.filling.specs.Readings.{IsEndBelow};
 
 use crate::key::RangeKey;
 use bohm_core_base::{done_places_are_serial, other_records_keep_their_ends};
 use model_base::Place;
+use own_words::DONE;
 use words::{BatchData, BatchWords, Holding, passes_keep_what_they_know};
 
 // Whether a place with a deed on a table of the reader was done, where it lies before the reader. By its claim the pass knows
@@ -37,25 +36,7 @@ pub(crate) fn deed_was_done<K: BatchData>(
     passes_keep_what_they_know();
     let _places = key.places();
     let _seen = words.look(holding, index);
-    words.own(holding, index, 0) == 1
-}
-
-// A listed end, as its word gives it.
-pub(crate) fn end_loaded<K: BatchData>(
-    words: &BatchWords<K>,
-    holding: &mut Holding,
-    end: usize,
-) -> Option<Place>
-    requires same_table { IsPassOf words.now holding.old }
-    requires listed { end < length (K.listed words.now.key) }
-    ensures same { holding.new ≡ holding.old }
-    ensures told { (word : ℕ) × EndMeans (K.batch words.now.key) (listed_slot_at (K.listed words.now.key) end) holding.old.view word
-        × (result ≡ end_told word) }
-{
-    match words.end(holding, end) {
-        0 => None,
-        word => Some(word - 1),
-    }
+    words.own(holding, index, 0) == DONE
 }
 
 // The end of the record of a slot that has none before the batch, as its end word gives it; without such a word it has none. For a place of
@@ -77,7 +58,7 @@ fn end_by_word<'a>(
     let _places = key.places();
     let _ends = key.ends();
     match key.number_of(slot) {
-        Some(end) => end_loaded(words, holding, end),
+        Some(end) => words.end(holding, end),
         None => None,
     }
 }

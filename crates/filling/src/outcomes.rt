@@ -13,7 +13,6 @@ ghost use Rattle.filling.specs.Outcomes.{IsEndedList, OutcomeMeans, ended_places
 
 use crate::ends::has_revocation;
 use crate::key::RangeKey;
-use crate::loads::end_loaded;
 use bohm_core_base::slots_stand_in_order;
 use evaluation::words_tell_outcomes;
 use filling_base::Batch;
@@ -65,7 +64,7 @@ fn ended_record<'a>(
     ensures value { result ≡ serial_ends (batch_of key.now.batch) index (listed_slot_at key.now.slots number) }
 {
     let place = key.batch().first_place() + index as u64;
-    match end_loaded(words, holding, number) {
+    match words.end(holding, number) {
         Some(end) => end == place,
         None => false,
     }
@@ -139,7 +138,6 @@ fn outcome_told<'a>(
 {
     words_tell_outcomes();
     let batch = key.batch();
-    let _log = batch.log();
     let _first = batch.first_place();
     let statement = batch.statement(index);
     let count = words_length(batch, index);
@@ -168,7 +166,6 @@ fn ended_list<'a>(
     if !has_revocation(batch, index) {
         return Ok(Items::empty(batch.alloc()));
     }
-    let _log = batch.log();
     let _statement = batch.statement(index);
     let _slots = key.slots();
     let _ends = key.ends();

@@ -1,8 +1,7 @@
 //! A pass, as it reads for a place that it is about to fill.
 
-ghost use Rattle.std.specs.Prelude.{◌≡◌, [], ℕ, List, None, Option};
+ghost use Rattle.std.specs.Prelude.{[], ℕ, List, None, Option};
 ghost use Rattle.log_batch.specs.Keys.{Key};
-ghost use Rattle.evaluation.specs.ReadSource.{referred_word};
 ghost use Rattle.words.specs.Passes.{Words};
 
 use crate::key::RangeKey;
@@ -44,17 +43,6 @@ impl<'b, 'a, N: Named> Model for PassReader<'b, 'a, N> {
     ghost invariant = { λ reader. IsReadingPass reader.words.now reader.key.now reader.holding reader.index N.words N.known };
 }
 
-/// The index of the place that a reference word is to, if it is to one.
-fn index_of(word: u64) -> Option<usize>
-    ensures { referred_word result ≡ word }
-{
-    if word == 0 {
-        None
-    } else {
-        Some((word - 1) as usize)
-    }
-}
-
 impl<N: Named> ReadSource for PassReader<'_, '_, N> {
     ghost use Rattle.filling.specs.Readings.{PlaceReading, reader_in};
 
@@ -69,7 +57,7 @@ impl<N: Named> ReadSource for PassReader<'_, '_, N> {
 
     fn reference(&mut self, number: usize) -> Option<usize> {
         let _places = self.key.places();
-        index_of(self.words.reference(&mut self.holding, self.index, number))
+        self.words.reference(&mut self.holding, self.index, number)
     }
 
     fn own(&mut self, index: usize, number: usize) -> u64 {

@@ -22,7 +22,6 @@ impl LogBatch<'_> {
             → result ≤ slot → slice_get (batch_slots (batch_of self.now)) slot ≡ Some grant → place ≤ grant.place }
     {
         slots_stand_in_order();
-        let _log = self.log();
         let mut low = 0;
         let mut high = self.slot_count();
         while low < high {
@@ -47,7 +46,6 @@ impl LogBatch<'_> {
             → grant.place ≡ place → result ≡ Some slot }
     {
         slots_stand_in_order();
-        let _log = self.log();
         let slot = self.slot_from(place);
         if slot < self.slot_count() && self.grant(slot).place == place {
             Some(slot)

@@ -229,6 +229,7 @@ impl<'a> LogBatch<'a> {
     pub fn first_place(&self) -> Place
         ensures value { result ≡ self.now.first }
         ensures small { self.now.first + self.now.size ≤ MOST_PLACES }
+        ensures of_log { IsOfLog (range_of self.now) }
     {
         self.first
     }
@@ -243,6 +244,7 @@ impl<'a> LogBatch<'a> {
         requires { index < self.now.size }
         ensures at { slice_get self.now.log.statements (self.now.first + index) ≡ Some result.now }
         ensures taken { IsAccepted self.now.log.names result.now }
+        ensures whole { IsWhole self.now.log }
         ensures of_log { IsOfLog (range_of self.now) }
     {
         self.log.statement(self.first + index as u64)
@@ -296,7 +298,8 @@ impl<'a> LogBatch<'a> {
 
     /// How many slots there are: one for each grant that was made before the batch, and then for each that it may make.
     pub fn slot_count(&self) -> usize
-        ensures { result ≡ length (batch_slots (batch_of self.now)) }
+        ensures value { result ≡ length (batch_slots (batch_of self.now)) }
+        ensures of_log { IsOfLog (range_of self.now) }
     {
         self.before.book.records().len() + self.named.len()
     }
@@ -331,6 +334,7 @@ impl<'a> LogBatch<'a> {
     pub fn earlier_count(&self) -> usize
         ensures value { result ≡ earlier_count (batch_of self.now) }
         ensures within { result ≤ length (batch_slots (batch_of self.now)) }
+        ensures of_log { IsOfLog (range_of self.now) }
     {
         self.before.book.records().len()
     }

@@ -32,5 +32,5 @@ pub use laws::{
     serial_words_are_of_the_log,
 };
 pub use log_words::LogWords;
-pub use own_length::{columns_of, header_length, words_length};
+pub use own_length::{columns_in, columns_of, header_length, words_length};
 pub use state_before::StateBefore;

@@ -1,6 +1,6 @@
 //! How many own words a place of the batch has.
 
-ghost use Rattle.std.specs.Prelude.{◌≡◌, ◌<◌, ◌≤◌, ◌+◌, length, map};
+ghost use Rattle.std.specs.Prelude.{◌≡◌, ◌<◌, ◌≤◌, ◌+◌, All, length, map, slice_index_or};
 ghost use Rattle.body.specs.Premises.{IsRunnable};
 ghost use Rattle.own_words.specs.Words.{outputs_of};
 ghost use Rattle.sequencer.specs.Whole.{columns_by};
@@ -12,18 +12,26 @@ use crate::batch::LogBatch;
 use model_base::{Access, MOST_ACCESSES, MOST_COLUMNS, Statement, Table};
 use own_words::{MOST_OWN_WORDS, outputs_of};
 
-/// How many columns a table of the log has; one that the log doesn't have has none.
-pub fn columns_of(batch: &LogBatch, table: Table) -> u8
-    ensures value { result ≡ columns_by batch.now.log.names table }
+/// How many columns a table has; one that isn't listed has none.
+pub fn columns_in(columns: &[u8], table: Table) -> u8
+    requires { All (λ count. count ≤ MOST_COLUMNS) columns.now }
+    ensures value { result ≡ slice_index_or columns.now table 0 }
     ensures few { result ≤ MOST_COLUMNS }
 {
-    let columns = batch.log().all_columns();
     let table = table.0 as usize;
     if table < columns.len() {
         columns[table]
     } else {
         0
     }
+}
+
+/// How many columns a table of the log has; one that the log doesn't have has none.
+pub fn columns_of(batch: &LogBatch, table: Table) -> u8
+    ensures value { result ≡ columns_by batch.now.log.names table }
+    ensures few { result ≤ MOST_COLUMNS }
+{
+    columns_in(batch.log().all_columns(), table)
 }
 
 /// How many words of a statement are before its version cells: four, and one for each OUT step.

@@ -120,6 +120,5 @@ pub(crate) fn stored_references(
     let references = batch.references_at(index);
     let first = batch.first_place();
     let old = state.references(index);
-    let kept = replaced(alloc, first, references, &partitions, partition, old)?;
-    Ok(kept)
+    replaced(alloc, first, references, &partitions, partition, old)
 }

@@ -1,14 +1,14 @@
 //! What a place of a batch is shown by the places below it.
 
-ghost use Rattle.std.specs.Prelude.{◌≡◌, ◌<◌, slice_index_or};
+ghost use Rattle.std.specs.Prelude.{◌≡◌, ◌<◌};
 ghost use Rattle.log_batch.specs.Supplied.{batch_of};
-ghost use Rattle.evaluation.specs.ReadSource.{referred_word};
 ghost use Rattle.words.specs.Closing.{HasItsReferences};
 
 use crate::completion::batch_progress::BatchProgress;
-use evaluation::ReadSource;
+use evaluation::{ReadSource, was_done};
 use log_batch::LogBatch;
 use model_base::Place;
+use own_words::word_at;
 use std::marker::Model;
 use words::Closed;
 
@@ -36,24 +36,6 @@ impl<'a> Model for Below<'a> {
     ghost invariant = { λ place. IsDoneTo (batch_of place.batch.now) place.index place.progress.now
         × (place.index < place.batch.now.size) × IsOfLog (range_of place.batch.now)
         × HasItsReferences (batch_of place.batch.now) place.closed.now };
-}
-
-/// The word of an index, or 0 past the last.
-fn word_at(words: &[u64], index: usize) -> u64
-    ensures { result ≡ slice_index_or words.now index 0 }
-{
-    if index < words.len() { words[index] } else { 0 }
-}
-
-/// The index of the place that a reference word is to, if it is to one.
-fn index_of(word: u64) -> Option<usize>
-    ensures { referred_word result ≡ word }
-{
-    if word == 0 {
-        None
-    } else {
-        Some((word - 1) as usize)
-    }
 }
 
 impl<'a> Below<'a> {
@@ -94,7 +76,7 @@ impl ReadSource for Below<'_> {
     }
 
     fn reference(&mut self, number: usize) -> Option<usize> {
-        index_of(self.closed.reference(self.index, number))
+        self.closed.reference(self.index, number)
     }
 
     fn own(&mut self, index: usize, number: usize) -> u64 {
@@ -102,7 +84,7 @@ impl ReadSource for Below<'_> {
     }
 
     fn was_done(&mut self, index: usize) -> bool {
-        word_at(self.progress.words.at(index), 0) == 1
+        was_done(self.progress.words.at(index))
     }
 
     fn end(&mut self, slot: usize) -> Option<Place> {

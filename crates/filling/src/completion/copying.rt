@@ -4,6 +4,7 @@ ghost use Rattle.std.specs.Prelude.{◌≡◌, ◌<◌, ℕ, None, suc, IfOk, On
 ghost use Rattle.bohm_core_base.specs.Batch.{batch_slots};
 ghost use Rattle.bohm_core_base.specs.Serial.{serial_words};
 ghost use Rattle.log_batch.specs.Supplied.{batch_of};
+ghost use Rattle.words.specs.Layout.{optional_word};
 ghost use Rattle.words.specs.Closing.{HasItsReferences, IsSettledBy, claim_in};
 ghost use Rattle.filling.specs.Ends.{AreSerialEnds, NotesWord, noted_end};
 ghost use Rattle.filling.specs.BatchProgress.{HasDone, IsDoneTo, NotesEndsOfDone};
@@ -12,19 +13,17 @@ use crate::completion::batch_progress::BatchProgress;
 use crate::completion::ends::Ends;
 use crate::completion::places::judge;
 use log_batch::{LogBatch, LogKey, words_length};
+use model_base::Place;
 use own_words::OwnWords;
 use std::alloc::{AllocError, Global};
-use words::{BatchData, Closed};
+use words::{BatchData, Closed, DONE};
 
-/// The claim of a place that is done.
-const DONE: u64 = 2;
-
-/// Tells the end of a slot's record that a word says: 0 for none, or one more than the place that ended it.
-fn take_end(slot: usize, word: u64, ends: &mut Ends) -> Result<(), AllocError>
-    ensures { OnOk result (NotesWord slot word ends.old ends.new) }
+/// Tells the end of a slot's record, if it has one.
+fn take_end(slot: usize, end: Option<Place>, ends: &mut Ends) -> Result<(), AllocError>
+    ensures { OnOk result (NotesWord slot (optional_word end) ends.old ends.new) }
 {
-    if word != 0 {
-        ends.tell(slot, word - 1)?;
+    if let Some(end) = end {
+        ends.tell(slot, end)?;
     }
     Ok(())
 }
@@ -51,7 +50,7 @@ pub(crate) fn take_ends(
 fn copy_words(batch: &LogBatch<'_>, closed: &Closed, index: usize, words: &mut OwnWords)
     requires within { index < batch.now.size }
     requires closed { HasDone (batch_of batch.now) closed.now }
-    requires done { claim_in closed.now index ≡ 2 }
+    requires done { claim_in closed.now index ≡ DONE }
     ensures { words.new ≡ serial_words (batch_of batch.now) index }
 {
     let _log = batch.log();

@@ -9,11 +9,11 @@ ghost use Rattle.own_words.specs.Words.{ended_in, outputs_of};
 ghost use Rattle.sequencer.specs.Whole.{columns_by};
 ghost use Rattle.filling.specs.FinishedRange.{AreOutcomes};
 
-use crate::completion::cells::{behind, push_versions};
+use crate::completion::cells::push_versions;
 use crate::completion::completed_batch::CompletedBatch;
 use chains::Version;
 use model_base::{Items, Outcome, Place};
-use own_words::{decoded, outputs_of};
+use own_words::{decoded, outputs_of, words_after};
 use sequencer::LogTail;
 use std::alloc::{AllocError, Global};
 use std::ops::Range;
@@ -53,7 +53,7 @@ fn push_left(
 {
     let _len = log.len();
     let statement = log.statement(place);
-    let cells = behind(own, 4 + outputs_of(&statement.form));
+    let cells = words_after(own, 4 + outputs_of(&statement.form));
     push_versions(
         versions,
         log.all_columns(),

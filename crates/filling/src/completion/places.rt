@@ -14,23 +14,12 @@ use crate::completion::batch_progress::BatchProgress;
 use crate::completion::below::Below;
 use crate::completion::ends::Ends;
 use bohm_core_base::records_end_by_done_places;
-use evaluation::{ends_by_source, words_by_source};
+use evaluation::{ends_by_source, was_done, words_by_source};
 use log_batch::LogBatch;
 use model_base::Place;
 use own_words::OwnWords;
 use std::alloc::{AllocError, Global};
 use words::Closed;
-
-/// Whether own words say that their place was done.
-#[tactic(auto, unfolding(bohm_core_base::specs::Batch::was_done))]
-fn was_done(own: &[u64]) -> bool
-    ensures { result ≡ was_done own.now }
-{
-    match own {
-        [outcome, ..] => *outcome == 1,
-        [] => false,
-    }
-}
 
 /// Writes the own words of a place in the place of those that were there.
 fn judge_words(
@@ -65,7 +54,7 @@ fn judged_ends(
         → list_any (λ place. place == grant.place) places.items ≡ serial_ends (batch_of batch.now) index slot) }
 {
     let place = Below::new(batch, closed, progress, index);
-    let (places, _) = ends_by_source(alloc, batch, place);
+    let (_, places) = ends_by_source(alloc, batch, place);
     places
 }
 

@@ -18,7 +18,7 @@ overflow_add-from g c =
     let ranged = c.args.batch.now in
     let index = (g.T.ReadSource.as_reader c.args.source.now).index in
     let passes = is_sought c.args.sought.now in
-    let of_log = c.log-log.ensures.of_log in
+    let of_log = c.earlier_count-count.ensures.of_log in
     let first : IsFirst (was_in ranged passes) c.loop-from.from (Some c.in-Some-slot.slot) =
     subst (λ (found : Option ℕ). IsFirst (was_in ranged passes) c.loop-from.from found) c.in-Some-slot.is c.in-Some.ensures in
     let low = in-force-low ranged of_log index passes c.in-Some-slot.slot first.1 in
@@ -29,7 +29,7 @@ end_sought-requires-clause-within g c =
     let ranged = c.args.batch.now in
     let index = (g.T.ReadSource.as_reader c.args.source.now).index in
     let passes = is_sought c.args.sought.now in
-    let of_log = c.log-log.ensures.of_log in
+    let of_log = c.earlier_count-count.ensures.of_log in
     let first : IsFirst (was_in ranged passes) c.loop-from.from (Some c.in-Some-slot.slot) =
     subst (λ (found : Option ℕ). IsFirst (was_in ranged passes) c.loop-from.from found) c.in-Some-slot.is c.in-Some.ensures in
     let low = in-force-low ranged of_log index passes c.in-Some-slot.slot first.1 in
@@ -40,7 +40,7 @@ loop-from-init g c =
     let ranged = c.args.batch.now in
     let index = (g.T.ReadSource.as_reader c.args.source.now).index in
     let passes = is_sought c.args.sought.now in
-    let of_log = c.log-log.ensures.of_log in
+    let of_log = c.earlier_count-count.ensures.of_log in
     record {
       source = refl;
       kept = refl;
@@ -53,7 +53,7 @@ loop-from-preserved g c =
     let ranged = c.args.batch.now in
     let index = (g.T.ReadSource.as_reader c.args.source.now).index in
     let passes = is_sought c.args.sought.now in
-    let of_log = c.log-log.ensures.of_log in
+    let of_log = c.earlier_count-count.ensures.of_log in
     let first : IsFirst (was_in ranged passes) c.loop-from.from (Some c.in-Some-slot.slot) =
     subst (λ (found : Option ℕ). IsFirst (was_in ranged passes) c.loop-from.from found) c.in-Some-slot.is c.in-Some.ensures in
     let low = in-force-low ranged of_log index passes c.in-Some-slot.slot first.1 in
@@ -73,7 +73,7 @@ returns-in_default-slot-clause-last g c =
     let ranged = c.args.batch.now in
     let index = (g.T.ReadSource.as_reader c.args.source.now).index in
     let passes = is_sought c.args.sought.now in
-    let of_log = c.log-log.ensures.of_log in
+    let of_log = c.earlier_count-count.ensures.of_log in
     last-early-none ranged of_log index passes c.loop-from.from c.loop-from.place c.loop-from.invariant.last
     (subst (λ (found : Option ℕ). IsFirst (was_in ranged passes) c.loop-from.from found) c.in_default-slot.is c.in-Some.ensures)
 
@@ -82,6 +82,6 @@ returns-clause-last g c =
     let ranged = c.args.batch.now in
     let index = (g.T.ReadSource.as_reader c.args.source.now).index in
     let passes = is_sought c.args.sought.now in
-    let of_log = c.log-log.ensures.of_log in
+    let of_log = c.earlier_count-count.ensures.of_log in
     last-early-all ranged of_log index passes c.loop-from.from c.loop-from.place c.loop-from.invariant.last
     (omega (arith, c.loop-from-test.false, c.loop-from.invariant.count))

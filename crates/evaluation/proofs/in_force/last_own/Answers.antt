@@ -19,7 +19,7 @@ loop-from-preserved g c =
     let ranged = c.args.batch.now in
     let index = (g.T.ReadSource.as_reader c.args.source.now).index in
     let passes = is_sought c.args.sought.now in
-    let of_log = c.log-log.ensures.of_log in
+    let of_log = c.slot_count-count.ensures.of_log in
     let first : IsNext (is_to c.args.sought.now.grantee c.args.sought.now.kind c.args.sought.now.table) (batch_slots (batch_of ranged)) c.loop-from.from (Some c.in-Some.slot) = c.in-Some.ensures in
     let end : c.end_sought.result ≡ slot_end passes (slot_at (seen_view (seen_at ranged index)) c.in-Some.slot) =
     c.end_sought.ensures.value ∙ ap (λ (reader : Reader). slot_end passes (slot_at (seen_view (seen_at ranged reader.index)) c.in-Some.slot)) c.loop-from.invariant.source in
@@ -39,7 +39,7 @@ returns-in_default-clause-last g c =
     let ranged = c.args.batch.now in
     let index = (g.T.ReadSource.as_reader c.args.source.now).index in
     let passes = is_sought c.args.sought.now in
-    let of_log = c.log-log.ensures.of_log in
+    let of_log = c.slot_count-count.ensures.of_log in
     last-greatest passes (seen_view (seen_at ranged index)) c.loop-from.place
     (last-own-none ranged of_log index c.args.sought.now c.loop-from.from c.loop-from.place c.loop-from.invariant.last
     (subst (λ (found : Option ℕ). IsNext (is_to c.args.sought.now.grantee c.args.sought.now.kind c.args.sought.now.table) (batch_slots (batch_of ranged)) c.loop-from.from found) c.in_default.is c.next_own_to.ensures))
@@ -49,7 +49,7 @@ returns-clause-last g c =
     let ranged = c.args.batch.now in
     let index = (g.T.ReadSource.as_reader c.args.source.now).index in
     let passes = is_sought c.args.sought.now in
-    let of_log = c.log-log.ensures.of_log in
+    let of_log = c.slot_count-count.ensures.of_log in
     last-greatest passes (seen_view (seen_at ranged index)) c.loop-from.place
     (last-own-all ranged of_log index c.args.sought.now c.loop-from.from c.loop-from.place c.loop-from.invariant.last
     (omega (arith, c.loop-from-test.false, c.loop-from.invariant.count)))

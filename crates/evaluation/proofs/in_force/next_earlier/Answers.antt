@@ -18,7 +18,7 @@ overflow_add-from g c =
     let ranged = c.args.batch.now in
     let index = (g.T.ReadSource.as_reader c.args.source.now).index in
     let passes = is_sought c.args.sought.now in
-    let of_log = c.log-log.ensures.of_log in
+    let of_log = c.earlier_count-count.ensures.of_log in
     let first : IsFirst (was_in ranged passes) c.loop-from.from (Some c.in-Some-slot.slot) =
     subst (λ (found : Option ℕ). IsFirst (was_in ranged passes) c.loop-from.from found) c.in-Some-slot.is c.in-Some.ensures in
     let low = in-force-low ranged of_log index passes c.in-Some-slot.slot first.1 in
@@ -29,7 +29,7 @@ is_shown_in_force-requires-clause-within g c =
     let ranged = c.args.batch.now in
     let index = (g.T.ReadSource.as_reader c.args.source.now).index in
     let passes = is_sought c.args.sought.now in
-    let of_log = c.log-log.ensures.of_log in
+    let of_log = c.earlier_count-count.ensures.of_log in
     let first : IsFirst (was_in ranged passes) c.loop-from.from (Some c.in-Some-slot.slot) =
     subst (λ (found : Option ℕ). IsFirst (was_in ranged passes) c.loop-from.from found) c.in-Some-slot.is c.in-Some.ensures in
     let low = in-force-low ranged of_log index passes c.in-Some-slot.slot first.1 in
@@ -40,7 +40,7 @@ loop-from-preserved g c =
     let ranged = c.args.batch.now in
     let index = (g.T.ReadSource.as_reader c.args.source.now).index in
     let passes = is_sought c.args.sought.now in
-    let of_log = c.log-log.ensures.of_log in
+    let of_log = c.earlier_count-count.ensures.of_log in
     let first : IsFirst (was_in ranged passes) c.loop-from.from (Some c.in-Some-slot.slot) =
     subst (λ (found : Option ℕ). IsFirst (was_in ranged passes) c.loop-from.from found) c.in-Some-slot.is c.in-Some.ensures in
     let low = in-force-low ranged of_log index passes c.in-Some-slot.slot first.1 in
@@ -60,7 +60,7 @@ returns-then-is_shown_in_force-clause-next g c =
     let ranged = c.args.batch.now in
     let index = (g.T.ReadSource.as_reader c.args.source.now).index in
     let passes = is_sought c.args.sought.now in
-    let of_log = c.log-log.ensures.of_log in
+    let of_log = c.earlier_count-count.ensures.of_log in
     let first : IsFirst (was_in ranged passes) c.loop-from.from (Some c.in-Some-slot.slot) =
     subst (λ (found : Option ℕ). IsFirst (was_in ranged passes) c.loop-from.from found) c.in-Some-slot.is c.in-Some.ensures in
     let low = in-force-low ranged of_log index passes c.in-Some-slot.slot first.1 in
@@ -73,7 +73,7 @@ returns-in_default-slot-clause-next g c =
     let ranged = c.args.batch.now in
     let index = (g.T.ReadSource.as_reader c.args.source.now).index in
     let passes = is_sought c.args.sought.now in
-    let of_log = c.log-log.ensures.of_log in
+    let of_log = c.earlier_count-count.ensures.of_log in
     early-none ranged of_log index passes c.args.start c.loop-from.from c.loop-from.invariant.passed
     (subst (λ (found : Option ℕ). IsFirst (was_in ranged passes) c.loop-from.from found) c.in_default-slot.is c.in-Some.ensures)
 
@@ -82,6 +82,6 @@ returns-clause-next g c =
     let ranged = c.args.batch.now in
     let index = (g.T.ReadSource.as_reader c.args.source.now).index in
     let passes = is_sought c.args.sought.now in
-    let of_log = c.log-log.ensures.of_log in
+    let of_log = c.earlier_count-count.ensures.of_log in
     early-all ranged of_log index passes c.args.start c.loop-from.from c.loop-from.invariant.passed
     (omega (arith, c.loop-from-test.false, c.loop-from.invariant.count))

@@ -18,7 +18,7 @@ loop-from-preserved g c =
     let ranged = c.args.batch.now in
     let index = (g.T.ReadSource.as_reader c.args.source.now).index in
     let passes = is_sought c.args.sought.now in
-    let of_log = c.log-log.ensures.of_log in
+    let of_log = c.slot_count-count.ensures.of_log in
     let first : IsNext (is_to c.args.sought.now.grantee c.args.sought.now.kind c.args.sought.now.table) (batch_slots (batch_of ranged)) c.loop-from.from (Some c.in-Some.slot) = c.in-Some.ensures in
     let here : force_in ranged index passes c.in-Some.slot ≡ false =
     ap (λ (reader : Reader). force_in ranged reader.index passes c.in-Some.slot) (sym c.loop-from.invariant.source) ∙ sym c.is_shown_in_force.ensures.value ∙ c.if-is_shown_in_force.false in
@@ -37,7 +37,7 @@ returns-then-is_shown_in_force-clause-next g c =
     let ranged = c.args.batch.now in
     let index = (g.T.ReadSource.as_reader c.args.source.now).index in
     let passes = is_sought c.args.sought.now in
-    let of_log = c.log-log.ensures.of_log in
+    let of_log = c.slot_count-count.ensures.of_log in
     let first : IsNext (is_to c.args.sought.now.grantee c.args.sought.now.kind c.args.sought.now.table) (batch_slots (batch_of ranged)) c.loop-from.from (Some c.in-Some.slot) = c.in-Some.ensures in
     let here : force_in ranged index passes c.in-Some.slot ≡ true =
     ap (λ (reader : Reader). force_in ranged reader.index passes c.in-Some.slot) (sym c.loop-from.invariant.source) ∙ sym c.is_shown_in_force.ensures.value ∙ c.if-is_shown_in_force.true in
@@ -48,7 +48,7 @@ returns-in_default-clause-next g c =
     let ranged = c.args.batch.now in
     let index = (g.T.ReadSource.as_reader c.args.source.now).index in
     let passes = is_sought c.args.sought.now in
-    let of_log = c.log-log.ensures.of_log in
+    let of_log = c.slot_count-count.ensures.of_log in
     own-none ranged of_log index c.args.sought.now c.args.start c.loop-from.from c.loop-from.invariant.passed
     (subst (λ (found : Option ℕ). IsNext (is_to c.args.sought.now.grantee c.args.sought.now.kind c.args.sought.now.table) (batch_slots (batch_of ranged)) c.loop-from.from found) c.in_default.is c.next_own_to.ensures)
 
@@ -57,6 +57,6 @@ returns-clause-next g c =
     let ranged = c.args.batch.now in
     let index = (g.T.ReadSource.as_reader c.args.source.now).index in
     let passes = is_sought c.args.sought.now in
-    let of_log = c.log-log.ensures.of_log in
+    let of_log = c.slot_count-count.ensures.of_log in
     own-all ranged of_log index c.args.sought.now c.args.start c.loop-from.from c.loop-from.invariant.passed
     (omega (arith, c.loop-from-test.false, c.loop-from.invariant.count))

@@ -24,13 +24,13 @@ returns-clause-ends g c =
     let at = subst (λ index. slice_get log (ranged.first + index) ≡ Some statement) c.reader.ensures.value c.statement-statement.ensures.at in
     let size = ap (λ (batch : Batch). batch.size) c.requires.batch in
     let within : index < ranged.size = omega (arith, c.reader.ensures.within, c.reader.ensures.value, size) in
-    IfOk-weaker c.judge_ends.result.0
+    IfOk-weaker c.judge_ends.result.1
     (λ (places : Vec ℕ Global). places.items ≡ ended_by_deed (owners log) (deeds_before log place) (deed_of place statement.user statement.form))
     (λ (places : Vec ℕ Global). (slot : ℕ) (grant : Grant) → slice_get (batch_slots (batch_of ranged)) slot ≡ Some grant
     → list_any (λ at. at == grant.place) places.items ≡ serial_ends (batch_of ranged) index slot)
     (λ places is slot grant found.
     ap (λ list. list_any (λ at. at == grant.place) list) is
-    ∙ ends-told ranged c.log-log.ensures.of_log index within statement at c.requires.done slot grant found)
+    ∙ ends-told ranged c.statement-statement.ensures.of_log index within statement at c.requires.done slot grant found)
     (c.judge_ends.ensures.value statement at)
 
 pub returns-clause-order : goal.returns-clause-order
@@ -42,7 +42,7 @@ returns-clause-order g c =
     let statement = c.statement-statement.result.now in
     let at = subst (λ index. slice_get log (ranged.first + index) ≡ Some statement) c.reader.ensures.value c.statement-statement.ensures.at in
     let stands = deeds_before-stands log place in
-    IfOk-weaker c.judge_ends.result.0
+    IfOk-weaker c.judge_ends.result.1
     (λ (places : Vec ℕ Global). places.items ≡ ended_by_deed (owners log) (deeds_before log place) (deed_of place statement.user statement.form))
     (λ (places : Vec ℕ Global). IsStrictlyIncreasing places.items)
     (λ places is. subst (λ list. IsStrictlyIncreasing list) (sym is) (ended-rises (owners log) (deeds_before log place) (deed_of place statement.user statement.form) stands.proper))

@@ -21,7 +21,7 @@ ended-places-requires g c =
       covered =
           deed-covered (seen_view (seen_at ranged (g.T.ReadSource.as_reader c.args.source).index)).owner statement.form
           (subst (λ index. All (λ table. IsSome ((seen_view (seen_at ranged index)).owner table)) (tables_of statement.form)) c.reader.ensures.value
-          (all-covered ranged c.log-log.ensures.whole c.reader.result statement c.statement-statement.ensures.at));
+          (all-covered ranged c.statement-statement.ensures.whole c.reader.result statement c.statement-statement.ensures.at));
     }
 
 pub returns-clause-value : goal.returns-clause-value
@@ -34,7 +34,7 @@ returns-clause-value g c statement at =
     let both : Some c.statement-statement.result.now ≡ Some statement = sym mine ∙ at in
     let same : c.statement-statement.result.now ≡ statement = cc in
     let size = ap (λ (batch : Batch). batch.size) c.requires.batch in
-    let shows = shows_seen ranged c.log-log.ensures.of_log index (omega (arith, c.reader.ensures.within, c.reader.ensures.value, size)) in
+    let shows = shows_seen ranged c.statement-statement.ensures.of_log index (omega (arith, c.reader.ensures.within, c.reader.ensures.value, size)) in
     IfOk-weaker c.ended-places.result
     (λ (places : Vec ℕ Global). (users : List ℕ) (deeds : List Deed) → ShowsDeeds (seen_view (seen_at ranged index)) users deeds
     → places.items ≡ ended_by_deed users deeds (deed_of place c.statement-statement.result.now.user c.statement-statement.result.now.form))

@@ -10,4 +10,4 @@ returns-clause-serial g c =
     let index = (g.T.ReadSource.as_reader c.args.source).index in
     let statement = c.statement-statement.result.now in
     let at = subst (λ index. slice_get ranged.log.statements (ranged.first + index) ≡ Some statement) c.reader.ensures.value c.statement-statement.ensures.at in
-    c.judge.ensures.value ∙ sym (serial_words_are (range_of ranged) c.log-log.ensures.of_log index statement at)
+    c.judge.ensures.value ∙ sym (serial_words_are (range_of ranged) c.statement-statement.ensures.of_log index statement at)

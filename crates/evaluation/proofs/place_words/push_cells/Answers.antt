@@ -14,7 +14,7 @@ loop-place-preserved c =
     elim c.if-is_writing.branch [
       | then-is_writing w ↦
           let words : c.if-is_writing.words ≡ c.loop-place.words ++ row_words (columns table) w.row.result.now =
-          w.words-is ∙ (rw (w.columns_of-count.ensures, w.as_ref.ensures.value) at w.push_row.ensures) in
+          w.words-is ∙ (rw (w.columns_in-count.ensures.value, w.as_ref.ensures.value) at w.push_row.ensures) in
           let narrow : columns table ≤ 8 =
           columns_narrow c.args.columns.now accesses c.loop-place.place access c.requires.narrow c.requires.tables (omega arith) c.index-accesses-place.is in
           record {

@@ -21,7 +21,7 @@ returns-then-not-is_on-clause-value g c =
     let grant = c.grant-grant.result in
     let statement = c.statement.result.now in
     let on : is_listed (batch.tables index) grant.table ≡ c.is_on.result =
-    ap (λ tables. is_listed tables grant.table) (listed ranged c.log-log.ensures.whole index statement c.statement.ensures.at) ∙ sym c.is_on.ensures in
+    ap (λ tables. is_listed tables grant.table) (listed ranged c.statement.ensures.whole index statement c.statement.ensures.at) ∙ sym c.is_on.ensures in
     let first = c.first_place-first.ensures.value in
     let seen : (is_listed (batch.tables index) grant.table && (nat_lt grant.place (ranged.first + index) && made_whole batch grant.place)) ≡ false =
     elim c.then-not-is_on.branch [
@@ -33,7 +33,7 @@ returns-then-not-is_on-clause-value g c =
           rw (le-ltb grant.place (ranged.first + index) over)
           (by_cases (is_listed (batch.tables index) grant.table) (λ yes. rw yes refl) (λ no. rw no refl))
     ] in
-    grant-none ranged c.log-log.ensures.of_log index c.args.slot grant c.grant-grant.ensures seen
+    grant-none ranged c.first_place-first.ensures.of_log index c.args.slot grant c.grant-grant.ensures seen
     ∙ ap (λ mine. grant_in (slot_at (seen_view (seen_at ranged mine)) c.args.slot)) c.reader-index.ensures.value
 
 pub was_done-requires : goal.was_done-requires
@@ -45,7 +45,7 @@ was_done-requires g c =
     let statement = c.statement.result.now in
     let yes : c.is_on.result ≡ true = cc in
     let on : is_listed (batch.tables index) grant.table ≡ true =
-    ap (λ tables. is_listed tables grant.table) (listed ranged c.log-log.ensures.whole index statement c.statement.ensures.at) ∙ sym c.is_on.ensures ∙ yes in
+    ap (λ tables. is_listed tables grant.table) (listed ranged c.statement.ensures.whole index statement c.statement.ensures.at) ∙ sym c.is_on.ensures ∙ yes in
     let first = c.first_place-first.ensures.value in
     let from : ranged.first ≤ grant.place = omega (arith, first, c.if-grant-first-2.false) in
     let below : grant.place < ranged.first + index = omega (arith, first, c.if-grant-first.false) in
@@ -54,7 +54,7 @@ was_done-requires g c =
       deed =
           subst (λ (reader : Reader). IsDeedBefore reader (grant.place - c.first_place-first.result)) (sym reader)
           (subst (λ first. IsDeedBefore (record { batch = batch; index = index }) (grant.place - first)) (sym first)
-          (slot-deed ranged c.log-log.ensures.of_log index c.args.slot grant c.grant-grant.ensures on from below));
+          (slot-deed ranged c.first_place-first.ensures.of_log index c.args.slot grant c.grant-grant.ensures on from below));
     }
 
 pub returns-then-was_done-clause-value : goal.returns-then-was_done-clause-value
@@ -66,20 +66,20 @@ returns-then-was_done-clause-value g c =
     let statement = c.statement.result.now in
     let yes : c.is_on.result ≡ true = cc in
     let on : is_listed (batch.tables index) grant.table ≡ true =
-    ap (λ tables. is_listed tables grant.table) (listed ranged c.log-log.ensures.whole index statement c.statement.ensures.at) ∙ sym c.is_on.ensures ∙ yes in
+    ap (λ tables. is_listed tables grant.table) (listed ranged c.statement.ensures.whole index statement c.statement.ensures.at) ∙ sym c.is_on.ensures ∙ yes in
     let first = c.first_place-first.ensures.value in
     let below : grant.place < ranged.first + index = omega (arith, first, c.if-grant-first.false) in
     let made : made_whole batch grant.place ≡ c.if-grant-first-2.value =
     elim c.if-grant-first-2.branch [
       | then-grant-first-2 w ↦
-          made-early ranged c.log-log.ensures.of_log grant.place (omega (arith, first, w.if-grant-first-2.true)) ∙ sym (lt-ltb grant.place c.first_place-first.result w.if-grant-first-2.true) ∙ sym w.value-is
+          made-early ranged c.first_place-first.ensures.of_log grant.place (omega (arith, first, w.if-grant-first-2.true)) ∙ sym (lt-ltb grant.place c.first_place-first.result w.if-grant-first-2.true) ∙ sym w.value-is
       | else-grant-first-2 w ↦
-          made-late ranged c.log-log.ensures.of_log grant.place (omega (arith, first, w.if-grant-first-2.false))
+          made-late ranged c.first_place-first.ensures.of_log grant.place (omega (arith, first, w.if-grant-first-2.false))
           ∙ ap (λ first. was_done (serial_words batch (grant.place - first))) (sym first)
           ∙ ap (λ b. was_done (serial_words b (grant.place - c.first_place-first.result))) (sym c.requires.batch)
           ∙ sym w.was_done.ensures.value ∙ sym w.value-is
     ] in
-    grant-some ranged c.log-log.ensures.of_log index c.args.slot grant c.grant-grant.ensures (rw (on, lt-ltb grant.place (ranged.first + index) below, made) c.if-was_done.true)
+    grant-some ranged c.first_place-first.ensures.of_log index c.args.slot grant c.grant-grant.ensures (rw (on, lt-ltb grant.place (ranged.first + index) below, made) c.if-was_done.true)
     ∙ ap (λ mine. grant_in (slot_at (seen_view (seen_at ranged mine)) c.args.slot)) c.reader-index.ensures.value
 
 pub returns-else-was_done-clause-value : goal.returns-else-was_done-clause-value
@@ -91,18 +91,18 @@ returns-else-was_done-clause-value g c =
     let statement = c.statement.result.now in
     let yes : c.is_on.result ≡ true = cc in
     let on : is_listed (batch.tables index) grant.table ≡ true =
-    ap (λ tables. is_listed tables grant.table) (listed ranged c.log-log.ensures.whole index statement c.statement.ensures.at) ∙ sym c.is_on.ensures ∙ yes in
+    ap (λ tables. is_listed tables grant.table) (listed ranged c.statement.ensures.whole index statement c.statement.ensures.at) ∙ sym c.is_on.ensures ∙ yes in
     let first = c.first_place-first.ensures.value in
     let below : grant.place < ranged.first + index = omega (arith, first, c.if-grant-first.false) in
     let made : made_whole batch grant.place ≡ c.if-grant-first-2.value =
     elim c.if-grant-first-2.branch [
       | then-grant-first-2 w ↦
-          made-early ranged c.log-log.ensures.of_log grant.place (omega (arith, first, w.if-grant-first-2.true)) ∙ sym (lt-ltb grant.place c.first_place-first.result w.if-grant-first-2.true) ∙ sym w.value-is
+          made-early ranged c.first_place-first.ensures.of_log grant.place (omega (arith, first, w.if-grant-first-2.true)) ∙ sym (lt-ltb grant.place c.first_place-first.result w.if-grant-first-2.true) ∙ sym w.value-is
       | else-grant-first-2 w ↦
-          made-late ranged c.log-log.ensures.of_log grant.place (omega (arith, first, w.if-grant-first-2.false))
+          made-late ranged c.first_place-first.ensures.of_log grant.place (omega (arith, first, w.if-grant-first-2.false))
           ∙ ap (λ first. was_done (serial_words batch (grant.place - first))) (sym first)
           ∙ ap (λ b. was_done (serial_words b (grant.place - c.first_place-first.result))) (sym c.requires.batch)
           ∙ sym w.was_done.ensures.value ∙ sym w.value-is
     ] in
-    grant-none ranged c.log-log.ensures.of_log index c.args.slot grant c.grant-grant.ensures (rw (on, lt-ltb grant.place (ranged.first + index) below, made) c.if-was_done.false)
+    grant-none ranged c.first_place-first.ensures.of_log index c.args.slot grant c.grant-grant.ensures (rw (on, lt-ltb grant.place (ranged.first + index) below, made) c.if-was_done.false)
     ∙ ap (λ mine. grant_in (slot_at (seen_view (seen_at ranged mine)) c.args.slot)) c.reader-index.ensures.value

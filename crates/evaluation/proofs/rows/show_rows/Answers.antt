@@ -68,7 +68,7 @@ loop-place-preserved g c =
     let shown : c.row_shown.result ≡ before access =
     c.row_shown.ensures.value
     ∙ ap (λ word. row_numbers (row_referred (batch_of ranged) access.key word)) found
-    ∙ row-by ranged index statement c.statement-statement.ensures.at place within access here c.log-log.ensures.of_log in
+    ∙ row-by ranged index statement c.statement-statement.ensures.at place within access here c.statement-statement.ensures.of_log in
     record {
       source = c.row_shown.ensures.same.0 ∙ c.reference-reference.ensures.same.0 ∙ c.loop-place.invariant.source;
       kept = c.row_shown.ensures.same.1 ∙ c.reference-reference.ensures.same.1 ∙ c.loop-place.invariant.kept;

@@ -13,7 +13,7 @@ returns-then-runs_body-clause-bodies c =
     let same = c.batch-batch.ensures in
     let within : index < ranged.size = subst (λ (r : LogRange). index < r.size) (sym same) c.requires.within in
     let own : c.args.own.now ≡ serial_words (batch_of ranged) index = c.requires.own ∙ ap (λ (r : LogRange). serial_words (batch_of r) index) (sym same) in
-    let told = runs-told ranged c.log-log.ensures.of_log index within c.statement-statement.result.now c.statement-statement.ensures.at c.args.own.now own in
+    let told = runs-told ranged c.statement-statement.ensures.of_log index within c.statement-statement.result.now c.statement-statement.ensures.at c.args.own.now own in
     let runs : runs_at c.args.key.now.batch index ≡ (if c.runs_body.result then 1 else 0)
     = ap (λ (r : LogRange). runs_at r index) (sym same) ∙ told ∙ ap (λ (b : Bool). if b then 1 else 0) (sym c.runs_body.ensures) in
     counted-run c.args.holding.now c.count_body.new.self (runs_at c.args.key.now.batch index) c.runs_body.result runs c.if-runs_body.true c.count_body.ensures.counted
@@ -25,7 +25,7 @@ returns-else-runs_body-clause-bodies c =
     let same = c.batch-batch.ensures in
     let within : index < ranged.size = subst (λ (r : LogRange). index < r.size) (sym same) c.requires.within in
     let own : c.args.own.now ≡ serial_words (batch_of ranged) index = c.requires.own ∙ ap (λ (r : LogRange). serial_words (batch_of r) index) (sym same) in
-    let told = runs-told ranged c.log-log.ensures.of_log index within c.statement-statement.result.now c.statement-statement.ensures.at c.args.own.now own in
+    let told = runs-told ranged c.statement-statement.ensures.of_log index within c.statement-statement.result.now c.statement-statement.ensures.at c.args.own.now own in
     let runs : runs_at c.args.key.now.batch index ≡ (if c.runs_body.result then 1 else 0)
     = ap (λ (r : LogRange). runs_at r index) (sym same) ∙ told ∙ ap (λ (b : Bool). if b then 1 else 0) (sym c.runs_body.ensures) in
     counted-none c.args.holding.now c.args.holding.now (runs_at c.args.key.now.batch index) c.runs_body.result runs c.if-runs_body.false refl

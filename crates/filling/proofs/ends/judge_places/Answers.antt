@@ -20,21 +20,21 @@ invariant_of-reader g c = record {
   knows = c.requires.knows;
 }
 
-pub ends_by_source-places-requires-clause-batch : goal.ends_by_source-places-requires-clause-batch
-ends_by_source-places-requires-clause-batch g c = sym (ap batch_of c.batch-2.ensures)
+pub ends_by_source-reader-requires-clause-batch : goal.ends_by_source-reader-requires-clause-batch
+ends_by_source-reader-requires-clause-batch g c = sym (ap batch_of c.batch-2.ensures)
 
-pub ends_by_source-places-requires-clause-done : goal.ends_by_source-places-requires-clause-done
-ends_by_source-places-requires-clause-done g c =
+pub ends_by_source-reader-requires-clause-done : goal.ends_by_source-reader-requires-clause-done
+ends_by_source-reader-requires-clause-done g c =
     subst (λ (r : LogRange). was_done (serial_words (batch_of r) c.args.index) ≡ true) (sym c.batch-2.ensures) c.requires.done
 
 pub returns-clause-ends : goal.returns-clause-ends
 returns-clause-ends g c =
-    subst (λ (r : LogRange). IfOk c.ends_by_source-places.result.0 (λ (places : Vec ℕ Global). (slot : ℕ) (grant : Grant) → slice_get (batch_slots (batch_of r)) slot ≡ Some grant
+    subst (λ (r : LogRange). IfOk c.ends_by_source-reader.result.1 (λ (places : Vec ℕ Global). (slot : ℕ) (grant : Grant) → slice_get (batch_slots (batch_of r)) slot ≡ Some grant
     → list_any (λ place. place == grant.place) places.items ≡ serial_ends (batch_of r) c.args.index slot)) c.batch-2.ensures
-    c.ends_by_source-places.ensures.ends
+    c.ends_by_source-reader.ensures.ends
 
 pub returns-clause-order : goal.returns-clause-order
-returns-clause-order g c = c.ends_by_source-places.ensures.order
+returns-clause-order g c = c.ends_by_source-reader.ensures.order
 
 pub returns-clause-same_table : goal.returns-clause-same_table
 returns-clause-same_table g c =
@@ -44,4 +44,4 @@ pub returns-clause-knows : goal.returns-clause-knows
 returns-clause-knows g c = c.reader.invariant.knows
 
 pub returns-clause-work : goal.returns-clause-work
-returns-clause-work g c = ap (λ (r : PlaceReading). r.work) c.reader.view_is ∙ c.ends_by_source-places.ensures.same.1
+returns-clause-work g c = ap (λ (r : PlaceReading). r.work) c.reader.view_is ∙ c.ends_by_source-reader.ensures.same.1

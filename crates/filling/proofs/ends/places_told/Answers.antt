@@ -8,11 +8,11 @@ judge_places-requires-clause-knows c index has = has
 
 pub returns-clause-same : goal.returns-clause-same
 returns-clause-same c =
-    same-pass c.args.words.now c.args.holding c.judge_places.result.1 c.requires.same_table c.judge_places.ensures.same_table c.judge_places.ensures.work
+    same-pass c.args.words.now c.args.holding c.judge_places.result.0 c.requires.same_table c.judge_places.ensures.same_table c.judge_places.ensures.work
 
 pub returns-clause-learns : goal.returns-clause-learns
 returns-clause-learns c =
-    only-learns c.args.holding c.judge_places.result.1 c.judge_places.ensures.knows c.judge_places.ensures.work
+    only-learns c.args.holding c.judge_places.result.0 c.judge_places.ensures.knows c.judge_places.ensures.work
 
 pub returns-clause-bodies : goal.returns-clause-bodies
 returns-clause-bodies c = ap (λ (w : PassWork). w.bodies) c.judge_places.ensures.work

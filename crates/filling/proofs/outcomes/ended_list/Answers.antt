@@ -11,7 +11,7 @@ returns-clause-value c found told done revokes =
     let key = c.args.key.now in
     let ranged = key.batch in
     let statement = c.statement-statement.result.now in
-    let is = subst (λ (r : LogRange). IsOfLog (range_of r)) c.batch-batch.ensures c.log-log.ensures.of_log in
+    let is = subst (λ (r : LogRange). IsOfLog (range_of r)) c.batch-batch.ensures c.statement-statement.ensures.of_log in
     let at = subst (λ (r : LogRange). slice_get r.log.statements (r.first + c.args.index) ≡ Some statement) c.batch-batch.ensures c.statement-statement.ensures.at in
     c.new.ensures
     ∙ c.in_ok-places.ensures.value

@@ -18,6 +18,6 @@ returns-clause-value c =
     let is : own ≡ serial_words (batch_of ranged) index
     = c.load_own-own.ensures.value ∙ ap (λ (k : Key). serial_words (batch_of k.batch) index) c.requires.key ∙ ap (λ (r : LogRange). serial_words (batch_of r) index) (sym same) in
     let right = subst (λ (r : LogRange). IsEndedList r index c.args.ended) (sym same) c.requires.ended in
-    let told = told-outcome ranged c.log-log.ensures.of_log index within c.statement-statement.result.now c.statement-statement.ensures.at c.statement-statement.ensures.taken small
+    let told = told-outcome ranged c.statement-statement.ensures.of_log index within c.statement-statement.result.now c.statement-statement.ensures.at c.statement-statement.ensures.taken small
     c.words_tell_outcomes.ensures own c.args.ended is right in
     ap (λ (r : LogRange). outcome_in r index) (sym same) ∙ told ∙ ap Some (sym c.decoded.ensures)

@@ -11,8 +11,8 @@ loop-slot-preserved c =
     let grants = batch_slots (batch_of c.args.batch.now) in
     let ends = c.args.state.now.ends in
     let slot = c.loop-slot.slot in
-    let first : slot < length grants = omega (arith, c.slot_count.ensures, c.slots.ensures, c.min-slot-end.ensures) in
-    let second : slot < length ends = omega (arith, c.slot_count.ensures, c.slots.ensures, c.min-slot-end.ensures) in
+    let first : slot < length grants = omega (arith, c.slot_count.ensures.value, c.slots.ensures, c.min-slot-end.ensures) in
+    let second : slot < length ends = omega (arith, c.slot_count.ensures.value, c.slots.ensures, c.min-slot-end.ensures) in
     ap (λ places. places ++ ended_places (drop (slot + 1) grants) (drop (slot + 1) ends) c.args.place) c.in_ok-push_ended.ensures.pushed
     ∙ ended_more grants ends c.args.place slot c.loop-slot.places.items c.grant.result c.is_ended_by.result first second c.grant.ensures c.is_ended_by.ensures
     ∙ c.loop-slot.invariant
@@ -23,7 +23,7 @@ returns-clause-value c =
     let ends = c.args.state.now.ends in
     let slot = c.loop-slot.slot in
     let past = ended_past grants ends c.args.place slot
-    (λ low. omega (arith, c.slot_count.ensures, c.slots.ensures, c.min-slot-end.ensures, c.loop-slot.auto.slot-end)) in
+    (λ low. omega (arith, c.slot_count.ensures.value, c.slots.ensures, c.min-slot-end.ensures, c.loop-slot.auto.slot-end)) in
     sym (append-nil c.loop-slot.places.items) ∙ ap (λ rest. c.loop-slot.places.items ++ rest) (sym past) ∙ c.loop-slot.invariant
 
 pub returns-in_err-push_ended-clause-memory : goal.returns-in_err-push_ended-clause-memory
@@ -31,8 +31,8 @@ returns-in_err-push_ended-clause-memory c =
     let grants = batch_slots (batch_of c.args.batch.now) in
     let ends = c.args.state.now.ends in
     let slot = c.loop-slot.slot in
-    let first : slot < length grants = omega (arith, c.slot_count.ensures, c.slots.ensures, c.min-slot-end.ensures) in
-    let second : slot < length ends = omega (arith, c.slot_count.ensures, c.slots.ensures, c.min-slot-end.ensures) in
+    let first : slot < length grants = omega (arith, c.slot_count.ensures.value, c.slots.ensures, c.min-slot-end.ensures) in
+    let second : slot < length ends = omega (arith, c.slot_count.ensures.value, c.slots.ensures, c.min-slot-end.ensures) in
     let ended = ended_some grants ends c.args.place slot c.loop-slot.places.items c.grant.result first second
     (sym c.is_ended_by.ensures ∙ c.in_err-push_ended.ensures.memory) in
     on_err c.from_residual.result (λ gone. ended (c.loop-slot.invariant ∙ gone))

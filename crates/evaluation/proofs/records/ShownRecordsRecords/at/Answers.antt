@@ -7,5 +7,5 @@ pub returns-clause-lawful : goal.returns-clause-lawful
 returns-clause-lawful g c =
     let self = c.args.self.now in
     let size = ap (λ (batch : Batch). batch.size) self.same in
-    lawful_seen self.batch.now c.log-log.ensures.of_log (g.T.ReadSource.as_reader self.source).index
+    lawful_seen self.batch.now c.first_place.ensures.of_log (g.T.ReadSource.as_reader self.source).index
     (omega (arith, c.reader.ensures.within, c.reader.ensures.value, size))

@@ -9,5 +9,5 @@ returns g c =
     let ranged = c.args.self.now.batch.now in
     let table = c.args.table in
     c.is_on.ensures
-    ∙ covers-listed ranged c.log-log.ensures.whole c.reader.result c.statement.result.now c.statement.ensures.at table
+    ∙ covers-listed ranged c.statement.ensures.whole c.reader.result c.statement.result.now c.statement.ensures.at table
     ∙ ap (λ index. covers (seen_view (seen_at ranged index)) table) c.reader.ensures.value

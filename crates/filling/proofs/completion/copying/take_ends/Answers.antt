@@ -1,6 +1,6 @@
 use Rattle.std.proofs.Common.{◌≡◌, ◌<◌, ◌≤◌, ℕ, List, get_or, length, ap, subst, arith}
 use Rattle.log_batch.specs.Supplied.{batch_of}
-use Rattle.words.specs.Layout.{listed_slot_at}
+use Rattle.words.specs.Layout.{listed_slot_at, optional_word}
 use Rattle.filling.specs.Ends.{NotesWord}
 use Rattle.filling.proofs.Kept.{Told, told-done, told-next}
 use Rattle.filling.proofs.completion.copying.take_ends.Goals as goal
@@ -14,9 +14,9 @@ loop-number-preserved c =
     let long : length c.slots-slot-items.result.now ≡ length listed = ap (λ (list : List ℕ). length list) items in
     let within : n < length listed = omega arith in
     let same : get_or c.slots-slot-items.result.now n 0 ≡ listed_slot_at listed n = ap (λ (list : List ℕ). get_or list n 0) items in
-    let takes = subst (λ slot. NotesWord slot c.end.result c.loop-number.ends c.take_end.new.ends) same c.in_ok-take_end.ensures in
+    let takes = subst (λ slot. NotesWord slot (optional_word c.end.result) c.loop-number.ends c.take_end.new.ends) same c.in_ok-take_end.ensures in
     let next : Told b listed c.args.closed.now c.requires.settled c.ends-listed.ensures.listed _ c.take_end.new.ends =
-    told-next b listed c.args.closed.now c.requires.settled c.ends-listed.ensures.listed n c.end.result c.loop-number.ends c.take_end.new.ends within c.end.ensures
+    told-next b listed c.args.closed.now c.requires.settled c.ends-listed.ensures.listed n (optional_word c.end.result) c.loop-number.ends c.take_end.new.ends within c.end.ensures
     (record { told = c.loop-number.invariant.told; taken = c.loop-number.invariant.taken }) takes in
     record { told = next.told; taken = next.taken }
 

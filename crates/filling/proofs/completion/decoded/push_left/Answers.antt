@@ -20,11 +20,11 @@ returns c =
     let at : slice_get log.statements place ≡ Some statement =
     c.statement-statement.ensures.at in
     let low : place < 2 ^ 64 = omega (arith, c.requires.within, c.len-len.ensures.most) in
-    let cells : c.behind-cells.result.now ≡ drop (4 + outputs_of statement.form) c.args.own.now =
-    c.behind-cells.ensures ∙ ap (λ n. drop (4 + n) c.args.own.now) c.outputs_of.ensures in
-    let same : versions_told (λ table. slice_index_or c.all_columns.result.now table 0) place c.accesses.result.now c.behind-cells.result.now ≡ versions_at log.statements place =
-    ap (λ (columns : List ℕ). versions_told (λ table. slice_index_or columns table 0) place c.accesses.result.now c.behind-cells.result.now) c.all_columns.ensures.value
-    ∙ ap (λ (accesses : List Access). versions_told (columns_by log.names) place accesses c.behind-cells.result.now) c.accesses.ensures
+    let cells : c.words_after-cells.result.now ≡ drop (4 + outputs_of statement.form) c.args.own.now =
+    c.words_after-cells.ensures ∙ ap (λ n. drop (4 + n) c.args.own.now) c.outputs_of.ensures in
+    let same : versions_told (λ table. slice_index_or c.all_columns.result.now table 0) place c.accesses.result.now c.words_after-cells.result.now ≡ versions_at log.statements place =
+    ap (λ (columns : List ℕ). versions_told (λ table. slice_index_or columns table 0) place c.accesses.result.now c.words_after-cells.result.now) c.all_columns.ensures.value
+    ∙ ap (λ (accesses : List Access). versions_told (columns_by log.names) place accesses c.words_after-cells.result.now) c.accesses.ensures
     ∙ ap (versions_told (columns_by log.names) place (accesses_of statement.form)) cells
     ∙ versions_left log place statement c.args.own.now c.statement-statement.ensures.whole at low c.requires.words in
     subst (λ (versions : List Version). OnOk c.push_versions.result (c.push_versions.new.versions.items ≡ c.args.versions.now.items ++ versions)) same c.push_versions.ensures

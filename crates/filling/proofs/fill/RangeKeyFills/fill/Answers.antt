@@ -6,39 +6,39 @@ use Rattle.filling_base.specs.Extending.{Finishes}
 use Rattle.filling.specs.Bodies.{runs_at}
 use Rattle.filling.proofs.fill.RangeKeyFills.fill.Goals as goal
 
-pub ends_of-ends-requires-clause-ready : goal.ends_of-ends-requires-clause-ready
-ends_of-ends-requires-clause-ready c other has = c.own_told-holding.ensures.learns.goes.knows other (c.requires.ready other has)
+pub ends_of-holding-requires-clause-ready : goal.ends_of-holding-requires-clause-ready
+ends_of-holding-requires-clause-ready c other has = c.own_told-holding.ensures.learns.goes.knows other (c.requires.ready other has)
 
-pub ends_of-ends-requires-clause-past : goal.ends_of-ends-requires-clause-past
-ends_of-ends-requires-clause-past c =
+pub ends_of-holding-requires-clause-past : goal.ends_of-holding-requires-clause-past
+ends_of-holding-requires-clause-past c =
     c.passes_keep_the_fronts_that_they_know.ensures.past (batch_of c.args.self.now.batch) c.args.holding.view c.own_told-holding.result.view c.args.index c.args.index
     c.own_told-holding.ensures.learns.goes.fronts (omega arith) c.requires.past
 
 pub store_place-holding-requires-clause-ready : goal.store_place-holding-requires-clause-ready
 store_place-holding-requires-clause-ready c other has =
-    c.ends_of-ends.ensures.learns.goes.knows other (c.own_told-holding.ensures.learns.goes.knows other (c.requires.ready other has))
+    c.ends_of-holding.ensures.learns.goes.knows other (c.own_told-holding.ensures.learns.goes.knows other (c.requires.ready other has))
 
 pub returns-in-Ok-clause-tells : goal.returns-in-Ok-clause-tells
 returns-in-Ok-clause-tells c =
     let law = c.learning_comes_before_storing.ensures in
     let first = c.args.holding.view in
     let told = c.own_told-holding.result.view in
-    let ended = c.ends_of-ends.result.1.view in
+    let ended = c.ends_of-holding.result.0.view in
     let finishes = law.finishes first ended c.store_place-holding.result.view c.args.index
-    (law.again first told ended c.own_told-holding.ensures.learns c.ends_of-ends.ensures.learns) c.store_place-holding.ensures.finishes in
+    (law.again first told ended c.own_told-holding.ensures.learns c.ends_of-holding.ensures.learns) c.store_place-holding.ensures.finishes in
     subst (λ (v : Knowledge). Finishes c.args.index first v) (sym c.count_run.ensures.view) finishes
 
 pub returns-in-Err-clause-tells : goal.returns-in-Err-clause-tells
 returns-in-Err-clause-tells c =
-    let revokes = rw c.in-Err.is at c.ends_of-ends.ensures.revokes in (
-      c.learning_comes_before_storing.ensures.again c.args.holding.view c.own_told-holding.result.view c.ends_of-ends.result.1.view c.own_told-holding.ensures.learns c.ends_of-ends.ensures.learns,
+    let revokes = rw c.in-Err.is at c.ends_of-holding.ensures.revokes in (
+      c.learning_comes_before_storing.ensures.again c.args.holding.view c.own_told-holding.result.view c.ends_of-holding.result.0.view c.own_told-holding.ensures.learns c.ends_of-holding.ensures.learns,
       revokes,
     )
 
 pub returns-in-Ok-clause-bodies : goal.returns-in-Ok-clause-bodies
 returns-in-Ok-clause-bodies c =
-    let before = c.store_place-holding.ensures.bodies ∙ c.ends_of-ends.ensures.bodies ∙ c.own_told-holding.ensures.bodies in
+    let before = c.store_place-holding.ensures.bodies ∙ c.ends_of-holding.ensures.bodies ∙ c.own_told-holding.ensures.bodies in
     c.count_run.ensures.bodies ∙ ap (λ (n : ℕ). counted_more n (runs_at c.args.self.now.batch c.args.index)) before
 
 pub returns-in-Err-clause-bodies : goal.returns-in-Err-clause-bodies
-returns-in-Err-clause-bodies c = c.ends_of-ends.ensures.bodies ∙ c.own_told-holding.ensures.bodies
+returns-in-Err-clause-bodies c = c.ends_of-holding.ensures.bodies ∙ c.own_told-holding.ensures.bodies

@@ -36,8 +36,7 @@ invariant_of-self g c =
 pub returns-clause-value : goal.returns-clause-value
 returns-clause-value g c =
     let s = c.self.inside in
-    c.index_of.ensures
-    ∙ c.reference.ensures.value
+    c.reference.ensures.value
     ∙ ap (λ (k : Key). reference_at (batch_of k.batch) s.index c.args.number) c.self.invariant.key
     ∙ ap (λ (reading : PlaceReading). get_or (reference_words (batch_of reading.ranged) reading.index) c.args.number 0) c.self.view_is
 

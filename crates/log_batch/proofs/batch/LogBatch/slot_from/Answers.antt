@@ -10,7 +10,7 @@ pub loop-low-preserved-then-grant-place : goal.loop-low-preserved-then-grant-pla
 loop-low-preserved-then-grant-place c =
     let ranged = c.args.self.now in
     let batch = batch_of ranged in
-    let sound = sound_batch ranged c.log-log.ensures.of_log in
+    let sound = sound_batch ranged c.slot_count-high.ensures.of_log in
     let middle = c.loop-low.low + (c.loop-low.high - c.loop-low.low) / 2 in
     let less : c.loop-low.low < c.loop-low.high = omega (arith, c.loop-low-test.true) in
     let below : c.grant.result.place < c.args.place = omega (arith, c.if-grant-place.true) in
@@ -33,7 +33,7 @@ pub loop-low-preserved : goal.loop-low-preserved
 loop-low-preserved c =
     let ranged = c.args.self.now in
     let batch = batch_of ranged in
-    let sound = sound_batch ranged c.log-log.ensures.of_log in
+    let sound = sound_batch ranged c.slot_count-high.ensures.of_log in
     let middle = c.loop-low.low + (c.loop-low.high - c.loop-low.low) / 2 in
     let less : c.loop-low.low < c.loop-low.high = omega (arith, c.loop-low-test.true) in
     let from : c.args.place ≤ c.grant.result.place = omega (arith, c.if-grant-place.false) in

@@ -12,7 +12,7 @@ use Rattle.log_batch.proofs.batch.LogBatch.slot_of.Goals.{else-slot-slot_count-v
 pub returns-then-grant-place-clause-only : goal.returns-then-grant-place-clause-only
 returns-then-grant-place-clause-only c slot grant at same =
     let batch = batch_of c.args.self.now in
-    let sound = sound_batch c.args.self.now c.log-log.ensures.of_log in
+    let sound = sound_batch c.args.self.now c.slot_count.ensures.of_log in
     ap Some (sym (only-slot (batch_slots batch) c.slot_from-slot.result c.args.place
     (λ k j first later less here behind. c.slots_stand_in_order.ensures batch k j first later sound less here behind)
     c.slot_from-slot.ensures.below c.slot_from-slot.ensures.from slot grant at same))
@@ -20,7 +20,7 @@ returns-then-grant-place-clause-only c slot grant at same =
 pub returns-else-slot-slot_count-clause-found : goal.returns-else-slot-slot_count-clause-found
 returns-else-slot-slot_count-clause-found c slot grant at same =
     let batch = batch_of c.args.self.now in
-    let sound = sound_batch c.args.self.now c.log-log.ensures.of_log in
+    let sound = sound_batch c.args.self.now c.slot_count.ensures.of_log in
     let here : slot ≡ c.slot_from-slot.result =
     only-slot (batch_slots batch) c.slot_from-slot.result c.args.place
     (λ k j first later less here behind. c.slots_stand_in_order.ensures batch k j first later sound less here behind)
@@ -33,7 +33,7 @@ returns-else-slot-slot_count-clause-found c slot grant at same =
           let place : w.grant.result.place ≡ c.args.place = ap (λ (g : Grant). g.place) (sym one) ∙ same in
           omega (arith, place, w.if-grant-place.false)
       | else-slot-slot_count-via-else-slot-slot_count w ↦
-          let count : c.slot_count.result ≡ length (batch_slots batch) = c.slot_count.ensures in
+          let count : c.slot_count.result ≡ length (batch_slots batch) = c.slot_count.ensures.value in
           omega (arith, here, within, count, w.if-slot-slot_count.false)
     ]
 

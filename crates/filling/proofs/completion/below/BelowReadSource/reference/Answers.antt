@@ -16,7 +16,6 @@ pub returns-clause-value : goal.returns-clause-value
 returns-clause-value c =
     let s = c.self.inside in
     let number = subst (λ (place : RangePlace). c.args.number < length (reference_words (batch_of place.ranged) place.index)) (sym c.self.view_is) c.requires in
-    c.index_of.ensures
-    ∙ c.reference.ensures
+    c.reference.ensures
     ∙ c.self.invariant.3.right s.index c.args.number c.self.invariant.1 number
     ∙ ap (λ (place : RangePlace). get_or (reference_words (batch_of place.ranged) place.index) c.args.number 0) c.self.view_is
