@@ -10,6 +10,7 @@ mod collecting;
 mod command_line;
 mod fault;
 mod pending;
+mod report_cursor;
 mod serial_run;
 
 pub use collecting::{LineOutcome, faulty_line, refused_line};

@@ -1,97 +1,21 @@
 //! The serial path: the whole log is read, then run place by place, and then reported line by line.
 
-ghost use Rattle.std.specs.Prelude.{◌≡◌, ◌≢◌, ◌<◌, ◌++◌, ◌-◌, ◌^◌, ℕ, [], List, IfErr, IfSome, OnErr, OnOk, Err, slice_get, true};
+ghost use Rattle.std.specs.Prelude.{◌≡◌, ◌≢◌, ◌<◌, ◌-◌, ◌^◌, ℕ, [], List, IfErr, IfSome, OnOk, Err, slice_get, true};
 ghost use Rattle.std.specs.Io.KnownBytes.{Appends};
 ghost use Rattle.line_io.specs.Known.{AppendsFront, HasBegun, MovesOut, raised};
 ghost use Rattle.model_base.specs.Outcomes.{outcome};
-ghost use Rattle.report.specs.Report.{IsReport, place_text};
-ghost use Rattle.bohm_base.specs.Collecting.{MayLackRoom, line_outcome_text, log_text};
+ghost use Rattle.report.specs.Report.{IsReport};
+ghost use Rattle.bohm_base.specs.Collecting.{log_text};
 ghost use Rattle.bohm_base.specs.Faults.{write_errors};
 
-use crate::collecting::{Collected, LineOutcome, collect_lines};
+use crate::collecting::{Collected, collect_lines};
 use crate::fault::EngineFault;
-use crate::pending::put_out;
+use crate::report_cursor::ReportCursor;
 use line_io::{Counted, PENDING_BYTES, flush, write_out};
 use model::serial_seeded;
-use model_base::{HashSeed, Outcome, Place};
-use report::{put_fault, put_outcome, put_refused};
-use sequencer::Log;
-use std::alloc::{AllocError, Global};
+use model_base::{HashSeed, Outcome};
+use std::alloc::Global;
 use std::io::{Read, Write};
-
-/// Appends the report's line for a place to the text, or nothing for a place that the log does not have.
-fn put_place(
-    text: &mut Vec<u8>,
-    log: &Log,
-    outcomes: &[Outcome],
-    place: Place,
-) -> Result<(), AllocError>
-    requires outcomes { (place : ℕ) → slice_get outcomes.now place ≡ outcome log.now.statements place }
-    ensures { OnOk result (text.new.items ≡ text.old.items ++ place_text log.now.statements log.now.names.tables place) }
-{
-    let index = place as usize;
-    let Some(statement) = log.statements().get(index) else {
-        return Ok(());
-    };
-    let Some(outcome) = outcomes.get(index) else {
-        return Ok(());
-    };
-    put_outcome(
-        text,
-        log.catalog().tables(),
-        place,
-        &statement.form,
-        outcome,
-    )
-}
-
-/// Appends the report's line for a line of this number to the text. An accepted line has this place.
-fn put_line(
-    text: &mut Vec<u8>,
-    log: &Log,
-    outcomes: &[Outcome],
-    number: u64,
-    place: Place,
-    line: LineOutcome,
-) -> Result<(), AllocError>
-    requires outcomes { (place : ℕ) → slice_get outcomes.now place ≡ outcome log.now.statements place }
-    ensures ok { OnOk result
-        (text.new.items ≡ text.old.items ++ line_outcome_text log.now.statements log.now.names.tables number place line) }
-    ensures want { OnErr result (MayLackRoom number text.old line) }
-{
-    match line {
-        LineOutcome::Accepted => put_place(text, log, outcomes, place),
-        LineOutcome::Faulty(fault) => put_fault(text, number, fault),
-        LineOutcome::Refused(refused) => put_refused(text, number, refused),
-    }
-}
-
-/// Appends the report's line for a line of this number to what is pending, and writes what is pending if that is much.
-fn report_line<W: Write>(
-    writer: &mut Counted<W>,
-    pending: &mut Vec<u8>,
-    text: &mut Vec<u8>,
-    log: &Log,
-    outcomes: &[Outcome],
-    number: u64,
-    place: Place,
-    line: LineOutcome,
-) -> Result<(), EngineFault>
-    requires outcomes { (place : ℕ) → slice_get outcomes.now place ≡ outcome log.now.statements place }
-    ensures ok { OnOk result (MovesOut (W.contents writer.old.inner) (W.contents writer.new.inner)
-        (pending.old.items ++ line_outcome_text log.now.statements log.now.names.tables number place line) pending.new.items) }
-    ensures begun { HasBegun (W.contents writer.old.inner) (W.contents writer.new.inner) pending.new.items
-        (pending.old.items ++ line_outcome_text log.now.statements log.now.names.tables number place line) }
-    ensures errors { writer.new.errors ≡ write_errors result writer.old.errors }
-    ensures flushes { writer.new.flushes ≡ writer.old.flushes }
-    ensures err { IfErr result (λ f. f ≢ EngineFault.Read) }
-    ensures alone { IfErr result (λ f. f ≢ EngineFault.Spawn) }
-{
-    text.clear();
-    put_line(text, log, outcomes, number, place, line)?;
-    put_out(writer, pending, text)?;
-    Ok(())
-}
 
 /// Writes the report of a log by the outcomes of its places, the end of it still pending. After a fault whole lines are
 /// pending.
@@ -116,17 +40,13 @@ fn report_lines<W: Write>(
     let mut text = Vec::new(alloc);
     let mut place = 0;
     for (index, line) in collected.lines.iter().enumerate() {
-        let number = index as u64 + 1;
-        report_line(
-            writer,
-            pending,
-            &mut text,
-            &collected.log,
+        let cursor = ReportCursor {
+            log: &collected.log,
             outcomes,
-            number,
+            number: index as u64 + 1,
             place,
-            *line,
-        )?;
+        };
+        cursor.report_line(writer, pending, &mut text, *line)?;
         place += line.places();
     }
     Ok(())

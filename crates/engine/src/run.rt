@@ -16,7 +16,7 @@ use crate::remembering::RememberingBook;
 use chains::{BadMark, Chains, Trimmed};
 use filling::{DecodedBatch, take};
 use grants::Book;
-use log_batch::LogBatch;
+use log_batch::{LogBatch, StateBefore};
 use log_text::{LineBuffers, RawStatement};
 use model_base::{
     HashSeed, Key, MOST_BATCH_STATEMENTS, MOST_PARTITIONS, MOST_PLACES, MOST_WORKERS, Outcome,
@@ -87,7 +87,8 @@ fn ran<T: Threads + Wait + Sync, G: Gate + Sync>(
 {
     let (start, end) = (range.start, range.end);
     let partitions = crew.partitions.min(MOST_PARTITIONS);
-    let batch = LogBatch::open(alloc, log, chains, book, start..end, partitions)?;
+    let before = StateBefore { chains, book };
+    let batch = LogBatch::open(alloc, log, before, start..end, partitions)?;
     let done = execute(rt, alloc, batch, gate, crew.workers)?;
     let taken = take(alloc, log, &done, start..end)?;
     Ok(taken)

@@ -26,73 +26,106 @@ enum Handed {
     Taken(Place, &'static [Place]),
 }
 
-/// Of which place, and for which need, lines are handed in.
-const HANDED: [(&str, Place, Need, &[Handed]); 15] = [
-    (
-        "option true, grants [1]",
-        5,
-        OPTION,
-        &[Handed::Grants(&[1])],
-    ),
-    (
-        "option true, grants [2, 4]",
-        5,
-        OPTION,
-        &[Handed::Grants(&[2, 4])],
-    ),
-    (
-        "option true, grants [4]",
-        5,
-        OPTION,
-        &[Handed::Grants(&[4])],
-    ),
-    (
-        "option true, grants [4, 2]",
-        5,
-        OPTION,
-        &[Handed::Grants(&[4, 2])],
-    ),
-    (
-        "option true, grants [1, 4]",
-        5,
-        OPTION,
-        &[Handed::Grants(&[1, 4])],
-    ),
-    ("option true, grants []", 5, OPTION, &[Handed::Grants(&[])]),
-    ("option false, grants [1]", 5, READ, &[Handed::Grants(&[1])]),
-    (
-        "option false, grants [1, 5]",
-        9,
-        READ,
-        &[Handed::Grants(&[1, 5])],
-    ),
-    ("owner", 5, OPTION, &[Handed::Owner]),
-    ("no line", 5, OPTION, &[]),
-    (
-        "a line twice",
-        5,
-        OPTION,
-        &[Handed::Grants(&[1]), Handed::Grants(&[1])],
-    ),
-    (
-        "taken 6 grants [1, 3]",
-        8,
-        READ,
-        &[Handed::Taken(6, &[1, 3])],
-    ),
-    (
-        "taken 5 grants [1, 3]",
-        8,
-        READ,
-        &[Handed::Taken(5, &[1, 3])],
-    ),
-    (
-        "taken 6 grants [2, 4, 3]",
-        8,
-        READ,
-        &[Handed::Taken(6, &[2, 4, 3])],
-    ),
-    ("never", 8, READ, &[Handed::Never]),
+/// Lines that are handed in as the explanation of a place, all for one need.
+struct HandedIn {
+    heading: &'static str,
+    place: Place,
+    need: Need,
+    lines: &'static [Handed],
+}
+
+/// What is handed in, in order.
+const HANDED: [HandedIn; 15] = [
+    HandedIn {
+        heading: "option true, grants [1]",
+        place: 5,
+        need: OPTION,
+        lines: &[Handed::Grants(&[1])],
+    },
+    HandedIn {
+        heading: "option true, grants [2, 4]",
+        place: 5,
+        need: OPTION,
+        lines: &[Handed::Grants(&[2, 4])],
+    },
+    HandedIn {
+        heading: "option true, grants [4]",
+        place: 5,
+        need: OPTION,
+        lines: &[Handed::Grants(&[4])],
+    },
+    HandedIn {
+        heading: "option true, grants [4, 2]",
+        place: 5,
+        need: OPTION,
+        lines: &[Handed::Grants(&[4, 2])],
+    },
+    HandedIn {
+        heading: "option true, grants [1, 4]",
+        place: 5,
+        need: OPTION,
+        lines: &[Handed::Grants(&[1, 4])],
+    },
+    HandedIn {
+        heading: "option true, grants []",
+        place: 5,
+        need: OPTION,
+        lines: &[Handed::Grants(&[])],
+    },
+    HandedIn {
+        heading: "option false, grants [1]",
+        place: 5,
+        need: READ,
+        lines: &[Handed::Grants(&[1])],
+    },
+    HandedIn {
+        heading: "option false, grants [1, 5]",
+        place: 9,
+        need: READ,
+        lines: &[Handed::Grants(&[1, 5])],
+    },
+    HandedIn {
+        heading: "owner",
+        place: 5,
+        need: OPTION,
+        lines: &[Handed::Owner],
+    },
+    HandedIn {
+        heading: "no line",
+        place: 5,
+        need: OPTION,
+        lines: &[],
+    },
+    HandedIn {
+        heading: "a line twice",
+        place: 5,
+        need: OPTION,
+        lines: &[Handed::Grants(&[1]), Handed::Grants(&[1])],
+    },
+    HandedIn {
+        heading: "taken 6 grants [1, 3]",
+        place: 8,
+        need: READ,
+        lines: &[Handed::Taken(6, &[1, 3])],
+    },
+    HandedIn {
+        heading: "taken 5 grants [1, 3]",
+        place: 8,
+        need: READ,
+        lines: &[Handed::Taken(5, &[1, 3])],
+    },
+    HandedIn {
+        heading: "taken 6 grants [2, 4, 3]",
+        place: 8,
+        need: READ,
+        lines: &[Handed::Taken(6, &[2, 4, 3])],
+    },
+    HandedIn {
+        heading: "never",
+        place: 8,
+        need: READ,
+        lines: &[Handed::Never],
+    },
 ];
 
 /// The grants of these places.
@@ -112,22 +145,25 @@ fn line_of(alloc: Global, need: Need, handed: Handed) -> Result<Line, AllocError
     Ok(Line { need, shown })
 }
 
-/// Prints whether lines are accepted as the explanation of a place.
+/// Prints whether the lines are accepted.
 fn print_lines(
     rt: &impl Print,
     alloc: Global,
     engine: &Engine,
-    what: &str,
-    place: Place,
-    need: Need,
-    handed: &[Handed],
+    handed_in: &HandedIn,
 ) -> Result<(), AllocError> {
+    let HandedIn {
+        heading,
+        place,
+        need,
+        lines: handed,
+    } = *handed_in;
     let mut lines = Vec::new(alloc);
     for line in handed {
         lines.push(line_of(alloc, need, *line)?)?;
     }
     let accepted = check(&Explanation { place, lines }, engine.log(), engine.book());
-    let _ = println!(rt; "handed in of {place}: {what}: {accepted}");
+    let _ = println!(rt; "handed in of {place}: {heading}: {accepted}");
     Ok(())
 }
 
@@ -138,8 +174,8 @@ pub fn print_handed_in(
     engine: &Engine,
     count: usize,
 ) -> Result<(), AllocError> {
-    for (what, place, need, lines) in HANDED.iter().take(count) {
-        print_lines(rt, alloc, engine, what, *place, *need, lines)?;
+    for handed_in in HANDED.iter().take(count) {
+        print_lines(rt, alloc, engine, handed_in)?;
     }
     Ok(())
 }

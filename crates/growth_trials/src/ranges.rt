@@ -12,7 +12,7 @@ use crate::refusal::print_refused;
 use chains::Chains;
 use filling::RangeKey;
 use grants::Book;
-use log_batch::LogBatch;
+use log_batch::{LogBatch, StateBefore};
 use log_text::parse_line;
 use model_base::{MOST_PARTITIONS, Place};
 use placing::{Part, Refs, merge, place};
@@ -155,14 +155,18 @@ pub fn batch_of<'a>(
       placed = true;
     }) }
 {
-    let (chains, book, end) = (&before.chains, &before.book, log.len());
+    let end = log.len();
+    let before = StateBefore {
+        chains: &before.chains,
+        book: &before.book,
+    };
     let refs = references_of(rt, alloc, log, 0..end, partitions)?;
-    match LogBatch::new(alloc, log, chains, book, 0..end, partitions, refs) {
+    match LogBatch::new(alloc, log, before, 0..end, partitions, refs) {
         Ok(batch) => Ok(batch),
         Err(error) => {
             print_refused(rt, "LogBatch::new", TrialFault::from(error), true)?;
             let refs = references_of(rt, alloc, log, 0..end, partitions)?;
-            Ok(LogBatch::new(alloc, log, chains, book, 0..end, partitions, refs)?)
+            Ok(LogBatch::new(alloc, log, before, 0..end, partitions, refs)?)
         }
     }
 }
@@ -177,12 +181,16 @@ pub fn open_batch<'a>(
     requires kept { log.now.dropped ≡ 0 }
     requires before { HasNothing before.now log.now.log.statements }
 {
-    let (chains, book, end) = (&before.chains, &before.book, log.len());
-    match LogBatch::open(alloc, log, chains, book, 0..end, 1) {
+    let end = log.len();
+    let before = StateBefore {
+        chains: &before.chains,
+        book: &before.book,
+    };
+    match LogBatch::open(alloc, log, before, 0..end, 1) {
         Ok(batch) => Ok(batch),
         Err(error) => {
             print_refused(rt, "LogBatch::open", TrialFault::from(error), true)?;
-            Ok(LogBatch::open(alloc, log, chains, book, 0..end, 1)?)
+            Ok(LogBatch::open(alloc, log, before, 0..end, 1)?)
         }
     }
 }

@@ -5,7 +5,7 @@ ghost use Rattle.std.specs.List.{range_with_len};
 ghost use Rattle.placing.specs.Parts.{part_of};
 ghost use Rattle.engine.specs.RunState.{IsRunState};
 
-use log_batch::LogBatch;
+use log_batch::{LogBatch, StateBefore};
 use log_trials_base::{Before, WholeLog};
 use model_base::{MOST_PARTITIONS, Place};
 use placing::{Part, merge, place};
@@ -55,14 +55,9 @@ pub fn new_batch<'a>(
 {
     let parts = parts_of(alloc, log, range.start..range.end, partitions)?;
     let references = merge(alloc, parts)?;
-    let (chains, book) = (&before.chains, before.book.book());
-    LogBatch::new(
-        alloc,
-        log.tail(),
-        chains,
-        book,
-        range,
-        partitions,
-        references,
-    )
+    let before = StateBefore {
+        chains: &before.chains,
+        book: before.book.book(),
+    };
+    LogBatch::new(alloc, log.tail(), before, range, partitions, references)
 }

@@ -16,7 +16,7 @@ use log_trials_base::TrialFault;
 use rows::{ONE, THREE};
 use std::alloc::Global;
 use std::process::ExitCode;
-use trials::{Trial, try_lines};
+use trials::{RangeTrial, Trial, try_lines};
 use two_words::print_two_words;
 
 /// The worked log: a reader, and after it the revocation of the grant by which it reads.
@@ -64,18 +64,20 @@ const BORNE: [&str; 9] = [
 
 /// Prints the trials one after another.
 fn run(rt: &impl Print, alloc: Global) -> Result<(), TrialFault> {
-    let one = "the whole log, partitions: 1\n";
-    try_lines(rt, alloc, one, &WORKED, 0, 1, Trial::Whole(&ONE))?;
-    let three = "the whole log, partitions: 3\n";
-    try_lines(rt, alloc, three, &WORKED, 0, 3, Trial::Whole(&THREE))?;
-    let middle = "the middle of the log\n";
-    try_lines(rt, alloc, middle, &WORKED, 3, 1, Trial::Middle)?;
-    let calls = "the calls of a batch\n";
-    try_lines(rt, alloc, calls, &GRANTING, 0, 3, Trial::Calls)?;
+    let one = RangeTrial::new(0, 1, Trial::Whole(&ONE));
+    try_lines(rt, alloc, "the whole log, partitions: 1\n", &WORKED, one)?;
+    let three = RangeTrial::new(0, 3, Trial::Whole(&THREE));
+    try_lines(rt, alloc, "the whole log, partitions: 3\n", &WORKED, three)?;
+    let middle = RangeTrial::new(3, 1, Trial::Middle);
+    try_lines(rt, alloc, "the middle of the log\n", &WORKED, middle)?;
+    let calls = RangeTrial::new(0, 3, Trial::Calls);
+    try_lines(rt, alloc, "the calls of a batch\n", &GRANTING, calls)?;
     print_two_words(rt, alloc, &WORKED)?;
-    try_lines(rt, alloc, "", &REACHED, 0, 1, Trial::Ended)?;
-    let finished = "finished behind words of which nothing is stored\n";
-    try_lines(rt, alloc, finished, &BORNE, 0, 1, Trial::Finished)
+    let ended = RangeTrial::new(0, 1, Trial::Ended);
+    try_lines(rt, alloc, "", &REACHED, ended)?;
+    let finished = RangeTrial::new(0, 1, Trial::Finished);
+    let heading = "finished behind words of which nothing is stored\n";
+    try_lines(rt, alloc, heading, &BORNE, finished)
 }
 
 fn main(rt: HostRuntime) -> ExitCode {

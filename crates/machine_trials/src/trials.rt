@@ -1,6 +1,7 @@
 //! Trials of a range of a log as a batch of which all is placed.
 
 ghost use Rattle.std.specs.Prelude.{◌≡◌, ◌<◌, ◌≤◌, ◌-◌, IfOk, length, true};
+ghost use Rattle.model_base.specs.declared.limits.TheConstants.{MOST_PARTITIONS};
 ghost use Rattle.engine.specs.RunState.{IsRunState};
 
 use crate::batches::new_batch;
@@ -13,7 +14,7 @@ use filling::{Finished, finish, take};
 use log_batch::{LogBatch, LogKey, LogWords, ended_slots};
 use log_machine::OfLog;
 use log_trials_base::{Before, TrialFault, WholeLog, before_place, log_of};
-use model_base::{MOST_PARTITIONS, Place};
+use model_base::Place;
 use std::alloc::{AllocError, Global};
 
 /// What is tried on a batch.
@@ -29,6 +30,30 @@ pub enum Trial {
     Ended,
     /// The batch finished after words of which nothing is stored.
     Finished,
+}
+
+/// A trial on the places of a log from one on, which this many partitions place.
+#[derive(Clone, Copy)]
+pub struct RangeTrial {
+    first: Place,
+    partitions: usize,
+    tried: Trial,
+    ghost some: { 0 < partitions },
+    ghost few: { partitions ≤ MOST_PARTITIONS },
+}
+
+impl RangeTrial {
+    /// This trial, on the places from this one on, which this many partitions place.
+    pub fn new(first: Place, partitions: usize, tried: Trial) -> Self
+        requires some { 0 < partitions }
+        requires few { partitions ≤ MOST_PARTITIONS }
+    {
+        RangeTrial {
+            first,
+            partitions,
+            tried,
+        }
+    }
 }
 
 /// Prints the events of the whole log.
@@ -139,58 +164,45 @@ fn try_batch(
     }
 }
 
-/// Makes a trial on the places of a log from one on, with what is before them.
+/// Makes a trial on a range of a log, with what is before it.
 fn try_range(
     rt: &impl Print,
     alloc: Global,
     log: &WholeLog,
     before: &Before,
-    first: Place,
-    partitions: usize,
-    trial: Trial,
+    trial: RangeTrial,
 ) -> Result<(), TrialFault>
-    requires partitions { 0 < partitions }
-    requires few { partitions ≤ MOST_PARTITIONS }
-    requires within { first ≤ length log.now.statements }
-    requires before { IsRunState log.now.statements first before.now.chains before.now.book }
+    requires within { trial.first ≤ length log.now.statements }
+    requires before { IsRunState log.now.statements trial.first before.now.chains before.now.book }
 {
-    let batch = new_batch(alloc, log, before, first..log.len(), partitions)?;
-    try_batch(rt, alloc, log, batch, trial)
+    let range = trial.first..log.len();
+    let batch = new_batch(alloc, log, before, range, trial.partitions)?;
+    try_batch(rt, alloc, log, batch, trial.tried)
 }
 
-/// Makes a trial on the places of a log from one on.
+/// Makes a trial on a range of a log.
 fn try_log(
     rt: &impl Print,
     alloc: Global,
     log: &WholeLog,
-    first: Place,
-    partitions: usize,
-    trial: Trial,
-) -> Result<(), TrialFault>
-    requires partitions { 0 < partitions }
-    requires few { partitions ≤ MOST_PARTITIONS }
-{
-    if first > log.len() {
+    trial: RangeTrial,
+) -> Result<(), TrialFault> {
+    if trial.first > log.len() {
         return Err(TrialFault::Short);
     }
-    let before = before_place(alloc, log, first)?;
-    try_range(rt, alloc, log, &before, first, partitions, trial)
+    let before = before_place(alloc, log, trial.first)?;
+    try_range(rt, alloc, log, &before, trial)
 }
 
-/// Makes a trial on the places of the log of these lines from one on, which this many partitions place, after a heading.
+/// Makes a trial on a range of the log of these lines, after a heading.
 pub fn try_lines(
     rt: &impl Print,
     alloc: Global,
     heading: &str,
     lines: &[&str],
-    first: Place,
-    partitions: usize,
-    trial: Trial,
-) -> Result<(), TrialFault>
-    requires partitions { 0 < partitions }
-    requires few { partitions ≤ MOST_PARTITIONS }
-{
+    trial: RangeTrial,
+) -> Result<(), TrialFault> {
     print!(rt; "{heading}")?;
     let log = log_of(alloc, lines)?;
-    try_log(rt, alloc, &log, first, partitions, trial)
+    try_log(rt, alloc, &log, trial)
 }
