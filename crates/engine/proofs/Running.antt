@@ -30,7 +30,9 @@ use Rattle.checker.specs.declared.admission.Admission.{Admission}
 use Rattle.grants_base.specs.Book.{Entries, view_of}
 use Rattle.own_words.specs.Words.{creates}
 use Rattle.engine.specs.Known.{AreKnown, AreNamed, AreNamedFrom}
+use Rattle.engine.specs.declared.state.RunState.{RunState}
 use Rattle.engine.specs.RunState.{IsBookState, IsRunState}
+use Rattle.engine.specs.Running.{AddsFrom}
 use Rattle.engine.proofs.Making.{made_none, owned}
 use Rattle.engine.proofs.Stepping.{Leads, at_tables, counted, leads, listed, make_owners}
 
@@ -149,3 +151,13 @@ covers-needs log place statement at book stands named =
 pub lacks-none : (owners : List ℕ) (deeds : List Deed) (user : ℕ) (found : Option Need) → Admission.Admitted ≡ admitted_if owners deeds user found → found ≡ None
 lacks-none owners deeds user None is = refl
 lacks-none owners deeds user (Some other) is = absurd (cc)
+
+-- what was added from a place on, and then from a later one, was added from the first on
+pub adds-more : (place next : ℕ) (before middle after : RunState) → place ≤ next → AddsFrom place before middle → AddsFrom next middle after
+    → AddsFrom place before after
+adds-more place next before middle after low first second = record {
+  mark = second.mark ∙ first.mark;
+  end = omega (arith, first.end, second.end);
+  chains = λ at below. second.chains at (omega (arith, below, low)) ∙ first.chains at below;
+  book = λ at below. second.book at (omega (arith, below, low)) ∙ first.book at below;
+}

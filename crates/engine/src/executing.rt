@@ -11,7 +11,7 @@ use std::alloc::Global;
 use std::sync::Wait;
 use std::thread::Threads;
 use words::Pass;
-use workers::{Gate, RunFault, run_workers};
+use workers::{Gate, RunFault, Workers, run_workers};
 
 /// The pass, which knows all places done, and knows from now on that all is placed too.
 fn settled(batch: &Batch<RangeKey<'_>>, pass: Pass) -> Pass
@@ -45,7 +45,13 @@ pub fn execute<'a, R: Threads + Wait + Sync, G: Gate + Sync>(
 {
     let start = batch.first_place();
     let (words, pass, placers) = open(alloc, batch)?;
-    let (pass, worked) = run_workers(rt, alloc, &words, gate, pass, placers, start, workers);
+    let workers = Workers {
+        rt,
+        alloc,
+        gate,
+        count: workers,
+    };
+    let (pass, worked) = run_workers(&workers, &words, start, pass, placers);
     worked.ended()?;
     let pass = settled(&words, pass);
     let (key, closed) = words.close(pass);

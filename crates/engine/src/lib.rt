@@ -20,6 +20,7 @@ mod in_order;
 mod remembering;
 mod run;
 mod slots;
+mod state;
 
 pub use changes::BookChanges;
 pub use commit::advance;
@@ -29,4 +30,5 @@ pub use fault::EngineFault;
 pub use in_order::run_in_order;
 pub use remembering::RememberingBook;
 pub use run::Engine;
+pub use state::RunState;
 pub use workers::RunFault;

@@ -1,10 +1,10 @@
 //! A log of which a beginning is finished.
 
-ghost use Rattle.std.specs.Prelude.{◌≡◌, ◌≢◌, ◌<◌, ◌≤◌, ◌+◌, ◌-◌, ◌++◌, Err, IfOk, List, OnErr, OnOk, length};
-ghost use Rattle.model_base.specs.declared.outcome.Outcome.{Outcome as Came};
+ghost use Rattle.std.specs.Prelude.{◌≡◌, ◌≢◌, ◌<◌, ◌≤◌, ◌+◌, ◌-◌, ◌++◌, Err, IfOk, OnErr, OnOk, length};
 ghost use Rattle.chains.specs.Store.{versions_between};
 ghost use Rattle.engine.specs.Known.{AreKnown, AreNamed};
 ghost use Rattle.engine.specs.RunState.{IsRunState};
+ghost use Rattle.engine.specs.Running.{HasRun, IsNext};
 ghost use Rattle.filling.specs.FinishedRange.{AreOutcomes};
 
 use crate::commit::advance;
@@ -13,6 +13,7 @@ use crate::executing::execute;
 use crate::fault::EngineFault;
 use crate::in_order::run_in_order;
 use crate::remembering::RememberingBook;
+use crate::state::RunState;
 use chains::{BadMark, Chains, Trimmed};
 use filling::{DecodedBatch, take};
 use grants::Book;
@@ -35,8 +36,7 @@ use workers::{Gate, NoGate, RunFault};
 #[derive(Drop)]
 pub struct Engine {
     log: LogTail,
-    chains: Chains,
-    book: RememberingBook,
+    state: RunState,
     past: Past<Outcome>,
     outcomes: Vec<Outcome>,
 }
@@ -49,89 +49,93 @@ impl Model for Engine {
 
     ghost view = { λ engine. record {
       log = engine.log.log;
-      store = engine.chains;
-      book = engine.book;
+      store = engine.state.chains;
+      book = engine.state.book;
       outcomes = engine.past.items ++ engine.outcomes.items;
       dropped = engine.log.dropped;
     } };
 
     ghost invariant = { λ engine. IsRunKept (record {
       log = engine.log.log;
-      store = engine.chains;
-      book = engine.book;
+      store = engine.state.chains;
+      book = engine.state.book;
       outcomes = engine.past.items ++ engine.outcomes.items;
       dropped = engine.log.dropped;
     })
         engine.past.items };
 }
 
+/// How a batch is run.
+#[derive_where(Clone, Copy)]
+struct Runner<'a, T, G> {
+    /// Starts the workers' threads.
+    rt: &'a T,
+    alloc: Global,
+    crew: Crew,
+    /// Is notified of each place before a worker asks for it, and by each worker once when it is done.
+    gate: &'a G,
+}
+
 /// The outcomes and the versions of the places of a range, placed and run as a batch on shared words.
 fn ran<T: Threads + Wait + Sync, G: Gate + Sync>(
-    rt: &T,
-    alloc: Global,
+    runner: &Runner<'_, T, G>,
+    state: &RunState,
     log: &LogTail,
-    chains: &Chains,
-    book: &Book,
     range: Range<Place>,
-    crew: Crew,
-    gate: &G,
 ) -> Result<DecodedBatch, RunFault>
-    requires partitions { 0 < crew.partitions }
-    requires kept { log.now.dropped ≤ range.start }
-    requires order { range.start < range.end }
-    requires within { range.end ≤ length log.now.log.statements }
-    requires stands { IsRunState log.now.log.statements range.start chains.now book.now }
+    requires partitions { 0 < runner.now.crew.partitions }
+    requires some { range.start < range.end }
+    requires next { IsNext log.now range.start range.end state.now }
     ensures outcomes { IfOk result (λ taken. AreOutcomes log.now.log.statements range.start
         (range.end - range.start) taken.outcomes.items) }
     ensures versions { IfOk result (λ taken. taken.versions.items ≡ versions_between log.now.log.statements range.start range.end) }
 {
     let (start, end) = (range.start, range.end);
+    let Runner {
+        rt,
+        alloc,
+        crew,
+        gate,
+    } = *runner;
     let partitions = crew.partitions.min(MOST_PARTITIONS);
-    let before = StateBefore { chains, book };
+    let before = StateBefore {
+        chains: &state.chains,
+        book: state.book.book(),
+    };
     let batch = LogBatch::open(alloc, log, before, start..end, partitions)?;
     let done = execute(rt, alloc, batch, gate, crew.workers)?;
     let taken = take(alloc, log, &done, start..end)?;
     Ok(taken)
 }
 
-/// Runs the places of a range as a batch on shared words, by this many workers and placers. Rows and book are those before the range's end
-/// then, and the outcomes are appended. After an error rows, book and outcomes are as they were.
+/// Runs the places of a range as a batch on shared words, and appends their outcomes; the state is the one before the range's end then.
+/// After an error state and outcomes are as they were.
 fn run_by_workers<T: Threads + Wait + Sync, G: Gate + Sync>(
-    rt: &T,
-    alloc: Global,
-    chains: &mut Chains,
-    book: &mut RememberingBook,
+    runner: &Runner<'_, T, G>,
+    state: &mut RunState,
     log: &LogTail,
     range: Range<Place>,
-    crew: Crew,
-    gate: &G,
     outcomes: &mut Vec<Outcome>,
 ) -> Result<(), RunFault>
-    requires partitions { 0 < crew.partitions }
-    requires order { range.start < range.end }
-    requires kept { log.now.dropped ≤ range.start }
-    requires within { range.end ≤ length log.now.log.statements }
+    requires partitions { 0 < runner.now.crew.partitions }
+    requires some { range.start < range.end }
+    requires next { IsNext log.now range.start range.end state.old }
     requires known { AreKnown log.now.log.statements }
-    requires stands { IsRunState log.now.log.statements range.start chains.old book.old }
-    ensures stands { OnOk result (IsRunState log.now.log.statements range.end chains.new book.new) }
-    ensures mark { OnOk result (chains.new.mark ≡ chains.old.mark) }
-    ensures came { OnOk result ((found : List Came) × (outcomes.new.items ≡ outcomes.old.items ++ found)
-        × AreOutcomes log.now.log.statements range.start (range.end - range.start) found) }
-    ensures chains { OnErr result (chains.new ≡ chains.old) }
-    ensures book { OnErr result (book.new ≡ book.old) }
+    ensures ok { OnOk result (HasRun log.now.log.statements range.start range.end state.old state.new
+        outcomes.old.items outcomes.new.items) }
+    ensures state { OnErr result (state.new ≡ state.old) }
     ensures outcomes { OnErr result (outcomes.new.items ≡ outcomes.old.items) }
 {
     let (start, end) = (range.start, range.end);
     let DecodedBatch {
         outcomes: mut came,
         versions,
-    } = ran(rt, alloc, log, chains, book.book(), start..end, crew, gate)?;
+    } = ran(runner, state, log, start..end)?;
     let before = outcomes.len();
     outcomes.append(&mut came)?;
     let moved = advance(
-        alloc,
-        chains,
-        book,
+        runner.alloc,
+        state,
         log,
         &outcomes[before..],
         versions,
@@ -149,39 +153,29 @@ fn run_by_workers<T: Threads + Wait + Sync, G: Gate + Sync>(
 /// Runs the places of a range: in order, on this thread, where there is one worker, and on shared words else. The result is the
 /// same, as both contracts say.
 fn run_range<T: Threads + Wait + Sync, G: Gate + Sync>(
-    rt: &T,
-    alloc: Global,
-    chains: &mut Chains,
-    book: &mut RememberingBook,
+    runner: &Runner<'_, T, G>,
+    state: &mut RunState,
     log: &LogTail,
     range: Range<Place>,
-    crew: Crew,
-    gate: &G,
     outcomes: &mut Vec<Outcome>,
 ) -> Result<(), RunFault>
-    requires partitions { 0 < crew.partitions }
-    requires order { range.start ≤ range.end }
-    requires kept { log.now.dropped ≤ range.start }
-    requires within { range.end ≤ length log.now.log.statements }
+    requires partitions { 0 < runner.now.crew.partitions }
+    requires next { IsNext log.now range.start range.end state.old }
     requires known { AreKnown log.now.log.statements }
     requires named { AreNamed log.now.log.statements }
-    requires stands { IsRunState log.now.log.statements range.start chains.old book.old }
-    ensures stands { OnOk result (IsRunState log.now.log.statements range.end chains.new book.new) }
-    ensures mark { OnOk result (chains.new.mark ≡ chains.old.mark) }
-    ensures came { OnOk result ((found : List Came) × (outcomes.new.items ≡ outcomes.old.items ++ found)
-        × AreOutcomes log.now.log.statements range.start (range.end - range.start) found) }
-    ensures chains { OnErr result (chains.new ≡ chains.old) }
-    ensures book { OnErr result (book.new ≡ book.old) }
+    ensures ok { OnOk result (HasRun log.now.log.statements range.start range.end state.old state.new
+        outcomes.old.items outcomes.new.items) }
+    ensures state { OnErr result (state.new ≡ state.old) }
     ensures outcomes { OnErr result (outcomes.new.items ≡ outcomes.old.items) }
-    ensures alone { crew.workers ≤ 1 → result ≢ Err RunFault.Spawn }
+    ensures alone { runner.now.crew.workers ≤ 1 → result ≢ Err RunFault.Spawn }
 {
-    if crew.workers <= 1 || range.start == range.end {
-        return match run_in_order(alloc, chains, book, log, range, gate, outcomes) {
+    if runner.crew.workers <= 1 || range.start == range.end {
+        return match run_in_order(runner.alloc, state, log, range, runner.gate, outcomes) {
             Ok(()) => Ok(()),
             Err(_refused) => Err(RunFault::NoMemory),
         };
     }
-    run_by_workers(rt, alloc, chains, book, log, range, crew, gate, outcomes)
+    run_by_workers(runner, state, log, range, outcomes)
 }
 
 impl Engine {
@@ -216,8 +210,10 @@ impl Engine {
     {
         Engine {
             log: LogTail::seeded(alloc, seed),
-            chains: Chains::seeded(alloc, seed),
-            book: RememberingBook::seeded(alloc, seed),
+            state: RunState {
+                chains: Chains::seeded(alloc, seed),
+                book: RememberingBook::seeded(alloc, seed),
+            },
             past: Past::new(),
             outcomes: Vec::new(alloc),
         }
@@ -239,7 +235,7 @@ impl Engine {
         ensures shows { ShowsBook self.now.book (owners self.now.log.statements)
             (deeds_before self.now.log.statements (finished self.now)) }
     {
-        self.book.book()
+        self.state.book.book()
     }
 
     /// How many places are finished: all below this one. Outcomes, rows and book are those of the log so far.
@@ -256,7 +252,7 @@ impl Engine {
         ensures value { result ≡ self.now.store.mark }
         ensures within { self.now.store.mark ≤ finished self.now }
     {
-        self.chains.mark()
+        self.state.chains.mark()
     }
 
     /// Takes a statement as the next place, as the log does. After a refusal the engine is as it was. Its accesses and steps take the
@@ -338,15 +334,17 @@ impl Engine {
     {
         let start = self.finished();
         let _len = self.log.len();
-        run_range(
+        let runner = Runner {
             rt,
             alloc,
-            &mut self.chains,
-            &mut self.book,
-            &self.log,
-            start..end,
             crew,
             gate,
+        };
+        run_range(
+            &runner,
+            &mut self.state,
+            &self.log,
+            start..end,
             &mut self.outcomes,
         )?;
         Ok(())
@@ -369,8 +367,7 @@ impl Engine {
         let _len = self.log.len();
         run_in_order(
             alloc,
-            &mut self.chains,
-            &mut self.book,
+            &mut self.state,
             &self.log,
             start..end,
             &NoGate,
@@ -481,7 +478,7 @@ impl Engine {
         ensures trimmed { is_err result ≡ nat_lt place self.now.store.mark }
         ensures value { IfOk result (λ row. row ≡ rows_before self.now.log.statements place key.table key.row) }
     {
-        self.chains.row_before(place, key)
+        self.state.chains.row_before(place, key)
     }
 
     /// Drops the versions of rows that give only what was before the places below the mark, and returns how many they were. From then on
@@ -493,7 +490,7 @@ impl Engine {
         ensures rest { self.new ≡ record self.old { store = self.new.store } }
         ensures err { OnErr result (self.new ≡ self.old) }
     {
-        self.chains.trim(mark)
+        self.state.chains.trim(mark)
     }
 
     /// Takes out the versions that say nothing: those below the mark that are the only ones of their keys, and in which the row is absent.
@@ -502,6 +499,6 @@ impl Engine {
         ensures swept { Sweeps self.old.store self.new.store result }
         ensures rest { self.new ≡ record self.old { store = self.new.store } }
     {
-        self.chains.sweep()
+        self.state.chains.sweep()
     }
 }

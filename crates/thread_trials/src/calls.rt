@@ -52,7 +52,7 @@ fn print_found(
             let outcome = batch.words().own(holding, 1, 0);
             let end = batch.words().end(holding, 0);
             println!(rt;
-                "the second looks at 4: Done, with outcome {outcome} and the record's end {end}"
+                "the second looks at 4: Done, with outcome {outcome} and the record's end {end:?}"
             )?;
         }
         other => println!(rt; "the second looks at 4: {other:?}")?,

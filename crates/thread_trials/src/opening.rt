@@ -7,7 +7,7 @@ ghost use Rattle.engine.specs.RunState.{IsRunState};
 
 use filling::{Placer, RangeKey, open};
 use filling_base::{Advanced, Batch, BatchPlacer, Fills};
-use log_batch::LogBatch;
+use log_batch::{LogBatch, StateBefore};
 use log_trials_base::{Before, TrialFault, WholeLog};
 use model_base::{MOST_PARTITIONS, Place};
 use std::alloc::Global;
@@ -28,9 +28,12 @@ pub fn opened<'a>(
     ensures pass { IfOk result (λ made. IsPassOf made.0 made.1) }
     ensures placers { IfOk result (λ made. All (IsPlacerIn made.0) made.2.items) }
 {
-    let (chains, book) = (&before.chains, before.book.book());
+    let before = StateBefore {
+        chains: &before.chains,
+        book: before.book.book(),
+    };
     let range = first..log.len();
-    let batch = LogBatch::open(alloc, log.tail(), chains, book, range, partitions)?;
+    let batch = LogBatch::open(alloc, log.tail(), before, range, partitions)?;
     Ok(open(alloc, batch)?)
 }
 

@@ -9,7 +9,7 @@ use filling_base::{Batch, Fills, Tried};
 use log_trials_base::TrialFault;
 use std::thread;
 use std::thread::Threads;
-use words::{BatchData, Claimed, Holding, Pass};
+use words::{BatchData, Claimed, HELD, Holding, Pass};
 
 /// By how many places each of eight threads goes on. Round thirty places it results in each.
 const STEPS: [usize; 8] = [1, 29, 7, 23, 11, 19, 13, 17];
@@ -144,7 +144,7 @@ pub fn print_claiming<R: Threads + Print + Sync>(
     let (_, closed) = batch.close(kept);
     let mut held = 0u32;
     for index in 0..places {
-        if closed.claim(index) == 1 {
+        if closed.claim(index) == HELD {
             held = held.saturating_add(1);
         }
     }

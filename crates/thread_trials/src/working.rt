@@ -14,7 +14,7 @@ use std::sync::Wait;
 use std::sync::atomic::{AtomicUsize, Ordering};
 use std::thread::Threads;
 use words::{BatchData, Pass};
-use workers::{Gate, Worked, run_workers};
+use workers::{Gate, Worked, Workers, run_workers};
 
 /// Counts the places that workers were known done.
 #[derive(Drop)]
@@ -48,7 +48,13 @@ fn run_by<R: Threads + Wait + Sync>(
         done: AtomicUsize::new(0),
     };
     let wanted = batch.key().places().saturating_mul(workers.max(1));
-    let (pass, worked) = run_workers(rt, alloc, batch, &gate, pass, placers, 0, workers);
+    let team = Workers {
+        rt,
+        alloc,
+        gate: &gate,
+        count: workers,
+    };
+    let (pass, worked) = run_workers(&team, batch, 0, pass, placers);
     (pass, worked, gate.done.load(Ordering::SeqCst) == wanted)
 }
 

@@ -2,12 +2,12 @@
 
 use model_base::Place;
 
-/// Who is known what workers do, by places of the log.
+/// Who is notified of what workers do, by places of the log.
 pub trait Gate {
     /// A worker will ask for a place.
     fn before(&self, place: Place);
 
-    /// A worker was known that a place is done, which it is known once for each place.
+    /// A worker found that a place is done, which it finds once for each place.
     fn after(&self, place: Place);
 
     /// The placer of a partition has placed a place.

@@ -1,6 +1,6 @@
 //! Threads that together place and run all places of a batch.
 //!
-//! `run_workers` runs `workers` workers, the caller's thread first. Worker w of W places the partitions q with q mod W
+//! `run_workers` runs `Workers`, the caller's thread first. Worker w of W places the partitions q with q mod W
 //! = w, then goes round over the places that it hasn't found done. A round asks once for each of them; after one in
 //! vain the worker yields. If memory is refused or a thread can't be started, all stop. All are joined. A `Gate` is
 //! given each place as it is placed, asked for and done.
@@ -12,9 +12,10 @@
 mod fault;
 mod gate;
 mod placing;
+mod shared;
 mod sweep;
 mod work;
 
 pub use fault::RunFault;
 pub use gate::{Gate, NoGate};
-pub use work::{Worked, run_workers};
+pub use work::{Worked, Workers, run_workers};

@@ -4,31 +4,30 @@ ghost use Rattle.std.specs.Prelude.{◌≡◌, ◌<◌, ◌≤◌, [], ℕ, IfOk
 ghost use Rattle.workers.specs.Placing.{AreDealt, HavePlaced, IsGiven};
 
 use crate::gate::Gate;
-use filling_base::{Advanced, Batch, BatchPlacer, Fills};
+use crate::shared::Shared;
+use filling_base::{Advanced, BatchPlacer, Fills};
 use std::alloc::{AllocError, Global};
 use std::collections::VecDeque;
-use std::sync::atomic::{AtomicBool, Ordering};
+use std::sync::atomic::Ordering;
 
 /// Places one place more, if there is one. Where memory is refused it stops the workers, and returns false.
 fn place_one<K: Fills, P: BatchPlacer<K>, G: Gate>(
-    batch: &Batch<K>,
-    gate: &G,
-    stop: &AtomicBool,
+    shared: &Shared<'_, K, G>,
     placer: &mut P,
 ) -> bool
-    requires same_table { P.is_of batch.now placer.old }
-    ensures same_table { P.is_of batch.now placer.new }
-    ensures further { result ≡ true → (count : ℕ) → count < (K.batch batch.now.key).size → count ≤ P.front placer.old
+    requires same_table { P.is_of shared.now placer.old }
+    ensures same_table { P.is_of shared.now placer.new }
+    ensures further { result ≡ true → (count : ℕ) → count < (K.batch shared.now.key).size → count ≤ P.front placer.old
         → suc count ≤ P.front placer.new }
 {
-    match placer.advance(batch) {
+    match placer.advance(shared.batch) {
         Advanced::Next(place) => {
-            gate.placed(placer.partition(), place);
+            shared.gate.placed(placer.partition(), place);
             true
         }
         Advanced::End => true,
         Advanced::NoMemory => {
-            stop.store(true, Ordering::SeqCst);
+            shared.stop.store(true, Ordering::SeqCst);
             false
         }
     }
@@ -36,21 +35,19 @@ fn place_one<K: Fills, P: BatchPlacer<K>, G: Gate>(
 
 /// Places one place more for each partition, unless the workers were stopped: then it returns false.
 fn place_round<K: Fills, P: BatchPlacer<K>, G: Gate>(
-    batch: &Batch<K>,
-    gate: &G,
-    stop: &AtomicBool,
+    shared: &Shared<'_, K, G>,
     placers: &mut [P],
     count: usize,
 ) -> bool
-    requires within { count < (K.batch batch.now.key).size }
-    requires placed { HavePlaced P.is_of P.front batch.now count placers.old }
-    ensures { result ≡ true → HavePlaced P.is_of P.front batch.now (suc count) placers.new }
+    requires within { count < (K.batch shared.now.key).size }
+    requires placed { HavePlaced P.is_of P.front shared.now count placers.old }
+    ensures { result ≡ true → HavePlaced P.is_of P.front shared.now (suc count) placers.new }
 {
-    if stop.load(Ordering::SeqCst) {
+    if shared.stop.load(Ordering::SeqCst) {
         return false;
     }
     for placer in placers.iter_mut() {
-        if !place_one(batch, gate, stop, placer) {
+        if !place_one(shared, placer) {
             return false;
         }
     }
@@ -59,16 +56,14 @@ fn place_round<K: Fills, P: BatchPlacer<K>, G: Gate>(
 
 /// Places the whole batch for these partitions, one place for each in turn, unless the workers are stopped: then it returns false.
 pub(crate) fn place_all<K: Fills, P: BatchPlacer<K>, G: Gate>(
-    batch: &Batch<K>,
-    gate: &G,
-    stop: &AtomicBool,
+    shared: &Shared<'_, K, G>,
     placers: &mut [P],
 ) -> bool
-    requires placed { HavePlaced P.is_of P.front batch.now 0 placers.old }
-    ensures { result ≡ true → HavePlaced P.is_of P.front batch.now (K.batch batch.now.key).size placers.new }
+    requires placed { HavePlaced P.is_of P.front shared.now 0 placers.old }
+    ensures { result ≡ true → HavePlaced P.is_of P.front shared.now (K.batch shared.now.key).size placers.new }
 {
-    for count in 0..batch.key().places() {
-        if !place_round(batch, gate, stop, placers, count) {
+    for count in 0..shared.places() {
+        if !place_round(shared, placers, count) {
             return false;
         }
     }

@@ -1,19 +1,19 @@
 //! One worker, which goes over the places until it has had each done.
 
-ghost use Rattle.std.specs.Prelude.{◌≡◌, ◌⊎◌, ◌<◌, ◌≤◌, ◌+◌, ◌-◌, ◌^◌, [], ℕ, IfOk, true};
+ghost use Rattle.std.specs.Prelude.{◌≡◌, ◌⊎◌, ◌<◌, ◌≤◌, ◌+◌, ◌-◌, [], ℕ, IfOk, true};
 ghost use Rattle.std.specs.VecDeque.{deque_capacity, deque_len};
 ghost use Rattle.words.specs.Passes.{IsPassOf};
 ghost use Rattle.words.specs.Views.{In};
 ghost use Rattle.workers.specs.Working.{AreLeft, GoesOn, KnowsAll};
 
 use crate::gate::Gate;
+use crate::shared::Shared;
 use filling_base::{Batch, Fills, Tried};
-use model_base::Place;
 use std::alloc::{AllocError, Global};
 use std::collections::VecDeque;
 use std::ops::Range;
 use std::sync::Wait;
-use std::sync::atomic::{AtomicBool, Ordering};
+use std::sync::atomic::Ordering;
 use std::thread;
 use words::Pass;
 
@@ -38,35 +38,27 @@ pub(crate) enum Swept {
 }
 
 /// Asks for a place, unless the workers were stopped. Where memory is refused it stops them.
-fn ask<K: Fills, G: Gate>(
-    batch: &Batch<K>,
-    gate: &G,
-    stop: &AtomicBool,
-    pass: Pass,
-    start: Place,
-    index: usize,
-) -> (Pass, Asked)
-    requires same_table { IsPassOf batch.now pass }
-    requires within { index < (K.batch batch.now.key).size }
-    requires places { start + (K.batch batch.now.key).size < 2 ^ 64 }
+fn ask<K: Fills, G: Gate>(shared: &Shared<'_, K, G>, pass: Pass, index: usize) -> (Pass, Asked)
+    requires same_table { IsPassOf shared.now pass }
+    requires within { index < (K.batch shared.now.key).size }
     ensures on { GoesOn pass result.0 }
     ensures done { result.1 ≡ Asked.Done → In index result.0.view.known }
 {
-    if stop.load(Ordering::SeqCst) {
+    if shared.stop.load(Ordering::SeqCst) {
         return (pass, Asked::Stopped);
     }
-    let place = start + index as u64;
-    gate.before(place);
-    let (pass, tried) = batch.try_run(pass, index);
+    let place = shared.start + index as u64;
+    shared.gate.before(place);
+    let (pass, tried) = shared.batch.try_run(pass, index);
     match tried {
         Tried::Done => {
-            gate.after(place);
+            shared.gate.after(place);
             (pass, Asked::Done)
         }
         Tried::Busy(_) => (pass, Asked::Open),
         Tried::NotPlaced(_) => (pass, Asked::Open),
         Tried::NoMemory => {
-            stop.store(true, Ordering::SeqCst);
+            shared.stop.store(true, Ordering::SeqCst);
             (pass, Asked::Stopped)
         }
     }
@@ -84,25 +76,21 @@ fn look<K: Fills>(batch: &Batch<K>, pass: Pass) -> Pass
 /// Asks once for each place of the rest, in order: one that is done leaves the rest, and any other goes to its end. False if
 /// the workers were stopped.
 fn go_round<K: Fills, G: Gate>(
-    batch: &Batch<K>,
-    gate: &G,
-    stop: &AtomicBool,
+    shared: &Shared<'_, K, G>,
     pass: Pass,
-    start: Place,
     rest: &mut VecDeque<usize>,
 ) -> (Pass, bool)
-    requires same_table { IsPassOf batch.now pass }
-    requires places { start + (K.batch batch.now.key).size < 2 ^ 64 }
-    requires left { AreLeft (K.batch batch.now.key).size pass.view.known rest.old.items }
+    requires same_table { IsPassOf shared.now pass }
+    requires left { AreLeft (K.batch shared.now.key).size pass.view.known rest.old.items }
     ensures on { GoesOn pass result.0 }
-    ensures left { result.1 ≡ true → AreLeft (K.batch batch.now.key).size result.0.view.known rest.new.items }
+    ensures left { result.1 ≡ true → AreLeft (K.batch shared.now.key).size result.0.view.known rest.new.items }
 {
     let mut last = pass;
     for _ in 0..rest.len() {
         let Some(index) = rest.pop_front() else {
             break;
         };
-        let (next, asked) = ask(batch, gate, stop, last, start, index);
+        let (next, asked) = ask(shared, last, index);
         last = next;
         match asked {
             Asked::Done => {}
@@ -117,18 +105,14 @@ fn go_round<K: Fills, G: Gate>(
 /// it lets other threads run.
 pub(crate) fn sweep<K: Fills, G: Gate, R: Wait>(
     rt: &R,
-    batch: &Batch<K>,
-    gate: &G,
-    stop: &AtomicBool,
+    shared: &Shared<'_, K, G>,
     pass: Pass,
-    start: Place,
     mut rest: VecDeque<usize>,
 ) -> (Pass, Swept)
-    requires same_table { IsPassOf batch.now pass }
-    requires places { start + (K.batch batch.now.key).size < 2 ^ 64 }
-    requires left { AreLeft (K.batch batch.now.key).size pass.view.known rest.items }
+    requires same_table { IsPassOf shared.now pass }
+    requires left { AreLeft (K.batch shared.now.key).size pass.view.known rest.items }
     ensures on { GoesOn pass result.0 }
-    ensures all { result.1 ≡ Swept.All → KnowsAll (K.batch batch.now.key).size result.0.view }
+    ensures all { result.1 ≡ Swept.All → KnowsAll (K.batch shared.now.key).size result.0.view }
 {
     let mut last = pass;
     for _ in rt.forever() {
@@ -136,8 +120,8 @@ pub(crate) fn sweep<K: Fills, G: Gate, R: Wait>(
         if count == 0 {
             return (last, Swept::All);
         }
-        let looked = look(batch, last);
-        let (next, is_over) = go_round(batch, gate, stop, looked, start, &mut rest);
+        let looked = look(shared.batch, last);
+        let (next, is_over) = go_round(shared, looked, &mut rest);
         last = next;
         if !is_over {
             return (last, Swept::Stopped);

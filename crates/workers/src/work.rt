@@ -1,6 +1,6 @@
 //! Several workers.
 
-ghost use Rattle.std.specs.Prelude.{◌≡◌, ◌≢◌, ◌<◌, ◌≤◌, ◌+◌, ◌^◌, IfOk, length, suc};
+ghost use Rattle.std.specs.Prelude.{◌≡◌, ◌≢◌, ◌<◌, ◌≤◌, ◌+◌, ◌^◌, IfOk, length};
 ghost use Rattle.std.specs.Thread.{IsSync};
 ghost use Rattle.words.specs.Passes.{IsPassOf};
 ghost use Rattle.workers.specs.Placing.{HavePlaced, HaveDealt};
@@ -9,6 +9,7 @@ ghost use Rattle.workers.specs.Working.{GoesOn, KnowsAll, came_of, worse};
 use crate::fault::RunFault;
 use crate::gate::Gate;
 use crate::placing::{deal, place_all};
+use crate::shared::Shared;
 use crate::sweep::{Swept, all_places, sweep};
 use filling_base::{Batch, BatchPlacer, Fills};
 use model_base::Place;
@@ -51,37 +52,29 @@ fn first_of(worker: usize, workers: usize, size: usize) -> usize
     (worker as u128 * size as u128 / workers as u128) as usize
 }
 
-/// One worker, of this many: it places its partitions, and then goes round over the places. Where memory is refused it stops the others.
+/// One worker: it places its partitions, and then goes round over the places, from this one on. Where memory is refused it stops the others.
 fn work<K: Fills, P: BatchPlacer<K>, G: Gate, R: Wait>(
     rt: &R,
-    alloc: Global,
-    batch: &Batch<K>,
-    gate: &G,
-    stop: &AtomicBool,
+    shared: &Shared<'_, K, G>,
     pass: Pass,
     mut placers: Vec<P>,
-    start: Place,
-    worker: usize,
-    workers: usize,
+    first: usize,
 ) -> (Pass, Worked)
-    requires same_table { IsPassOf batch.now pass }
-    requires placers { HavePlaced P.is_of P.front batch.now 0 placers.items }
-    requires places { start + (K.batch batch.now.key).size < 2 ^ 64 }
-    requires number { worker < workers }
+    requires same_table { IsPassOf shared.now pass }
+    requires placers { HavePlaced P.is_of P.front shared.now 0 placers.items }
+    requires first { first ≤ (K.batch shared.now.key).size }
     ensures on { GoesOn pass result.0 }
-    ensures all { result.1 ≡ Worked.Done → KnowsAll (K.batch batch.now.key).size result.0.view }
+    ensures all { result.1 ≡ Worked.Done → KnowsAll (K.batch shared.now.key).size result.0.view }
     ensures started { result.1 ≢ Worked.NotStarted }
 {
-    let size = batch.key().places();
-    let first = first_of(worker, workers, size);
-    let Ok(rest) = all_places(alloc, first, size) else {
-        stop.store(true, Ordering::SeqCst);
+    let Ok(rest) = all_places(shared.alloc, first, shared.places()) else {
+        shared.stop.store(true, Ordering::SeqCst);
         return (pass, Worked::NoMemory);
     };
-    if !place_all(batch, gate, stop, &mut placers) {
+    if !place_all(shared, &mut placers) {
         return (pass, Worked::NoMemory);
     }
-    let (pass, swept) = sweep(rt, batch, gate, stop, pass, start, rest);
+    let (pass, swept) = sweep(rt, shared, pass, rest);
     match swept {
         Swept::All => (pass, Worked::Done),
         Swept::Stopped => (pass, Worked::NoMemory),
@@ -113,7 +106,7 @@ impl<'a, K: Fills> Promise<(Pass, Worked)> for OfBatch<'a, K> {
     ghost kept_by = { λ promise ended. IsPassOf promise.0.now ended.0 };
 }
 
-/// A worker, of this many, on a thread of its own, and those below it, the lowest on this thread. If the thread can't be started, all are
+/// The last of these workers on a thread of its own, and those below it, the lowest on this thread. If the thread can't be started, all are
 /// stopped.
 fn work_below<
     's,
@@ -125,66 +118,43 @@ fn work_below<
 >(
     rt: &'s R,
     scope: &Scope<'s, E>,
-    alloc: Global,
-    batch: &'s Batch<K>,
-    gate: &'s G,
-    stop: &'s AtomicBool,
+    shared: &'s Shared<'s, K, G>,
     pass: Pass,
     mut hands: Vec<Vec<P>>,
-    start: Place,
-    worker: usize,
-    workers: usize,
+    count: usize,
 ) -> (Pass, Worked)
-    requires same_table { IsPassOf batch.now pass }
-    requires hands { HaveDealt (λ hand. hand.items) P.is_of P.front batch.now hands.items }
-    requires all { length hands.items ≡ suc worker }
-    requires places { start + (K.batch batch.now.key).size < 2 ^ 64 }
-    requires number { worker < workers }
+    requires same_table { IsPassOf shared.now pass }
+    requires hands { HaveDealt (λ hand. hand.items) P.is_of P.front shared.now hands.items }
+    requires some { 0 < length hands.items }
+    requires most { length hands.items ≤ count }
     ensures on { GoesOn pass result.0 }
-    ensures all { result.1 ≡ Worked.Done → KnowsAll (K.batch batch.now.key).size result.0.view }
+    ensures all { result.1 ≡ Worked.Done → KnowsAll (K.batch shared.now.key).size result.0.view }
     // The lowest worker starts no thread.
-    ensures alone { worker ≡ 0 → result.1 ≢ Worked.NotStarted }
+    ensures alone { length hands.items ≤ 1 → result.1 ≢ Worked.NotStarted }
 {
     let Some(placers) = hands.pop() else {
         unreachable!()
     };
-    if worker == 0 {
-        return work(
-            rt, alloc, batch, gate, stop, pass, placers, start, worker, workers,
-        );
+    let first = first_of(hands.len(), count, shared.places());
+    if hands.is_empty() {
+        return work(rt, shared, pass, placers, first);
     }
-    let (pass, other) = batch.split(pass);
+    let (pass, other) = shared.batch.split(pass);
     let started = scope.spawn_with(
-        OfBatch(batch),
+        OfBatch(shared.batch),
         move || -> (Pass, Worked)
-            requires { IsPassOf batch.now other × HavePlaced P.is_of P.front batch.now 0 placers.items
-                × (start + (K.batch batch.now.key).size < 2 ^ 64) × (worker < workers) }
-            ensures { IsPassOf batch.entry.now result.0 }
-        {
-            work(
-                rt, alloc, batch, gate, stop, other, placers, start, worker, workers,
-            )
-        },
+            requires { IsPassOf shared.now other × HavePlaced P.is_of P.front shared.now 0 placers.items
+                × (first ≤ (K.batch shared.now.key).size) }
+            ensures { IsPassOf shared.entry.now result.0 }
+        { work(rt, shared, other, placers, first) },
     );
     let Ok(thread) = started else {
-        stop.store(true, Ordering::SeqCst);
+        shared.stop.store(true, Ordering::SeqCst);
         return (pass, Worked::NotStarted);
     };
-    let (pass, mine) = work_below(
-        rt,
-        scope,
-        alloc,
-        batch,
-        gate,
-        stop,
-        pass,
-        hands,
-        start,
-        worker - 1,
-        workers,
-    );
+    let (pass, mine) = work_below(rt, scope, shared, pass, hands, count);
     let (other, theirs) = thread.join(rt);
-    (batch.join(pass, other), both(mine, theirs))
+    (shared.batch.join(pass, other), both(mine, theirs))
 }
 
 /// The placers of a batch, dealt to this many workers. An error is out of memory.
@@ -204,28 +174,36 @@ fn hands_of<K: Fills, P: BatchPlacer<K>>(
     Ok(hands)
 }
 
-/// Places and runs all places of a batch by this many workers, at least one: the caller's thread is the first, and each further one has a
-/// thread of its own. The placers are those of the partitions that aren't placed whole yet; worker w of W has those whose numbers have the
-/// remainder w, and first places all of the batch for these. Then each begins with a part of the batch of its own and goes round over the
-/// places that it hasn't had done yet, until it has had each done; where another has a place available, it goes on with the next. The gate
-/// is known places of the log, of which the batch's first is `start`: each worker gives it of a place before it asks for it, and once when
-/// it is done. If a thread can't be started or memory is refused, all workers stop. No thread runs any more afterwards. The pass knows what
-/// it knew and what the workers know. `Done` says that all places are done, `NotStarted` that a thread couldn't be started. With one worker
-/// no thread is started.
+/// Workers that together place and run a batch: the caller's thread is the first, and each further one has a thread of its own.
+#[derive_where(Clone, Copy)]
+pub struct Workers<'a, R, G> {
+    /// Starts their threads.
+    pub rt: &'a R,
+    pub alloc: Global,
+    /// Is notified of the places that they place, ask for and find done.
+    pub gate: &'a G,
+    /// How many they are, where 0 is taken as 1.
+    pub count: usize,
+}
+
+/// Places and runs all places of a batch by these workers. The placers are those of the partitions that aren't placed whole yet; worker w
+/// of W has those whose numbers have the remainder w, and first places all of the batch for these. Then each begins with a part of the batch
+/// of its own and goes round over the places that it hasn't had done yet, until it has had each done; where another has a place available,
+/// it goes on with the next. The gate is notified of places of the log, of which the batch's first is `start`: by each worker of a place
+/// before it asks for it, and once when it is done. If a thread can't be started or memory is refused, all workers stop. No thread runs any
+/// more afterwards. The pass knows what it knew and what the workers know. `Done` says that all places are done, `NotStarted` that a thread
+/// couldn't be started. With one worker no thread is started.
 pub fn run_workers<
     K: Fills + Sync,
     P: BatchPlacer<K> + Send,
     G: Gate + Sync,
     R: Threads + Wait + Sync,
 >(
-    rt: &R,
-    alloc: Global,
+    workers: &Workers<'_, R, G>,
     batch: &Batch<K>,
-    gate: &G,
+    start: Place,
     pass: Pass,
     placers: Vec<P>,
-    start: Place,
-    workers: usize,
 ) -> (Pass, Worked)
     requires same_table { IsPassOf batch.now pass }
     requires placers { HavePlaced P.is_of P.front batch.now 0 placers.items }
@@ -233,36 +211,37 @@ pub fn run_workers<
     ensures on { GoesOn pass result.0 }
     ensures all { result.1 ≡ Worked.Done → KnowsAll (K.batch batch.now.key).size result.0.view }
     // One worker starts no thread.
-    ensures alone { workers ≤ 1 → result.1 ≢ Worked.NotStarted }
+    ensures alone { workers.now.count ≤ 1 → result.1 ≢ Worked.NotStarted }
 {
-    let workers = workers.max(1);
-    let Ok(hands) = hands_of(alloc, batch, placers, workers) else {
+    let Workers {
+        rt,
+        alloc,
+        gate,
+        count,
+    } = *workers;
+    let count = count.max(1);
+    let Ok(hands) = hands_of(alloc, batch, placers, count) else {
         return (pass, Worked::NoMemory);
     };
     let flag = AtomicBool::new(false);
     let stop = &flag;
+    let shared = Shared {
+        alloc,
+        batch,
+        gate,
+        stop,
+        start,
+    };
+    let shared = &shared;
     thread::scope(
         thread::scope_env(),
         rt,
         move |scope| -> (Pass, Worked)
-            requires { IsPassOf batch.now pass × HaveDealt (λ hand. hand.items) P.is_of P.front batch.now hands.items
-                × (length hands.items ≡ workers) × (start + (K.batch batch.now.key).size < 2 ^ 64) × (0 < workers) }
-            ensures { GoesOn pass result.0 × (result.1 ≡ Worked.Done → KnowsAll (K.batch batch.entry.now.key).size result.0.view)
-                × (workers ≤ 1 → result.1 ≢ Worked.NotStarted) }
-        {
-            work_below(
-                rt,
-                scope,
-                alloc,
-                batch,
-                gate,
-                stop,
-                pass,
-                hands,
-                start,
-                workers - 1,
-                workers,
-            )
-        },
+            requires { IsPassOf shared.now pass × HaveDealt (λ hand. hand.items) P.is_of P.front shared.now hands.items
+                × (0 < length hands.items) × (length hands.items ≤ count) }
+            ensures { GoesOn pass result.0
+                × (result.1 ≡ Worked.Done → KnowsAll (K.batch shared.entry.now.key).size result.0.view)
+                × (length hands.items ≤ 1 → result.1 ≢ Worked.NotStarted) }
+        { work_below(rt, scope, shared, pass, hands, count) },
     )
 }

@@ -10,8 +10,8 @@ use Rattle.engine.proofs.commit.advance.Goals as goal
 pub append-moved-requires : goal.append-moved-requires
 append-moved-requires c =
     let log = c.args.log.now.log.statements in
-    subst (λ (at : ℕ). AreBetween at c.args.range.end c.args.versions.items) (sym c.requires.stands.ends)
-    (subst (λ (vs : List Version). AreBetween c.args.range.start c.args.range.end vs) (sym c.requires.left) (between-log log c.args.range.start c.args.range.end c.requires.order))
+    subst (λ (at : ℕ). AreBetween at c.args.range.end c.args.versions.items) (sym c.requires.next.stands.ends)
+    (subst (λ (vs : List Version). AreBetween c.args.range.start c.args.range.end vs) (sym c.requires.left) (between-log log c.args.range.start c.args.range.end c.requires.next.order))
 
 pub returns-clause-book : goal.returns-clause-book
 returns-clause-book c =
@@ -20,6 +20,6 @@ returns-clause-book c =
     let are = subst (λ (book : Entries). AreChanges c.args.log.now.log.statements first (c.args.range.end - first) book changes.tables.items changes.grants.items changes.ends.items)
     c.book.ensures c.in_ok-changes.ensures in
     c.cut.ensures.cut
-    ∙ ap (cut_book first) (c.in_ok-extend.ensures.ok ∙ (λ i. extended c.args.book.now (c.tables.ensures i) (c.grants.ensures i) (c.ends.ensures i)))
+    ∙ ap (cut_book first) (c.in_ok-extend.ensures.ok ∙ (λ i. extended c.args.state.now.book (c.tables.ensures i) (c.grants.ensures i) (c.ends.ensures i)))
     ∙ are.before
-    ∙ cut_whole first c.args.book.now c.requires.stands.booked.later
+    ∙ cut_whole first c.args.state.now.book c.requires.next.stands.booked.later

@@ -16,17 +16,17 @@ use Rattle.engine.proofs.in_order.run_admitted.Goals as goal
 pub make-requires-clause-next : goal.make-requires-clause-next
 make-requires-clause-next c =
     let leads = ended-leads c.args.log.now.log.statements c.args.place c.args.statement.now c.requires.at c.requires.form c.requires.admitted
-    c.args.chains.now c.mark-mark.ensures.within c.args.book.now c.requires.stands c.fill_window.new.window c.run.new.window
+    c.args.state.now.chains c.mark-mark.ensures.within c.args.state.now.book c.requires.stands c.fill_window.new.window c.run.new.window
     c.fill_window.ensures.shows c.run.result BodyEnd.Completed c.in-Completed.is c.run.ensures.ends in
     completed-deeds c.args.log.now.log.statements c.args.place c.args.statement.now c.requires.at _ c.run.new.window.outputs c.deed_at.result leads.1 c.deed_at.ensures
 
 pub make-requires-clause-owners : goal.make-requires-clause-owners
 make-requires-clause-owners c =
-    make_owners c.args.log.now.log.statements c.args.place c.args.statement.now c.requires.at c.args.book.now c.requires.stands.booked c.requires.known c.requires.form
+    make_owners c.args.log.now.log.statements c.args.place c.args.statement.now c.requires.at c.args.state.now.book c.requires.stands.booked c.requires.known c.requires.form
 
 pub make-requires-clause-table : goal.make-requires-clause-table
 make-requires-clause-table c =
-    make_table c.args.log.now.log.statements c.args.place c.args.statement.now c.requires.at c.args.book.now c.requires.stands.booked c.requires.known true c.deed_at.result c.deed_at.ensures
+    make_table c.args.log.now.log.statements c.args.place c.args.statement.now c.requires.at c.args.state.now.book c.requires.stands.booked c.requires.known true c.deed_at.result c.deed_at.ensures
 
 pub pass-requires : goal.pass-requires
 pass-requires c =
@@ -42,13 +42,10 @@ pub returns-in_ok-deed-in-Completed-clause-came : goal.returns-in_ok-deed-in-Com
 returns-in_ok-deed-in-Completed-clause-came c =
     let log = c.args.log.now.log.statements in
     let leads = ended-leads c.args.log.now.log.statements c.args.place c.args.statement.now c.requires.at c.requires.form c.requires.admitted
-    c.args.chains.now c.mark-mark.ensures.within c.args.book.now c.requires.stands c.fill_window.new.window c.run.new.window
+    c.args.state.now.chains c.mark-mark.ensures.within c.args.state.now.book c.requires.stands c.fill_window.new.window c.run.new.window
     c.fill_window.ensures.shows c.run.result BodyEnd.Completed c.in-Completed.is c.run.ensures.ends in
-    let made = c.in_ok-deed-in-Completed.ensures.told ∙ ap (deed_done (owners log) (world_before log c.args.place)) c.deed_at.ensures in (
-      Outcome.Done c.outputs-outputs.result c.in_ok-deed-in-Completed.deed,
-      leads.0 ∙ (λ i. Some (Outcome.Done (sym c.outputs-outputs.ensures i) (sym made i))),
-      c.push_reserved.ensures.items,
-    )
+    let made = c.in_ok-deed-in-Completed.ensures.told ∙ ap (deed_done (owners log) (world_before log c.args.place)) c.deed_at.ensures in
+    leads.0 ∙ (λ i. Some (Outcome.Done (sym c.outputs-outputs.ensures i) (sym made i)))
 
 pub returns-in_ok-deed-in-Completed-clause-stands : goal.returns-in_ok-deed-in-Completed-clause-stands
 returns-in_ok-deed-in-Completed-clause-stands c =
@@ -58,7 +55,7 @@ returns-in_ok-deed-in-Completed-clause-stands c =
     let rows : Rows = rows_before log place in
     let contents = c.run.new.window.rows in
     let leads = ended-leads c.args.log.now.log.statements c.args.place c.args.statement.now c.requires.at c.requires.form c.requires.admitted
-    c.args.chains.now c.mark-mark.ensures.within c.args.book.now c.requires.stands c.fill_window.new.window c.run.new.window
+    c.args.state.now.chains c.mark-mark.ensures.within c.args.state.now.book c.requires.stands c.fill_window.new.window c.run.new.window
     c.fill_window.ensures.shows c.run.result BodyEnd.Completed c.in-Completed.is c.run.ensures.ends in
     let taken = got (IsAccepted c.args.log.now.log.names) log place statement c.dropped-dropped.ensures.whole.taken c.requires.at in
     let few : length (accesses_of statement.form) ≤ length contents = omega (arith, c.row-row.ensures.whole, few_accesses statement.form taken.runnable) in
@@ -73,32 +70,28 @@ returns-in_ok-deed-in-Completed-clause-stands c =
 
 pub returns-in-Aborted-clause-came : goal.returns-in-Aborted-clause-came
 returns-in-Aborted-clause-came c =
-    let leads =
-    ended-leads c.args.log.now.log.statements c.args.place c.args.statement.now c.requires.at c.requires.form c.requires.admitted
-    c.args.chains.now c.mark-mark.ensures.within c.args.book.now c.requires.stands c.fill_window.new.window c.run.new.window
-    c.fill_window.ensures.shows c.run.result (BodyEnd.Aborted c.in-Aborted.step c.in-Aborted.reason) c.in-Aborted.is c.run.ensures.ends in
-    (Outcome.Aborted c.in-Aborted.step c.in-Aborted.reason, leads.0, c.push_reserved-in-Aborted.ensures.items)
+    (ended-leads c.args.log.now.log.statements c.args.place c.args.statement.now c.requires.at c.requires.form c.requires.admitted
+    c.args.state.now.chains c.mark-mark.ensures.within c.args.state.now.book c.requires.stands c.fill_window.new.window c.run.new.window
+    c.fill_window.ensures.shows c.run.result (BodyEnd.Aborted c.in-Aborted.step c.in-Aborted.reason) c.in-Aborted.is c.run.ensures.ends).0
 
 pub returns-in-Aborted-clause-stands : goal.returns-in-Aborted-clause-stands
 returns-in-Aborted-clause-stands c =
     let leads = ended-leads c.args.log.now.log.statements c.args.place c.args.statement.now c.requires.at c.requires.form c.requires.admitted
-    c.args.chains.now c.mark-mark.ensures.within c.args.book.now c.requires.stands c.fill_window.new.window c.run.new.window
+    c.args.state.now.chains c.mark-mark.ensures.within c.args.state.now.book c.requires.stands c.fill_window.new.window c.run.new.window
     c.fill_window.ensures.shows c.run.result (BodyEnd.Aborted c.in-Aborted.step c.in-Aborted.reason) c.in-Aborted.is c.run.ensures.ends in
-    same-stands c.args.log.now.log.statements c.args.place c.args.statement.now c.requires.at c.args.chains.now c.pass.new.self c.args.book.now c.requires.stands
+    same-stands c.args.log.now.log.statements c.args.place c.args.statement.now c.requires.at c.args.state.now.chains c.pass.new.self c.args.state.now.book c.requires.stands
     c.requires.known c.requires.form c.pass.ensures.store c.pass.ensures.right leads.1
 
 pub returns-in-Undeclared-clause-came : goal.returns-in-Undeclared-clause-came
 returns-in-Undeclared-clause-came c =
-    let leads =
-    ended-leads c.args.log.now.log.statements c.args.place c.args.statement.now c.requires.at c.requires.form c.requires.admitted
-    c.args.chains.now c.mark-mark.ensures.within c.args.book.now c.requires.stands c.fill_window.new.window c.run.new.window
-    c.fill_window.ensures.shows c.run.result (BodyEnd.Undeclared c.in-Undeclared.step) c.in-Undeclared.is c.run.ensures.ends in
-    (Outcome.Undeclared c.in-Undeclared.step, leads.0, c.push_reserved-in-Undeclared.ensures.items)
+    (ended-leads c.args.log.now.log.statements c.args.place c.args.statement.now c.requires.at c.requires.form c.requires.admitted
+    c.args.state.now.chains c.mark-mark.ensures.within c.args.state.now.book c.requires.stands c.fill_window.new.window c.run.new.window
+    c.fill_window.ensures.shows c.run.result (BodyEnd.Undeclared c.in-Undeclared.step) c.in-Undeclared.is c.run.ensures.ends).0
 
 pub returns-in-Undeclared-clause-stands : goal.returns-in-Undeclared-clause-stands
 returns-in-Undeclared-clause-stands c =
     let leads = ended-leads c.args.log.now.log.statements c.args.place c.args.statement.now c.requires.at c.requires.form c.requires.admitted
-    c.args.chains.now c.mark-mark.ensures.within c.args.book.now c.requires.stands c.fill_window.new.window c.run.new.window
+    c.args.state.now.chains c.mark-mark.ensures.within c.args.state.now.book c.requires.stands c.fill_window.new.window c.run.new.window
     c.fill_window.ensures.shows c.run.result (BodyEnd.Undeclared c.in-Undeclared.step) c.in-Undeclared.is c.run.ensures.ends in
-    same-stands c.args.log.now.log.statements c.args.place c.args.statement.now c.requires.at c.args.chains.now c.pass-in-Undeclared.new.self c.args.book.now c.requires.stands
+    same-stands c.args.log.now.log.statements c.args.place c.args.statement.now c.requires.at c.args.state.now.chains c.pass-in-Undeclared.new.self c.args.state.now.book c.requires.stands
     c.requires.known c.requires.form c.pass-in-Undeclared.ensures.store c.pass-in-Undeclared.ensures.right leads.1

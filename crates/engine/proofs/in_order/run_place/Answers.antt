@@ -13,29 +13,26 @@ returns-then-creates-clause-stands c =
     let log = c.args.log.now.log.statements in
     let statement = c.statement-statement.result.now in
     let leads = created-leads log c.args.place statement c.statement-statement.ensures.at (sym c.creates.ensures ∙ c.if-creates.true) in
-    pass-stands log c.args.place c.args.chains.now c.pass.new.self c.args.book.now c.create.new.book c.requires.stands c.pass.ensures.store c.pass.ensures.right leads.1
+    pass-stands log c.args.place c.args.state.now.chains c.pass.new.self c.args.state.now.book c.create.new.book c.requires.stands c.pass.ensures.store c.pass.ensures.right leads.1
     c.in_ok-create.ensures.ok
 
 pub admit-requires-clause-covered : goal.admit-requires-clause-covered
 admit-requires-clause-covered c =
-    covers-needs c.args.log.now.log.statements c.args.place c.statement-statement.result.now c.statement-statement.ensures.at c.args.book.now c.requires.stands.booked c.requires.named
+    covers-needs c.args.log.now.log.statements c.args.place c.statement-statement.result.now c.statement-statement.ensures.at c.args.state.now.book c.requires.stands.booked c.requires.named
 
 pub run_admitted-requires-clause-admitted : goal.run_admitted-requires-clause-admitted
 run_admitted-requires-clause-admitted c =
     let log = c.args.log.now.log.statements in
     let value = c.admit.ensures.value in
-    let is = sym c.in-Admitted.is ∙ value (owners log) (deeds_before log c.args.place) (shows-past log c.args.place c.args.book.now c.requires.stands.booked) in
+    let is = sym c.in-Admitted.is ∙ value (owners log) (deeds_before log c.args.place) (shows-past log c.args.place c.args.state.now.book c.requires.stands.booked) in
     lacks-none (owners log) (deeds_before log c.args.place) c.statement-statement.result.now.user _ is
 
 pub returns-in-Denied-clause-came : goal.returns-in-Denied-clause-came
 returns-in-Denied-clause-came c =
     let log = c.args.log.now.log.statements in
     let value = c.admit.ensures.value in
-    let is = sym c.in-Denied.is ∙ value (owners log) (deeds_before log c.args.place) (shows-past log c.args.place c.args.book.now c.requires.stands.booked) in (
-      Outcome.Denied c.in-Denied.need c.in-Denied.cause,
-      (denied-leads log c.args.place c.statement-statement.result.now c.statement-statement.ensures.at (sym c.creates.ensures ∙ c.if-creates.false) c.in-Denied.need c.in-Denied.cause is).0,
-      c.push_reserved-in-Denied.ensures.items,
-    )
+    let is = sym c.in-Denied.is ∙ value (owners log) (deeds_before log c.args.place) (shows-past log c.args.place c.args.state.now.book c.requires.stands.booked) in
+    (denied-leads log c.args.place c.statement-statement.result.now c.statement-statement.ensures.at (sym c.creates.ensures ∙ c.if-creates.false) c.in-Denied.need c.in-Denied.cause is).0
 
 pub returns-in-Denied-clause-stands : goal.returns-in-Denied-clause-stands
 returns-in-Denied-clause-stands c =
@@ -44,8 +41,8 @@ returns-in-Denied-clause-stands c =
     let at = c.statement-statement.ensures.at in
     let other = sym c.creates.ensures ∙ c.if-creates.false in
     let value = c.admit.ensures.value in
-    let is = sym c.in-Denied.is ∙ value (owners log) (deeds_before log c.args.place) (shows-past log c.args.place c.args.book.now c.requires.stands.booked) in
+    let is = sym c.in-Denied.is ∙ value (owners log) (deeds_before log c.args.place) (shows-past log c.args.place c.args.state.now.book c.requires.stands.booked) in
     let leads = denied-leads log c.args.place statement at other c.in-Denied.need c.in-Denied.cause is in
     subst (λ (book : Entries). IsRunState log (c.args.place + 1) c.pass-in-Denied.new.self book) (sym c.admit.ensures.same)
-    (same-stands log c.args.place statement at c.args.chains.now c.pass-in-Denied.new.self c.args.book.now c.requires.stands c.requires.known other
+    (same-stands log c.args.place statement at c.args.state.now.chains c.pass-in-Denied.new.self c.args.state.now.book c.requires.stands c.requires.known other
     c.pass-in-Denied.ensures.store c.pass-in-Denied.ensures.right leads.1)

@@ -1,4 +1,4 @@
-use Rattle.std.proofs.Common.{◌≡◌, ◌+◌, ◌++◌, ◌∷◌, inl, inr, [], ◌%◌, ℕ, List, suc, length, ap, arith, sym, ◌∙◌, subst}
+use Rattle.std.proofs.Common.{◌≡◌, ◌+◌, ◌++◌, ◌∷◌, inl, inr, ℕ, suc, length, ap, arith, ◌∙◌, subst}
 use Rattle.workers.specs.Placing.{dealt}
 use Rattle.workers.proofs.Dealing.{given_all, given_elsewhere, given_here, none_left}
 use Rattle.workers.proofs.placing.deal.Goals as goal

@@ -1,4 +1,4 @@
-use Rattle.std.proofs.Common.{◌≡◌, refl, arith, sym, ap, ◌∙◌, inl, inr, length}
+use Rattle.std.proofs.Common.{refl, arith, ap, ◌∙◌, inl, inr, length}
 use Rattle.std.proofs.lemmas.Option.{slice_get_read}
 use Rattle.workers.proofs.Dealing.{set_or_old}
 use Rattle.workers.proofs.placing.give.Goals as goal

@@ -1,4 +1,4 @@
-use Rattle.std.proofs.Common.{◌≡◌, ap, arith, ◌∙◌}
+use Rattle.std.proofs.Common.{arith}
 use Rattle.workers.proofs.placing.place_all.Goals as goal
 
 pub loop-count-preserved : goal.loop-count-preserved
@@ -9,5 +9,4 @@ loop-count-preserved g c = λ index placer is.
 pub returns : goal.returns
 returns g c = λ _. λ index placer is.
     let placed = c.loop-count.invariant index placer is in
-    let size = c.places-count-end.ensures.value ∙ ap (λ key. (g.K.BatchData.batch key).size) c.key.ensures in
-    (placed.0, omega (arith, placed.1, c.loop-count-test.false, size))
+    (placed.0, omega (arith, placed.1, c.loop-count-test.false, c.places-count-end.ensures))

@@ -4,5 +4,5 @@ use Rattle.workers.proofs.placing.place_round.Given as goal
 abbrev pub invariant-loop-placer : goal.invariant-loop-placer
 invariant-loop-placer g l =
     (index : ℕ) (placer : _) → slice_get l.placers index ≡ Some placer
-    → g.P.BatchPlacer.is_of l.batch placer × (l.count ≤ g.P.BatchPlacer.front placer)
+    → g.P.BatchPlacer.is_of l.shared placer × (l.count ≤ g.P.BatchPlacer.front placer)
     × (index < l.placer-index → suc l.count ≤ g.P.BatchPlacer.front placer)

@@ -1,6 +1,5 @@
-use Rattle.std.proofs.Common.{◌<◌, ◌≤◌, ℕ, List, [], arith, inl, inr}
+use Rattle.std.proofs.Common.{arith, inl, inr}
 use Rattle.std.proofs.lemmas.Bool.{cases_lt}
-use Rattle.words.specs.Views.{In}
 use Rattle.workers.proofs.Going.{in_none}
 use Rattle.workers.proofs.sweep.all_places.Goals as goal
 

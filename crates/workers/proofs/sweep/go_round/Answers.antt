@@ -1,12 +1,10 @@
-use Rattle.std.proofs.Common.{◌≡◌, ap, sym, subst}
-use Rattle.workers.specs.Working.{AreLeft}
 use Rattle.workers.proofs.Going.{left_done, left_first, left_open, on_and_on}
 use Rattle.workers.proofs.sweep.go_round.Goals as goal
 use Rattle.workers.proofs.sweep.go_round.Goals.{in-Done, in-Open}
 
 pub ask-next-requires-clause-within : goal.ask-next-requires-clause-within
 ask-next-requires-clause-within g c =
-    left_first (g.K.BatchData.batch c.args.batch.now.key).size c.in-Some.index c.loop.last.view.known c.loop.rest.items c.pop_front.new.self.items
+    left_first (g.K.BatchData.batch c.args.shared.now.key).size c.in-Some.index c.loop.last.view.known c.loop.rest.items c.pop_front.new.self.items
     c.in-Some.ensures.items c.loop.invariant.left
 
 pub returns-in-Stopped-clause-on : goal.returns-in-Stopped-clause-on
@@ -14,7 +12,7 @@ returns-in-Stopped-clause-on g c = on_and_on c.args.pass c.loop.last c.ask-next.
 
 pub loop-preserved : goal.loop-preserved
 loop-preserved g c =
-    let size = (g.K.BatchData.batch c.args.batch.now.key).size in
+    let size = (g.K.BatchData.batch c.args.shared.now.key).size in
     let index = c.in-Some.index in
     let known = c.loop.last.view.known in
     let after = c.ask-next.result.0.view.known in

@@ -5,7 +5,7 @@ use Rattle.workers.proofs.sweep.sweep.Goals as goal
 pub returns-then-count-eq0-clause-all : goal.returns-then-count-eq0-clause-all
 returns-then-count-eq0-clause-all g c = λ all.
     let none : length c.loop.rest.items ≡ 0 = sym c.loop.rest.ok.0 ∙ sym c.len-count.ensures ∙ c.if-count-eq0.true in
-    left_none (g.K.BatchData.batch c.args.batch.now.key).size c.loop.last.view c.loop.rest.items (none_of c.loop.rest.items none) c.loop.invariant.left
+    left_none (g.K.BatchData.batch c.args.shared.now.key).size c.loop.last.view c.loop.rest.items (none_of c.loop.rest.items none) c.loop.invariant.left
 
 pub returns-then-not-is_over-clause-on : goal.returns-then-not-is_over-clause-on
 returns-then-not-is_over-clause-on g c = on_and_on c.args.pass c.look-looked.result c.go_round-next.result.0
@@ -27,5 +27,5 @@ loop-preserved g c = record {
 
 pub go_round-next-requires-clause-left : goal.go_round-next-requires-clause-left
 go_round-next-requires-clause-left g c =
-    left_more (g.K.BatchData.batch c.args.batch.now.key).size c.loop.last.view.known c.look-looked.result.view.known c.loop.rest.items
+    left_more (g.K.BatchData.batch c.args.shared.now.key).size c.loop.last.view.known c.look-looked.result.view.known c.loop.rest.items
     c.look-looked.ensures.knows c.loop.invariant.left

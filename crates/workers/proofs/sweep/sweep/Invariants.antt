@@ -4,5 +4,5 @@ use Rattle.workers.proofs.sweep.sweep.Given as goal
 abbrev pub invariant-loop : goal.invariant-loop
 invariant-loop g l = record {
   on : GoesOn l.fn.pass l.last;
-  left : AreLeft (g.K.BatchData.batch l.batch.key).size l.last.view.known l.rest.items;
+  left : AreLeft (g.K.BatchData.batch l.shared.key).size l.last.view.known l.rest.items;
 }

@@ -12,6 +12,6 @@ returns-clause-on g t c =
 
 pub returns-clause-all : goal.returns-clause-all
 returns-clause-all g t c = λ done.
-    subst (λ (after : PassState). KnowsAll (g.K.BatchData.batch c.args.batch.now.key).size after.view) (sym c.join.ensures)
-    (joined_all (g.K.BatchData.batch c.args.batch.now.key).size c.work_below-pass.result.0 c.join-other.result.0
+    subst (λ (after : PassState). KnowsAll (g.K.BatchData.batch c.args.shared.now.key).size after.view) (sym c.join.ensures)
+    (joined_all (g.K.BatchData.batch c.args.shared.now.key).size c.work_below-pass.result.0 c.join-other.result.0
     (c.work_below-pass.ensures.all (worse_done c.work_below-pass.result.1 c.join-other.result.1 (sym c.both.ensures ∙ done))))

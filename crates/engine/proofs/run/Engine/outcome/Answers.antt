@@ -9,7 +9,7 @@ pub returns-then-index-len : goal.returns-then-index-len
 returns-then-index-len c =
     let e = c.self.inside in
     let place = c.args.place in
-    let run : Run = record { log = e.log.log; store = e.chains; book = e.book; outcomes = e.past.items ++ e.outcomes.items; dropped = e.log.dropped } in
+    let run : Run = record { log = e.log.log; store = e.state.chains; book = e.state.book; outcomes = e.past.items ++ e.outcomes.items; dropped = e.log.dropped } in
     let count : finished run ≡ e.log.dropped + length e.outcomes.items = length-append e.past.items e.outcomes.items ∙ ap (λ n. n + length e.outcomes.items) c.self.invariant.same in
     let above : e.log.dropped ≤ place = omega (arith, c.if-place-dropped.false, c.dropped-dropped.ensures.count) in
     let within : place - e.log.dropped < length e.outcomes.items = omega (arith, c.if-index-len.true, c.len.ensures, e.outcomes.len, c.dropped-dropped.ensures.count) in

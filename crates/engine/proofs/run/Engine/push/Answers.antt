@@ -8,7 +8,7 @@ use Rattle.engine.proofs.run.Engine.push.Goals as goal
 pub invariant_of-self : goal.invariant_of-self
 invariant_of-self c =
     let e = c.self.inside in
-    pushed e.log e.chains e.book (e.past.items ++ e.outcomes.items) c.self.invariant.is c.dropped-dropped.ensures.whole c.dropped-dropped.ensures.own_tables
+    pushed e.log e.state.chains e.state.book (e.past.items ++ e.outcomes.items) c.self.invariant.is c.dropped-dropped.ensures.whole c.dropped-dropped.ensures.own_tables
     e.past.items c.self.invariant.same c.args.statement.now c.push.new.self c.push.result c.push.ensures.accepted c.push.ensures.passes c.push.ensures.err
 
 pub returns-clause-passes : goal.returns-clause-passes

@@ -9,7 +9,7 @@ use Rattle.engine.proofs.run.Engine.push_read.Goals as goal
 pub invariant_of-self : goal.invariant_of-self
 invariant_of-self c =
     let e = c.self.inside in
-    pushed e.log e.chains e.book (e.past.items ++ e.outcomes.items) c.self.invariant.is c.dropped-dropped.ensures.whole c.dropped-dropped.ensures.own_tables
+    pushed e.log e.state.chains e.state.book (e.past.items ++ e.outcomes.items) c.self.invariant.is c.dropped-dropped.ensures.whole c.dropped-dropped.ensures.own_tables
     e.past.items c.self.invariant.same (sentence_of c.args.read.now) c.push_read.new.self c.push_read.result c.push_read.ensures.accepted c.push_read.ensures.passes c.push_read.ensures.err
 
 pub returns-clause-passes : goal.returns-clause-passes
