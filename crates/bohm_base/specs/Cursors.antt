@@ -5,5 +5,5 @@ use Rattle.bohm_base.specs.declared.report_cursor.ReportCursor.{ReportCursor}
 use Rattle.bohm_base.specs.Collecting.{line_outcome_text}
 
 -- the report's line for a line that is there
-abbrev pub line_text : ReportCursor → LineOutcome → List ℕ
-line_text cursor line = line_outcome_text cursor.log.now.statements cursor.log.now.names.tables cursor.number cursor.place line
+abbrev pub text_at : ReportCursor → LineOutcome → List ℕ
+text_at cursor line = line_outcome_text cursor.log.now.statements cursor.log.now.names.tables cursor.number cursor.place line

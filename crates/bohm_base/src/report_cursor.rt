@@ -28,7 +28,7 @@ impl ReportCursor<'_> {
     ghost use Rattle.line_io.specs.Known.{HasBegun, MovesOut};
     ghost use Rattle.report.specs.Report.{place_text};
     ghost use Rattle.bohm_base.specs.Collecting.{MayLackRoom};
-    ghost use Rattle.bohm_base.specs.Cursors.{line_text};
+    ghost use Rattle.bohm_base.specs.Cursors.{text_at};
     ghost use Rattle.bohm_base.specs.Faults.{write_errors};
 
     /// Appends the report's line for the place to the text, or nothing for a place that the log does not have.
@@ -49,7 +49,7 @@ impl ReportCursor<'_> {
 
     /// Appends the report's line for the line to the text. An accepted line has the place.
     fn put_line(&self, text: &mut Vec<u8>, line: LineOutcome) -> Result<(), AllocError>
-        ensures ok { OnOk result (text.new.items ≡ text.old.items ++ line_text self.now line) }
+        ensures ok { OnOk result (text.new.items ≡ text.old.items ++ text_at self.now line) }
         ensures want { OnErr result (MayLackRoom self.now.number text.old line) }
     {
         match line {
@@ -69,9 +69,9 @@ impl ReportCursor<'_> {
         line: LineOutcome,
     ) -> Result<(), EngineFault>
         ensures ok { OnOk result (MovesOut (W.contents writer.old.inner) (W.contents writer.new.inner)
-            (pending.old.items ++ line_text self.now line) pending.new.items) }
+            (pending.old.items ++ text_at self.now line) pending.new.items) }
         ensures begun { HasBegun (W.contents writer.old.inner) (W.contents writer.new.inner) pending.new.items
-            (pending.old.items ++ line_text self.now line) }
+            (pending.old.items ++ text_at self.now line) }
         ensures errors { writer.new.errors ≡ write_errors result writer.old.errors }
         ensures flushes { writer.new.flushes ≡ writer.old.flushes }
         ensures err { IfErr result (λ f. f ≢ EngineFault.Read) }

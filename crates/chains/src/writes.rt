@@ -39,7 +39,8 @@ pub(crate) fn note_if_absent(
     row: &Option<Row>,
 )
     requires { deque_len writes.old < deque_capacity writes.old }
-    ensures items { writes.new.items ≡ (if is_none row.now then writes.old.items ++ record { place = place; key = key } ∷ [] else writes.old.items) }
+    ensures items { writes.new.items ≡ (if is_none row.now
+        then writes.old.items ++ record { place = place; key = key } ∷ [] else writes.old.items) }
     ensures len { deque_len writes.new ≤ deque_len writes.old + 1 }
     ensures capacity { deque_capacity writes.new ≡ deque_capacity writes.old }
 {

@@ -12,7 +12,7 @@ use Rattle.engine.specs.RunState.{IsRunState}
 use Rattle.filling.specs.FinishedRange.{AreOutcomes}
 
 -- the range lies in the log, its statements are kept, and the state is the one before it
-pub record IsNext (tail : Tail) (first end : ℕ) (state : RunState) : Type 0 where
+pub record IsNextRange (tail : Tail) (first end : ℕ) (state : RunState) : Type 0 where
   pub order : first ≤ end
   pub kept : tail.dropped ≤ first
   pub within : end ≤ length tail.log.statements

@@ -4,7 +4,7 @@ ghost use Rattle.std.specs.Prelude.{◌≡◌, ◌-◌, OnErr, OnOk};
 ghost use Rattle.chains.specs.Store.{versions_between};
 ghost use Rattle.engine.specs.Known.{AreKnown};
 ghost use Rattle.engine.specs.RunState.{IsRunState};
-ghost use Rattle.engine.specs.Running.{IsNext};
+ghost use Rattle.engine.specs.Running.{IsNextRange};
 ghost use Rattle.filling.specs.FinishedRange.{AreOutcomes};
 
 use crate::changes::BookChanges;
@@ -25,7 +25,7 @@ pub fn advance(
     versions: Vec<Version>,
     range: Range<Place>,
 ) -> Result<(), AllocError>
-    requires next { IsNext log.now range.start range.end state.old }
+    requires next { IsNextRange log.now range.start range.end state.old }
     requires known { AreKnown log.now.log.statements }
     requires came { AreOutcomes log.now.log.statements range.start (range.end - range.start) outcomes.now }
     requires left { versions.items ≡ versions_between log.now.log.statements range.start range.end }

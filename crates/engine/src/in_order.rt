@@ -10,7 +10,7 @@ ghost use Rattle.model_base.specs.Outcomes.{missing, outcome, owners, world_befo
 ghost use Rattle.own_words.specs.Words.{creates};
 ghost use Rattle.engine.specs.Known.{AreKnown, AreNamed};
 ghost use Rattle.engine.specs.RunState.{IsRunState};
-ghost use Rattle.engine.specs.Running.{AddsFrom, HasRun, IsNext};
+ghost use Rattle.engine.specs.Running.{AddsFrom, HasRun, IsNextRange};
 ghost use Rattle.filling.specs.FinishedRange.{AreOutcomes};
 
 use crate::booking::{create, creates, make};
@@ -24,6 +24,7 @@ use std::ops::Range;
 use workers::Gate;
 
 /// Runs the body of a statement whose needs are all held, and makes its deed if the body completes. On `Err`, out of memory.
+#[inline(always)]
 fn run_admitted(
     alloc: Global,
     state: &mut RunState,
@@ -68,6 +69,7 @@ fn run_admitted(
 }
 
 /// Runs a place over the state before it, which is then the one before the next place. On `Err`, out of memory.
+#[inline(always)]
 fn run_place(
     alloc: Global,
     state: &mut RunState,
@@ -109,7 +111,7 @@ fn run_places<G: Gate>(
     gate: &G,
     outcomes: &mut Vec<Outcome>,
 ) -> Result<(), AllocError>
-    requires next { IsNext log.now range.start range.end state.old }
+    requires next { IsNextRange log.now range.start range.end state.old }
     requires known { AreKnown log.now.log.statements }
     requires named { AreNamed log.now.log.statements }
     ensures stands { OnOk result (IsRunState log.now.log.statements range.end state.new.chains state.new.book) }
@@ -141,7 +143,7 @@ pub fn run_in_order<G: Gate>(
     gate: &G,
     outcomes: &mut Vec<Outcome>,
 ) -> Result<(), AllocError>
-    requires next { IsNext log.now range.start range.end state.old }
+    requires next { IsNextRange log.now range.start range.end state.old }
     requires known { AreKnown log.now.log.statements }
     requires named { AreNamed log.now.log.statements }
     ensures ok { OnOk result (HasRun log.now.log.statements range.start range.end state.old state.new

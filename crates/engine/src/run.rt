@@ -4,7 +4,7 @@ ghost use Rattle.std.specs.Prelude.{◌≡◌, ◌≢◌, ◌<◌, ◌≤◌, �
 ghost use Rattle.chains.specs.Store.{versions_between};
 ghost use Rattle.engine.specs.Known.{AreKnown, AreNamed};
 ghost use Rattle.engine.specs.RunState.{IsRunState};
-ghost use Rattle.engine.specs.Running.{HasRun, IsNext};
+ghost use Rattle.engine.specs.Running.{HasRun, IsNextRange};
 ghost use Rattle.filling.specs.FinishedRange.{AreOutcomes};
 
 use crate::commit::advance;
@@ -85,7 +85,7 @@ fn ran<T: Threads + Wait + Sync, G: Gate + Sync>(
 ) -> Result<DecodedBatch, RunFault>
     requires partitions { 0 < runner.now.crew.partitions }
     requires some { range.start < range.end }
-    requires next { IsNext log.now range.start range.end state.now }
+    requires next { IsNextRange log.now range.start range.end state.now }
     ensures outcomes { IfOk result (λ taken. AreOutcomes log.now.log.statements range.start
         (range.end - range.start) taken.outcomes.items) }
     ensures versions { IfOk result (λ taken. taken.versions.items ≡ versions_between log.now.log.statements range.start range.end) }
@@ -119,7 +119,7 @@ fn run_by_workers<T: Threads + Wait + Sync, G: Gate + Sync>(
 ) -> Result<(), RunFault>
     requires partitions { 0 < runner.now.crew.partitions }
     requires some { range.start < range.end }
-    requires next { IsNext log.now range.start range.end state.old }
+    requires next { IsNextRange log.now range.start range.end state.old }
     requires known { AreKnown log.now.log.statements }
     ensures ok { OnOk result (HasRun log.now.log.statements range.start range.end state.old state.new
         outcomes.old.items outcomes.new.items) }
@@ -160,7 +160,7 @@ fn run_range<T: Threads + Wait + Sync, G: Gate + Sync>(
     outcomes: &mut Vec<Outcome>,
 ) -> Result<(), RunFault>
     requires partitions { 0 < runner.now.crew.partitions }
-    requires next { IsNext log.now range.start range.end state.old }
+    requires next { IsNextRange log.now range.start range.end state.old }
     requires known { AreKnown log.now.log.statements }
     requires named { AreNamed log.now.log.statements }
     ensures ok { OnOk result (HasRun log.now.log.statements range.start range.end state.old state.new

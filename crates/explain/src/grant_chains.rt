@@ -20,6 +20,22 @@ fn is_in_force(entry: &Record, place: Place) -> bool
     entry.grant.place < place && entry.end.is_none_or(|end| place <= end)
 }
 
+/// The grant that was made at one place, if it is in force before another. It takes a time that grows with the logarithm of
+/// the number of records.
+fn grant_at(records: &[Record], made: Place, place: Place) -> Option<Grant>
+    requires { IsRising (recorded records.now) }
+    ensures { result ≡ grant_at made (in_force_at place records.now) }
+{
+    let slot = records.partition_point(|record| record.grant.place < made);
+    if slot < records.len() {
+        let record = records[slot];
+        if record.grant.place == made && is_in_force(&record, place) {
+            return Some(record.grant);
+        }
+    }
+    None
+}
+
 /// Whether the next grant goes on from this one: it is later, and by who has the option from this one.
 fn goes_on(grant: &Grant, next: &Grant) -> bool
     ensures { result ≡ leads_to_next grant.now next.now }
@@ -27,61 +43,49 @@ fn goes_on(grant: &Grant, next: &Grant) -> bool
     grant.place < next.place && grant.gives(next.grantor, &option_of(next))
 }
 
-/// The check of a chain for what a user needs at a place, by the records of all grants.
-#[derive(Clone, Copy)]
-struct ChainCheck<'a> {
-    records: &'a [Record],
+/// Whether the grants that were made at these places, in force before another, lead on from a grant to what the user needs.
+fn leads_on(
+    records: &[Record],
     place: Place,
+    first: Grant,
+    later: &[Place],
     user: User,
-    need: &'a Need,
-    ghost rising: { IsRising (recorded records.now) },
+    need: &Need,
+) -> bool
+    requires { IsRising (recorded records.now) }
+    ensures { result ≡ leads_on (in_force_at place records.now) first later.now user need.now }
+{
+    let mut grant = first;
+    for made in later {
+        match grant_at(records, *made, place) {
+            Some(next) if goes_on(&grant, &next) => grant = next,
+            _ => return false,
+        }
+    }
+    grant.gives(user, need)
 }
 
-impl ChainCheck<'_> {
-    /// The grant that was made at this place, if it is in force at the place of the check. It takes a time that grows with the logarithm of
-    /// the number of records.
-    fn grant_at(&self, made: Place) -> Option<Grant>
-        ensures { result ≡ grant_at made (in_force_at self.now.place self.now.records.now) }
-    {
-        let records = self.records;
-        let slot = records.partition_point(|record| record.grant.place < made);
-        if slot < records.len() {
-            let record = records[slot];
-            if record.grant.place == made && is_in_force(&record, self.place) {
-                return Some(record.grant);
-            }
+/// Whether the grant that was made at one place is one by the owner from which those after it lead on to the need.
+fn bears(
+    records: &[Record],
+    place: Place,
+    owner: User,
+    user: User,
+    need: &Need,
+    made: Place,
+    later: &[Place],
+) -> bool
+    requires { IsRising (recorded records.now) }
+    ensures { result ≡ bears_path (in_force_at place records.now) owner user need.now later.now
+        (grant_at made (in_force_at place records.now)) }
+{
+    match grant_at(records, made, place) {
+        Some(first) => {
+            first.table == need.table
+                && first.grantor == owner
+                && leads_on(records, place, first, later, user, need)
         }
-        None
-    }
-
-    /// Whether the grants that were made at these places lead on from a grant to what the user needs.
-    fn leads_on(&self, first: Grant, later: &[Place]) -> bool
-        ensures { result
-            ≡ leads_on (in_force_at self.now.place self.now.records.now) first later.now self.now.user self.now.need.now }
-    {
-        let mut grant = first;
-        for made in later {
-            match self.grant_at(*made) {
-                Some(next) if goes_on(&grant, &next) => grant = next,
-                _ => return false,
-            }
-        }
-        grant.gives(self.user, self.need)
-    }
-
-    /// Whether the grant that was made at one place is one by the owner from which those after it lead on to the need.
-    fn bears(&self, owner: User, made: Place, later: &[Place]) -> bool
-        ensures { let grants = in_force_at self.now.place self.now.records.now in
-            result ≡ bears_path grants owner self.now.user self.now.need.now later.now (grant_at made grants) }
-    {
-        match self.grant_at(made) {
-            Some(first) => {
-                first.table == self.need.table
-                    && first.grantor == owner
-                    && self.leads_on(first, later)
-            }
-            None => false,
-        }
+        None => false,
     }
 }
 
@@ -107,11 +111,5 @@ pub fn is_chain(book: &Book, place: Place, user: User, need: &Need, places: &[Pl
     let Some((made, later)) = places.split_first() else {
         return false;
     };
-    let check = ChainCheck {
-        records,
-        place,
-        user,
-        need,
-    };
-    check.bears(owner, *made, later)
+    bears(records, place, owner, user, need, *made, later)
 }

@@ -120,5 +120,6 @@ pub(crate) fn stored_references(
     let references = batch.references_at(index);
     let first = batch.first_place();
     let old = state.references(index);
-    replaced(alloc, first, references, &partitions, partition, old)
+    let kept = replaced(alloc, first, references, &partitions, partition, old)?;
+    Ok(kept)
 }

@@ -7,24 +7,17 @@ use crate::fault::TrialFault;
 use crate::known::are_known;
 use crate::logs::WholeLog;
 use chains::Chains;
-use engine::{RememberingBook, run_in_order};
+use engine::{RememberingBook, RunState, run_in_order};
 use model_base::Place;
 use std::alloc::Global;
 use workers::NoGate;
 
-/// The versions of rows and the book of grants before a place of a log.
-#[derive(Drop)]
-pub struct Before {
-    pub chains: Chains,
-    pub book: RememberingBook,
-}
-
 /// Nothing is before a log.
-fn nothing(alloc: Global, log: &WholeLog) -> Before
+fn nothing(alloc: Global, log: &WholeLog) -> RunState
     ensures { IsRunState log.now.statements 0 result.chains result.book }
 {
     let _log = log;
-    Before {
+    RunState {
         chains: Chains::new(alloc),
         book: RememberingBook::new(alloc),
     }
@@ -34,7 +27,7 @@ fn nothing(alloc: Global, log: &WholeLog) -> Before
 fn run_first(
     alloc: Global,
     log: &WholeLog,
-    before: &mut Before,
+    before: &mut RunState,
     place: Place,
 ) -> Result<(), TrialFault>
     requires before { IsRunState log.now.statements 0 before.old.chains before.old.book }
@@ -45,21 +38,13 @@ fn run_first(
         return Err(TrialFault::Unknown);
     }
     let mut outcomes = Vec::new(alloc);
-    run_in_order(
-        alloc,
-        &mut before.chains,
-        &mut before.book,
-        log.tail(),
-        0..place,
-        &NoGate,
-        &mut outcomes,
-    )?;
+    run_in_order(alloc, before, log.tail(), 0..place, &NoGate, &mut outcomes)?;
     Ok(())
 }
 
 /// What is before a place of a log: the places before it are run in order. An error says that memory ran out, or that a statement names a
 /// table that no earlier one creates.
-pub fn before_place(alloc: Global, log: &WholeLog, place: Place) -> Result<Before, TrialFault>
+pub fn before_place(alloc: Global, log: &WholeLog, place: Place) -> Result<RunState, TrialFault>
     requires within { place ≤ length log.now.statements }
     ensures { IfOk result (λ before. IsRunState log.now.statements place before.chains before.book) }
 {

@@ -10,6 +10,6 @@ mod fault;
 mod known;
 mod logs;
 
-pub use before::{Before, before_place};
+pub use before::before_place;
 pub use fault::TrialFault;
 pub use logs::{WholeLog, log_of};

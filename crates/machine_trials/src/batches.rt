@@ -5,8 +5,9 @@ ghost use Rattle.std.specs.List.{range_with_len};
 ghost use Rattle.placing.specs.Parts.{part_of};
 ghost use Rattle.engine.specs.RunState.{IsRunState};
 
+use engine::RunState;
 use log_batch::{LogBatch, StateBefore};
-use log_trials_base::{Before, WholeLog};
+use log_trials_base::WholeLog;
 use model_base::{MOST_PARTITIONS, Place};
 use placing::{Part, merge, place};
 use std::alloc::{AllocError, Global};
@@ -36,7 +37,7 @@ fn parts_of(
 pub fn new_batch<'a>(
     alloc: Global,
     log: &'a WholeLog,
-    before: &'a Before,
+    before: &'a RunState,
     range: Range<Place>,
     partitions: usize,
 ) -> Result<LogBatch<'a>, AllocError>

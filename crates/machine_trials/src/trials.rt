@@ -10,10 +10,11 @@ use crate::rows::{FIRST, LAST, MIDDLE};
 use crate::telling::{print_events, print_found};
 use bohm_core::Machine;
 use bohm_core_base::Event;
+use engine::RunState;
 use filling::{Finished, finish, take};
 use log_batch::{LogBatch, LogKey, LogWords, ended_slots};
 use log_machine::OfLog;
-use log_trials_base::{Before, TrialFault, WholeLog, before_place, log_of};
+use log_trials_base::{TrialFault, WholeLog, before_place, log_of};
 use model_base::Place;
 use std::alloc::{AllocError, Global};
 
@@ -169,7 +170,7 @@ fn try_range(
     rt: &impl Print,
     alloc: Global,
     log: &WholeLog,
-    before: &Before,
+    before: &RunState,
     trial: RangeTrial,
 ) -> Result<(), TrialFault>
     requires within { trial.first ≤ length log.now.statements }

@@ -15,10 +15,11 @@ ghost use Rattle.engine.specs.RunState.{IsRunState};
 use crate::batches::new_batch;
 use bohm_core::{Hold, Machine, done_places_are_serial};
 use bohm_core_base::Event;
+use engine::RunState;
 use filling::{CompletedBatch, Finished, finish};
 use log_batch::{LogBatch, LogKey, LogWords, ended_slots};
 use log_machine::OfLog;
-use log_trials_base::{Before, TrialFault, WholeLog, before_place, log_of};
+use log_trials_base::{TrialFault, WholeLog, before_place, log_of};
 use std::alloc::{AllocError, Global};
 use words::{BatchData, Claimed, Holding, Pass, own_events_tell_what_is_held};
 
@@ -190,7 +191,7 @@ fn print_beside(
     rt: &impl Print,
     alloc: Global,
     log: &WholeLog,
-    before: &Before,
+    before: &RunState,
     machine: &Machine<OfLog<'_>>,
 ) -> Result<(), TrialFault>
     requires within { 5 ≤ length log.now.statements }
@@ -211,7 +212,7 @@ fn print_beside(
 fn machine_of<'a>(
     alloc: Global,
     log: &'a WholeLog,
-    before: &'a Before,
+    before: &'a RunState,
 ) -> Result<Machine<OfLog<'a>>, AllocError>
     requires within { 5 ≤ length log.now.statements }
     requires before { IsRunState log.now.statements 3 before.now.chains before.now.book }
@@ -229,7 +230,7 @@ fn print_reader(
     rt: &impl Print,
     alloc: Global,
     log: &WholeLog,
-    before: &Before,
+    before: &RunState,
 ) -> Result<(), TrialFault>
     requires within { 5 ≤ length log.now.statements }
     requires before { IsRunState log.now.statements 3 before.now.chains before.now.book }

@@ -2,7 +2,7 @@
 //!
 //! Rows of calls: places that are asked for while they are placed, held, given back, or run before earlier ones, and
 //! the words themselves. Threads that claim the same places, run drawn logs, place beside passes, or are dropped midway;
-//! 0 to 64 workers on chains. What is printed is compared with `stdout`.
+//! 0 to 64 workers on chains, beside placers or once all is placed. What is printed is compared with `stdout`.
 #![tactic(auto)]
 
 mod adding;
@@ -40,6 +40,7 @@ fn print_threads<R: Threads + Wait + Print + Sync>(
         try_adding(rt, alloc, 1002, 1, 2, 7, Trial::Workers(workers))?;
     }
     try_adding(rt, alloc, 4098, 1, 2, 64, Trial::Workers(64))?;
+    try_adding(rt, alloc, 4098, 1, 2, 64, Trial::WorkersOncePlaced(64))?;
     try_adding(rt, alloc, 273, 16, 17, 4, Trial::Dropped(16))?;
     print_rounds(rt, alloc)?;
     print_drawn(rt, alloc)

@@ -5,10 +5,11 @@ ghost use Rattle.words.specs.Passes.{IsPassOf};
 ghost use Rattle.filling.specs.Placers.{IsPlacerIn};
 ghost use Rattle.engine.specs.RunState.{IsRunState};
 
+use engine::RunState;
 use filling::{Placer, RangeKey, open};
 use filling_base::{Advanced, Batch, BatchPlacer, Fills};
 use log_batch::{LogBatch, StateBefore};
-use log_trials_base::{Before, TrialFault, WholeLog};
+use log_trials_base::{TrialFault, WholeLog};
 use model_base::{MOST_PARTITIONS, Place};
 use std::alloc::Global;
 use words::Pass;
@@ -17,7 +18,7 @@ use words::Pass;
 pub fn opened<'a>(
     alloc: Global,
     log: &'a WholeLog,
-    before: &'a Before,
+    before: &'a RunState,
     first: Place,
     partitions: usize,
 ) -> Result<(Batch<RangeKey<'a>>, Pass, Vec<Placer>), TrialFault>

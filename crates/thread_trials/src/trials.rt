@@ -13,10 +13,11 @@ use crate::opening::{opened, placed};
 use crate::outcomes::{count_same, print_outcomes};
 use crate::steps::{Row, Turn, print_row, print_turns};
 use crate::threads::{Work, ask_round, print_claiming, work_by};
-use crate::working::print_workers;
+use crate::working::{print_workers, print_workers_once_placed};
+use engine::RunState;
 use filling::{Placer, RangeKey};
 use filling_base::Batch;
-use log_trials_base::{Before, TrialFault, WholeLog, before_place, log_of};
+use log_trials_base::{TrialFault, WholeLog, before_place, log_of};
 use model_base::{MOST_PARTITIONS, Place};
 use std::alloc::Global;
 use std::sync::Wait;
@@ -37,8 +38,10 @@ pub enum Trial {
     Words(bool),
     /// Threads claim all places.
     Claiming,
-    /// So many workers, on a chain.
+    /// So many workers place and run a chain.
     Workers(usize),
+    /// So many workers run a chain, once all is placed.
+    WorkersOncePlaced(usize),
     /// Passes beside placers, on places that add to this many rows. Its value is how many come out right.
     Beside(usize),
     /// Placers and passes are dropped midway, on places that add to this many rows.
@@ -67,6 +70,9 @@ fn try_placed<R: Threads + Wait + Print + Sync>(
         }
         Trial::Words(is_dropped) => print_words(rt, alloc, batch, pass, is_dropped)?,
         Trial::Claiming => print_claiming(rt, batch, pass)?,
+        Trial::WorkersOncePlaced(workers) => {
+            print_workers_once_placed(rt, alloc, &batch, pass, workers)?;
+        }
         _ => {
             let (pass, _done) = work_by(rt, &batch, pass, LAST_THREAD, Work::Once);
             let (pass, _done) = ask_round(&batch, pass, 0);
@@ -107,7 +113,7 @@ fn try_range<R: Threads + Wait + Print + Sync>(
     rt: &R,
     alloc: Global,
     log: &WholeLog,
-    before: &Before,
+    before: &RunState,
     first: Place,
     partitions: usize,
     trial: Trial,

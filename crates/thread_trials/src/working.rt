@@ -58,7 +58,28 @@ fn run_by<R: Threads + Wait + Sync>(
     (pass, worked, gate.done.load(Ordering::SeqCst) == wanted)
 }
 
-/// Tells what comes of a chain that this many workers place and run, whether each was told each place, and what the places are then.
+/// Tells what came of workers on a chain, whether each was told each place, and what the places are then.
+fn print_worked(
+    rt: &impl Print,
+    batch: &Batch<RangeKey<'_>>,
+    pass: Pass,
+    worked: Worked,
+    told: bool,
+) -> Result<(), TrialFault>
+    requires { IsPassOf batch.now pass }
+{
+    let places = batch.key().places();
+    let bodies = pass.bodies();
+    let (pass, right) = count_right(batch, pass, places, 1);
+    let (_pass, is_placed) = batch.all_placed(pass);
+    println!(rt; " on a chain of {places} places: {worked:?}, each was told all: {told}")?;
+    println!(rt;
+        "  {right} have their output, {bodies} bodies were run, all is placed: {is_placed}"
+    )?;
+    Ok(())
+}
+
+/// Tells what comes of a chain that this many workers place and run.
 pub fn print_workers<R: Threads + Wait + Print + Sync>(
     rt: &R,
     alloc: Global,
@@ -70,16 +91,23 @@ pub fn print_workers<R: Threads + Wait + Print + Sync>(
     requires pass { IsPassOf batch.now pass }
     requires placers { All (IsPlacerIn batch.now) placers.items }
 {
-    let (crew, places) = (placers.len(), batch.key().places());
+    let crew = placers.len();
     let (pass, worked, told) = run_by(rt, alloc, batch, pass, placers, workers);
-    let bodies = pass.bodies();
-    let (pass, right) = count_right(batch, pass, places, 1);
-    let (_pass, is_placed) = batch.all_placed(pass);
-    println!(rt;
-        "{workers} workers and {crew} placers on a chain of {places} places: {worked:?}, each was told all: {told}"
-    )?;
-    println!(rt;
-        "  {right} have their output, {bodies} bodies were run, all is placed: {is_placed}"
-    )?;
-    Ok(())
+    print!(rt; "{workers} workers and {crew} placers")?;
+    print_worked(rt, batch, pass, worked, told)
+}
+
+/// Tells what comes of a chain that is placed and that this many workers run.
+pub fn print_workers_once_placed<R: Threads + Wait + Print + Sync>(
+    rt: &R,
+    alloc: Global,
+    batch: &Batch<RangeKey<'_>>,
+    pass: Pass,
+    workers: usize,
+) -> Result<(), TrialFault>
+    requires { IsPassOf batch.now pass }
+{
+    let (pass, worked, told) = run_by(rt, alloc, batch, pass, Vec::new(alloc), workers);
+    print!(rt; "{workers} workers once all is placed")?;
+    print_worked(rt, batch, pass, worked, told)
 }

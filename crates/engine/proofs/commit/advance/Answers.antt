@@ -1,4 +1,4 @@
-use Rattle.std.proofs.Common.{◌-◌, ◌∙◌, ℕ, List, ap, sym, subst}
+use Rattle.std.proofs.Common.{◌≡◌, ◌-◌, ◌∙◌, ℕ, List, ap, sym, subst}
 use Rattle.chains.specs.Store.{AreBetween}
 use Rattle.chains.specs.declared.version.Version.{Version}
 use Rattle.grants_base.specs.Book.{Entries, cut_book, extended}
@@ -13,13 +13,15 @@ append-moved-requires c =
     subst (λ (at : ℕ). AreBetween at c.args.range.end c.args.versions.items) (sym c.requires.next.stands.ends)
     (subst (λ (vs : List Version). AreBetween c.args.range.start c.args.range.end vs) (sym c.requires.left) (between-log log c.args.range.start c.args.range.end c.requires.next.order))
 
-pub returns-clause-book : goal.returns-clause-book
-returns-clause-book c =
+pub returns-clause-err : goal.returns-clause-err
+returns-clause-err c =
     let first = c.args.range.start in
     let changes = c.in_ok-changes.changes in
     let are = subst (λ (book : Entries). AreChanges c.args.log.now.log.statements first (c.args.range.end - first) book changes.tables.items changes.grants.items changes.ends.items)
     c.book.ensures c.in_ok-changes.ensures in
+    let book : c.cut.new.self ≡ c.args.state.now.book =
     c.cut.ensures.cut
     ∙ ap (cut_book first) (c.in_ok-extend.ensures.ok ∙ (λ i. extended c.args.state.now.book (c.tables.ensures i) (c.grants.ensures i) (c.ends.ensures i)))
     ∙ are.before
-    ∙ cut_whole first c.args.state.now.book c.requires.next.stands.booked.later
+    ∙ cut_whole first c.args.state.now.book c.requires.next.stands.booked.later in
+    λ i. record { chains = c.in-Err.ensures.err i; book = book i }

@@ -1,5 +1,5 @@
 use Rattle.std.proofs.Common.{refl}
-use Rattle.bohm_base.specs.Cursors.{line_text}
+use Rattle.bohm_base.specs.Cursors.{text_at}
 use Rattle.bohm_base.proofs.Beginnings.{line_left}
 use Rattle.bohm_base.proofs.report_cursor.ReportCursor.report_line.Goals as goal
 
@@ -15,7 +15,7 @@ returns-in_err-put_out-clause-begun g c = rw (c.deref.ensures.value, c.in_ok-put
 pub returns-in_err-put_line-clause-begun : goal.returns-in_err-put_line-clause-begun
 returns-in_err-put_line-clause-begun g c =
     line_left _ c.args.pending.now.items c.args.pending.now.items
-    (line_text c.args.self.now c.args.line) refl
+    (text_at c.args.self.now c.args.line) refl
 
 pub returns-clause-errors : goal.returns-clause-errors
 returns-clause-errors g c = c.in_ok-put_out.ensures.errors

@@ -3,7 +3,7 @@ use Rattle.std.specs.Prelude.{IfOk}
 use Rattle.std.proofs.lemmas.Result.{IfOk-weaker}
 use Rattle.model_base.specs.declared.statement.Statement.{Statement}
 use Rattle.model_base.specs.Outcomes.{rows_before}
-use Rattle.state.chains.specs.Store.{IsRight}
+use Rattle.chains.specs.Store.{IsRight}
 use Rattle.engine.specs.Engine.{Run}
 use Rattle.engine.proofs.run.Engine.row_before.Goals as goal
 
