@@ -10,6 +10,7 @@ use Rattle.model_base.specs.declared.deed.Revocation.{Revocation}
 use Rattle.model_base.specs.declared.deed.Deed.{Deed}
 use Rattle.model_base.specs.declared.deed.Deed.TheVariants.{Revoking}
 use Rattle.model_base.specs.Privileges.{ended_by, is_among, kept, lost}
+use Rattle.model_base.specs.Ranks.{rank}
 use Rattle.model_base.specs.Records.{end_after, grants_of, is_in_force_at, record_of, recorded, records}
 use Rattle.audit_text.specs.Drawn.{drawn, fallen, fell_at}
 use Rattle.model_base.proofs.Replay.{by_cases}
@@ -26,25 +27,25 @@ end-fell : (place : ℕ) (entry : Record) → entry.end ≡ Some place → fell_
 end-fell place entry is = rw is (eq-eqb place place refl)
 
 -- each record's grant is among those of the records
-among-own : (entries : List Record) → All (λ entry. is_among entry.grant.place (recorded entries) ≡ true) entries
-among-own [] = All-nil (λ entry. is_among entry.grant.place [] ≡ true)
+among-own : (entries : List Record) → All (λ entry. is_among (rank entry.grant) (recorded entries) ≡ true) entries
+among-own [] = All-nil (λ entry. is_among (rank entry.grant) [] ≡ true)
 among-own (entry ∷ entries) =
-    let P : Record → Type 0 = λ other. is_among other.grant.place (recorded (entry ∷ entries)) ≡ true in
-    All-cons P entry entries (rw (eq-eqb entry.grant.place entry.grant.place refl) refl)
-    (All-weaker (λ other. is_among other.grant.place (recorded entries) ≡ true) P
-    (λ other there. or_right (entry.grant.place == other.grant.place) (is_among other.grant.place (recorded entries)) there) entries (among-own entries))
+    let P : Record → Type 0 = λ other. is_among (rank other.grant) (recorded (entry ∷ entries)) ≡ true in
+    All-cons P entry entries (rw (eq-eqb (rank entry.grant) (rank entry.grant) refl) refl)
+    (All-weaker (λ other. is_among (rank other.grant) (recorded entries) ≡ true) P
+    (λ other there. or_right (rank entry.grant == rank other.grant) (is_among (rank other.grant) (recorded entries)) there) entries (among-own entries))
 
 -- where a grant fell exactly if it isn't among those that stay, the fallen ones are those that are lost
-lost-told : (place : ℕ) (after : List Grant) (entries : List Record) → All (λ entry. fell_at place entry ≡ not (is_among entry.grant.place after)) entries
-    → map (λ (entry : Record). entry.grant.place) (filter (fell_at place) entries) ≡ lost (recorded entries) after
+lost-told : (place : ℕ) (after : List Grant) (entries : List Record) → All (λ entry. fell_at place entry ≡ not (is_among (rank entry.grant) after)) entries
+    → map (λ (entry : Record). rank entry.grant) (filter (fell_at place) entries) ≡ lost (recorded entries) after
 lost-told place after [] all = refl
 lost-told place after (entry ∷ entries) all =
-    let P : Record → Type 0 = λ entry. fell_at place entry ≡ not (is_among entry.grant.place after) in
-    let first : fell_at place entry ≡ not (is_among entry.grant.place after) = All-head P entry entries all in
+    let P : Record → Type 0 = λ entry. fell_at place entry ≡ not (is_among (rank entry.grant) after) in
+    let first : fell_at place entry ≡ not (is_among (rank entry.grant) after) = All-head P entry entries all in
     let rest = lost-told place after entries (All-tail P entry entries all) in
-    by_cases (is_among entry.grant.place after)
+    by_cases (is_among (rank entry.grant) after)
     (λ among. let stays : fell_at place entry ≡ false = first ∙ ap not among in rw (stays, among) rest)
-    (λ out. let fell : fell_at place entry ≡ true = first ∙ ap not out in rw (fell, out) (ap (λ (places : List ℕ). entry.grant.place ∷ places) rest))
+    (λ out. let fell : fell_at place entry ≡ true = first ∙ ap not out in rw (fell, out) (ap (λ (ranks : List ℕ). rank entry.grant ∷ ranks) rest))
 
 -- of records that didn't fall at the place none is found
 none-fell : (place : ℕ) (entries : List Record) → All (λ entry. fell_at place entry ≡ false) entries → filter (fell_at place) entries ≡ []
@@ -55,12 +56,12 @@ none-fell place (entry ∷ entries) all =
 
 module _ (owners : List ℕ) (deeds : List Deed) where
   -- the end of a record is that of its grant by the deeds
-  ends-of : All (λ (entry : Record). entry.end ≡ end_after owners [] deeds entry.grant.place) (records owners deeds)
-  ends-of = All-map (λ (entry : Record). entry.end ≡ end_after owners [] deeds entry.grant.place) (record_of owners deeds) (grants_of deeds) (λ k d less. refl)
+  ends-of : All (λ (entry : Record). entry.end ≡ end_after owners [] deeds (rank entry.grant)) (records owners deeds)
+  ends-of = All-map (λ (entry : Record). entry.end ≡ end_after owners [] deeds (rank entry.grant)) (record_of owners deeds) (grants_of deeds) (λ k d less. refl)
 
   module _ (past : List Deed) (revocation : Revocation)
-      (falls : (place : ℕ) → (end_after owners [] deeds place ≡ Some revocation.place)
-      ↔ ((is_among place (kept owners past) ≡ true) × (is_among place (kept owners (past ++ Revoking revocation ∷ [])) ≡ false)))
+      (falls : (ranked : ℕ) → (end_after owners [] deeds ranked ≡ Some revocation.place)
+      ↔ ((is_among ranked (kept owners past) ≡ true) × (is_among ranked (kept owners (past ++ Revoking revocation ∷ [])) ≡ false)))
       (force : recorded (drawn revocation.place (records owners deeds)) ≡ kept owners past) where
     abbrev after : List Grant
     after = kept owners (past ++ Revoking revocation ∷ [])
@@ -69,24 +70,24 @@ module _ (owners : List ℕ) (deeds : List Deed) where
     found = drawn revocation.place (records owners deeds)
 
     -- a grant in force before the revocation fell at its place exactly if it isn't so after it
-    tells : (entry : Record) → entry.end ≡ end_after owners [] deeds entry.grant.place → is_among entry.grant.place (kept owners past) ≡ true
-        → fell_at revocation.place entry ≡ not (is_among entry.grant.place after)
+    tells : (entry : Record) → entry.end ≡ end_after owners [] deeds (rank entry.grant) → is_among (rank entry.grant) (kept owners past) ≡ true
+        → fell_at revocation.place entry ≡ not (is_among (rank entry.grant) after)
     tells entry is before =
-        by_cases (is_among entry.grant.place after)
+        by_cases (is_among (rank entry.grant) after)
         (λ among.
         let stays = false_from_ne_true (fell_at revocation.place entry)
-        (λ fell. both_ways (is_among entry.grant.place after) ((falls entry.grant.place).0 (sym is ∙ fell-end revocation.place entry fell)).1 among) in
+        (λ fell. both_ways (is_among (rank entry.grant) after) ((falls (rank entry.grant)).0 (sym is ∙ fell-end revocation.place entry fell)).1 among) in
         stays ∙ sym (ap not among))
-        (λ out. end-fell revocation.place entry (is ∙ (falls entry.grant.place).1 (before, out)) ∙ sym (ap not out))
+        (λ out. end-fell revocation.place entry (is ∙ (falls (rank entry.grant)).1 (before, out)) ∙ sym (ap not out))
 
     pub fallen-lost : fallen revocation.place (records owners deeds) ≡ ended_by owners past revocation
     fallen-lost =
-        let P : Record → Type 0 = λ entry. entry.end ≡ end_after owners [] deeds entry.grant.place in
-        let Q : Record → Type 0 = λ entry. is_among entry.grant.place (recorded found) ≡ true in
+        let P : Record → Type 0 = λ entry. entry.end ≡ end_after owners [] deeds (rank entry.grant) in
+        let Q : Record → Type 0 = λ entry. is_among (rank entry.grant) (recorded found) ≡ true in
         let ends : All P found = All-filter (is_in_force_at revocation.place) P (records owners deeds) ends-of in
         let own : All Q found = among-own found in
-        let told : All (λ entry. fell_at revocation.place entry ≡ not (is_among entry.grant.place after)) found =
-        λ k d less. tells (get_or found k d) (ends k d less) (subst (λ (grants : List Grant). is_among (get_or found k d).grant.place grants ≡ true) force (own k d less)) in
+        let told : All (λ entry. fell_at revocation.place entry ≡ not (is_among (rank entry.grant) after)) found =
+        λ k d less. tells (get_or found k d) (ends k d less) (subst (λ (grants : List Grant). is_among (rank (get_or found k d).grant) grants ≡ true) force (own k d less)) in
         lost-told revocation.place after found told ∙ ap (λ (grants : List Grant). lost grants after) force
 
   -- where no revocation has the place, none fell there
@@ -100,4 +101,4 @@ module _ (owners : List ℕ) (deeds : List Deed) where
       let stay : All Q (records owners deeds) =
       All-weaker P Q (λ entry by. false_from_ne_true (fell_at place entry)
       (λ fell. let by_one = by place (fell-end place entry fell) in others by_one.0 by_one.1 (sym by_one.2))) (records owners deeds) ends in
-      ap (map (λ (entry : Record). entry.grant.place)) (none-fell place (drawn place (records owners deeds)) (All-filter (is_in_force_at place) Q (records owners deeds) stay))
+      ap (map (λ (entry : Record). rank entry.grant)) (none-fell place (drawn place (records owners deeds)) (All-filter (is_in_force_at place) Q (records owners deeds) stay))

@@ -20,7 +20,7 @@ use Rattle.model_base.proofs.Recorded.{part-kept_grants}
 use Rattle.model_base.proofs.Replay.{by_cases}
 use Rattle.explain.specs.declared.line.Line.{Line}
 use Rattle.explain.specs.declared.line.Shown.{Shown}
-use Rattle.explain.specs.Lines.{cause_before, holds_before, made_places, path_before, shown_lost, shown_of}
+use Rattle.explain.specs.Lines.{cause_before, holds_before, ranks_of, path_before, shown_lost, shown_of}
 use Rattle.explain.specs.ExplainedNeeds.{explaining_lines, line_of}
 use Rattle.explain.proofs.Asked.{lines-held, lines-missing}
 
@@ -81,16 +81,16 @@ module _ (own more : List ℕ) where
     cause-more : (place : ℕ) → cause_before (own ++ more) deeds place user need ≡ cause_before own deeds place user need
     cause-more place = cause-owners (own ++ more) own (deeds_below place deeds) user need (same-below place) (same-more own more need.table low)
 
-    places-more : (place : ℕ) → path_before (own ++ more) deeds place user need ≡ path_before own deeds place user need
-    places-more place =
+    ranks-more : (place : ℕ) → path_before (own ++ more) deeds place user need ≡ path_before own deeds place user need
+    ranks-more place =
         let standing : All (IsOnTable own) (kept own (deeds_below place deeds)) =
         part-all (IsOnTable own) (part-kept_grants own (deeds_below place deeds)) (on-below place) in
-        ap (λ (grants : List Grant). made_places (path (own ++ more) grants user need)) (kept-owners (own ++ more) own (deeds_below place deeds) (same-below place))
-        ∙ ap made_places (path-more (kept own (deeds_below place deeds)) user need standing low)
+        ap (λ (grants : List Grant). ranks_of (path (own ++ more) grants user need)) (kept-owners (own ++ more) own (deeds_below place deeds) (same-below place))
+        ∙ ap ranks_of (path-more (kept own (deeds_below place deeds)) user need standing low)
 
     lost-more : (why : Cause) → shown_lost (own ++ more) deeds user need why ≡ shown_lost own deeds user need why
     lost-more Never = refl
-    lost-more (Taken lost) = ap (Shown.Taken lost) (places-more lost)
+    lost-more (Taken lost) = ap (Shown.Taken lost) (ranks-more lost)
 
     -- what there is to show of a need
     shown-more : (place : ℕ) → shown_of (own ++ more) deeds place user need ≡ shown_of own deeds place user need
@@ -99,7 +99,7 @@ module _ (own more : List ℕ) where
         (λ owned. rw ((same-more own more need.table low).same user, owned) refl)
         (λ other. rw ((same-more own more need.table low).same user, other)
         (by_cases (holds_before own deeds place user need)
-        (λ held. rw (holds-more place, held) (ap Shown.Grants (places-more place)))
+        (λ held. rw (holds-more place, held) (ap Shown.Grants (ranks-more place)))
         (λ lacks. rw (holds-more place, lacks)
         (ap (shown_lost (own ++ more) deeds user need) (cause-more place) ∙ lost-more (cause_before own deeds place user need)))))
 

@@ -3,6 +3,7 @@ use Rattle.std.specs.Prelude.{◌==◌, ℕ, Bool, false, List, filter, map, nat
 use Rattle.std.specs.List.{enumerate_from}
 use Rattle.std.specs.Option.{option_map_or}
 use Rattle.model_base.specs.declared.deed.Record.{Record}
+use Rattle.model_base.specs.Ranks.{rank}
 use Rattle.model_base.specs.Records.{is_in_force_at}
 use Rattle.grants_base.specs.declared.entries.Creation.{Creation}
 
@@ -14,9 +15,9 @@ fell_at place entry = option_map_or (λ end. end == place) entry.end false
 abbrev pub drawn : ℕ → List Record → List Record
 drawn place entries = filter (is_in_force_at place) entries
 
--- the places of the drawn grants that fell at the place
+-- the ranks of the drawn grants that fell at the place
 abbrev pub fallen : ℕ → List Record → List ℕ
-fallen place entries = map (λ (entry : Record). entry.grant.place) (filter (fell_at place) (drawn place entries))
+fallen place entries = map (λ (entry : Record). rank entry.grant) (filter (fell_at place) (drawn place entries))
 
 -- whether the table of a number was created below the place
 abbrev pub is_created_below : ℕ → ℕ × Creation → Bool

@@ -5,17 +5,17 @@ ghost use Rattle.explain.specs.Explained.{LinesAreNamed};
 ghost use Rattle.audit_text.specs.Explanation.{explanation_text, grants_text, need_line_text, shown_text};
 
 use explain::{Explanation, Line, Shown};
-use model_base::{Cause, Place};
-use report::{put_cause, put_need, put_places};
+use model_base::{Cause, RecordName};
+use report::{put_cause, put_need, put_records};
 use sequencer::NameTable;
 use std::alloc::AllocError;
 
 /// Writes the places of a chain of grants.
-fn put_grants(text: &mut Vec<u8>, places: &[Place]) -> Result<(), AllocError>
-    ensures { OnOk result (text.new.items ≡ text.old.items ++ grants_text places.now) }
+fn put_grants(text: &mut Vec<u8>, names: &[RecordName]) -> Result<(), AllocError>
+    ensures { OnOk result (text.new.items ≡ text.old.items ++ grants_text names.now) }
 {
     text.extend_from_slice(b" grants")?;
-    put_places(text, places)
+    put_records(text, names)
 }
 
 /// Writes how a need is held, or since when it isn't and by which grants it was held until then.
@@ -24,11 +24,11 @@ fn put_shown(text: &mut Vec<u8>, shown: &Shown) -> Result<(), AllocError>
 {
     match shown {
         Shown::Owner => text.extend_from_slice(b" owner"),
-        Shown::Grants(places) => put_grants(text, places.as_slice()),
+        Shown::Grants(names) => put_grants(text, names.as_slice()),
         Shown::Never => put_cause(text, Cause::Never),
-        Shown::Taken(lost, places) => {
+        Shown::Taken(lost, names) => {
             put_cause(text, Cause::Taken(*lost))?;
-            put_grants(text, places.as_slice())
+            put_grants(text, names.as_slice())
         }
     }
 }

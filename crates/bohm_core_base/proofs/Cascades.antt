@@ -12,6 +12,7 @@ use Rattle.model_base.specs.declared.deed.Deed.TheVariants.{Revoking}
 use Rattle.model_base.specs.declared.deed.Grant.{Grant}
 use Rattle.model_base.specs.declared.deed.Revocation.{Revocation}
 use Rattle.model_base.specs.declared.deed.Need.{Need}
+use Rattle.model_base.specs.Ranks.{rank}
 use Rattle.model_base.specs.Privileges.{gives, has, is_among, kept, names, option_of, owns, place_of, replayed, erased}
 use Rattle.model_base.specs.Laws.{IsRising}
 use Rattle.model_base.specs.Records.{grants_of}
@@ -22,7 +23,7 @@ use Rattle.model_base.proofs.Records.{all_among, grants-append}
 use Rattle.model_base.proofs.Recorded.{All-both, part-kept_grants, rising-grants}
 use Rattle.model_base.proofs.Ends.{is_ended}
 use Rattle.bohm_core_base.specs.Deeds.{is_made, made_before, named_before}
-use Rattle.bohm_core_base.specs.Batch.{Batch, IsSoundBatch, deeds_of, place_at, batch_slots, was_done}
+use Rattle.bohm_core_base.specs.Batch.{Batch, IsSoundBatch, deeds_of, rank_at, batch_slots, was_done}
 use Rattle.bohm_core_base.specs.Cascades.{EndsByCascade, FallsWith}
 use Rattle.bohm_core_base.specs.Serial.{serial_ends, serial_words, batch_world_before}
 use Rattle.bohm_core_base.proofs.Concerned.{Same, grant_here, kept-same}
@@ -99,27 +100,27 @@ module _ (owners : List ℕ) (revocation : Revocation) where
     abbrev Cause : Grant → Type 0
     Cause grant =
         (names revocation grant ≡ true)
-        ⊎ ((giver : Grant) × Q giver × (is_among giver.place after ≡ false) × (giver.place < grant.place) × (gives giver grant.grantor (option_of grant) ≡ true))
+        ⊎ ((giver : Grant) × Q giver × (is_among (rank giver) after ≡ false) × (rank giver < rank grant) × (gives giver grant.grantor (option_of grant) ≡ true))
 
     abbrev IsBelow : List Grant → Grant → Type 0
-    IsBelow grants grant = All (λ later. grant.place < later.place) grants
+    IsBelow grants grant = All (λ later. rank grant < rank later) grants
 
     -- a grant that was met stands, or has fallen
     abbrev Met : List Grant → List Grant → Grant → Type 0
     Met standing rest grant =
         Q grant × IsBelow rest grant
-        × (((test : Grant → Bool) → test grant ≡ true → list_any test standing ≡ true) ⊎ (is_among grant.place after ≡ false))
+        × (((test : Grant → Bool) → test grant ≡ true → list_any test standing ≡ true) ⊎ (is_among (rank grant) after ≡ false))
 
     abbrev Fallen : Grant → Type 0
-    Fallen grant = is_among grant.place after ≡ false → Cause grant
+    Fallen grant = is_among (rank grant) after ≡ false → Cause grant
 
     met-same : (standing rest : List Grant) (grant first : Grant) → Met standing (first ∷ rest) grant → Met standing rest grant
-    met-same standing rest grant first met = (met.0, All-tail (λ later. grant.place < later.place) first rest met.1, met.2)
+    met-same standing rest grant first met = (met.0, All-tail (λ later. rank grant < rank later) first rest met.1, met.2)
 
     met-more : (standing rest : List Grant) (grant first : Grant) → Met standing (first ∷ rest) grant → Met (standing ++ first ∷ []) rest grant
     met-more standing rest grant first met = (
       met.0,
-      All-tail (λ later. grant.place < later.place) first rest met.1,
+      All-tail (λ later. rank grant < rank later) first rest met.1,
       elim met.2 [
         | inl stands ↦ inl (λ test passes. any_more test standing first (stands test passes))
         | inr fell ↦ inr fell
@@ -127,20 +128,20 @@ module _ (owners : List ℕ) (revocation : Revocation) where
     )
 
     out : (standing rest : List Grant) (grant : Grant) → after ≡ standing ++ replayed owners standing (filter passes rest)
-        → All (IsBelow (grant ∷ rest)) standing → IsRising (grant ∷ rest) → is_among grant.place after ≡ false
+        → All (IsBelow (grant ∷ rest)) standing → IsRising (grant ∷ rest) → is_among (rank grant) after ≡ false
     out standing rest grant is below rising =
         let later = replayed owners standing (filter passes rest) in
-        ap (is_among grant.place) is ∙ among-append standing later grant.place
-        ∙ or_from (is_among grant.place standing) (is_among grant.place later)
-        (none_above standing grant.place
-        (All-weaker (IsBelow (grant ∷ rest)) (λ earlier. earlier.place < grant.place)
-        (λ earlier all. All-head (λ later. earlier.place < later.place) grant rest all) standing below))
-        (none_below later grant.place
-        (part-all (λ later. grant.place < later.place) (part-part (part-replayed owners standing (filter passes rest)) (part-filter passes rest)) rising.0))
+        ap (is_among (rank grant)) is ∙ among-append standing later (rank grant)
+        ∙ or_from (is_among (rank grant) standing) (is_among (rank grant) later)
+        (none_above standing (rank grant)
+        (All-weaker (IsBelow (grant ∷ rest)) (λ earlier. rank earlier < rank grant)
+        (λ earlier all. All-head (λ later. rank earlier < rank later) grant rest all) standing below))
+        (none_below later (rank grant)
+        (part-all (λ later. rank grant < rank later) (part-part (part-replayed owners standing (filter passes rest)) (part-filter passes rest)) rising.0))
 
     below-tail : (standing rest : List Grant) (grant : Grant) → All (IsBelow (grant ∷ rest)) standing → All (IsBelow rest) standing
     below-tail standing rest grant below =
-        All-weaker (IsBelow (grant ∷ rest)) (IsBelow rest) (λ earlier all. All-tail (λ later. earlier.place < later.place) grant rest all) standing below
+        All-weaker (IsBelow (grant ∷ rest)) (IsBelow rest) (λ earlier all. All-tail (λ later. rank earlier < rank later) grant rest all) standing below
 
     -- who lacks the option afterwards had it by a grant that has fallen
     bearer : (front standing rest : List Grant) (grant : Grant) → All (Met standing (grant ∷ rest)) front
@@ -155,7 +156,7 @@ module _ (owners : List ℕ) (revocation : Revocation) where
               let giver = found.0 in
               elim (found.1).2 [
                 | inl stands ↦ absurd (true≢false (sym (has_given owners standing grant.grantor need (stands test found.2)) ∙ lacks))
-                | inr fell ↦ inr (giver, (found.1).0, fell, All-head (λ later. giver.place < later.place) grant rest (found.1).1, found.2)
+                | inr fell ↦ inr (giver, (found.1).0, fell, All-head (λ later. rank giver < rank later) grant rest (found.1).1, found.2)
               ]
         ]
 
@@ -167,7 +168,7 @@ module _ (owners : List ℕ) (revocation : Revocation) where
         let here : Q grant = All-head Q grant rest all in
         let more : All Q rest = All-tail Q grant rest all in
         let tail = below-tail standing rest grant below in
-        let fallen : is_among grant.place after ≡ false → All (Met standing rest) (front ++ grant ∷ [])
+        let fallen : is_among (rank grant) after ≡ false → All (Met standing rest) (front ++ grant ∷ [])
         = λ fell. All-push (Met standing rest) front grant
         (All-weaker (Met standing (grant ∷ rest)) (Met standing rest) (λ earlier. met-same standing rest earlier grant) front met)
         (here, rising.0, inr fell) in
@@ -184,10 +185,10 @@ module _ (owners : List ℕ) (revocation : Revocation) where
         let is' : after ≡ (standing ++ grant ∷ []) ++ replayed owners (standing ++ grant ∷ []) (filter passes rest)
         = unnamed ∙ ap (λ l. standing ++ l) (replayed-stands standing grant (filter passes rest) stands)
         ∙ sym (append_assoc standing (grant ∷ []) (replayed owners (standing ++ grant ∷ []) (filter passes rest))) in
-        let found : is_among grant.place after ≡ true
-        = ap (is_among grant.place) is' ∙ among-append (standing ++ grant ∷ []) _ grant.place
-        ∙ ap (λ b. b || is_among grant.place (replayed owners (standing ++ grant ∷ []) (filter passes rest)))
-        (any_last (λ g. g.place == grant.place) standing grant (eq-eqb grant.place grant.place refl)) in
+        let found : is_among (rank grant) after ≡ true
+        = ap (is_among (rank grant)) is' ∙ among-append (standing ++ grant ∷ []) _ (rank grant)
+        ∙ ap (λ b. b || is_among (rank grant) (replayed owners (standing ++ grant ∷ []) (filter passes rest)))
+        (any_last (λ g. rank g == rank grant) standing grant (eq-eqb (rank grant) (rank grant) refl)) in
         All-cons Fallen grant rest (λ fell. absurd (true≢false (sym found ∙ fell)))
         (walk (front ++ grant ∷ []) (standing ++ grant ∷ []) rest is' borne.1 rising.1 more
         (All-push (Met (standing ++ grant ∷ []) rest) front grant
@@ -210,9 +211,9 @@ indexed (first ∷ grants) =
     (λ grant. (k : ℕ) × (k < length (first ∷ grants)) × (slice_get (first ∷ grants) k ≡ Some grant))
     (λ grant found. (suc found.0, (let less = found.1 in omega arith), found.2)) grants (indexed grants))
 
--- where places rise, the grant of a higher place stands later
+-- where ranks rise, the grant of a greater rank is later
 later-slot : (grants : List Grant) (k j : ℕ) (grant other : Grant) → IsRising grants → slice_get grants k ≡ Some grant → slice_get grants j ≡ Some other
-    → other.place < grant.place → j < k
+    → rank other < rank grant → j < k
 later-slot [] k j grant other rising at at' less = absurd (none k at)
   where
     none : (k : ℕ) → slice_get {X = Grant} [] k ≡ Some grant → ⊥
@@ -220,17 +221,17 @@ later-slot [] k j grant other rising at at' less = absurd (none k at)
     none (suc k) is = cc
 later-slot (first ∷ grants) zero zero grant other rising at at' less =
     let same : grant ≡ other = cc in
-    let place : grant.place ≡ other.place = ap (λ (g : Grant). g.place) same in absurd (omega arith)
+    let equal : rank grant ≡ rank other = ap rank same in absurd (omega arith)
 later-slot (first ∷ grants) zero (suc j) grant other rising at at' less =
     let same : first ≡ grant = cc in
-    let above : first.place < other.place = above-all grants j rising.0 at' in
-    let place : first.place ≡ grant.place = ap (λ (g : Grant). g.place) same in absurd (omega arith)
+    let above : rank first < rank other = above-all grants j rising.0 at' in
+    let equal : rank first ≡ rank grant = ap rank same in absurd (omega arith)
   where
-    above-all : (grants : List Grant) (j : ℕ) → All (λ later. first.place < later.place) grants → slice_get grants j ≡ Some other → first.place < other.place
+    above-all : (grants : List Grant) (j : ℕ) → All (λ later. rank first < rank later) grants → slice_get grants j ≡ Some other → rank first < rank other
     above-all [] zero all is = absurd (cc)
     above-all [] (suc j) all is = absurd (cc)
-    above-all (g ∷ gs) zero all is = let same : g ≡ other = cc in subst (λ (x : Grant). first.place < x.place) same (All-head (λ later. first.place < later.place) g gs all)
-    above-all (g ∷ gs) (suc j) all is = above-all gs j (All-tail (λ later. first.place < later.place) g gs all) is
+    above-all (g ∷ gs) zero all is = let same : g ≡ other = cc in subst (λ (x : Grant). rank first < rank x) same (All-head (λ later. rank first < rank later) g gs all)
+    above-all (g ∷ gs) (suc j) all is = above-all gs j (All-tail (λ later. rank first < rank later) g gs all) is
 later-slot (first ∷ grants) (suc k) zero grant other rising at at' less = omega arith
 later-slot (first ∷ grants) (suc k) (suc j) grant other rising at at' less =
     let earlier = later-slot grants k j grant other rising.1 at at' less in omega arith
@@ -256,16 +257,16 @@ module _ (b : Batch) (sound : IsSoundBatch b) (k : ℕ) (slot : k < length (batc
   -- a grant that falls with another does so at the same place
   falls-with : (n : ℕ) (revocation : Revocation) → n < b.size → was_done (serial_words b n) ≡ true → b.deed n ≡ Some (Revoking revocation)
       → (grant : Grant) → slice_get (batch_slots b) k ≡ Some grant → (giver : Grant)
-      → ((j : ℕ) × (j < length (batch_slots b)) × (slice_get (batch_slots b) j ≡ Some giver)) × (is_among giver.place (kept b.owners (batch_world_before b n).deeds) ≡ true)
-      → is_among giver.place (kept b.owners ((batch_world_before b n).deeds ++ Revoking revocation ∷ [])) ≡ false
-      → giver.place < grant.place → gives giver grant.grantor (option_of grant) ≡ true → FallsWith b n k grant
+      → ((j : ℕ) × (j < length (batch_slots b)) × (slice_get (batch_slots b) j ≡ Some giver)) × (is_among (rank giver) (kept b.owners (batch_world_before b n).deeds) ≡ true)
+      → is_among (rank giver) (kept b.owners ((batch_world_before b n).deeds ++ Revoking revocation ∷ [])) ≡ false
+      → rank giver < rank grant → gives giver grant.grantor (option_of grant) ≡ true → FallsWith b n k grant
   falls-with n revocation within done deed grant at giver found fell below lends =
       let j = (found.0).0 in
       let here : slice_get (batch_slots b) j ≡ Some giver = (found.0).2 in
-      let place : place_at b j ≡ giver.place
-      = get_or-map (λ (g : Grant). g.place) (batch_slots b) j no_grant 0 (found.0).1 ∙ ap (λ (g : Grant). g.place) (get_or_from_slice_get (batch_slots b) j giver no_grant here) in
-      let ended : is_ended b.owners (batch_world_before b n).deeds (Revoking revocation) (place_at b j) ≡ true
-      = rw place (and_from (is_among giver.place (kept b.owners (batch_world_before b n).deeds)) _ found.1 (not_from_false (is_among giver.place (kept b.owners ((batch_world_before b n).deeds ++ Revoking revocation ∷ []))) fell)) in
+      let here-ranked : rank_at b j ≡ rank giver
+      = get_or-map rank (batch_slots b) j no_grant 0 (found.0).1 ∙ ap rank (get_or_from_slice_get (batch_slots b) j giver no_grant here) in
+      let ended : is_ended b.owners (batch_world_before b n).deeds (Revoking revocation) (rank_at b j) ≡ true
+      = rw here-ranked (and_from (is_among (rank giver) (kept b.owners (batch_world_before b n).deeds)) _ found.1 (not_from_false (is_among (rank giver) (kept b.owners ((batch_world_before b n).deeds ++ Revoking revocation ∷ []))) fell)) in
       record {
         bearer = j;
         giver = giver;
@@ -283,21 +284,21 @@ module _ (b : Batch) (sound : IsSoundBatch b) (k : ℕ) (slot : k < length (batc
       let after = kept b.owners (past ++ Revoking only.revocation ∷ []) in
       let within : n ≤ b.size = (let less = only.within in omega arith) in
       let InSlots : Grant → Type 0 = λ grant. (j : ℕ) × (j < length (batch_slots b)) × (slice_get (batch_slots b) j ≡ Some grant) in
-      let Q : Grant → Type 0 = λ grant. InSlots grant × (is_among grant.place before ≡ true) in
+      let Q : Grant → Type 0 = λ grant. InSlots grant × (is_among (rank grant) before ≡ true) in
       let all : All Q before
-      = All-both InSlots (λ grant. is_among grant.place before ≡ true) before (kept-slots InSlots (indexed (batch_slots b)) n within) (all_among before) in
+      = All-both InSlots (λ grant. is_among (rank grant) before ≡ true) before (kept-slots InSlots (indexed (batch_slots b)) n within) (all_among before) in
       let causes : All (Fallen b.owners only.revocation Q after) before
       = walk b.owners only.revocation Q after [] [] before (kept-revoke b.owners past only.revocation)
       (borne-replayed b.owners only.revocation [] (erased past)) (IsRising-kept b.owners past (deeds-proper b sound n)) all
       (All-nil (Met b.owners only.revocation Q after [] before)) (All-nil (IsBelow b.owners only.revocation Q after before)) in
-      let parts = and_parts (is_among (place_at b k) before) (not (is_among (place_at b k) after)) only.ended in
+      let parts = and_parts (is_among (rank_at b k) before) (not (is_among (rank_at b k) after)) only.ended in
       let cause : Cause b.owners only.revocation Q after (grant_here b sound k slot)
-      = among_all (λ place. place ≡ place_at b k → is_among place after ≡ false → Cause b.owners only.revocation Q after (grant_here b sound k slot)) before (place_at b k)
+      = among_all (λ ranked. ranked ≡ rank_at b k → is_among ranked after ≡ false → Cause b.owners only.revocation Q after (grant_here b sound k slot)) before (rank_at b k)
       (All-weaker (λ g. Same b sound k slot g × Fallen b.owners only.revocation Q after g)
-      (λ g. g.place ≡ place_at b k → is_among g.place after ≡ false → Cause b.owners only.revocation Q after (grant_here b sound k slot))
+      (λ g. rank g ≡ rank_at b k → is_among (rank g) after ≡ false → Cause b.owners only.revocation Q after (grant_here b sound k slot))
       (λ g both at out. subst (Cause b.owners only.revocation Q after) (both.0 at) (both.1 out))
       before (All-both (Same b sound k slot) (Fallen b.owners only.revocation Q after) before (kept-same b sound k slot n within) causes))
-      parts.0 refl (not-true (is_among (place_at b k) after) parts.1) in
+      parts.0 refl (not-true (is_among (rank_at b k) after) parts.1) in
       record {
         within = only.within;
         revocation = only.revocation;

@@ -9,6 +9,7 @@ use Rattle.model_base.specs.declared.deed.Deed.{Deed}
 use Rattle.model_base.specs.declared.deed.Deed.TheVariants.{Revoking}
 use Rattle.model_base.specs.declared.deed.Grant.{Grant}
 use Rattle.model_base.specs.declared.deed.Revocation.{Revocation}
+use Rattle.model_base.specs.Ranks.{rank}
 use Rattle.model_base.specs.Privileges.{concerns, is_among, kept, place_of}
 use Rattle.model_base.specs.Laws.{IsRising}
 use Rattle.model_base.specs.Records.{grants_of}
@@ -21,32 +22,32 @@ use Rattle.model_base.proofs.Covered.{contrary}
 use Rattle.model_base.proofs.Ended.{kept-stays_other}
 use Rattle.model_base.proofs.Ends.{is_ended}
 use Rattle.bohm_core_base.specs.Deeds.{is_made, made_before, named_before}
-use Rattle.bohm_core_base.specs.Batch.{Batch, IsSoundBatch, deeds_of, place_at, batch_slots}
+use Rattle.bohm_core_base.specs.Batch.{Batch, IsSoundBatch, deeds_of, rank_at, batch_slots}
 use Rattle.bohm_core_base.specs.Laws.{EndsByRevocation}
 use Rattle.bohm_core_base.specs.Serial.{serial_ends, batch_world_before}
 use Rattle.bohm_core_base.proofs.Slots.{made-named, made-split, slots-rise}
 use Rattle.bohm_core_base.proofs.Whole.{deeds-made, no_grant, part-grants_filter, serial-only, serial-placed, serial_deeds}
 
--- a revocation that takes the one grant of a place out of force concerns it
-ends-concerned : (owners : List ℕ) (past : List Deed) (revocation : Revocation) (place : ℕ) (grant : Grant)
-    → All (λ g. g.place ≡ place → g ≡ grant) (kept owners past) → is_ended owners past (Revoking revocation) place ≡ true
+-- a revocation that takes the one grant of a rank out of force concerns it
+ends-concerned : (owners : List ℕ) (past : List Deed) (revocation : Revocation) (ranked : ℕ) (grant : Grant)
+    → All (λ g. rank g ≡ ranked → g ≡ grant) (kept owners past) → is_ended owners past (Revoking revocation) ranked ≡ true
     → concerns revocation grant ≡ true
-ends-concerned owners past revocation place grant same ends =
+ends-concerned owners past revocation ranked grant same ends =
     by_cases (concerns revocation grant) (λ yes. yes)
     (λ fails.
-    let parts = and_parts (is_among place (kept owners past)) _ ends in
-    let after = is_among place (kept owners (past ++ Revoking revocation ∷ [])) in
+    let parts = and_parts (is_among ranked (kept owners past)) _ ends in
+    let after = is_among ranked (kept owners (past ++ Revoking revocation ∷ [])) in
     contrary after (left fails parts.0) (not-true after parts.1))
   where
-    left : concerns revocation grant ≡ false → is_among place (kept owners past) ≡ true
-        → is_among place (kept owners (past ++ Revoking revocation ∷ [])) ≡ true
+    left : concerns revocation grant ≡ false → is_among ranked (kept owners past) ≡ true
+        → is_among ranked (kept owners (past ++ Revoking revocation ∷ [])) ≡ true
     left fails found =
-        let Same : Grant → Type 0 = λ g. g.place ≡ place → g ≡ grant in
+        let Same : Grant → Type 0 = λ g. rank g ≡ ranked → g ≡ grant in
         let Stays : Grant → Type 0
-        = λ g. concerns revocation g ≡ false → is_among g.place (kept owners (past ++ Revoking revocation ∷ [])) ≡ true in
-        let Found : ℕ → Type 0 = λ p. p ≡ place → is_among place (kept owners (past ++ Revoking revocation ∷ [])) ≡ true in
-        among_all Found (kept owners past) place
-        (All-weaker (λ g. Same g × Stays g) (λ g. Found g.place)
+        = λ g. concerns revocation g ≡ false → is_among (rank g) (kept owners (past ++ Revoking revocation ∷ [])) ≡ true in
+        let Found : ℕ → Type 0 = λ p. p ≡ ranked → is_among ranked (kept owners (past ++ Revoking revocation ∷ [])) ≡ true in
+        among_all Found (kept owners past) ranked
+        (All-weaker (λ g. Same g × Stays g) (λ g. Found (rank g))
         (λ g both at.
         let unconcerned : concerns revocation g ≡ false = ap (concerns revocation) (both.0 at) ∙ fails in
         rw at at (both.1 unconcerned))
@@ -56,18 +57,18 @@ module _ (b : Batch) (sound : IsSoundBatch b) (k : ℕ) (slot : k < length (batc
   abbrev pub grant_here : Grant
   grant_here = get_or (batch_slots b) k no_grant
 
-  -- of a slot's place there is no other grant
+  -- of a slot's rank there is no other grant
   abbrev pub Same : Grant → Type 0
-  Same g = g.place ≡ place_at b k → g ≡ grant_here
+  Same g = rank g ≡ rank_at b k → g ≡ grant_here
 
   slots-same : All Same (batch_slots b)
   unfolding batch_slots
   slots-same =
       let grants = batch_slots b in
-      let Alone : Grant → Grant → Type 0 = λ grant g. g.place ≡ grant.place → g ≡ grant in
+      let Alone : Grant → Grant → Type 0 = λ grant g. rank g ≡ rank grant → g ≡ grant in
       let rise : IsRising grants
       = slots-rise (deeds_of b (λ _. false)) sound.placed (rising-grants b.owners b.before sound.proper) b.size in
-      let here : place_at b k ≡ grant_here.place = get_or-map (λ (grant : Grant). grant.place) grants k no_grant 0 slot in
+      let here : rank_at b k ≡ rank grant_here = get_or-map rank grants k no_grant 0 slot in
       All-weaker (Alone grant_here) Same (λ g alone at. alone (at ∙ here)) grants
       (All-get_or (λ grant. All (Alone grant) grants) grants k no_grant slot (rising-unique grants rise))
 
@@ -89,7 +90,7 @@ module _ (b : Batch) (sound : IsSoundBatch b) (k : ℕ) (slot : k < length (batc
   pub ends-by-revocation : (n : ℕ) → serial_ends b n k ≡ true → EndsByRevocation b n k
   ends-by-revocation n ends =
       let only = serial-only b sound n k slot ends in
-      let concerned = ends-concerned b.owners (batch_world_before b n).deeds only.revocation (place_at b k) grant_here
+      let concerned = ends-concerned b.owners (batch_world_before b n).deeds only.revocation (rank_at b k) grant_here
       (kept-same n (let less = only.within in omega arith)) only.ended in
       record {
         within = only.within;

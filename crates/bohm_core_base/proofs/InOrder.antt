@@ -1,8 +1,9 @@
--- The grants of slots are in the order of their places.
+-- The grants of slots are in the order of their ranks.
 use Rattle.std.proofs.Common.{◌≡◌, ◌<◌, ℕ, zero, suc, false, Some, List, [], ◌∷◌, arith}
 use Rattle.std.specs.Prelude.{All, slice_get}
 use Rattle.std.proofs.lemmas.List.Elements.{All-head, All-tail}
 use Rattle.model_base.specs.declared.deed.Grant.{Grant}
+use Rattle.model_base.specs.Ranks.{rank}
 use Rattle.model_base.specs.Laws.{IsRising}
 use Rattle.model_base.proofs.Recorded.{rising-grants}
 use Rattle.bohm_core_base.specs.Batch.{Batch, IsSoundBatch, deeds_of, batch_slots}
@@ -17,17 +18,17 @@ all-there P (first ∷ grants) zero grant all at =
 all-there P (first ∷ grants) (suc k) grant all at = all-there P grants k grant (All-tail P first grants all) at
 
 in-order : (grants : List Grant) (k j : ℕ) (grant later : Grant) → IsRising grants → k < j
-    → slice_get grants k ≡ Some grant → slice_get grants j ≡ Some later → grant.place < later.place
+    → slice_get grants k ≡ Some grant → slice_get grants j ≡ Some later → rank grant < rank later
 in-order [] k j grant later rise less at behind = absurd (cc)
 in-order (first ∷ grants) zero zero grant later rise less at behind = absurd (omega arith)
 in-order (first ∷ grants) zero (suc j) grant later rise less at behind =
     let same : first ≡ grant = cc in
-    rw (← same) (all-there (λ (g : Grant). first.place < g.place) grants j later rise.0 behind)
+    rw (← same) (all-there (λ (g : Grant). rank first < rank g) grants j later rise.0 behind)
 in-order (first ∷ grants) (suc k) zero grant later rise less at behind = absurd (omega arith)
 in-order (first ∷ grants) (suc k) (suc j) grant later rise less at behind = in-order grants k j grant later rise.1 (omega arith) at behind
 
 pub slots-order : (b : Batch) → IsSoundBatch b → (k j : ℕ) (grant later : Grant) → k < j
-    → slice_get (batch_slots b) k ≡ Some grant → slice_get (batch_slots b) j ≡ Some later → grant.place < later.place
+    → slice_get (batch_slots b) k ≡ Some grant → slice_get (batch_slots b) j ≡ Some later → rank grant < rank later
 unfolding batch_slots
 slots-order b sound k j grant later less at behind =
     in-order (batch_slots b) k j grant later

@@ -7,6 +7,7 @@ use Rattle.std.specs.Option.{option_or}
 use Rattle.model_base.specs.declared.deed.Deed.{Deed}
 use Rattle.model_base.specs.declared.deed.Grant.{Grant}
 use Rattle.model_base.specs.declared.row.Key.{Key}
+use Rattle.model_base.specs.Ranks.{rank}
 use Rattle.model_base.specs.Records.{end_below, end_after}
 use Rattle.model_base.specs.Privileges.{place_of}
 use Rattle.model_base.proofs.Records.{end-append}
@@ -18,7 +19,7 @@ use Rattle.bohm_core_base.specs.declared.event.Event.TheVariants.{Place, Claim, 
 use Rattle.bohm_core_base.specs.declared.hold.Hold.TheVariants.{Free, Held, Done}
 use Rattle.bohm_core_base.specs.declared.hold.Hold.{Hold}
 use Rattle.bohm_core_base.specs.Deeds.{made_before}
-use Rattle.bohm_core_base.specs.Batch.{Batch, place_has_deed_on, is_listed, table_at, changes_key, reference_words, writer_reference, was_done, batch_slots, place_at, deeds_of, IsSoundBatch}
+use Rattle.bohm_core_base.specs.Batch.{Batch, place_has_deed_on, is_listed, table_at, changes_key, reference_words, writer_reference, was_done, batch_slots, rank_at, deeds_of, IsSoundBatch}
 use Rattle.bohm_core_base.specs.Serial.{serial_words, serial_ends, whole_end}
 use Rattle.bohm_core_base.specs.Machine.{State, front_of, stored_references_of, placed_references, hold_of, own_of, end_of, is_free, is_held_by, is_done, is_ready, all_ready, words_seen, must_end, all_filled, all_past, guard, with_hold, change, effect, run_from, empty_references, start, reach}
 use Rattle.bohm_core_base.specs.Laws.{HasSizes, actor_of, HasReferences, IsSerialPlace, IsWholeBelow, ShowsSerial, KeepsStored, SameTask, NoneBy}
@@ -71,36 +72,36 @@ module _ (b : Batch) (sound : IsSoundBatch b) where
       ]
 
   -- the end of a slot's record at first is that by the deeds before the batch
-  start-end : (k : ℕ) → k < length (batch_slots b) → end_of (start b) k ≡ end_after b.owners [] b.before (place_at b k)
+  start-end : (k : ℕ) → k < length (batch_slots b) → end_of (start b) k ≡ end_after b.owners [] b.before (rank_at b k)
   start-end k slot =
-      get_or-map (λ (g : Grant). end_after b.owners [] b.before g.place) (batch_slots b) k no_grant None slot
-      ∙ ap (λ p. end_after b.owners [] b.before p) (sym (get_or-map (λ (g : Grant). g.place) (batch_slots b) k no_grant 0 slot))
+      get_or-map (λ (g : Grant). end_after b.owners [] b.before (rank g)) (batch_slots b) k no_grant None slot
+      ∙ ap (λ p. end_after b.owners [] b.before p) (sym (get_or-map rank (batch_slots b) k no_grant 0 slot))
 
   -- past the slots there is no end
   start-past : (k : ℕ) → length (batch_slots b) ≤ k → end_of (start b) k ≡ None
   start-past k past =
-      let end : Grant → Option ℕ = λ g. end_after b.owners [] b.before g.place in
+      let end : Grant → Option ℕ = λ g. end_after b.owners [] b.before (rank g) in
       get_or_past (map end (batch_slots b)) k None (let len = length-map (batch_slots b) end in omega arith)
 
   -- the end by the whole batch is that by the deeds before it, or else one from its first place on
   whole-start : (k : ℕ)
       → (later : List Deed)
-      × (whole_end b k ≡ option_or (end_after b.owners [] b.before (place_at b k)) (end_after b.owners b.before later (place_at b k)))
+      × (whole_end b k ≡ option_or (end_after b.owners [] b.before (rank_at b k)) (end_after b.owners b.before later (rank_at b k)))
       × All (λ deed. b.first + 0 ≤ place_of deed) later
   unfolding whole_end
   whole-start k =
       let d = deeds_of b (λ i. was_done (serial_words b i)) in
       let split = made-split d (serial-placed b sound) b.size 0 (omega arith) in
-      (split.0, rw (deeds-made b sound b.size, split.1) (end-append b.owners [] b.before split.0 (place_at b k)), split.2)
+      (split.0, rw (deeds-made b sound b.size, split.1) (end-append b.owners [] b.before split.0 (rank_at b k)), split.2)
 
   -- an end at first is that by the deeds before the batch, and by the whole batch
   start-ended : (k q : ℕ) → end_of (start b) k ≡ Some q
-      → (end_after b.owners [] b.before (place_at b k) ≡ Some q) × (whole_end b k ≡ Some q)
+      → (end_after b.owners [] b.before (rank_at b k) ≡ Some q) × (whole_end b k ≡ Some q)
   start-ended k q is =
       elim (cases_lt k (length (batch_slots b))) [
         | inr past ↦ absurd (let none = start-past k past in cc)
         | inl slot ↦
-            let early : end_after b.owners [] b.before (place_at b k) ≡ Some q = sym (start-end k slot) ∙ is in
+            let early : end_after b.owners [] b.before (rank_at b k) ≡ Some q = sym (start-end k slot) ∙ is in
             let whole = whole-start k in
             (early, whole.1 ∙ rw early refl)
       ]
@@ -108,10 +109,10 @@ module _ (b : Batch) (sound : IsSoundBatch b) where
   -- a record without an end at first gets one by the batch alone
   start-unended : (k q : ℕ) → k < length (batch_slots b) → end_of (start b) k ≡ None → whole_end b k ≡ Some q → b.first ≤ q
   start-unended k q slot is was =
-      let early : end_after b.owners [] b.before (place_at b k) ≡ None = sym (start-end k slot) ∙ is in
+      let early : end_after b.owners [] b.before (rank_at b k) ≡ None = sym (start-end k slot) ∙ is in
       let whole = whole-start k in
-      let later : end_after b.owners b.before whole.0 (place_at b k) ≡ Some q = sym (rw early at whole.1) ∙ was in
-      let more : b.first + 0 ≤ q = end-within b.owners (λ p. b.first + 0 ≤ p) b.before whole.0 (place_at b k) q whole.2 later in
+      let later : end_after b.owners b.before whole.0 (rank_at b k) ≡ Some q = sym (rw early at whole.1) ∙ was in
+      let more : b.first + 0 ≤ q = end-within b.owners (λ p. b.first + 0 ≤ p) b.before whole.0 (rank_at b k) q whole.2 later in
       omega arith
 
   -- a record that no place of the batch ends has after it the end that it has at first
@@ -142,7 +143,7 @@ module _ (b : Batch) (sound : IsSoundBatch b) where
         references_length = empty-length b.size;
         holds_length = length-replicate b.size Free;
         own_length = length-replicate b.size [];
-        ends_length = length-map (batch_slots b) (λ (g : Grant). end_after b.owners [] b.before g.place);
+        ends_length = length-map (batch_slots b) (λ (g : Grant). end_after b.owners [] b.before (rank g));
         placed = λ n below. empty-at b.size n below
             ∙ sym (chosen-none (λ p. nat_lt n (front_of s p)) (b.partitions_of n) (reference_words b n) (sound.same_length n)
             (λ q. rw (replicate-same {A = ℕ} b.partitions q 0) (le-ltb n 0 (omega arith))));
@@ -156,7 +157,7 @@ module _ (b : Batch) (sound : IsSoundBatch b) where
         ended_filled = λ j r is.
             let early = (start-ended j (b.first + r) is).0 in
             let less : b.first + r < b.first
-            = end-within b.owners (λ p. p < b.first) [] b.before (place_at b j) (b.first + r) sound.placed.earlier early in
+            = end-within b.owners (λ p. p < b.first) [] b.before (rank_at b j) (b.first + r) sound.placed.earlier early in
             absurd (omega arith);
         unended = start-unended;
       }

@@ -1,6 +1,7 @@
 //! Which places end records by the serial run.
 
 ghost use Rattle.std.specs.Prelude.{◌≡◌, ◌<◌, ℕ, Some, false, true, length, slice_get};
+ghost use Rattle.model_base.specs.Ranks.{rank};
 ghost use Rattle.model_base.specs.declared.deed.Grant.{Grant};
 ghost use Rattle.bohm_core_base.specs.Batch.{Batch, IsSoundBatch, batch_slots, was_done};
 ghost use Rattle.bohm_core_base.specs.Laws.{EndsByRevocation};
@@ -27,10 +28,10 @@ pub fn records_end_by_done_places()
         → (index < batch.size) × (was_done (serial_words batch index) ≡ true) }
 {}
 
-/// The grants of slots are in the order of their places.
+/// The grants of slots are in the order of their ranks.
 pub fn slots_stand_in_order()
     ensures { (batch : Batch) (slot other : ℕ) (grant later : Grant)
         → IsSoundBatch batch → slot < other → slice_get (batch_slots batch) slot ≡ Some grant
         → slice_get (batch_slots batch) other ≡ Some later
-        → grant.place < later.place }
+        → rank grant < rank later }
 {}

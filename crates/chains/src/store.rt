@@ -8,13 +8,16 @@ use model_base::{Access, HashSeed, Key, MOST_ACCESSES, Place, Row, Statement};
 use std::alloc::{AllocError, Global};
 use std::collections::VecDeque;
 use std::marker::Model;
+use thiserror::Error;
 
 /// The row before a place was asked for that lies below the mark, where the versions that would give it may be gone.
-#[derive(Clone, Copy, PartialEq, Eq, Debug)]
+#[derive(Clone, Copy, PartialEq, Eq, Debug, Error)]
+#[error("rows before a place below the mark are gone")]
 pub struct Trimmed;
 
 /// The store was to be trimmed to a mark that lies above its end or below its mark.
-#[derive(Clone, Copy, PartialEq, Eq, Debug)]
+#[derive(Clone, Copy, PartialEq, Eq, Debug, Error)]
+#[error("the mark lies above the end or below the mark of the store")]
 pub struct BadMark;
 
 /// The versions of rows that the places of a log made, found by their keys. It says the row before each place from its mark to its end.

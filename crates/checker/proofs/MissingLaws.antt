@@ -19,41 +19,12 @@ use Rattle.grants_base.specs.View.{ShowsDeeds, View, covers, holds_in}
 use Rattle.grants.proofs.ViewLaws.{held_after}
 use Rattle.checker.specs.Missing.{Covers, first_lack, first_lacking, lack_of, lacks}
 
--- the needs of one kind
-abbrev pub of_kind : Access → Kind → List Need
-of_kind access kind = map (need_of access) (kind_if access.kinds kind)
-
--- the needs of an access, kind by kind
-pub by_kinds : (access : Access) → needs_of_access access ≡ of_kind access Read ++ (of_kind access Insert ++ (of_kind access Update ++ of_kind access Delete))
-by_kinds access =
-    map-append (need_of access) (kind_if access.kinds Read) (kind_if access.kinds Insert ++ (kind_if access.kinds Update ++ kind_if access.kinds Delete))
-    ∙ ap (λ later. of_kind access Read ++ later)
-    (map-append (need_of access) (kind_if access.kinds Insert) (kind_if access.kinds Update ++ kind_if access.kinds Delete)
-    ∙ ap (λ later. of_kind access Insert ++ later) (map-append (need_of access) (kind_if access.kinds Update) (kind_if access.kinds Delete)))
-
 -- what is there is so
 pub some_is : {X : Type 0} (o : Option X) → IsTrue (is_some o) → IsSome o
 some_is (Some x) is = refl
 some_is None is = absurd (true≢false (sym is))
 
 module _ (view : View) where
-  -- what is covered is so in both parts of a list
-  pub covers_left : (xs ys : List Need) → Covers view (xs ++ ys) → Covers view xs
-  covers_left [] ys covered = All-nil (λ (need : Need). IsTrue (covers view need.table))
-  covers_left (x ∷ xs) ys covered =
-      let P : Need → Type 0 = λ need. IsTrue (covers view need.table) in
-      All-cons P x xs (All-head P x (xs ++ ys) covered) (covers_left xs ys (All-tail P x (xs ++ ys) covered))
-
-  pub covers_right : (xs ys : List Need) → Covers view (xs ++ ys) → Covers view ys
-  covers_right [] ys covered = covered
-  covers_right (x ∷ xs) ys covered = covers_right xs ys (All-tail (λ (need : Need). IsTrue (covers view need.table)) x (xs ++ ys) covered)
-
-  -- the table of an access is covered, if it declares a kind
-  pub covers_kind : (access : Access) (kind : Kind) → has_kind access.kinds kind ≡ true → Covers view (of_kind access kind) → IsSome (view.owner access.key.table)
-  covers_kind access kind declared covered =
-      let here : Covers view (need_of access kind ∷ []) = rw declared at covered in
-      some_is (view.owner access.key.table) (All-head (λ (need : Need). IsTrue (covers view need.table)) (need_of access kind) [] here)
-
   -- the table of a need is covered
   pub covers_one : (need : Need) → Covers view (need ∷ []) → IsSome (view.owner need.table)
   covers_one need covered = some_is (view.owner need.table) (All-head (λ (n : Need). IsTrue (covers view n.table)) need [] covered)
@@ -114,9 +85,3 @@ module _ (view : View) where
         let P : Need → Type 0 = λ n. IsTrue (covers view n.table) in
         let same = held_after view owners deeds user need shows (some_is (view.owner need.table) (All-head P need needed covered)) in
         rw (same, first_shown owners deeds shows needed (All-tail P need needed covered)) refl
-
--- the accesses from an index on are the one of the index and the later ones
-pub from_access : (accesses : List Access) (i : ℕ) (access : Access) → i < length accesses → access ≡ slice_index_or accesses i access
-    → drop i accesses ≡ access ∷ drop (i + 1) accesses
-from_access accesses i access within is =
-    rw (add-one i) (drop-cons accesses i access within ∙ ap (λ first. first ∷ drop (suc i) accesses) (sym is))

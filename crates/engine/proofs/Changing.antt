@@ -22,6 +22,7 @@ use Rattle.model_base.specs.Body.{Ending, completed}
 use Rattle.model_base.specs.Laws.{IsRising}
 use Rattle.model_base.specs.Outcomes.{World, at_place, body, creator, deed_at, deed_done, deed_of, deeds_before, ended, judged, missing, outcome, owners, step_form, world_before}
 use Rattle.model_base.specs.Privileges.{ended_by, is_among, kept, lost, place_of}
+use Rattle.model_base.specs.Ranks.{rank}
 use Rattle.model_base.specs.Records.{ended_at, in_force, recorded}
 use Rattle.model_base.proofs.Records.{in_force-records}
 use Rattle.model_base.proofs.Replay.{by_cases}
@@ -36,7 +37,7 @@ use Rattle.grants.proofs.BookLaws.{sound_table}
 use Rattle.grants.proofs.GrantLaws.{shows_grant, sound_grant}
 use Rattle.grants.proofs.LaterLaws.{later_ends, later_grant, later_table}
 use Rattle.grants.proofs.EndedLaws.{IsOpen, ends_open}
-use Rattle.own_words.specs.Words.{creates, ended_in, places_ended_by}
+use Rattle.own_words.specs.Words.{creates, ended_in, ranks_ended_by}
 use Rattle.filling.proofs.Ranges.{range_more}
 use Rattle.engine.specs.Changes.{AreChanges, creation_at, creations_at}
 use Rattle.engine.specs.Known.{AreKnown}
@@ -78,48 +79,48 @@ end_slots-append (end ∷ ends) entries more within =
     (All-weaker (Within entries) (Within (end_slot entries end.slot end.place)) (λ one less. omega (arith, less, long)) ends (All-tail (Within entries) end ends within))
 
 -- a grant in force has a record without an end
-open_at : (entries : List Record) (made : ℕ) → is_among made (in_force entries) ≡ true
-    → (slot : ℕ) × (entry : Record) × (slice_get entries slot ≡ Some entry) × (is_none entry.end ≡ true) × (entry.grant.place ≡ made)
-open_at [] made among = absurd (true≢false (sym among))
-open_at (entry ∷ entries) made among =
+open_at : (entries : List Record) (ranked : ℕ) → is_among ranked (in_force entries) ≡ true
+    → (slot : ℕ) × (entry : Record) × (slice_get entries slot ≡ Some entry) × (is_none entry.end ≡ true) × (rank entry.grant ≡ ranked)
+open_at [] ranked among = absurd (true≢false (sym among))
+open_at (entry ∷ entries) ranked among =
     by_cases (is_none entry.end)
     (λ free.
-    let either : ((entry.grant.place == made) || is_among made (in_force entries)) ≡ true = rw free at among in
-    elim (or_cases (entry.grant.place == made) (is_among made (in_force entries)) either) [
-      | inl here ↦ (0, entry, refl, free, eqb-true entry.grant.place made here)
-      | inr later ↦ let rest = open_at entries made later in (suc rest.0, rest.1, rest.2, rest.3, rest.4)
+    let either : ((rank entry.grant == ranked) || is_among ranked (in_force entries)) ≡ true = rw free at among in
+    elim (or_cases (rank entry.grant == ranked) (is_among ranked (in_force entries)) either) [
+      | inl here ↦ (0, entry, refl, free, eqb-true (rank entry.grant) ranked here)
+      | inr later ↦ let rest = open_at entries ranked later in (suc rest.0, rest.1, rest.2, rest.3, rest.4)
     ])
-    (λ over. let rest = open_at entries made (rw over at among) in (suc rest.0, rest.1, rest.2, rest.3, rest.4))
+    (λ over. let rest = open_at entries ranked (rw over at among) in (suc rest.0, rest.1, rest.2, rest.3, rest.4))
 
 -- so one more of some grants is ended
-pub ends_more : (entries : List Record) (grants : List Grant) (old now after : List End) (place : ℕ) (before : List ℕ) (made slot : ℕ)
+pub ends_more : (entries : List Record) (grants : List Grant) (old now after : List End) (place : ℕ) (before : List ℕ) (ranked slot : ℕ)
     → IsRising (recorded entries ++ grants)
-    → is_among made (in_force (end_slots (entries ++ map unended grants) old)) ≡ true
-    → ((k : ℕ) (grant : Grant) → slice_get (recorded entries ++ grants) k ≡ Some grant → grant.place ≡ made → slot ≡ k)
+    → is_among ranked (in_force (end_slots (entries ++ map unended grants) old)) ≡ true
+    → ((k : ℕ) (grant : Grant) → slice_get (recorded entries ++ grants) k ≡ Some grant → rank grant ≡ ranked → slot ≡ k)
     → end_slots (entries ++ map unended grants) now ≡ map (ended_at place before) (end_slots (entries ++ map unended grants) old)
     → after ≡ now ++ record { slot = slot; place = place } ∷ []
-    → (end_slots (entries ++ map unended grants) after ≡ map (ended_at place (before ++ made ∷ [])) (end_slots (entries ++ map unended grants) old))
+    → (end_slots (entries ++ map unended grants) after ≡ map (ended_at place (before ++ ranked ∷ [])) (end_slots (entries ++ map unended grants) old))
     × (slot < length entries + length grants)
-ends_more entries grants old now after place before made slot rising among found_slot so_far is =
+ends_more entries grants old now after place before ranked slot rising among found_slot so_far is =
     let base : List Record = entries ++ map unended grants in
     let start : List Record = end_slots base old in
     let same : recorded start ≡ recorded entries ++ grants = recorded-all entries grants old in
     let rises : IsRising (recorded start) = subst IsRising (sym same) rising in
-    let found = open_at start made among in
+    let found = open_at start ranked among in
     let at : slice_get (recorded entries ++ grants) found.0 ≡ Some found.1.grant =
     subst (λ (gs : List Grant). slice_get gs found.0 ≡ Some found.1.grant) same (recorded_at start found.0 found.1 found.2) in
     let here : slot ≡ found.0 = found_slot found.0 found.1.grant at found.4 in
     let end : End = record { slot = slot; place = place } in
-    let open_end : IsOpen start place end made = record {
+    let open_end : IsOpen start place end ranked = record {
       entry = found.1;
       there = ap (slice_get start) here ∙ found.2;
       unended = found.3;
-      made_at = found.4;
+      named = found.4;
       same = refl;
     } in
     let within = slice_get_within (recorded entries ++ grants) found.0 found.1.grant at in (
       ap (end_slots base) is ∙ end_slots-push base now end ∙ ap (λ (es : List Record). end_slot es slot place) so_far
-          ∙ ends_open start rises place before end made open_end,
+          ∙ ends_open start rises place before end ranked open_end,
       omega (arith, within, here, length-append (recorded entries) grants, length-recorded entries),
     )
 
@@ -141,23 +142,23 @@ cut_tabled first book creation above =
     rw (filter-append below book.tables (creation ∷ []), le-ltb creation.place first above, append-nil (filter below book.tables)) refl
 
 -- what a revocation ended was in force
-lost-among : (before after : List Grant) → All (λ made. is_among made before ≡ true) (lost before after)
-lost-among [] after = All-nil (λ made. is_among made [] ≡ true)
+lost-among : (before after : List Grant) → All (λ ranked. is_among ranked before ≡ true) (lost before after)
+lost-among [] after = All-nil (λ ranked. is_among ranked [] ≡ true)
 lost-among (grant ∷ before) after =
-    let Among : ℕ → Type 0 = λ made. is_among made (grant ∷ before) ≡ true in
-    let rest = All-weaker (λ made. is_among made before ≡ true) Among (λ made is. or_right (grant.place == made) (is_among made before) is) (lost before after) (lost-among before after) in
-    by_cases (is_among grant.place after)
+    let Among : ℕ → Type 0 = λ ranked. is_among ranked (grant ∷ before) ≡ true in
+    let rest = All-weaker (λ ranked. is_among ranked before ≡ true) Among (λ ranked is. or_right (rank grant == ranked) (is_among ranked before) is) (lost before after) (lost-among before after) in
+    by_cases (is_among (rank grant) after)
     (λ stays.
     let same : lost before after ≡ lost (grant ∷ before) after = rw stays refl in
     subst (All Among) same rest)
     (λ falls.
-    let same : grant.place ∷ lost before after ≡ lost (grant ∷ before) after = rw falls refl in
-    subst (All Among) same (All-cons Among grant.place (lost before after) (itself grant before) rest))
+    let same : rank grant ∷ lost before after ≡ lost (grant ∷ before) after = rw falls refl in
+    subst (All Among) same (All-cons Among (rank grant) (lost before after) (itself grant before) rest))
   where
-    itself : (one : Grant) (others : List Grant) → is_among one.place (one ∷ others) ≡ true
-    itself one others = rw (eq-eqb one.place one.place refl) refl
+    itself : (one : Grant) (others : List Grant) → is_among (rank one) (one ∷ others) ≡ true
+    itself one others = rw (eq-eqb (rank one) (rank one) refl) refl
 
--- the places that an outcome tells are those of the grants that its place's revocation ended
+-- the ranks that an outcome tells are those of the grants that its place's revocation ended
 module _ (own : List ℕ) (place : ℕ) (world : World) (statement : Statement) where
   abbrev TellsEnds : Outcome → Type 0
   TellsEnds came = (revocation : Revocation)
@@ -165,7 +166,7 @@ module _ (own : List ℕ) (place : ℕ) (world : World) (statement : Statement) 
       → ended_in came ≡ ended_by own world.deeds revocation
 
   ends-ended : (ending : Ending) → TellsEnds (ended own world (deed_of place statement.user statement.form) ending)
-  ends-ended (completed rows outputs) revocation is = ap (λ (d : Option Deed). places_ended_by (deed_done own world d)) is
+  ends-ended (completed rows outputs) revocation is = ap (λ (d : Option Deed). ranks_ended_by (deed_done own world d)) is
   ends-ended ending revocation is = absurd (cc)
 
   ends-judged : (lack : Option Need) → TellsEnds (judged own place world statement lack).0
@@ -366,7 +367,7 @@ module _ (log : List Statement) (first index : ℕ) (book : Entries) (tables : L
             same-tables slots
             (made-after log place so_far are.stands next-owners (past ++ Revoking revocation ∷ []) (with_ends so_far revocation.place (ended_in came))
             (next-deeds ∙ ap (λ (d : Option Deed). past ++ option_to_list d) is)
-            (subst (λ (places : List ℕ). ShowsBook (with_ends so_far revocation.place places) (owners log) (past ++ Revoking revocation ∷ [])) (sym ended-told)
+            (subst (λ (ranks : List ℕ). ShowsBook (with_ends so_far revocation.place ranks) (owners log) (past ++ Revoking revocation ∷ [])) (sym ended-told)
             (shows_revoke so_far (owners log) past revocation table are.stands.shown below))
             (later_ends so_far revocation.place (ended_in came) later (place + 1) behind) refl)
             (sound_revoke so_far revocation.place (ended_in came) are.sound later)

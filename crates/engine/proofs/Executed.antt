@@ -2,7 +2,7 @@
 use Rattle.std.proofs.Common.{◌≡◌, ◌≤◌, ℕ, List, arith, refl}
 use Rattle.std.specs.Prelude.{Result, Ok}
 use Rattle.words.specs.Passes.{Words}
-use Rattle.log_batch.specs.Keys.{Key}
+use Rattle.filling.specs.Keys.{Key}
 use Rattle.filling.specs.declared.placer.Placer.{Placer}
 use Rattle.filling.specs.Placers.{AreNewPlacers, IsPlacerIn, placer_front}
 use Rattle.workers.specs.declared.work.Worked.{Worked}

@@ -7,7 +7,7 @@ ghost use Rattle.model_base.specs.Records.{ended_at, in_force, recorded};
 ghost use Rattle.model_base.specs.Laws.{IsRising};
 ghost use Rattle.grants_base.specs.Book.{IsSoundBook, extended};
 ghost use Rattle.grants_base.specs.declared.entries.End.{End};
-ghost use Rattle.own_words.specs.Words.{ended_in, places_ended_by};
+ghost use Rattle.own_words.specs.Words.{ended_in, ranks_ended_by};
 ghost use Rattle.engine.specs.Changes.{AreChanges};
 ghost use Rattle.engine.specs.Known.{AreKnown};
 ghost use Rattle.engine.specs.RunState.{IsBookState, is_completed, made_of};
@@ -17,7 +17,7 @@ use crate::booking::creates;
 use crate::slots::slot_of;
 use grants::Book;
 use grants_base::{Creation, End};
-use model_base::{Deed, DeedDone, Grant, Outcome, Place, Statement};
+use model_base::{Deed, DeedDone, Grant, Outcome, Place, RecordName, Statement};
 use sequencer::LogTail;
 use std::alloc::{AllocError, Global};
 use std::ops::Range;
@@ -50,18 +50,18 @@ fn deed_made(statement: &Statement, outcome: &Outcome, place: Place) -> Option<D
     }
 }
 
-/// The places of the grants that a deed ended.
-fn ended_by(deed: &DeedDone) -> &[Place]
-    ensures { result.now ≡ places_ended_by deed.now }
+/// The records of the grants that a deed ended.
+fn ended_by(deed: &DeedDone) -> &[RecordName]
+    ensures { result.now ≡ ranks_ended_by deed.now }
 {
     match deed {
-        DeedDone::Revoked(places) => places.as_slice(),
+        DeedDone::Revoked(names) => names.as_slice(),
         DeedDone::None | DeedDone::Granted => &[],
     }
 }
 
-/// The places of the grants that a place ended.
-fn ended_in(outcome: &Outcome) -> &[Place]
+/// The records of the grants that a place ended.
+fn ended_in(outcome: &Outcome) -> &[RecordName]
     ensures { result.now ≡ ended_in outcome.now }
 {
     match outcome {
@@ -70,23 +70,23 @@ fn ended_in(outcome: &Outcome) -> &[Place]
     }
 }
 
-/// Appends the ends, at a place, of the grants that were made at other places, which are in force until then.
+/// Appends the ends, at a place, of some records, whose grants are in force until then.
 fn push_ends(
     ends: &mut Vec<End>,
     book: &Book,
     grants: &[Grant],
-    ended: &[Place],
+    ended: &[RecordName],
     place: Place,
 ) -> Result<(), AllocError>
     requires rising { IsRising (recorded book.now.records ++ grants.now) }
-    requires open { All (λ made. is_among made (in_force (extended book.now [] grants.now ends.old.items).records) ≡ true) ended.now }
+    requires open { All (λ ranked. is_among ranked (in_force (extended book.now [] grants.now ends.old.items).records) ≡ true) ended.now }
     ensures ends { OnOk result ((extended book.now [] grants.now ends.new.items).records
         ≡ map (ended_at place ended.now) (extended book.now [] grants.now ends.old.items).records) }
     ensures slots { OnOk result (All (λ (end : End). end.slot < length book.now.records + length grants.now) ends.old.items
         → All (λ (end : End). end.slot < length book.now.records + length grants.now) ends.new.items) }
 {
-    for made in ended {
-        let slot = slot_of(book, grants, *made);
+    for name in ended {
+        let slot = slot_of(book, grants, *name);
         ends.push(End { slot, place })?;
     }
     Ok(())

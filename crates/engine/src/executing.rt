@@ -55,5 +55,5 @@ pub fn execute<'a, R: Threads + Wait + Sync, G: Gate + Sync>(
     worked.ended()?;
     let pass = settled(&words, pass);
     let (key, closed) = words.close(pass);
-    Ok(finish(alloc, key.into_key(), &closed)?)
+    Ok(finish(alloc, key, &closed)?)
 }

@@ -30,5 +30,6 @@ pub use fault::EngineFault;
 pub use in_order::run_in_order;
 pub use remembering::RememberingBook;
 pub use run::Engine;
+pub use slots::slot_in;
 pub use state::RunState;
 pub use workers::RunFault;

@@ -13,7 +13,9 @@ use crate::held::HeldNeeds;
 use checker::{Admission, admit};
 use grants::Book;
 use grants_base::{Creation, End};
-use model_base::{Grant, HashSeed, MOST_NAMES, Place, Revocation, Statement, Table, User};
+use model_base::{
+    Grant, HashSeed, MOST_NAMES, Place, RecordName, Revocation, Statement, Table, User,
+};
 use std::alloc::{AllocError, Global};
 use std::marker::Model;
 
@@ -117,7 +119,7 @@ impl RememberingBook {
         &mut self,
         alloc: Global,
         revocation: &Revocation,
-    ) -> Result<Vec<Place>, AllocError>
+    ) -> Result<Vec<RecordName>, AllocError>
         requires later { IsLater self.old revocation.now.place }
         requires table { revocation.now.table < length self.old.tables }
         ensures ended { IfOk result (λ ends. (owners : List ℕ) (deeds : List Deed) → ShowsBook self.old owners deeds

@@ -2,7 +2,7 @@
 
 use engine::Engine;
 use explain::{Explanation, Line, Shown, check};
-use model_base::{Items, Kind, Need, Place, Table};
+use model_base::{Items, Kind, Need, Place, Position, RecordName, Table};
 use std::alloc::{AllocError, Global};
 
 const READ: Need = Need {
@@ -128,10 +128,17 @@ const HANDED: [HandedIn; 15] = [
     },
 ];
 
-/// The grants of these places.
-fn chain(alloc: Global, places: &[Place]) -> Result<Items<Place>, AllocError> {
-    let places = places.to_vec(alloc)?;
-    Ok(Items::new(places))
+/// The grants of READ of these places.
+fn chain(alloc: Global, places: &[Place]) -> Result<Items<RecordName>, AllocError> {
+    let mut names = Vec::new(alloc);
+    for place in places {
+        names.push(RecordName {
+            place: *place,
+            kind: Kind::Read,
+            position: Position::First,
+        })?;
+    }
+    Ok(Items::new(names))
 }
 
 /// The line that shows this.

@@ -14,6 +14,7 @@ use Rattle.model_base.specs.declared.deed.Need.{Need}
 use Rattle.model_base.specs.declared.deed.Revocation.{Revocation}
 use Rattle.model_base.specs.declared.statement.Form.{Form}
 use Rattle.model_base.specs.declared.statement.Statement.{Statement}
+use Rattle.model_base.specs.Ranks.{rank}
 use Rattle.model_base.specs.Outcomes.{at_place, deed_of, deeds_before, needs, owners, rows_before}
 use Rattle.model_base.specs.References.{deed_tables, tables_of}
 use Rattle.model_base.proofs.Covered.{contrary}
@@ -25,7 +26,7 @@ use Rattle.body.proofs.Shapes.{logs_have_shape}
 use Rattle.own_words.specs.Places.{own_words, words_at}
 use Rattle.evaluation.specs.Answering.{ended_by_deed}
 use Rattle.sequencer.specs.Whole.{columns_by}
-use Rattle.bohm_core_base.specs.Batch.{Batch, is_listed, place_at, batch_slots, was_done}
+use Rattle.bohm_core_base.specs.Batch.{Batch, is_listed, rank_at, batch_slots, was_done}
 use Rattle.bohm_core_base.specs.Serial.{serial_ends, serial_words, batch_world_before}
 use Rattle.bohm_core_base.proofs.Endings.{ends-by}
 use Rattle.bohm_core_base.proofs.Whole.{deeds-proper, serial-at, serial-only}
@@ -36,7 +37,7 @@ use Rattle.log_batch.proofs.SerialRuns.{serial_runs_agree}
 use Rattle.log_batch.proofs.Sound.{batches_are_sound}
 use Rattle.log_batch.proofs.SoundTables.{listed_once}
 use Rattle.evaluation.proofs.Listed.{listed-holds}
-use Rattle.evaluation.proofs.Slots.{slot-place}
+use Rattle.evaluation.proofs.Slots.{slot-rank}
 
 -- the words of a place of a log
 pub words-are : (columns : ℕ → ℕ) (log : List Statement) (place : ℕ) (statement : Statement) → slice_get log place ≡ Some statement
@@ -94,18 +95,18 @@ module _ (ranged : LogRange) (of_log : IsOfLog (range_of ranged)) (index : ℕ) 
 
   -- the grants that a revocation takes out of force are those whose records it ends
   revoked : (revocation : Revocation) (slot : ℕ) → slot < length (batch_slots batch) → batch.deed index ≡ Some (Revoking revocation)
-      → is_ended (owners log) (batch_world_before batch index).deeds (Revoking revocation) (place_at batch slot) ≡ serial_ends batch index slot
+      → is_ended (owners log) (batch_world_before batch index).deeds (Revoking revocation) (rank_at batch slot) ≡ serial_ends batch index slot
   revoked revocation slot low is =
       let sound = batches_are_sound (range_of ranged) of_log in
-      by_cases (is_ended (owners log) (batch_world_before batch index).deeds (Revoking revocation) (place_at batch slot))
+      by_cases (is_ended (owners log) (batch_world_before batch index).deeds (Revoking revocation) (rank_at batch slot))
       (λ ends. rw ends (sym (serial-at batch sound index slot revocation within done is ends)))
       (λ left. by_cases (serial_ends batch index slot)
       (λ ends.
       let only = serial-only batch sound index slot low ends in
       let both : Some (Revoking revocation) ≡ Some (Revoking only.revocation) = sym is ∙ only.deed in
       let same : revocation ≡ only.revocation = cc in
-      contrary (is_ended (owners log) (batch_world_before batch index).deeds (Revoking revocation) (place_at batch slot))
-      (ap (λ one. is_ended (owners log) (batch_world_before batch index).deeds (Revoking one) (place_at batch slot)) same ∙ only.ended) left)
+      contrary (is_ended (owners log) (batch_world_before batch index).deeds (Revoking revocation) (rank_at batch slot))
+      (ap (λ one. is_ended (owners log) (batch_world_before batch index).deeds (Revoking one) (rank_at batch slot)) same ∙ only.ended) left)
       (λ none. rw (left, none) refl))
 
   -- any other deed ends none
@@ -117,16 +118,16 @@ module _ (ranged : LogRange) (of_log : IsOfLog (range_of ranged)) (index : ℕ) 
       (λ ends. let only = serial-only batch sound index slot low ends in absurd (other only.revocation (sym is ∙ only.deed)))
       (λ none. sym none)
 
-  -- so the places that its deed ends are those of the slots that the serial run ends there
+  -- so the ranks that its deed ends are those of the slots that the serial run ends there
   pub ends-told : (slot : ℕ) (grant : Grant) → slice_get (batch_slots batch) slot ≡ Some grant
-      → list_any (λ ended. ended == grant.place) (ended_by_deed (owners log) (deeds_before log place) (deed_of place statement.user statement.form)) ≡ serial_ends batch index slot
+      → list_any (λ ended. ended == rank grant) (ended_by_deed (owners log) (deeds_before log place) (deed_of place statement.user statement.form)) ≡ serial_ends batch index slot
   ends-told slot grant found = by_deed (deed_of place statement.user statement.form) refl
     where
       low : slot < length (batch_slots batch)
       low = slice_get_within (batch_slots batch) slot grant found
 
       by_deed : (deed : Option Deed) → deed_of place statement.user statement.form ≡ deed
-          → list_any (λ ended. ended == grant.place) (ended_by_deed (owners log) (deeds_before log place) deed) ≡ serial_ends batch index slot
+          → list_any (λ ended. ended == rank grant) (ended_by_deed (owners log) (deeds_before log place) deed) ≡ serial_ends batch index slot
       by_deed None made = unrevoked None slot low (deed-is ∙ made) (λ revocation is. cc)
       by_deed (Some (Granting given)) made = unrevoked (Some (Granting given)) slot low (deed-is ∙ made) (λ revocation is. cc)
       by_deed (Some (Revoking revocation)) made =
@@ -135,8 +136,8 @@ module _ (ranged : LogRange) (of_log : IsOfLog (range_of ranged)) (index : ℕ) 
           let before : List Deed = (batch_world_before batch index).deeds in
           let proper = deeds-proper batch sound index in
           let same : before ≡ deeds_before log place = (serial_runs_agree (range_of ranged) of_log index).deeds in
-          ap (λ deeds. list_any (λ ended. ended == grant.place) (ended_by_deed (owners log) deeds (Some (Revoking revocation)))) (sym same)
-          ∙ ap (λ at. list_any (λ ended. ended == at) (ended_by_deed (owners log) before (Some (Revoking revocation)))) (sym (slot-place ranged of_log index slot grant found))
-          ∙ sym (ap (λ ended. list_any (λ made. made == place_at batch slot) ended) (ended_by-covered_records (owners log) all before revocation proper refl))
-          ∙ ends-by (owners log) all before revocation (place_at batch slot) proper refl
+          ap (λ deeds. list_any (λ ended. ended == rank grant) (ended_by_deed (owners log) deeds (Some (Revoking revocation)))) (sym same)
+          ∙ ap (λ at. list_any (λ ended. ended == at) (ended_by_deed (owners log) before (Some (Revoking revocation)))) (sym (slot-rank ranged of_log index slot grant found))
+          ∙ sym (ap (λ ended. list_any (λ one. one == rank_at batch slot) ended) (ended_by-covered_records (owners log) all before revocation proper refl))
+          ∙ ends-by (owners log) all before revocation (rank_at batch slot) proper refl
           ∙ revoked revocation slot low (deed-is ∙ made)

@@ -29,7 +29,7 @@ use Rattle.body.specs.Steps.{EndsWithin, steps_of}
 use Rattle.body.proofs.Shapes.{keeps_shape, logs_have_shape}
 use Rattle.body.proofs.Within.{ends_within}
 use Rattle.own_words.specs.Places.{cells, own_words, words_at}
-use Rattle.own_words.specs.Words.{FitsDetails, FitsForm, cause_word, creates, deed_form, deed_told, places_ended_by, ended_in, header, is_created, outcome_from, outputs_of}
+use Rattle.own_words.specs.Words.{FitsDetails, FitsForm, cause_word, creates, deed_form, deed_told, ranks_ended_by, ended_in, header, is_created, outcome_from, outputs_of}
 use Rattle.own_words.proofs.Undoing.{details_told}
 use Rattle.evaluation.specs.Keeping.{KeepsToSteps}
 use Rattle.evaluation.proofs.Room.{few_outputs, outputs_counted}
@@ -72,11 +72,11 @@ module _ (own : List ℕ) (place : ℕ) (world : World) (statement : Statement) 
   created_fits (Form.Deed deed) = judged_plain (missing own world statement.user (Form.Deed deed))
 
   -- what a deed results in is of its kind
-  deed_kind : (deed : DeedForm) → deed_done own world (Some (deed_at place statement.user deed)) ≡ deed_told (places_ended_by (deed_done own world (Some (deed_at place statement.user deed)))) (Some deed)
+  deed_kind : (deed : DeedForm) → deed_done own world (Some (deed_at place statement.user deed)) ≡ deed_told (ranks_ended_by (deed_done own world (Some (deed_at place statement.user deed)))) (Some deed)
   deed_kind (DeedForm.Grant kind table grantee option) = refl
   deed_kind (DeedForm.Revoke kinds table grantees) = refl
 
-  form_kind : (form : Form) → deed_done own world (deed_of place statement.user form) ≡ deed_told (places_ended_by (deed_done own world (deed_of place statement.user form))) (deed_form form)
+  form_kind : (form : Form) → deed_done own world (deed_of place statement.user form) ≡ deed_told (ranks_ended_by (deed_done own world (deed_of place statement.user form))) (deed_form form)
   form_kind (Form.Create table columns) = refl
   form_kind (Form.Run accesses steps None) = refl
   form_kind (Form.Run accesses steps (Some deed)) = deed_kind deed

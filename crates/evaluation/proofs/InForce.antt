@@ -1,15 +1,17 @@
 -- What was in force as a batch began, and what a place of the batch is shown of it.
 use Rattle.std.proofs.Common.{◌≡◌, ℕ, zero, suc, ◌+◌, ◌&&◌, ◌<◌, ◌≤◌, Bool, true, false, List, [], ◌∷◌, ◌++◌, Option, Some, None, get_or, is_none, length, map, refl, sym, ◌∙◌, ap, subst, arith, inl, inr}
-use Rattle.std.specs.Prelude.{nat_lt, slice_get}
+use Rattle.std.specs.Prelude.{◌*◌, nat_lt, slice_get}
 use Rattle.std.proofs.lemmas.Bool.{and_parts, lt-ltb, true≢false}
 use Rattle.model_base.specs.declared.deed.Deed.{Deed}
 use Rattle.model_base.specs.declared.deed.Grant.{Grant}
 use Rattle.model_base.specs.declared.deed.Record.{Record}
 use Rattle.model_base.specs.declared.statement.Statement.{Statement}
+use Rattle.model_base.specs.Ranks.{place_of_rank, rank}
 use Rattle.model_base.specs.Outcomes.{deeds_before, owners}
 use Rattle.model_base.specs.Records.{end_below, grants_of}
 use Rattle.model_base.proofs.Ends.{end-above, end-within}
 use Rattle.model_base.proofs.Growth.{deeds_before-stands}
+use Rattle.model_base.proofs.Ranked.{rank-place}
 use Rattle.model_base.proofs.Replay.{by_cases}
 use Rattle.grants_base.specs.Force.{end_if, is_in_force}
 use Rattle.grants_base.specs.View.{View, slot_at}
@@ -55,7 +57,7 @@ module _ (ranged : LogRange) (of_log : IsOfLog (range_of ranged)) (index : ℕ) 
 
     -- an end before the batch stays, and lies below its first place
     early : (end : ℕ) → entry.end ≡ Some end → end < ranged.first
-    early end is = end-within (owners log) (λ p. p < ranged.first) [] deeds entry.grant.place end (deeds_before-stands log ranged.first).below (sym made.end ∙ is)
+    early end is = end-within (owners log) (λ p. p < ranged.first) [] deeds (rank entry.grant) end (deeds_before-stands log ranged.first).below (sym made.end ∙ is)
 
     stays : (end : ℕ) → entry.end ≡ Some end → end_below (ranged.first + index) (whole_end batch k) ≡ Some end
     stays end is =
@@ -116,7 +118,8 @@ module _ (ranged : LogRange) (of_log : IsOfLog (range_of ranged)) (index : ℕ) 
         (λ yes.
         let end : entry.end ≡ Some place = rw yes at is in
         let below = early place end in
-        let above : entry.grant.place < place = end-above (owners log) [] deeds entry.grant.place place (deeds_before-stands log ranged.first).proper (sym made.end ∙ end) in
+        let above : rank entry.grant < place * 32 = end-above (owners log) [] deeds (rank entry.grant) place (deeds_before-stands log ranged.first).proper (sym made.end ∙ end) in
+        let here : place_of_rank (rank entry.grant) ≡ entry.grant.place = rank-place entry.grant in
         let first : entry.grant.place < ranged.first = omega arith in
         let seen : is_seen ≡ true = rw (listed, lt-ltb entry.grant.place (ranged.first + index) (omega arith), made-early ranged of_log entry.grant.place first) refl in
         ap (slot_end passes) (shown-some seen) ∙ rw yes (stays place end))

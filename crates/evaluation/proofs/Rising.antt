@@ -1,4 +1,4 @@
--- The places of the grants that a deed ends rise.
+-- The ranks of the records that a deed ends rise.
 use Rattle.std.proofs.Common.{◌≡◌, ◌<◌, ◌+◌, ◌++◌, ℕ, zero, suc, Option, Some, None, List, [], ◌∷◌, subst, arith}
 use Rattle.std.specs.Prelude.{All, slice_index}
 use Rattle.std.specs.List.Sorted.{IsStrictlyIncreasing}
@@ -6,6 +6,7 @@ use Rattle.std.proofs.lemmas.List.Elements.{All-cons, All-head, All-tail}
 use Rattle.model_base.specs.declared.deed.Deed.{Deed}
 use Rattle.model_base.specs.declared.deed.Deed.TheVariants.{Granting, Revoking}
 use Rattle.model_base.specs.declared.deed.Grant.{Grant}
+use Rattle.model_base.specs.Ranks.{rank}
 use Rattle.model_base.specs.Laws.{IsRising}
 use Rattle.model_base.specs.Privileges.{IsProper, is_among, kept, lost}
 use Rattle.model_base.proofs.Places.{rising-part}
@@ -14,20 +15,20 @@ use Rattle.model_base.proofs.Replay.{by_cases}
 use Rattle.evaluation.specs.Answering.{ended_by_deed}
 
 -- each lies above, and each above those before it
-lost-above : (p : ℕ) (before after : List Grant) → All (λ (grant : Grant). p < grant.place) before → All (λ q. p < q) (lost before after)
+lost-above : (p : ℕ) (before after : List Grant) → All (λ (grant : Grant). p < rank grant) before → All (λ q. p < q) (lost before after)
 lost-above p [] after all = λ k d within. absurd (omega (arith, within))
 lost-above p (grant ∷ before) after all =
-    let rest = lost-above p before after (All-tail (λ (one : Grant). p < one.place) grant before all) in
-    by_cases (is_among grant.place after)
+    let rest = lost-above p before after (All-tail (λ (one : Grant). p < rank one) grant before all) in
+    by_cases (is_among (rank grant) after)
     (λ stays. rw stays rest)
-    (λ gone. rw gone (All-cons (λ q. p < q) grant.place (lost before after) (All-head (λ (one : Grant). p < one.place) grant before all) rest))
+    (λ gone. rw gone (All-cons (λ q. p < q) (rank grant) (lost before after) (All-head (λ (one : Grant). p < rank one) grant before all) rest))
 
-rising-cons : (p : ℕ) (places : List ℕ) → All (λ q. p < q) places → IsStrictlyIncreasing places → IsStrictlyIncreasing (p ∷ places)
+rising-cons : (p : ℕ) (ranks : List ℕ) → All (λ q. p < q) ranks → IsStrictlyIncreasing ranks → IsStrictlyIncreasing (p ∷ ranks)
 rising-cons p [] all rise k within = absurd (omega arith)
-rising-cons p (q ∷ places) all rise zero within = All-head (λ one. p < one) q places all
-rising-cons p (q ∷ places) all rise (suc k) within =
+rising-cons p (q ∷ ranks) all rise zero within = All-head (λ one. p < one) q ranks all
+rising-cons p (q ∷ ranks) all rise (suc k) within =
     let next : suc (k + 1) ≡ suc k + 1 = omega arith in
-    subst (λ n. slice_index (q ∷ places) k < slice_index (p ∷ q ∷ places) n) next (rise k (omega arith))
+    subst (λ n. slice_index (q ∷ ranks) k < slice_index (p ∷ q ∷ ranks) n) next (rise k (omega arith))
 
 none-rises : IsStrictlyIncreasing []
 none-rises k within = absurd (omega arith)
@@ -36,9 +37,9 @@ lost-rises : (before after : List Grant) → IsRising before → IsStrictlyIncre
 lost-rises [] after rise = none-rises
 lost-rises (grant ∷ before) after rise =
     let rest = lost-rises before after rise.1 in
-    by_cases (is_among grant.place after)
+    by_cases (is_among (rank grant) after)
     (λ stays. rw stays rest)
-    (λ gone. rw gone (rising-cons grant.place (lost before after) (lost-above grant.place before after rise.0) rest))
+    (λ gone. rw gone (rising-cons (rank grant) (lost before after) (lost-above (rank grant) before after rise.0) rest))
 
 pub ended-rises : (owners : List ℕ) (deeds : List Deed) (deed : Option Deed) → IsProper owners deeds → IsStrictlyIncreasing (ended_by_deed owners deeds deed)
 ended-rises owners deeds None proper = none-rises

@@ -12,6 +12,7 @@ use Rattle.model_base.specs.declared.deed.Deed.{Deed}
 use Rattle.model_base.specs.declared.deed.Grant.{Grant}
 use Rattle.model_base.specs.declared.deed.Record.{Record}
 use Rattle.model_base.specs.declared.statement.Statement.{Statement}
+use Rattle.model_base.specs.Ranks.{rank}
 use Rattle.model_base.specs.Outcomes.{deeds_before, owners}
 use Rattle.model_base.specs.Records.{covered, end_below, grants_of, record_of, records}
 use Rattle.model_base.specs.References.{tables_of}
@@ -23,11 +24,11 @@ use Rattle.grants_base.specs.View.{IsLawful, ShowsDeeds, covers, end_in, flatten
 use Rattle.grants.proofs.LawfulViews.{lawful_shown}
 use Rattle.sequencer.specs.Log.{Accepted}
 use Rattle.sequencer.specs.Whole.{IsAccepted, IsWhole}
-use Rattle.bohm_core_base.specs.Batch.{Batch, place_has_deed_on, is_listed, place_at, records_shown, batch_slots, table_at, was_done}
+use Rattle.bohm_core_base.specs.Batch.{Batch, place_has_deed_on, is_listed, rank_at, records_shown, batch_slots, table_at, was_done}
 use Rattle.bohm_core_base.specs.Deeds.{is_made}
 use Rattle.bohm_core_base.specs.Serial.{serial_words, whole_end}
 use Rattle.bohm_core_base.proofs.View.{shown-same}
-use Rattle.bohm_core_base.proofs.Whole.{no_grant, slots-deed, slots-right}
+use Rattle.bohm_core_base.proofs.Whole.{no_grant, place_at, slots-deed, slots-right}
 use Rattle.log_batch.specs.Laws.{IsOfLog}
 use Rattle.log_batch.specs.Supplied.{LogRange, batch_of, range_of}
 use Rattle.log_batch.proofs.SerialRuns.{serial_runs_agree}
@@ -88,7 +89,7 @@ module _ (ranged : LogRange) (of_log : IsOfLog (range_of ranged)) where
   pub slots-all : (index : ℕ) → length (seen_at ranged index).slots ≡ length (batch_slots batch)
   slots-all index =
       slots_count (batch.tables index) (ranged.first + index) (made_whole batch) (batch_slots batch) (ends_whole batch)
-      (length-map (batch_slots batch) (λ (grant : Grant). end_whole batch grant.place))
+      (length-map (batch_slots batch) (λ (grant : Grant). end_whole batch (rank grant)))
 
   -- what an index is shown has the records of the deeds before its place
   pub shows_seen : (index : ℕ) → index ≤ ranged.size
@@ -115,11 +116,11 @@ module _ (ranged : LogRange) (of_log : IsOfLog (range_of ranged)) where
             (λ no. contrary (covers (seen_view seen) table) told (rw no refl));
         same =
             slots-records tables place (made_whole batch) grants ends
-            ∙ shown-same tables place (made_whole batch) (made_whole batch) (end_whole batch) grants ends (length-map grants (λ (grant : Grant). end_whole batch grant.place))
+            ∙ shown-same tables place (made_whole batch) (made_whole batch) (end_whole batch) grants ends (length-map grants (λ (grant : Grant). end_whole batch (rank grant)))
             (λ k below listed. (
               ap (end_below place)
-                  (get_or-map (λ (grant : Grant). end_whole batch grant.place) grants k no_grant None below
-                  ∙ ap (end_whole batch) (sym (get_or-map (λ (grant : Grant). grant.place) grants k no_grant 0 below))),
+                  (get_or-map (λ (grant : Grant). end_whole batch (rank grant)) grants k no_grant None below
+                  ∙ ap (end_whole batch) (sym (get_or-map rank grants k no_grant 0 below))),
               refl,
             ))
             ∙ ap (covered (is_listed tables)) (slots-right batch sound index within)
@@ -149,8 +150,11 @@ module _ (ranged : LogRange) (of_log : IsOfLog (range_of ranged)) where
     here : get_or (batch_slots batch) slot no_grant ≡ grant
     here = let same : Some (get_or (batch_slots batch) slot no_grant) ≡ Some grant = sym (slice_get-get_or (batch_slots batch) slot no_grant within) ∙ at in cc
 
-    -- its place and its table are those of its grant
-    pub slot-place : place_at batch slot ≡ grant.place
+    -- its rank, its place and its table are those of its grant
+    pub slot-rank : rank_at batch slot ≡ rank grant
+    slot-rank = get_or-map rank (batch_slots batch) slot no_grant 0 within ∙ ap rank here
+
+    slot-place : place_at batch slot ≡ grant.place
     slot-place = get_or-map (λ (one : Grant). one.place) (batch_slots batch) slot no_grant 0 within ∙ ap (λ (one : Grant). one.place) here
 
     pub slot-table : table_at batch slot ≡ grant.table
@@ -161,9 +165,9 @@ module _ (ranged : LogRange) (of_log : IsOfLog (range_of ranged)) where
     unfolding whole_end
     slot-shown =
         let count = slots-all index in
-        let end : get_or (ends_whole batch) slot None ≡ end_whole batch (place_at batch slot) =
-        get_or-map (λ (one : Grant). end_whole batch one.place) (batch_slots batch) slot no_grant None within
-        ∙ ap (λ (one : Grant). end_whole batch one.place) here ∙ ap (end_whole batch) (sym slot-place) in
+        let end : get_or (ends_whole batch) slot None ≡ end_whole batch (rank_at batch slot) =
+        get_or-map (λ (one : Grant). end_whole batch (rank one)) (batch_slots batch) slot no_grant None within
+        ∙ ap (λ (one : Grant). end_whole batch (rank one)) here ∙ ap (end_whole batch) (sym slot-rank) in
         ap flatten (slot_at_seen (batch.tables index) (ranged.first + index) (made_whole batch) (batch_slots batch) (ends_whole batch) slot grant (rw count within) at)
         ∙ ap (slot_seen (batch.tables index) (ranged.first + index) (made_whole batch) grant) end
 

@@ -21,7 +21,7 @@ pub record IsShaped (columns : ℕ → ℕ) (accesses : List Access) (window : W
   pub shows : WindowShows accesses window rows
   pub shape : HaveColumns columns rows
 
--- the places of the grants that a deed takes out of force
+-- the ranks of the records of the grants that a deed takes out of force
 abbrev pub ended_by_deed : List ℕ → List Deed → Option Deed → List ℕ
 ended_by_deed owners deeds None = []
 ended_by_deed owners deeds (Some (Granting grant)) = []

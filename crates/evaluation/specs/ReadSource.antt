@@ -6,6 +6,7 @@
 use Rattle.std.specs.Prelude.{◌≡◌, ◌<◌, ℕ, Bool, suc, zero, false, true, Option, None, Some, List, [], length, map, slice_index_or}
 use Rattle.model_base.specs.declared.deed.Grant.{Grant}
 use Rattle.model_base.specs.declared.row.Key.{Key}
+use Rattle.model_base.specs.Ranks.{rank}
 use Rattle.model_base.specs.Records.{end_after}
 use Rattle.bohm_core_base.specs.declared.event.Event.{Event}
 use Rattle.bohm_core_base.specs.Batch.{Batch, Row, cell, deeds_of, place_has_deed_on, is_listed, reference_words, batch_slots, was_done}
@@ -82,10 +83,10 @@ row_referred batch key (suc index) = cell batch index (serial_words batch index)
 abbrev pub made_whole : Batch → ℕ → Bool
 made_whole batch = is_made (deeds_of batch (λ index. was_done (serial_words batch index)))
 
--- the end that the record of a grant's place has after the serial run of the batch
+-- the end that the record of a rank has after the serial run of the batch
 abbrev pub end_whole : Batch → ℕ → Option ℕ
-end_whole batch place = end_after batch.owners [] (batch_world_before batch batch.size).deeds place
+end_whole batch ranked = end_after batch.owners [] (batch_world_before batch batch.size).deeds ranked
 
 -- those of all slots
 abbrev pub ends_whole : Batch → List (Option ℕ)
-ends_whole batch = map (λ (grant : Grant). end_whole batch grant.place) (batch_slots batch)
+ends_whole batch = map (λ (grant : Grant). end_whole batch (rank grant)) (batch_slots batch)

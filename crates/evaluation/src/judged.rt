@@ -6,6 +6,7 @@ ghost use Rattle.std.specs.List.Sorted.{IsStrictlyIncreasing};
 ghost use Rattle.model_base.specs.declared.deed.Grant.{Grant};
 ghost use Rattle.model_base.specs.declared.statement.Statement.{Statement};
 ghost use Rattle.model_base.specs.Outcomes.{deed_of, deeds_before, owners};
+ghost use Rattle.model_base.specs.Ranks.{rank};
 ghost use Rattle.own_words.specs.Places.{words_at};
 ghost use Rattle.evaluation.specs.Answering.{ended_by_deed};
 ghost use Rattle.sequencer.specs.Whole.{columns_by};
@@ -20,7 +21,7 @@ use crate::revoking::ended;
 use crate::rows::show_rows;
 use body::Window;
 use log_batch::LogBatch;
-use model_base::Place;
+use model_base::RecordName;
 use own_words::{DONE, OwnWords, word_at};
 use std::alloc::{AllocError, Global};
 use std::marker::{Brand, PhantomData};
@@ -75,18 +76,18 @@ pub fn words_by_source<T: ReadSource>(batch: &LogBatch<'_>, source: T, words: &m
     judge::<T, Brand>(batch, source, words)
 }
 
-/// The reader again, and the places of the grants that its deed takes out of force.
+/// The reader again, and the names of the records of the grants that its deed takes out of force.
 fn judge_ends<T: ReadSource, P: Pinned>(
     alloc: Global,
     batch: &LogBatch<'_>,
     source: T,
-) -> (T, Result<Vec<Place>, AllocError>)
+) -> (T, Result<Vec<RecordName>, AllocError>)
     requires batch { (T.as_reader source).batch ≡ batch_of batch.now }
     requires place { Some (T.as_reader source) ≡ P.as_reader }
     requires kept { Some (T.work source) ≡ P.work }
     ensures value { (statement : Statement)
         → slice_get batch.now.log.statements (batch.now.first + (T.as_reader source).index) ≡ Some statement
-        → IfOk result.1 (λ places. places.items
+        → IfOk result.1 (λ names. names.items
         ≡ ended_by_deed (owners batch.now.log.statements)
         (deeds_before batch.now.log.statements (batch.now.first + (T.as_reader source).index))
         (deed_of (batch.now.first + (T.as_reader source).index) statement.user statement.form)) }
@@ -99,27 +100,27 @@ fn judge_ends<T: ReadSource, P: Pinned>(
         source,
         pinned: PhantomData,
     };
-    let places = ended(alloc, statement, &mut records);
+    let names = ended(alloc, statement, &mut records);
     let ShownRecords {
         batch: _,
         source,
         pinned: _,
     } = records;
-    (source, places)
+    (source, names)
 }
 
-/// The reader again, and the places of the grants whose records it ends, if `was_done` says of its own words that it was done: a slot's
-/// record is one of these exactly if its grant's place is among them. They are in rising order. An error means out of memory.
+/// The reader again, and the names of the records that it ends, if `was_done` says of its own words that it was done: a slot's record is
+/// one of these exactly if its name is among them. They are in order. An error means out of memory.
 pub fn ends_by_source<T: ReadSource>(
     alloc: Global,
     batch: &LogBatch<'_>,
     source: T,
-) -> (T, Result<Vec<Place>, AllocError>)
+) -> (T, Result<Vec<RecordName>, AllocError>)
     requires batch { (T.as_reader source).batch ≡ batch_of batch.now }
     requires done { was_done (serial_words (batch_of batch.now) (T.as_reader source).index) ≡ true }
-    ensures ends { IfOk result.1 (λ places. (slot : ℕ) (grant : Grant) → slice_get (batch_slots (batch_of batch.now)) slot ≡ Some grant
-        → list_any (λ place. place == grant.place) places.items ≡ serial_ends (batch_of batch.now) (T.as_reader source).index slot) }
-    ensures order { IfOk result.1 (λ places. IsStrictlyIncreasing places.items) }
+    ensures ends { IfOk result.1 (λ names. (slot : ℕ) (grant : Grant) → slice_get (batch_slots (batch_of batch.now)) slot ≡ Some grant
+        → list_any (λ name. name == rank grant) names.items ≡ serial_ends (batch_of batch.now) (T.as_reader source).index slot) }
+    ensures order { IfOk result.1 (λ names. IsStrictlyIncreasing names.items) }
     ensures same { (T.as_reader result.0 ≡ T.as_reader source) × (T.work result.0 ≡ T.work source) }
 {
     let _statement = batch.statement(source.reader());

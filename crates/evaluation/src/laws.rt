@@ -25,7 +25,7 @@ pub fn outcomes_fit_their_forms()
         → FitsForm statement.form found }
 {}
 
-/// The own words of a place of such a log, decoded with the places of the grants that its revocation ended, are its outcome.
+/// The own words of a place of such a log, decoded with the records that its revocation ended, are its outcome.
 pub fn words_tell_outcomes()
     ensures { (columns : ℕ → ℕ) (log : List Statement) (place : ℕ) (statement : Statement) (found : Outcome)
         → slice_get log place ≡ Some statement → outcome log place ≡ Some found

@@ -8,17 +8,17 @@ ghost use Rattle.grants_base.specs.View.{ShowsDeeds};
 ghost use Rattle.evaluation.specs.Answering.{ended_by_deed};
 
 use grants::{Records, to_end};
-use model_base::{Deed, Place, Statement};
+use model_base::{Deed, RecordName, Statement};
 use std::alloc::{AllocError, Global};
 
-/// The places of the grants that the statement's deed takes out of force, if it has a revocation, in rising order; a statement
-/// with a grant or without a deed ends none. Whether the statement is done isn't asked. A revocation costs what `to_end`
+/// The names of the records of the grants that the statement's deed takes out of force, if it has a revocation, in order; a
+/// statement with a grant or without a deed ends none. Whether the statement is done isn't asked. A revocation costs what `to_end`
 /// costs. On `Err`, out of memory. What the view shows stays in any case.
 pub fn ended<V: Records>(
     alloc: Global,
     statement: &Statement,
     view: &mut V,
-) -> Result<Vec<Place>, AllocError>
+) -> Result<Vec<RecordName>, AllocError>
     requires covered { All (λ table. IsSome ((V.shown view.old).owner table)) (deed_tables statement.now.form) }
     ensures value { IfOk result (λ ended. (owners : List ℕ) (deeds : List Deed) → ShowsDeeds (V.shown view.old) owners deeds
         → ended.items ≡ ended_by_deed owners deeds (deed_of (V.shown view.old).place statement.now.user statement.now.form)) }

@@ -18,7 +18,7 @@ use Rattle.model_base.proofs.Cuts.{deeds_below-all, deeds_below-whole}
 use Rattle.model_base.proofs.Replay.{by_cases}
 use Rattle.explain.specs.declared.line.Line.{Line}
 use Rattle.explain.specs.declared.line.Shown.{Shown}
-use Rattle.explain.specs.Lines.{IsChain, IsSound, cause_before, holds_before, kept_before, made_places, shown_lost, shown_of}
+use Rattle.explain.specs.Lines.{IsChain, IsSound, cause_before, holds_before, kept_before, ranks_of, shown_lost, shown_of}
 use Rattle.explain.specs.ExplainedNeeds.{AreSound, needs_asked, line_of, explaining_lines}
 
 -- of the deeds below a place, those below an earlier one are those of all
@@ -61,7 +61,7 @@ module _ (owners : List ℕ) (deeds : List Deed) (place user : ℕ) where
   lost-below need Never is = refl
   lost-below need (Taken lost) is =
       let less : lost ≤ place = omega (arith, taken-below need lost is) in
-      ap (λ (grants : List Grant). Shown.Taken lost (made_places (path owners grants user need))) (kept-below lost less)
+      ap (λ (grants : List Grant). Shown.Taken lost (ranks_of (path owners grants user need))) (kept-below lost less)
 
   shown-below : (need : Need) → shown_of owners below place user need ≡ shown_of owners deeds place user need
   shown-below need =
@@ -85,25 +85,25 @@ module _ (owners : List ℕ) (deeds : List Deed) (place user : ℕ) where
   pub lines-below : (needs : List Need) → explaining_lines owners below place user needs ≡ explaining_lines owners deeds place user needs
   lines-below needs = ap (map (line_of owners below place user)) (asked-below needs) ∙ lines-all (needs_asked owners deeds place user needs)
 
-  chain-below : (lost : ℕ) (need : Need) (places : List ℕ) → lost ≤ place
-      → IsChain owners (kept_before owners below lost) user need places ↔ IsChain owners (kept_before owners deeds lost) user need places
-  chain-below lost need places less =
-      let P : List Grant → Type 0 = λ grants. IsChain owners grants user need places in
+  chain-below : (lost : ℕ) (need : Need) (ranks : List ℕ) → lost ≤ place
+      → IsChain owners (kept_before owners below lost) user need ranks ↔ IsChain owners (kept_before owners deeds lost) user need ranks
+  chain-below lost need ranks less =
+      let P : List Grant → Type 0 = λ grants. IsChain owners grants user need ranks in
       let is = kept-below lost less in
       (subst P is, subst P (sym is))
 
   sound-below : (need : Need) (shown : Shown) → IsSound owners below place user need shown ↔ IsSound owners deeds place user need shown
   sound-below need Shown.Owner = (λ is. is, λ is. is)
-  sound-below need (Shown.Grants places) = chain-below place need places (omega arith)
+  sound-below need (Shown.Grants ranks) = chain-below place need ranks (omega arith)
   sound-below need Shown.Never = (
     λ is. (sym (holds-below need) ∙ is.0, sym (cause-below need) ∙ is.1),
     λ is. (holds-below need ∙ is.0, cause-below need ∙ is.1),
   )
-  sound-below need (Shown.Taken lost places) = (
+  sound-below need (Shown.Taken lost ranks) = (
     λ is.
         let was = sym (cause-below need) ∙ is.1 in
-        (sym (holds-below need) ∙ is.0, was, (chain-below lost need places (omega (arith, taken-below need lost was))).0 is.2),
-    λ is. (holds-below need ∙ is.0, cause-below need ∙ is.1, (chain-below lost need places (omega (arith, taken-below need lost is.1))).1 is.2),
+        (sym (holds-below need) ∙ is.0, was, (chain-below lost need ranks (omega (arith, taken-below need lost was))).0 is.2),
+    λ is. (holds-below need ∙ is.0, cause-below need ∙ is.1, (chain-below lost need ranks (omega (arith, taken-below need lost is.1))).1 is.2),
   )
 
   -- so are the lines that do

@@ -9,76 +9,77 @@ use Rattle.model_base.specs.declared.deed.Need.{Need}
 use Rattle.model_base.specs.Laws.{IsRising}
 use Rattle.model_base.specs.Paths.{LeadsFrom, LeadsTo}
 use Rattle.model_base.specs.Privileges.{gives, option_of, owns}
+use Rattle.model_base.specs.Ranks.{rank}
 use Rattle.grants.proofs.Passing.{given, owns_owner}
-use Rattle.explain.specs.Lines.{IsChain, made_places}
+use Rattle.explain.specs.Lines.{IsChain, ranks_of}
 use Rattle.explain.specs.Steps.{bears_path, leads_to_next, grant_at, leads_on}
 use Rattle.explain.proofs.Standing.{grant_at-among, grant_at-rising}
 
 module _ (grants : List Grant) (user : ℕ) (need : Need) where
-  -- a place whose grant goes on is passed
-  pub leads-next : (grant next : Grant) (places : List ℕ) (i made : ℕ) → i < length places → made ≡ get_or places i made → grant_at made grants ≡ Some next
+  -- a rank whose grant goes on is passed
+  pub leads-next : (grant next : Grant) (ranks : List ℕ) (i ranked : ℕ) → i < length ranks → ranked ≡ get_or ranks i ranked → grant_at ranked grants ≡ Some next
       → leads_to_next grant next ≡ true
-      → leads_on grants next (drop (i + 1) places) user need ≡ leads_on grants grant (drop i places) user need
-  leads-next grant next places i made within is found on =
-      sym (ap (λ left. leads_on grants grant left user need) (drop_at places i made within is) ∙ rw (found, on) refl)
+      → leads_on grants next (drop (i + 1) ranks) user need ≡ leads_on grants grant (drop i ranks) user need
+  leads-next grant next ranks i ranked within is found on =
+      sym (ap (λ left. leads_on grants grant left user need) (drop_at ranks i ranked within is) ∙ rw (found, on) refl)
     where
       drop_at : (all : List ℕ) (j first : ℕ) → j < length all → first ≡ get_or all j first → drop j all ≡ first ∷ drop (j + 1) all
       drop_at all j first less at = rw (add-one j) (drop-cons all j first less ∙ ap (λ x. x ∷ drop (suc j) all) (sym at))
 
   -- one that doesn't isn't
-  pub leads-stops : (grant : Grant) (places : List ℕ) (i made : ℕ) → i < length places → made ≡ get_or places i made
-      → ((next : Grant) → grant_at made grants ≡ Some next → leads_to_next grant next ≡ false)
-      → leads_on grants grant (drop i places) user need ≡ false
-  leads-stops grant places i made within is stops =
-      ap (λ left. leads_on grants grant left user need) (drop_at places i made within is)
-      ∙ by_found (grant_at made grants) refl
+  pub leads-stops : (grant : Grant) (ranks : List ℕ) (i ranked : ℕ) → i < length ranks → ranked ≡ get_or ranks i ranked
+      → ((next : Grant) → grant_at ranked grants ≡ Some next → leads_to_next grant next ≡ false)
+      → leads_on grants grant (drop i ranks) user need ≡ false
+  leads-stops grant ranks i ranked within is stops =
+      ap (λ left. leads_on grants grant left user need) (drop_at ranks i ranked within is)
+      ∙ by_found (grant_at ranked grants) refl
     where
       drop_at : (all : List ℕ) (j first : ℕ) → j < length all → first ≡ get_or all j first → drop j all ≡ first ∷ drop (suc j) all
       drop_at all j first less at = drop-cons all j first less ∙ ap (λ x. x ∷ drop (suc j) all) (sym at)
 
-      by_found : (found : Option Grant) → grant_at made grants ≡ found
-          → option_map_or (λ next. leads_to_next grant next && leads_on grants next (drop (suc i) places) user need) (grant_at made grants) false ≡ false
+      by_found : (found : Option Grant) → grant_at ranked grants ≡ found
+          → option_map_or (λ next. leads_to_next grant next && leads_on grants next (drop (suc i) ranks) user need) (grant_at ranked grants) false ≡ false
       by_found None at = rw at refl
       by_found (Some next) at = rw (at, stops next at) refl
 
-  -- grants that lead on from one, with rising places, all of them among the grants
-  pub record LeadOn (grant : Grant) (places : List ℕ) : Type 0 where
+  -- grants that lead on from one, with rising ranks, all of them among the grants
+  pub record LeadOn (grant : Grant) (ranks : List ℕ) : Type 0 where
     pub chain : List Grant
-    pub told : made_places chain ≡ places
+    pub told : ranks_of chain ≡ ranks
     pub rising : IsRising (grant ∷ chain)
     pub among : All (Contains grants) chain
     pub leads : LeadsFrom grant chain user need
 
-  after_all : (grant next : Grant) (chain : List Grant) → grant.place < next.place → All (λ later. next.place < later.place) chain
-      → All (λ later. grant.place < later.place) (next ∷ chain)
+  after_all : (grant next : Grant) (chain : List Grant) → rank grant < rank next → All (λ later. rank next < rank later) chain
+      → All (λ later. rank grant < rank later) (next ∷ chain)
   after_all grant next chain less above =
-      All-cons (λ (later : Grant). grant.place < later.place) next chain less
-      (All-weaker (λ (later : Grant). next.place < later.place) (λ (later : Grant). grant.place < later.place) (λ later more. omega arith) chain above)
+      All-cons (λ (later : Grant). rank grant < rank later) next chain less
+      (All-weaker (λ (later : Grant). rank next < rank later) (λ (later : Grant). rank grant < rank later) (λ later more. omega arith) chain above)
 
   -- what the test says
-  pub leads-found : (grant : Grant) (places : List ℕ) → leads_on grants grant places user need ≡ true → LeadOn grant places
+  pub leads-found : (grant : Grant) (ranks : List ℕ) → leads_on grants grant ranks user need ≡ true → LeadOn grant ranks
   leads-found grant [] is = record {
     chain = [];
     told = refl;
-    rising = (All-nil (λ (later : Grant). grant.place < later.place), tt);
+    rising = (All-nil (λ (later : Grant). rank grant < rank later), tt);
     among = All-nil (Contains grants);
     leads = is;
   }
-  leads-found grant (place ∷ places) is = by_found (grant_at place grants) refl (λ next on. leads-found next places on)
+  leads-found grant (ranked ∷ ranks) is = by_found (grant_at ranked grants) refl (λ next on. leads-found next ranks on)
     where
-      by_found : (found : Option Grant) → grant_at place grants ≡ found
-          → ((next : Grant) → leads_on grants next places user need ≡ true → LeadOn next places) → LeadOn grant (place ∷ places)
+      by_found : (found : Option Grant) → grant_at ranked grants ≡ found
+          → ((next : Grant) → leads_on grants next ranks user need ≡ true → LeadOn next ranks) → LeadOn grant (ranked ∷ ranks)
       by_found None at again = absurd (true≢false (sym (rw at at is)))
       by_found (Some next) at again =
-          let both : (leads_to_next grant next && leads_on grants next places user need) ≡ true = rw at at is in
-          let parts = and_parts (leads_to_next grant next) (leads_on grants next places user need) both in
-          let on = and_parts (nat_lt grant.place next.place) (gives grant next.grantor (option_of next)) parts.0 in
-          let less : grant.place < next.place = ltb-true grant.place next.place on.0 in
-          let there = grant_at-among place grants next at in
+          let both : (leads_to_next grant next && leads_on grants next ranks user need) ≡ true = rw at at is in
+          let parts = and_parts (leads_to_next grant next) (leads_on grants next ranks user need) both in
+          let on = and_parts (nat_lt (rank grant) (rank next)) (gives grant next.grantor (option_of next)) parts.0 in
+          let less : rank grant < rank next = ltb-true (rank grant) (rank next) on.0 in
+          let there = grant_at-among ranked grants next at in
           let rest = again next parts.1 in
           record {
             chain = next ∷ rest.chain;
-            told = ap (λ first. first ∷ made_places rest.chain) there.1 ∙ ap (λ later. place ∷ later) rest.told;
+            told = ap (λ first. first ∷ ranks_of rest.chain) there.1 ∙ ap (λ later. ranked ∷ later) rest.told;
             rising = (after_all grant next rest.chain less rest.rising.0, rest.rising);
             among = All-cons (Contains grants) next rest.chain there.0 rest.among;
             leads = (on.1, rest.leads);
@@ -86,12 +87,12 @@ module _ (grants : List Grant) (user : ℕ) (need : Need) where
 
   -- and what it doesn't miss
   pub leads-all : IsRising grants → (grant : Grant) (chain : List Grant) → IsRising (grant ∷ chain) → All (Contains grants) chain → LeadsFrom grant chain user need
-      → leads_on grants grant (made_places chain) user need ≡ true
+      → leads_on grants grant (ranks_of chain) user need ≡ true
   leads-all rise grant [] rising among leads = leads
   leads-all rise grant (next ∷ chain) rising among leads =
-      let less : grant.place < next.place = All-head (λ (later : Grant). grant.place < later.place) next chain rising.0 in
+      let less : rank grant < rank next = All-head (λ (later : Grant). rank grant < rank later) next chain rising.0 in
       let found = grant_at-rising grants next rise (All-head (Contains grants) next chain among) in
-      let on : leads_to_next grant next ≡ true = rw (lt-ltb grant.place next.place less) leads.0 in
+      let on : leads_to_next grant next ≡ true = rw (lt-ltb (rank grant) (rank next) less) leads.0 in
       rw (found, on) (leads-all rise next chain rising.1 (All-tail (Contains grants) next chain among) leads.1)
 
   -- all grants that lead to a need are on its table
@@ -100,18 +101,18 @@ module _ (grants : List Grant) (user : ℕ) (need : Need) where
   leads-table grant (next ∷ chain) leads = (given grant next.grantor (option_of next) leads.0).table ∙ leads-table next chain leads.1
 
 -- the test of the first grant, and of those after it, decides it
-pub chain_decided : (owners : List ℕ) (grants : List Grant) (user owner : ℕ) (need : Need) (made : ℕ) (later : List ℕ)
+pub chain_decided : (owners : List ℕ) (grants : List Grant) (user owner : ℕ) (need : Need) (ranked : ℕ) (later : List ℕ)
     → slice_get owners need.table ≡ Some owner → IsRising grants
-    → Decides (bears_path grants owner user need later (grant_at made grants)) (IsChain owners grants user need (made ∷ later))
-chain_decided owners grants user owner need made later owned rise = (λ is. by_found (grant_at made grants) refl is, λ is. by_chain is.chain is.told is.rising is.among is.leads)
+    → Decides (bears_path grants owner user need later (grant_at ranked grants)) (IsChain owners grants user need (ranked ∷ later))
+chain_decided owners grants user owner need ranked later owned rise = (λ is. by_found (grant_at ranked grants) refl is, λ is. by_chain is.chain is.told is.rising is.among is.leads)
   where
-    by_found : (found : Option Grant) → grant_at made grants ≡ found → bears_path grants owner user need later (grant_at made grants) ≡ true → IsChain owners grants user need (made ∷ later)
+    by_found : (found : Option Grant) → grant_at ranked grants ≡ found → bears_path grants owner user need later (grant_at ranked grants) ≡ true → IsChain owners grants user need (ranked ∷ later)
     by_found None at is = absurd (true≢false (sym (rw at at is)))
     by_found (Some first) at is =
         let all : bears_path grants owner user need later (Some first) ≡ true = rw at at is in
         let one = and_parts (first.table == need.table) ((first.grantor == owner) && leads_on grants first later user need) all in
         let two = and_parts (first.grantor == owner) (leads_on grants first later user need) one.1 in
-        let there = grant_at-among made grants first at in
+        let there = grant_at-among ranked grants first at in
         let rest = leads-found grants user need first later two.1 in
         let table : first.table ≡ need.table = eqb-true first.table need.table one.0 in
         let by : first.grantor ≡ owner = eqb-true first.grantor owner two.0 in
@@ -119,26 +120,26 @@ chain_decided owners grants user owner need made later owned rise = (λ is. by_f
         owns_owner owners first.grantor first.table owner (ap (slice_get owners) table ∙ owned) ∙ eq-eqb owner first.grantor (sym by) in
         record {
           chain = first ∷ rest.chain;
-          told = ap (λ place. place ∷ made_places rest.chain) there.1 ∙ ap (λ places. made ∷ places) rest.told;
+          told = ap (λ r. r ∷ ranks_of rest.chain) there.1 ∙ ap (λ rs. ranked ∷ rs) rest.told;
           some = omega arith;
           rising = rest.rising;
           among = All-cons (Contains grants) first rest.chain there.0 rest.among;
           leads = (owned_by, rest.leads);
         }
 
-    by_chain : (chain : List Grant) → made_places chain ≡ made ∷ later → IsRising chain → All (Contains grants) chain → LeadsTo owners chain user need
-        → bears_path grants owner user need later (grant_at made grants) ≡ true
+    by_chain : (chain : List Grant) → ranks_of chain ≡ ranked ∷ later → IsRising chain → All (Contains grants) chain → LeadsTo owners chain user need
+        → bears_path grants owner user need later (grant_at ranked grants) ≡ true
     by_chain [] told rising among leads = absurd (cc)
     by_chain (first ∷ chain) told rising among leads =
-        let at : first.place ≡ made = cc in
-        let rest : made_places chain ≡ later = cc in
-        let found : grant_at made grants ≡ Some first =
-        ap (λ place. grant_at place grants) (sym at) ∙ grant_at-rising grants first rise (All-head (Contains grants) first chain among) in
+        let at : rank first ≡ ranked = cc in
+        let rest : ranks_of chain ≡ later = cc in
+        let found : grant_at ranked grants ≡ Some first =
+        ap (λ r. grant_at r grants) (sym at) ∙ grant_at-rising grants first rise (All-head (Contains grants) first chain among) in
         let table = leads-table grants user need first chain leads.1 in
         let by : (owner == first.grantor) ≡ true =
         sym (owns_owner owners first.grantor first.table owner (ap (slice_get owners) table ∙ owned)) ∙ leads.0 in
         let same : first.grantor ≡ owner = sym (eqb-true owner first.grantor by) in
         let on : leads_on grants first later user need ≡ true =
-        ap (λ places. leads_on grants first places user need) (sym rest)
+        ap (λ rs. leads_on grants first rs user need) (sym rest)
         ∙ leads-all grants user need rise first chain rising (All-tail (Contains grants) first chain among) leads.1 in
         rw (found, eq-eqb first.table need.table table, eq-eqb first.grantor owner same) on

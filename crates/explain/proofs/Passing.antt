@@ -12,7 +12,7 @@ use Rattle.model_base.specs.Paths.{LeadsFrom, LeadsTo}
 use Rattle.model_base.specs.Privileges.{gives, has, owns}
 use Rattle.explain.specs.declared.line.Line.{Line}
 use Rattle.explain.specs.declared.line.Shown.{Shown}
-use Rattle.explain.specs.Lines.{IsChain, IsSound, holds_before, kept_before, made_places}
+use Rattle.explain.specs.Lines.{IsChain, IsSound, holds_before, kept_before, ranks_of}
 use Rattle.explain.specs.ExplainedNeeds.{AreSound, Explains, needs_asked, tells_held}
 use Rattle.explain.proofs.Asked.{owner-holds}
 
@@ -35,11 +35,11 @@ had_by : (owners : List ℕ) (grants : List Grant) (user : ℕ) (need : Need) �
 unfolding has
 had_by owners grants user need given = or_right (owns owners user need.table) (list_any (λ grant. gives grant user need) grants) given
 
-chain_has : (owners : List ℕ) (grants : List Grant) (user : ℕ) (need : Need) (places : List ℕ) → IsChain owners grants user need places → has owners grants user need ≡ true
-chain_has owners grants user need places is = by_chain is.chain is.told is.among is.leads is.some
+chain_has : (owners : List ℕ) (grants : List Grant) (user : ℕ) (need : Need) (ranks : List ℕ) → IsChain owners grants user need ranks → has owners grants user need ≡ true
+chain_has owners grants user need ranks is = by_chain is.chain is.told is.among is.leads is.some
   where
-    by_chain : (chain : List Grant) → made_places chain ≡ places → All (Contains grants) chain → LeadsTo owners chain user need → 0 < length places → has owners grants user need ≡ true
-    by_chain [] told among leads some = let none : 0 ≡ length places = ap length told in absurd (omega arith)
+    by_chain : (chain : List Grant) → ranks_of chain ≡ ranks → All (Contains grants) chain → LeadsTo owners chain user need → 0 < length ranks → has owners grants user need ≡ true
+    by_chain [] told among leads some = let none : 0 ≡ length ranks = ap length told in absurd (omega arith)
     by_chain (first ∷ chain) told among leads some =
         had_by owners grants user need
         (leads_any grants user need first chain (All-head (Contains grants) first chain among) (All-tail (Contains grants) first chain among) leads.1)
@@ -61,9 +61,9 @@ module _ (owners : List ℕ) (deeds : List Deed) (place user : ℕ) where
   -- what is shown, and is so, says whether the need is held
   pub held_sound : (need : Need) (shown : Shown) → IsSound owners deeds place user need shown → tells_held shown ≡ holds_before owners deeds place user need
   held_sound need Shown.Owner is = sym (owner-holds owners deeds place user need is)
-  held_sound need (Shown.Grants places) is = sym (chain_has owners (kept_before owners deeds place) user need places is)
+  held_sound need (Shown.Grants ranks) is = sym (chain_has owners (kept_before owners deeds place) user need ranks is)
   held_sound need Shown.Never is = sym is.0
-  held_sound need (Shown.Taken lost places) is = sym is.0
+  held_sound need (Shown.Taken lost ranks) is = sym is.0
 
   -- where a line is missing
   pub short_fails : (needs : List Need) (lines : List Line) (i : ℕ) → i < length needs → length lines ≤ i → Sound (drop i needs) (drop i lines) → ⊥

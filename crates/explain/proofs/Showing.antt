@@ -29,7 +29,7 @@ use Rattle.grants_base.specs.declared.entries.Creation.{Creation}
 use Rattle.grants.proofs.BookLaws.{get_more}
 use Rattle.grants.proofs.Passing.{owns_owner}
 use Rattle.grants.proofs.SeenLaws.{entries-view}
-use Rattle.explain.specs.Lines.{IsChain, IsSound, cause_before, holds_before, kept_before, path_before, made_places, shown_lost, shown_of}
+use Rattle.explain.specs.Lines.{IsChain, IsSound, cause_before, holds_before, kept_before, path_before, ranks_of, shown_lost, shown_of}
 use Rattle.explain.specs.Steps.{bears_path, grant_at, in_force_at}
 use Rattle.explain.proofs.Leading.{chain_decided}
 
@@ -41,7 +41,7 @@ kept_at book owners deeds place shows =
     ∙ ap in_force (sym (records-below owners place deeds shows.proper))
     ∙ in_force-records owners (deeds_below place deeds) (deeds_below-proper owners place deeds shows.proper)
 
--- their places rise
+-- their ranks rise
 pub kept-rise : (owners : List ℕ) (deeds : List Deed) (place : ℕ) → IsProper owners deeds → IsRising (kept_before owners deeds place)
 kept-rise owners deeds place proper = IsRising-kept owners (deeds_below place deeds) (deeds_below-proper owners place deeds proper)
 
@@ -62,27 +62,27 @@ owns_at book owners deeds user table owner shows less is = owns_owner owners use
 
 -- the path by a view of the book is that before its place
 pub path_shown : (book : Entries) (owners : List ℕ) (deeds : List Deed) (place user : ℕ) (need : Need) → ShowsBook book owners deeds
-    → made_places (path owners (in_force (entries (view_of book place))) user need) ≡ path_before owners deeds place user need
+    → ranks_of (path owners (in_force (entries (view_of book place))) user need) ≡ path_before owners deeds place user need
 path_shown book owners deeds place user need shows =
-    ap (λ (grants : List Grant). made_places (path owners grants user need)) (ap in_force (entries-view book place) ∙ kept_at book owners deeds place shows)
+    ap (λ (grants : List Grant). ranks_of (path owners grants user need)) (ap in_force (entries-view book place) ∙ kept_at book owners deeds place shows)
 
 -- the test of a chain decides whether it is one before a place
-pub chain_at : (book : Entries) (owners : List ℕ) (deeds : List Deed) (place user owner : ℕ) (need : Need) (made : ℕ) (later : List ℕ) → ShowsBook book owners deeds
+pub chain_at : (book : Entries) (owners : List ℕ) (deeds : List Deed) (place user owner : ℕ) (need : Need) (ranked : ℕ) (later : List ℕ) → ShowsBook book owners deeds
     → need.table < length book.tables → slice_get (owners_of book.tables) need.table ≡ Some owner
-    → Decides (bears_path (in_force_at place book.records) owner user need later (grant_at made (in_force_at place book.records)))
-    (IsChain owners (kept_before owners deeds place) user need (made ∷ later))
-chain_at book owners deeds place user owner need made later shows less is =
+    → Decides (bears_path (in_force_at place book.records) owner user need later (grant_at ranked (in_force_at place book.records)))
+    (IsChain owners (kept_before owners deeds place) user need (ranked ∷ later))
+chain_at book owners deeds place user owner need ranked later shows less is =
     let same = kept_at book owners deeds place shows in
     let owned : slice_get owners need.table ≡ Some owner = owner_at book owners deeds need.table shows less ∙ is in
-    rw same (chain_decided owners (kept_before owners deeds place) user owner need made later owned (kept-rise owners deeds place shows.proper))
+    rw same (chain_decided owners (kept_before owners deeds place) user owner need ranked later owned (kept-rise owners deeds place shows.proper))
 
-pub chain_told : (book : Entries) (owners : List ℕ) (deeds : List Deed) (place user owner : ℕ) (need : Need) (made : ℕ) (later places : List ℕ) (all : List Record) (test : Bool)
+pub chain_told : (book : Entries) (owners : List ℕ) (deeds : List Deed) (place user owner : ℕ) (need : Need) (ranked : ℕ) (later ranks : List ℕ) (all : List Record) (test : Bool)
     → ShowsBook book owners deeds → need.table < length book.tables → slice_get (owners_of book.tables) need.table ≡ Some owner
-    → places ≡ made ∷ later → all ≡ book.records
-    → test ≡ bears_path (in_force_at place all) owner user need later (grant_at made (in_force_at place all))
-    → Decides test (IsChain owners (kept_before owners deeds place) user need places)
-chain_told book owners deeds place user owner need made later places all test shows less is split same told =
-    rw (split, told, same) (chain_at book owners deeds place user owner need made later shows less is)
+    → ranks ≡ ranked ∷ later → all ≡ book.records
+    → test ≡ bears_path (in_force_at place all) owner user need later (grant_at ranked (in_force_at place all))
+    → Decides test (IsChain owners (kept_before owners deeds place) user need ranks)
+chain_told book owners deeds place user owner need ranked later ranks all test shows less is split same told =
+    rw (split, told, same) (chain_at book owners deeds place user owner need ranked later shows less is)
 
 -- a path of grants that isn't empty is a chain
 path-chain : (owners : List ℕ) (deeds : List Deed) (place user : ℕ) (need : Need) → IsProper owners deeds
@@ -101,7 +101,7 @@ path-chain owners deeds place user need proper other held =
       leads = leads;
     }
   where
-    some : (chain : List Grant) → LeadsTo owners chain user need → 0 < length (made_places chain)
+    some : (chain : List Grant) → LeadsTo owners chain user need → 0 < length (ranks_of chain)
     some [] leads = absurd (true≢false (sym leads ∙ other))
     some (first ∷ chain) leads = omega arith
 

@@ -1,4 +1,4 @@
--- The grant of a place among those in force at another.
+-- The grant of a rank among those in force at a place.
 use Rattle.std.proofs.Common.{◌≡◌, ℕ, zero, suc, ◌<◌, ◌≤◌, true, false, List, [], ◌∷◌, Some, None, is_none, length, refl, sym, ◌∙◌, ap, arith, eq-eqb, inl, inr}
 use Rattle.std.specs.Prelude.{◌==◌, Contains, nat_lt, slice_get}
 use Rattle.std.proofs.lemmas.Bool.{and_parts, cases_lt, eqb-true, ne_eqb}
@@ -7,6 +7,7 @@ use Rattle.std.proofs.lemmas.Option.{slice_get_within}
 use Rattle.model_base.specs.declared.deed.Grant.{Grant}
 use Rattle.model_base.specs.declared.deed.Record.{Record}
 use Rattle.model_base.specs.Laws.{IsRising}
+use Rattle.model_base.specs.Ranks.{rank}
 use Rattle.model_base.specs.Records.{end_below, is_in_force_at, recorded}
 use Rattle.model_base.proofs.Replay.{by_cases}
 use Rattle.grants_base.proofs.Lookups.{rise_at}
@@ -27,65 +28,65 @@ in_force-other place entry entries falls =
     (λ less. let ended : is_none (end_below place entry.end) ≡ false = rw less at falls in rw (less, ended) refl)
     (λ more. rw more refl)
 
-module _ (made place : ℕ) where
-  -- a record of another place doesn't matter
-  grant_at-skip : (entry : Record) (entries : List Record) → (entry.grant.place ≡ made → ⊥)
-      → grant_at made (in_force_at place (entry ∷ entries)) ≡ grant_at made (in_force_at place entries)
+module _ (ranked place : ℕ) where
+  -- a record of another rank doesn't matter
+  grant_at-skip : (entry : Record) (entries : List Record) → (rank entry.grant ≡ ranked → ⊥)
+      → grant_at ranked (in_force_at place (entry ∷ entries)) ≡ grant_at ranked (in_force_at place entries)
   grant_at-skip entry entries other =
-      let apart : (entry.grant.place == made) ≡ false = ne_eqb entry.grant.place made other in
+      let apart : (rank entry.grant == ranked) ≡ false = ne_eqb (rank entry.grant) ranked other in
       by_cases (is_in_force_at place entry)
       (λ stands. rw (in_force-first place entry entries stands, apart) refl)
       (λ falls. rw (in_force-other place entry entries falls) refl)
 
-  -- where no record is of the place, none is found
-  pub grant_at-none : (entries : List Record) → ((k : ℕ) (entry : Record) → slice_get entries k ≡ Some entry → entry.grant.place ≡ made → ⊥)
-      → grant_at made (in_force_at place entries) ≡ None
+  -- where no record is of the rank, none is found
+  pub grant_at-none : (entries : List Record) → ((k : ℕ) (entry : Record) → slice_get entries k ≡ Some entry → rank entry.grant ≡ ranked → ⊥)
+      → grant_at ranked (in_force_at place entries) ≡ None
   grant_at-none [] none = refl
   grant_at-none (entry ∷ entries) none =
       grant_at-skip entry entries (none 0 entry refl)
       ∙ grant_at-none entries (λ k found at. none (suc k) found at)
 
-  -- the record of the place that is in force is found
+  -- the record of the rank that is in force is found
   pub grant_at-found : (entries : List Record) → IsRising (recorded entries) → (slot : ℕ) (entry : Record) → slice_get entries slot ≡ Some entry
-      → entry.grant.place ≡ made → is_in_force_at place entry ≡ true → grant_at made (in_force_at place entries) ≡ Some entry.grant
+      → rank entry.grant ≡ ranked → is_in_force_at place entry ≡ true → grant_at ranked (in_force_at place entries) ≡ Some entry.grant
   grant_at-found [] rising slot entry at is stands = absurd (cc)
   grant_at-found (first ∷ entries) rising zero entry at is stands =
       let same : first ≡ entry = cc in
-      let here : (entry.grant.place == made) ≡ true = eq-eqb entry.grant.place made is in
-      ap (λ (e : Record). grant_at made (in_force_at place (e ∷ entries))) same ∙ rw (in_force-first place entry entries stands, here) refl
+      let here : (rank entry.grant == ranked) ≡ true = eq-eqb (rank entry.grant) ranked is in
+      ap (λ (e : Record). grant_at ranked (in_force_at place (e ∷ entries))) same ∙ rw (in_force-first place entry entries stands, here) refl
   grant_at-found (first ∷ entries) rising (suc slot) entry at is stands =
       grant_at-skip first entries (λ same. let less = rise_at (first ∷ entries) rising 0 (suc slot) first entry refl at (omega arith) in omega arith)
       ∙ grant_at-found entries rising.1 slot entry at is stands
 
   -- and one that isn't in force hides no other
   pub grant_at-ended : (entries : List Record) → IsRising (recorded entries) → (slot : ℕ) (entry : Record) → slice_get entries slot ≡ Some entry
-      → entry.grant.place ≡ made → is_in_force_at place entry ≡ false → grant_at made (in_force_at place entries) ≡ None
+      → rank entry.grant ≡ ranked → is_in_force_at place entry ≡ false → grant_at ranked (in_force_at place entries) ≡ None
   grant_at-ended [] rising slot entry at is falls = absurd (cc)
   grant_at-ended (first ∷ entries) rising zero entry at is falls =
       let same : first ≡ entry = cc in
-      ap (λ (e : Record). grant_at made (in_force_at place (e ∷ entries))) same
-      ∙ ap (grant_at made) (in_force-other place entry entries falls)
+      ap (λ (e : Record). grant_at ranked (in_force_at place (e ∷ entries))) same
+      ∙ ap (grant_at ranked) (in_force-other place entry entries falls)
       ∙ grant_at-none entries (λ k other there equal.
       let less = rise_at (first ∷ entries) rising 0 (suc k) first other refl there (omega arith) in
-      let where_first : first.grant.place ≡ entry.grant.place = ap (λ (e : Record). e.grant.place) same in
+      let where_first : rank first.grant ≡ rank entry.grant = ap (λ (e : Record). rank e.grant) same in
       omega arith)
   grant_at-ended (first ∷ entries) rising (suc slot) entry at is falls =
       grant_at-skip first entries (λ same. let less = rise_at (first ∷ entries) rising 0 (suc slot) first entry refl at (omega arith) in omega arith)
       ∙ grant_at-ended entries rising.1 slot entry at is falls
 
-  -- below and from a slot on no record is of the place: then none is found
+  -- below and from a slot on no record is of the rank: then none is found
   pub grant_at-past : (entries : List Record) (slot : ℕ) → length entries ≤ slot
-      → ((k : ℕ) (entry : Record) → slice_get entries k ≡ Some entry → k < slot → entry.grant.place < made)
-      → grant_at made (in_force_at place entries) ≡ None
+      → ((k : ℕ) (entry : Record) → slice_get entries k ≡ Some entry → k < slot → rank entry.grant < ranked)
+      → grant_at ranked (in_force_at place entries) ≡ None
   grant_at-past entries slot over below =
       grant_at-none entries (λ k entry at same. let within = slice_get_within entries k entry at in let less = below k entry at (omega arith) in omega arith)
 
   -- nor where the first record that isn't earlier is later
   pub grant_at-other : (entries : List Record) → IsRising (recorded entries) → (slot : ℕ) (first : Record) → slice_get entries slot ≡ Some first
-      → (first.grant.place ≡ made → ⊥)
-      → ((k : ℕ) (entry : Record) → slice_get entries k ≡ Some entry → k < slot → entry.grant.place < made)
-      → ((k : ℕ) (entry : Record) → slice_get entries k ≡ Some entry → slot ≤ k → made ≤ entry.grant.place)
-      → grant_at made (in_force_at place entries) ≡ None
+      → (rank first.grant ≡ ranked → ⊥)
+      → ((k : ℕ) (entry : Record) → slice_get entries k ≡ Some entry → k < slot → rank entry.grant < ranked)
+      → ((k : ℕ) (entry : Record) → slice_get entries k ≡ Some entry → slot ≤ k → ranked ≤ rank entry.grant)
+      → grant_at ranked (in_force_at place entries) ≡ None
   grant_at-other entries rising slot first at other below above =
       grant_at-none entries
       (λ k entry there same.
@@ -100,32 +101,32 @@ module _ (made place : ℕ) where
               let one : k ≡ slot = omega arith in
               let again : Some first ≡ Some entry = sym at ∙ ap (slice_get entries) (sym one) ∙ there in
               let equal : first ≡ entry = cc in
-              other (ap (λ (e : Record). e.grant.place) equal ∙ same)
+              other (ap (λ (e : Record). rank e.grant) equal ∙ same)
         ]
       ])
 
--- a grant that is found is among the grants, with its place
-pub grant_at-among : (made : ℕ) (grants : List Grant) (grant : Grant) → grant_at made grants ≡ Some grant → Contains grants grant × (grant.place ≡ made)
-grant_at-among made [] grant is = absurd (cc)
-grant_at-among made (first ∷ grants) grant is =
-    by_cases (first.place == made)
+-- a grant that is found is among the grants, with its rank
+pub grant_at-among : (ranked : ℕ) (grants : List Grant) (grant : Grant) → grant_at ranked grants ≡ Some grant → Contains grants grant × (rank grant ≡ ranked)
+grant_at-among ranked [] grant is = absurd (cc)
+grant_at-among ranked (first ∷ grants) grant is =
+    by_cases (rank first == ranked)
     (λ here.
     let found : Some first ≡ Some grant = rw here at is in
     let same : first ≡ grant = cc in
-    ((0, omega arith, same), ap (λ (g : Grant). g.place) (sym same) ∙ eqb-true first.place made here))
+    ((0, omega arith, same), ap rank (sym same) ∙ eqb-true (rank first) ranked here))
     (λ other.
-    let found : grant_at made grants ≡ Some grant = rw other at is in
-    let rest = grant_at-among made grants grant found in
+    let found : grant_at ranked grants ≡ Some grant = rw other at is in
+    let rest = grant_at-among ranked grants grant found in
     (Contains-append_right (first ∷ []) grants grant rest.0, rest.1))
 
--- and each of them is found by its place, as these rise
-pub grant_at-rising : (grants : List Grant) (grant : Grant) → IsRising grants → Contains grants grant → grant_at grant.place grants ≡ Some grant
+-- and each of them is found by its rank, as these rise
+pub grant_at-rising : (grants : List Grant) (grant : Grant) → IsRising grants → Contains grants grant → grant_at (rank grant) grants ≡ Some grant
 grant_at-rising [] grant rising (k, less, is) = absurd (omega arith)
 grant_at-rising (first ∷ grants) grant rising (zero, less, is) =
     let same : first ≡ grant = is in
-    rw (eq-eqb first.place grant.place (ap (λ (g : Grant). g.place) same)) (ap (λ (g : Grant). Some g) same)
+    rw (eq-eqb (rank first) (rank grant) (ap rank same)) (ap (λ (g : Grant). Some g) same)
 grant_at-rising (first ∷ grants) grant rising (suc k, less, is) =
     let there : Contains grants grant = (k, omega arith, is) in
-    let later : first.place < grant.place = All-contains (λ (g : Grant). first.place < g.place) grants grant rising.0 there in
-    let apart : (first.place == grant.place) ≡ false = ne_eqb first.place grant.place (λ same. omega arith) in
+    let later : rank first < rank grant = All-contains (λ (g : Grant). rank first < rank g) grants grant rising.0 there in
+    let apart : (rank first == rank grant) ≡ false = ne_eqb (rank first) (rank grant) (λ same. omega arith) in
     rw apart (grant_at-rising grants grant rising.1 there)

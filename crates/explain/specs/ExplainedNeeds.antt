@@ -34,6 +34,6 @@ Explains owners deeds place user need line = (line.need ≡ need) × IsSound own
 -- whether it is shown that the need is held
 abbrev pub tells_held : Shown → Bool
 tells_held Shown.Owner = true
-tells_held (Shown.Grants places) = true
+tells_held (Shown.Grants ranks) = true
 tells_held Shown.Never = false
-tells_held (Shown.Taken lost places) = false
+tells_held (Shown.Taken lost ranks) = false

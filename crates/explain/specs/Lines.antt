@@ -12,12 +12,13 @@ use Rattle.model_base.specs.Laws.{IsRising}
 use Rattle.model_base.specs.Outcomes.{cause}
 use Rattle.model_base.specs.Paths.{LeadsTo, path}
 use Rattle.model_base.specs.Privileges.{holds, kept, owns}
+use Rattle.model_base.specs.Ranks.{rank}
 use Rattle.model_base.specs.Records.{deeds_below}
 use Rattle.explain.specs.declared.line.Shown.{Shown}
 
--- the places at which the grants were made
-abbrev pub made_places : List Grant → List ℕ
-made_places grants = map (λ (grant : Grant). grant.place) grants
+-- the ranks of the records of the grants
+abbrev pub ranks_of : List Grant → List ℕ
+ranks_of grants = map rank grants
 
 -- the grants in force before a place
 abbrev pub kept_before : List ℕ → List Deed → ℕ → List Grant
@@ -31,17 +32,17 @@ holds_before owners deeds place user need = holds owners (deeds_below place deed
 abbrev pub cause_before : List ℕ → List Deed → ℕ → ℕ → Need → Cause
 cause_before owners deeds place user need = cause owners (deeds_below place deeds) user need
 
--- the places on the path of the need by the grants in force before a place: the earliest that gives it, and before that the
+-- the ranks on the path of the need by the grants in force before a place: the earliest that gives it, and before that the
 -- path of its grantor's option
 abbrev pub path_before : List ℕ → List Deed → ℕ → ℕ → Need → List ℕ
-path_before owners deeds place user need = made_places (path owners (kept_before owners deeds place) user need)
+path_before owners deeds place user need = ranks_of (path owners (kept_before owners deeds place) user need)
 
--- the places are those of a chain of some of the grants that bears the need: it isn't empty, its places rise, the owner of the
+-- the ranks are those of a chain of some of the grants that bears the need: it isn't empty, its ranks rise, the owner of the
 -- table made the first, each gives the grantor of the next the option, and the last gives the user what is needed
-pub record IsChain (owners : List ℕ) (grants : List Grant) (user : ℕ) (need : Need) (places : List ℕ) : Type 0 where
+pub record IsChain (owners : List ℕ) (grants : List Grant) (user : ℕ) (need : Need) (ranks : List ℕ) : Type 0 where
   pub chain : List Grant
-  pub told : made_places chain ≡ places
-  pub some : 0 < length places
+  pub told : ranks_of chain ≡ ranks
+  pub some : 0 < length ranks
   pub rising : IsRising chain
   pub among : All (Contains grants) chain
   pub leads : LeadsTo owners chain user need
@@ -50,12 +51,12 @@ pub record IsChain (owners : List ℕ) (grants : List Grant) (user : ℕ) (need 
 -- the need isn't held there and never was; or it isn't, this revocation took it last, and the chain was in force before that
 abbrev pub IsSound : List ℕ → List Deed → ℕ → ℕ → Need → Shown → Type 0
 IsSound owners deeds place user need Shown.Owner = IsTrue (owns owners user need.table)
-IsSound owners deeds place user need (Shown.Grants places) = IsChain owners (kept_before owners deeds place) user need places
+IsSound owners deeds place user need (Shown.Grants ranks) = IsChain owners (kept_before owners deeds place) user need ranks
 IsSound owners deeds place user need Shown.Never =
     (holds_before owners deeds place user need ≡ false) × (cause_before owners deeds place user need ≡ Never)
-IsSound owners deeds place user need (Shown.Taken lost places) =
+IsSound owners deeds place user need (Shown.Taken lost ranks) =
     (holds_before owners deeds place user need ≡ false) × (cause_before owners deeds place user need ≡ Taken lost)
-    × IsChain owners (kept_before owners deeds lost) user need places
+    × IsChain owners (kept_before owners deeds lost) user need ranks
 
 -- what there is to show of a need that isn't held, by its cause
 abbrev pub shown_lost : List ℕ → List Deed → ℕ → Need → Cause → Shown

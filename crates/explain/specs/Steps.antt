@@ -7,6 +7,7 @@ use Rattle.model_base.specs.declared.deed.Need.{Need}
 use Rattle.model_base.specs.declared.deed.Record.{Record}
 use Rattle.model_base.specs.Paths.{path}
 use Rattle.model_base.specs.Privileges.{gives, option_of}
+use Rattle.model_base.specs.Ranks.{rank}
 use Rattle.model_base.specs.Records.{cut, in_force}
 use Rattle.grants_base.specs.View.{View, slot_at, slot_gives}
 use Rattle.explain.specs.declared.paths.Giving.{Giving}
@@ -43,21 +44,21 @@ IsLastOfPath view owners user need end (Some found) =
 abbrev pub in_force_at : ℕ → List Record → List Grant
 in_force_at place entries = in_force (cut place entries)
 
--- the grant of this place among the grants, if there is one
+-- the grant of this rank among the grants, if there is one
 abbrev pub grant_at : ℕ → List Grant → Option Grant
-grant_at place grants = find (λ grant. grant.place == place) grants
+grant_at ranked grants = find (λ grant. rank grant == ranked) grants
 
 -- whether the next grant goes on from this one: it is later, and by who has the option from this one
 abbrev pub leads_to_next : Grant → Grant → Bool
-leads_to_next grant next = nat_lt grant.place next.place && gives grant next.grantor (option_of next)
+leads_to_next grant next = nat_lt (rank grant) (rank next) && gives grant next.grantor (option_of next)
 
--- whether the grants of these places, among some grants, lead on from a grant to the need
+-- whether the grants of these ranks, among some grants, lead on from a grant to the need
 abbrev pub leads_on : List Grant → Grant → List ℕ → ℕ → Need → Bool
 leads_on grants grant [] user need = gives grant user need
-leads_on grants grant (place ∷ places) user need =
-    option_map_or (λ next. leads_to_next grant next && leads_on grants next places user need) (grant_at place grants) false
+leads_on grants grant (ranked ∷ ranks) user need =
+    option_map_or (λ next. leads_to_next grant next && leads_on grants next ranks user need) (grant_at ranked grants) false
 
--- whether the grant of the first place, once it is looked up, is one by the owner from which the later ones lead on to the need
+-- whether the grant of the first rank, once it is looked up, is one by the owner from which the later ones lead on to the need
 abbrev pub bears_path : List Grant → ℕ → ℕ → Need → List ℕ → Option Grant → Bool
 bears_path grants owner user need later None = false
 bears_path grants owner user need later (Some first) =

@@ -49,7 +49,7 @@ fn explain_all(book: &Book, place: Place, user: User, form: &Form, lines: &[Line
 }
 
 /// Whether the explanation says truly why its place was admitted or denied, by the log and the book of an engine that finished the place
-/// and keeps its statement. It looks each named grant up by its place, doesn't allocate, and searches for no chain of grants.
+/// and keeps its statement. It looks each named grant up by its record, doesn't allocate, and searches for no chain of grants.
 pub fn check(explanation: &Explanation, log: &LogTail, book: &Book) -> bool
     ensures sound { (run : Run) → IsRun run → log.now.log ≡ run.log → book.now ≡ run.book
         → log.now.dropped ≤ explanation.now.place → explanation.now.place < finished run

@@ -7,13 +7,13 @@ ghost use Rattle.model_base.specs.Records.{in_force};
 ghost use Rattle.model_base.specs.declared.deed.Deed.{Deed};
 ghost use Rattle.grants_base.specs.Book.{ShowsBook};
 ghost use Rattle.grants_base.specs.View.{entries, slot_at};
-ghost use Rattle.explain.specs.Lines.{path_before, made_places};
+ghost use Rattle.explain.specs.Lines.{path_before, ranks_of};
 ghost use Rattle.grants.specs.Loss.{narrowed};
 ghost use Rattle.explain.specs.Steps.{IsFirstGiving, IsLastOfPath, giving_in, slot_or};
 ghost use Rattle.explain.specs.declared.paths.Giving.{Giving};
 
 use grants::{Book, Records};
-use model_base::{Grant, Grantee, Items, Need, Place, User};
+use model_base::{Grant, Grantee, Items, Need, Place, RecordName, User};
 use std::alloc::{AllocError, Global};
 
 /// A grant that gives what is needed, and its slot.
@@ -127,34 +127,34 @@ fn last_of_path<V: Records>(
     }
 }
 
-/// The places on the path of what a user needs, by the grants in force of a view.
+/// The records on the path of what a user needs, by the grants in force of a view.
 fn path_in<V: Records>(
     alloc: Global,
     view: &mut V,
     user: User,
     need: &Need,
-) -> Result<Items<Place>, AllocError>
+) -> Result<Items<RecordName>, AllocError>
     requires covered { IsSome ((V.shown view.old).owner need.now.table) }
-    ensures value { IfOk result (λ places. (owners : List ℕ) → slice_get owners need.now.table ≡ (V.shown view.old).owner need.now.table
-        → places ≡ made_places (path owners (in_force (entries (V.shown view.old))) user need.now)) }
+    ensures value { IfOk result (λ names. (owners : List ℕ) → slice_get owners need.now.table ≡ (V.shown view.old).owner need.now.table
+        → names ≡ ranks_of (path owners (in_force (entries (V.shown view.old))) user need.now)) }
 {
     let owner = view.owner(need.table);
-    let mut places = Vec::new(alloc);
+    let mut names = Vec::new(alloc);
     let mut end = view.slots();
     let mut holder = user;
     let mut needed = *need;
     while let Some(giving) = last_of_path(view, owner, holder, needed, end) {
         let Giving { slot, grant } = giving;
-        places.push(grant.place)?;
+        names.push(grant.name())?;
         needed = option_of(&grant);
         holder = grant.grantor;
         end = slot;
     }
-    places.reverse();
-    Ok(Items::new(places))
+    names.reverse();
+    Ok(Items::new(names))
 }
 
-/// The places on the path by which a user holds what is needed before a place: the earliest grant in force that gives it, before that the
+/// The records on the path by which a user holds what is needed before a place: the earliest grant in force that gives it, before that the
 /// earliest that gave its grantor the option, and so on, down to a grant by the table's owner. It is empty for the owner, and where the
 /// need isn't held. It looks once at each grant of this kind on this table to the users on the path, and at its end to PUBLIC, up to the
 /// one on the path, and at no other grant. An error means out of memory.
@@ -164,12 +164,12 @@ pub fn path_at(
     place: Place,
     user: User,
     need: &Need,
-) -> Result<Items<Place>, AllocError>
+) -> Result<Items<RecordName>, AllocError>
     requires covered { need.now.table < length book.now.tables }
-    ensures { IfOk result (λ places. (owners : List ℕ) (deeds : List Deed) → ShowsBook book.now owners deeds
-        → places ≡ path_before owners deeds place user need.now) }
+    ensures { IfOk result (λ names. (owners : List ℕ) (deeds : List Deed) → ShowsBook book.now owners deeds
+        → names ≡ path_before owners deeds place user need.now) }
 {
     let mut view = book.at(place);
-    let places = path_in(alloc, &mut view, user, need)?;
-    Ok(places)
+    let names = path_in(alloc, &mut view, user, need)?;
+    Ok(names)
 }

@@ -69,11 +69,11 @@ pub fn is_sound(book: &Book, place: Place, user: User, need: &Need, shown: &Show
 {
     match shown {
         Shown::Owner => owns(book, user, need.table),
-        Shown::Grants(places) => is_chain(book, place, user, need, places.as_slice()),
+        Shown::Grants(names) => is_chain(book, place, user, need, names.as_slice()),
         Shown::Never => denial_at(book, place, user, need) == Some(Cause::Never),
-        Shown::Taken(lost, places) => {
+        Shown::Taken(lost, names) => {
             denial_at(book, place, user, need) == Some(Cause::Taken(*lost))
-                && is_chain(book, *lost, user, need, places.as_slice())
+                && is_chain(book, *lost, user, need, names.as_slice())
         }
     }
 }

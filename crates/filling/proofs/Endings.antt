@@ -1,4 +1,4 @@
--- What a revocation ended, by the listed ends that name its place.
+-- What a revocation ended, by the listed ends that are at its place.
 use Rattle.std.proofs.Common.{◌≡◌, ℕ, suc, ◌+◌, ◌<◌, ◌≤◌, ◌==◌, Bool, true, Option, Some, None, List, [], ◌∷◌, ◌++◌, length, get_or, map, drop, drop-cons, add-one, append_assoc, refl, sym, ap, ◌∙◌, subst, arith, inl, inr, ⊎_elim}
 use Rattle.std.specs.Prelude.{slice_get, ◌⊎◌}
 use Rattle.std.specs.Option.{option_map, option_map_or}
@@ -13,6 +13,7 @@ use Rattle.model_base.specs.declared.outcome.Outcome.{Outcome}
 use Rattle.model_base.specs.declared.statement.Form.{Form}
 use Rattle.model_base.specs.declared.statement.Statement.{Statement}
 use Rattle.model_base.specs.Body.{Ending, aborted, completed, undeclared}
+use Rattle.model_base.specs.Ranks.{rank}
 use Rattle.model_base.specs.Laws.{IsPart, left_out, none, stays}
 use Rattle.model_base.specs.Outcomes.{World, at_place, body, deed_of, deeds_before, ended, judged, missing, owners, step_form, world_before}
 use Rattle.model_base.specs.Privileges.{is_among, kept, lost, place_of}
@@ -25,7 +26,7 @@ use Rattle.model_base.proofs.Replay.{by_cases}
 use Rattle.own_words.specs.Places.{own_words}
 use Rattle.own_words.specs.Words.{ended_in, outcome_word}
 use Rattle.evaluation.specs.Answering.{ended_by_deed}
-use Rattle.bohm_core_base.specs.Batch.{Batch, IsSoundBatch, place_at, batch_slots, was_done}
+use Rattle.bohm_core_base.specs.Batch.{Batch, IsSoundBatch, rank_at, batch_slots, was_done}
 use Rattle.bohm_core_base.specs.Deeds.{is_made, made_before, named_before}
 use Rattle.bohm_core_base.specs.Serial.{serial_ends, serial_words, batch_world_before}
 use Rattle.bohm_core_base.proofs.Slots.{made-named, made-split}
@@ -38,40 +39,40 @@ use Rattle.evaluation.proofs.Comes.{ends-told}
 use Rattle.evaluation.proofs.Rising.{ended-rises}
 use Rattle.words.specs.Layout.{IsListed}
 use Rattle.words.specs.Views.{In}
-use Rattle.filling.specs.Outcomes.{ended_places_at, outcome_in}
+use Rattle.filling.specs.Outcomes.{ended_ranks_at, outcome_in}
 use Rattle.filling.proofs.Lists.{Above, Rises, above-at, any-in, in-any, in-at, rises-by, same-members}
 use Rattle.filling.proofs.Numbered.{grant-there}
 
 module _ (b : Batch) (index : ℕ) where
-  -- it is the place of one of these slots that is ended
+  -- it is the rank of one of these slots that is ended
   abbrev Comes : List ℕ → ℕ → Type 0
-  Comes slots x = (slot : ℕ) × In slot slots × (serial_ends b index slot ≡ true) × (place_at b slot ≡ x)
+  Comes slots x = (slot : ℕ) × In slot slots × (serial_ends b index slot ≡ true) × (rank_at b slot ≡ x)
 
   comes-later : (slot : ℕ) (slots : List ℕ) (x : ℕ) → Comes slots x → Comes (slot ∷ slots) x
   comes-later slot slots x comes = (comes.0, inr comes.1, comes.2, comes.3)
 
-  ended-comes : (slots : List ℕ) (x : ℕ) → In x (ended_places_at b slots index) → Comes slots x
+  ended-comes : (slots : List ℕ) (x : ℕ) → In x (ended_ranks_at b slots index) → Comes slots x
   ended-comes [] x has = absurd has
   ended-comes (slot ∷ slots) x has =
       by_cases (serial_ends b index slot)
       (λ ends.
-      let split : (x ≡ place_at b slot) ⊎ In x (ended_places_at b slots index) = rw ends at has in
+      let split : (x ≡ rank_at b slot) ⊎ In x (ended_ranks_at b slots index) = rw ends at has in
       ⊎_elim (λ is. (slot, inl refl, ends, sym is)) (λ more. comes-later slot slots x (ended-comes slots x more)) split)
       (λ stays. comes-later slot slots x (ended-comes slots x (rw stays at has)))
 
-  comes-ended : (slots : List ℕ) (slot : ℕ) → In slot slots → serial_ends b index slot ≡ true → In (place_at b slot) (ended_places_at b slots index)
+  comes-ended : (slots : List ℕ) (slot : ℕ) → In slot slots → serial_ends b index slot ≡ true → In (rank_at b slot) (ended_ranks_at b slots index)
   comes-ended [] slot has ends = absurd has
   comes-ended (one ∷ slots) slot has ends =
       ⊎_elim
-      (λ is. let here : serial_ends b index one ≡ true = ap (serial_ends b index) (sym is) ∙ ends in rw here (inl (ap (place_at b) is)))
+      (λ is. let here : serial_ends b index one ≡ true = ap (serial_ends b index) (sym is) ∙ ends in rw here (inl (ap (rank_at b) is)))
       (λ more.
       by_cases (serial_ends b index one)
       (λ here. rw here (inr (comes-ended slots slot more ends)))
       (λ stays. rw stays (comes-ended slots slot more ends)))
       has
 
-  -- the places of slots that rise do so too
-  above-ended : (p : ℕ) (slots : List ℕ) → ((slot : ℕ) → In slot slots → p < place_at b slot) → Above p (ended_places_at b slots index)
+  -- the ranks of slots that rise do so too
+  above-ended : (p : ℕ) (slots : List ℕ) → ((slot : ℕ) → In slot slots → p < rank_at b slot) → Above p (ended_ranks_at b slots index)
   above-ended p [] all = tt
   above-ended p (slot ∷ slots) all =
       let rest = above-ended p slots (λ one has. all one (inr has)) in
@@ -79,40 +80,40 @@ module _ (b : Batch) (index : ℕ) where
       (λ ends. rw ends (all slot (inl refl), rest))
       (λ stays. rw stays rest)
 
-  ended-rise : (slots : List ℕ) → Rises slots → ((slot later : ℕ) → In slot slots → In later slots → slot < later → place_at b slot < place_at b later) → Rises (ended_places_at b slots index)
+  ended-rise : (slots : List ℕ) → Rises slots → ((slot later : ℕ) → In slot slots → In later slots → slot < later → rank_at b slot < rank_at b later) → Rises (ended_ranks_at b slots index)
   ended-rise [] rise order = tt
   ended-rise (slot ∷ slots) rise order =
       let rest = ended-rise slots rise.1 (λ one later has has' less. order one later (inr has) (inr has') less) in
       by_cases (serial_ends b index slot)
-      (λ ends. rw ends (above-ended (place_at b slot) slots (λ one has. order slot one (inl refl) (inr has) (above-at slot one slots rise.0 has)), rest))
+      (λ ends. rw ends (above-ended (rank_at b slot) slots (λ one has. order slot one (inl refl) (inr has) (above-at slot one slots rise.0 has)), rest))
       (λ stays. rw stays rest)
 
   -- the next slot
-  pub ended-more : (slots before after whole : List ℕ) (k : ℕ) → k < length slots → after ≡ before ++ ended_places_at b (get_or slots k 0 ∷ []) index
-      → before ++ ended_places_at b (drop k slots) index ≡ whole → after ++ ended_places_at b (drop (k + 1) slots) index ≡ whole
+  pub ended-more : (slots before after whole : List ℕ) (k : ℕ) → k < length slots → after ≡ before ++ ended_ranks_at b (get_or slots k 0 ∷ []) index
+      → before ++ ended_ranks_at b (drop k slots) index ≡ whole → after ++ ended_ranks_at b (drop (k + 1) slots) index ≡ whole
   ended-more slots before after whole k within is all =
       let one = get_or slots k 0 in
       let split : drop k slots ≡ one ∷ drop (suc k) slots = drop-cons slots k 0 within in
       let next : drop (k + 1) slots ≡ drop (suc k) slots = ap (λ n. drop n slots) (add-one k) in
-      let both : ended_places_at b (one ∷ []) index ++ ended_places_at b (drop (suc k) slots) index ≡ ended_places_at b (one ∷ drop (suc k) slots) index =
+      let both : ended_ranks_at b (one ∷ []) index ++ ended_ranks_at b (drop (suc k) slots) index ≡ ended_ranks_at b (one ∷ drop (suc k) slots) index =
       by_cases (serial_ends b index one) (λ ends. rw ends refl) (λ stays. rw stays refl) in
-      ap (λ rest. after ++ ended_places_at b rest index) next
-      ∙ ap (λ front. front ++ ended_places_at b (drop (suc k) slots) index) is
-      ∙ append_assoc before (ended_places_at b (one ∷ []) index) (ended_places_at b (drop (suc k) slots) index)
-      ∙ ap (λ rest. before ++ rest) (both ∙ ap (λ rest. ended_places_at b rest index) (sym split))
+      ap (λ rest. after ++ ended_ranks_at b rest index) next
+      ∙ ap (λ front. front ++ ended_ranks_at b (drop (suc k) slots) index) is
+      ∙ append_assoc before (ended_ranks_at b (one ∷ []) index) (ended_ranks_at b (drop (suc k) slots) index)
+      ∙ ap (λ rest. before ++ rest) (both ∙ ap (λ rest. ended_ranks_at b rest index) (sym split))
       ∙ all
 
--- a lost grant's place is that of one of the grants
-lost-in : (x : ℕ) (before after : List Grant) → In x (lost before after) → In x (map (λ (grant : Grant). grant.place) before)
+-- a lost grant's rank is that of one of the grants
+lost-in : (x : ℕ) (before after : List Grant) → In x (lost before after) → In x (map rank before)
 lost-in x [] after has = absurd has
 lost-in x (grant ∷ before) after has =
-    by_cases (is_among grant.place after)
+    by_cases (is_among (rank grant) after)
     (λ stays. inr (lost-in x before after (rw stays at has)))
     (λ gone.
-    let split : (x ≡ grant.place) ⊎ In x (lost before after) = rw gone at has in
+    let split : (x ≡ rank grant) ⊎ In x (lost before after) = rw gone at has in
     ⊎_elim (λ is. inl is) (λ more. inr (lost-in x before after more)) split)
 
-part-in : {part grants : List Grant} → IsPart part grants → (x : ℕ) → In x (map (λ (grant : Grant). grant.place) part) → In x (map (λ (grant : Grant). grant.place) grants)
+part-in : {part grants : List Grant} → IsPart part grants → (x : ℕ) → In x (map rank part) → In x (map rank grants)
 part-in none x has = has
 part-in (left_out p) x has = inr (part-in p x has)
 part-in (stays p) x has = ⊎_elim (λ is. inl is) (λ more. inr (part-in p x more)) has
@@ -179,7 +180,7 @@ module _ (ranged : LogRange) (is : IsOfLog (range_of ranged)) (index : ℕ) (wit
       ap was_done (serial_words_are (range_of ranged) is index statement at) ∙ ap (λ (one : Option Statement). was_done (words one)) at
 
   -- what a deed ends was granted
-  ended-granted : (deed : Option Deed) (x : ℕ) → In x (ended_by_deed (owners log) (deeds_before log place) deed) → In x (map (λ (grant : Grant). grant.place) (batch_slots (batch_of ranged)))
+  ended-granted : (deed : Option Deed) (x : ℕ) → In x (ended_by_deed (owners log) (deeds_before log place) deed) → In x (map rank (batch_slots (batch_of ranged)))
   ended-granted None x has = absurd has
   ended-granted (Some (Granting grant)) x has = absurd has
   ended-granted (Some (Revoking revocation)) x has =
@@ -190,12 +191,12 @@ module _ (ranged : LogRange) (is : IsOfLog (range_of ranged)) (index : ℕ) (wit
       let second = subst (λ (deeds : List Deed). IsPart (grants_of deeds) (batch_slots b)) same (granted-slots b (batches_are_sound (range_of ranged) is) index (omega arith)) in
       part-in (part-part first second) x (lost-in x (kept (owners log) before) (kept (owners log) (before ++ Revoking revocation ∷ [])) has)
 
-  -- so the listed ends that name the place are those of the grants that its outcome says that it ended
+  -- so the listed ends at the place are those of the records that its outcome says that it ended
   pub endings-told : (listed : List ℕ) → IsStrictlyIncreasing listed → IsListed (batch_of ranged) listed
       → ((slot other : ℕ) (grant later : Grant) → slot < other → slice_get (batch_slots (batch_of ranged)) slot ≡ Some grant
-      → slice_get (batch_slots (batch_of ranged)) other ≡ Some later → grant.place < later.place)
+      → slice_get (batch_slots (batch_of ranged)) other ≡ Some later → rank grant < rank later)
       → was_done (serial_words (batch_of ranged) index) ≡ true → (found : Outcome) → outcome_in ranged index ≡ Some found
-      → ended_places_at (batch_of ranged) listed index ≡ ended_in found
+      → ended_ranks_at (batch_of ranged) listed index ≡ ended_in found
   endings-told listed rise right order done found told =
       let b = batch_of ranged in
       let deed = deed_of place statement.user statement.form in
@@ -204,25 +205,25 @@ module _ (ranged : LogRange) (is : IsOfLog (range_of ranged)) (index : ℕ) (wit
       let both : Some found ≡ Some comes = sym told ∙ outcome-there in
       let same : found ≡ comes = cc in
       let proper = (deeds_before-stands log place).proper in
-      let there : (x : ℕ) → In x (ended_places_at b listed index) → In x ends =
+      let there : (x : ℕ) → In x (ended_ranks_at b listed index) → In x ends =
       λ x has.
       (let ender = ended-comes b index listed x has in
       let slot = in-at ender.0 listed ender.1 in
       let low : ender.0 < length (batch_slots b) = subst (λ s. s < length (batch_slots b)) slot.2 (right.within slot.0 slot.1) in
       let grant = grant-there b ender.0 low in
-      let listed-there = any-in grant.0.place ends (ends-told ranged is index within statement at done ender.0 grant.0 grant.1 ∙ ender.2) in
+      let listed-there = any-in (rank grant.0) ends (ends-told ranged is index within statement at done ender.0 grant.0 grant.1 ∙ ender.2) in
       subst (λ p. In p ends) (sym grant.2 ∙ ender.3) listed-there) in
-      let back : (x : ℕ) → In x ends → In x (ended_places_at b listed index) =
+      let back : (x : ℕ) → In x ends → In x (ended_ranks_at b listed index) =
       λ x has.
-      (let slot = in-at x (map (λ (grant : Grant). grant.place) (batch_slots b)) (ended-granted deed x has) in
-      let count = length-map (batch_slots b) (λ (grant : Grant). grant.place) in
+      (let slot = in-at x (map rank (batch_slots b)) (ended-granted deed x has) in
+      let count = length-map (batch_slots b) rank in
       let low : slot.0 < length (batch_slots b) = (let below = slot.1 in omega arith) in
       let grant = grant-there b slot.0 low in
-      let is-place : place_at b slot.0 ≡ x = slot.2 in
+      let is-rank : rank_at b slot.0 ≡ x = slot.2 in
       let ends-it = sym (ends-told ranged is index within statement at done slot.0 grant.0 grant.1)
-      ∙ in-any grant.0.place ends (subst (λ p. In p ends) (sym is-place ∙ grant.2) has) in
-      subst (λ p. In p (ended_places_at b listed index)) is-place (comes-ended b index listed slot.0 (right.every index slot.0 low ends-it) ends-it)) in
-      let up : Rises (ended_places_at b listed index) =
+      ∙ in-any (rank grant.0) ends (subst (λ p. In p ends) (sym is-rank ∙ grant.2) has) in
+      subst (λ p. In p (ended_ranks_at b listed index)) is-rank (comes-ended b index listed slot.0 (right.every index slot.0 low ends-it) ends-it)) in
+      let up : Rises (ended_ranks_at b listed index) =
       ended-rise b index listed (rises-by listed rise)
       (λ s t has has' less.
       let first = in-at s listed has in
@@ -235,6 +236,6 @@ module _ (ranged : LogRange) (is : IsOfLog (range_of ranged)) (index : ℕ) (wit
       let mine-is = mine.2 in
       let theirs-is = theirs.2 in
       omega arith) in
-      same-members (ended_places_at b listed index) ends up (rises-by ends (ended-rises (owners log) (deeds_before log place) deed proper)) there back
+      same-members (ended_ranks_at b listed index) ends up (rises-by ends (ended-rises (owners log) (deeds_before log place) deed proper)) there back
       ∙ sym (ended-form (owners log) place (world_before log place) statement statement.form one)
       ∙ ap ended_in (sym same)

@@ -20,7 +20,7 @@ use Rattle.bohm_core_base.specs.Batch.{Batch, reference_words}
 use Rattle.log_batch.specs.Laws.{word_of}
 use Rattle.log_batch.specs.Supplied.{LogRange, batch_of, range_of}
 use Rattle.log_batch.proofs.SoundReferences.{references_same}
-use Rattle.log_batch.specs.Keys.{Key}
+use Rattle.filling.specs.Keys.{Key}
 use Rattle.words.specs.declared.knowledge.Knowledge.{Knowledge}
 use Rattle.words.specs.Layout.{partition_at, reference_at}
 use Rattle.words.specs.Passes.{PassState, PlacerState, Words, gone_on, open_pass, placed_on}

@@ -11,11 +11,12 @@ use Rattle.std.proofs.lemmas.Bool.{cases_eq, ltb-true}
 use Rattle.std.proofs.lemmas.Bool.Decides.{nat_tests}
 use Rattle.std.proofs.lemmas.List.{get_or-map}
 use Rattle.model_base.specs.declared.deed.Grant.{Grant}
+use Rattle.model_base.specs.Ranks.{rank}
 use Rattle.model_base.proofs.Replay.{by_cases}
-use Rattle.bohm_core_base.specs.Batch.{Batch, place_at, batch_slots}
+use Rattle.bohm_core_base.specs.Batch.{Batch, rank_at, batch_slots}
 use Rattle.bohm_core_base.specs.Serial.{is_end, serial_ends}
 use Rattle.bohm_core_base.proofs.Whole.{is_end-some, no_grant, serial-ends-from}
-use Rattle.log_batch.specs.Laws.{places_that}
+use Rattle.log_batch.specs.Laws.{ranks_that}
 use Rattle.log_batch.proofs.SlotsEnded.{same_test}
 use Rattle.filling.specs.declared.completion.ends.Ends.{Ends}
 use Rattle.filling.specs.Ends.{AreSerialEnds, NotesEndsOf, ended_among, noted_end}
@@ -86,27 +87,27 @@ lookup-later one ends slot less =
 
 module _ (b : Batch) (place : ℕ) (test : ℕ → Bool) where
   among : (grants : List Grant) (slot : ℕ) (ends : List (ℕ × ℕ))
-      → ((k : ℕ) → k < length grants → place_at b (slot + k) ≡ (get_or grants k no_grant).place)
+      → ((k : ℕ) → k < length grants → rank_at b (slot + k) ≡ rank (get_or grants k no_grant))
       → Rises slot ends → Below (slot + length grants) ends
       → ((k : ℕ) → k < length grants → is_end place (lookup (is_at (nat_cmp (slot + k))) ends) ≡ test (slot + k))
-      → ended_among b place ends ≡ places_that test slot grants
-  among [] slot [] places rise below tells = refl
-  among [] slot (one ∷ ends) places rise below tells = absurd (let from = rise.0 in let low = below.0 in omega arith)
-  among (grant ∷ grants) slot [] places rise below tells =
+      → ended_among b place ends ≡ ranks_that test slot grants
+  among [] slot [] ranks rise below tells = refl
+  among [] slot (one ∷ ends) ranks rise below tells = absurd (let from = rise.0 in let low = below.0 in omega arith)
+  among (grant ∷ grants) slot [] ranks rise below tells =
       let first : slot + 0 ≡ slot = omega arith in
       let here : test slot ≡ false = ap test (sym first) ∙ sym (tells 0 (omega arith)) in
       rw here
       (among grants (suc slot) []
-      (λ k less. let next : suc slot + k ≡ slot + suc k = omega arith in ap (place_at b) next ∙ places (suc k) (omega arith))
+      (λ k less. let next : suc slot + k ≡ slot + suc k = omega arith in ap (rank_at b) next ∙ ranks (suc k) (omega arith))
       tt tt
       (λ k less. let next : slot + suc k ≡ suc slot + k = omega arith in tells (suc k) (omega arith) ∙ ap test next))
-  among (grant ∷ grants) slot (one ∷ ends) places rise below tells =
+  among (grant ∷ grants) slot (one ∷ ends) ranks rise below tells =
       let from = rise.0 in
       let first : slot + 0 ≡ slot = omega arith in
       let told : is_end place (lookup (is_at (nat_cmp slot)) (one ∷ ends)) ≡ test slot =
       ap (λ n. is_end place (lookup (is_at (nat_cmp n)) (one ∷ ends))) (sym first) ∙ tells 0 (omega arith) ∙ ap test first in
-      let grants-rest : (k : ℕ) → k < length grants → place_at b (suc slot + k) ≡ (get_or grants k no_grant).place =
-      λ k less. let next : suc slot + k ≡ slot + suc k = omega arith in ap (place_at b) next ∙ places (suc k) (omega arith) in
+      let grants-rest : (k : ℕ) → k < length grants → rank_at b (suc slot + k) ≡ rank (get_or grants k no_grant) =
+      λ k less. let next : suc slot + k ≡ slot + suc k = omega arith in ap (rank_at b) next ∙ ranks (suc k) (omega arith) in
       let tells-rest : (k : ℕ) → k < length grants → is_end place (lookup (is_at (nat_cmp (suc slot + k))) (one ∷ ends)) ≡ test (suc slot + k) =
       λ k less. let next : suc slot + k ≡ slot + suc k = omega arith in
       ap (λ n. is_end place (lookup (is_at (nat_cmp n)) (one ∷ ends))) next ∙ tells (suc k) (omega arith) ∙ ap test (sym next) in
@@ -114,14 +115,14 @@ module _ (b : Batch) (place : ℕ) (test : ℕ → Bool) where
       elim (cases_eq slot one.0) [
         | inl same ↦
             (let here : test slot ≡ (one.1 == place) = sym told ∙ ap (is_end place) (lookup-first one ends slot same) in
-            let at : place_at b one.0 ≡ grant.place = ap (place_at b) (sym same ∙ sym first) ∙ places 0 (omega arith) in
-            let rest : ended_among b place ends ≡ places_that test (suc slot) grants =
+            let at : rank_at b one.0 ≡ rank grant = ap (rank_at b) (sym same ∙ sym first) ∙ ranks 0 (omega arith) in
+            let rest : ended_among b place ends ≡ ranks_that test (suc slot) grants =
             among grants (suc slot) ends grants-rest
             (subst (λ n. Rises (suc n) ends) (sym same) rise.1)
             (subst (λ n. Below n ends) (sym wide) below.1)
             (λ k less. ap (is_end place) (sym (lookup-later one ends (suc slot + k) (omega arith))) ∙ tells-rest k less) in
             by_cases (one.1 == place)
-            (λ ended. rw (here, ended) (ap (λ p. p ∷ ended_among b place ends) at ∙ ap (λ others. grant.place ∷ others) rest))
+            (λ ended. rw (here, ended) (ap (λ p. p ∷ ended_among b place ends) at ∙ ap (λ others. rank grant ∷ others) rest))
             (λ other. rw (here, other) rest))
         | inr differs ↦
             (let less : slot < one.0 = omega arith in
@@ -143,10 +144,10 @@ module _ (b : Batch) (n : ℕ) (ends : Ends) (told : AreSerialEnds b ends) (all 
 
   -- of the place all are given that it ends
   pub ended-right : IsOrdered nat_cmp ends.places → ((i slot end : ℕ) → slice_get ends.places.entries i ≡ Some (slot, end) → slot < length (batch_slots b))
-      → ended_among b place ends.places.entries ≡ places_that (serial_ends b n) 0 (batch_slots b)
+      → ended_among b place ends.places.entries ≡ ranks_that (serial_ends b n) 0 (batch_slots b)
   ended-right ordered slots =
       among b place (serial_ends b n) (batch_slots b) 0 ends.places.entries
-      (λ k slot. ap (place_at b) (zero-add k) ∙ get_or-map (λ (grant : Grant). grant.place) (batch_slots b) k no_grant 0 slot)
+      (λ k slot. ap (rank_at b) (zero-add k) ∙ get_or-map rank (batch_slots b) k no_grant 0 slot)
       (rises 0 ends.places.entries (above-none ends.places.entries) ordered)
       (subst (λ high. Below high ends.places.entries) (sym (zero-add (length (batch_slots b)))) (below-all (length (batch_slots b)) ends.places.entries slots))
       (λ k slot. ap (λ at. is_end place (noted_end ends at)) (zero-add k) ∙ tells-slot k slot ∙ ap (serial_ends b n) (sym (zero-add k)))

@@ -7,7 +7,7 @@ use Rattle.bohm_core_base.specs.Batch.{Batch, reference_words, batch_slots}
 use Rattle.bohm_core_base.specs.Machine.{end_of, start}
 use Rattle.bohm_core_base.specs.Serial.{is_end, serial_ends, whole_end}
 use Rattle.bohm_core_base.proofs.Whole.{is_end-some}
-use Rattle.log_batch.specs.Keys.{Key}
+use Rattle.filling.specs.Keys.{Key}
 use Rattle.evaluation.specs.ReadSource.{IsDeedBefore, IsReferred, PassWork}
 use Rattle.words.specs.declared.knowledge.Knowledge.{Knowledge}
 use Rattle.words.specs.Layout.{IsListed}

@@ -5,7 +5,7 @@ use Rattle.std.specs.BTreeMap.{get}
 use Rattle.std.specs.Ordering.{nat_cmp}
 use Rattle.std.specs.declared.vec.Vec.{Vec}
 use Rattle.std.specs.declared.alloc.Global.{Global}
-use Rattle.bohm_core_base.specs.Batch.{Batch, place_at, batch_slots}
+use Rattle.bohm_core_base.specs.Batch.{Batch, rank_at, batch_slots}
 use Rattle.bohm_core_base.specs.Serial.{serial_ends, whole_end}
 use Rattle.filling.specs.declared.completion.ends.Ends.{Ends}
 
@@ -40,6 +40,6 @@ abbrev pub NotesEndsOf : Batch → ℕ → Ends → Type 0
 NotesEndsOf batch index ends =
     (slot : ℕ) → slot < length (batch_slots batch) → serial_ends batch index slot ≡ true → noted_end ends slot ≡ Some (batch.first + index)
 
--- of slots with their ends, the places of the grants whose records ended at a place, in order
+-- of slots with their ends, the ranks of the records that ended at a place, in order
 abbrev pub ended_among : Batch → ℕ → List (ℕ × ℕ) → List ℕ
-ended_among batch place ends = map (λ (one : ℕ × ℕ). place_at batch one.0) (filter (λ (one : ℕ × ℕ). one.1 == place) ends)
+ended_among batch place ends = map (λ (one : ℕ × ℕ). rank_at batch one.0) (filter (λ (one : ℕ × ℕ). one.1 == place) ends)

@@ -7,7 +7,7 @@ use Rattle.own_words.specs.Words.{ended_in}
 use Rattle.sequencer.specs.Whole.{columns_by}
 use Rattle.filling.specs.FinishedRange.{FinishedRange}
 
--- each of its places has the own words of its place in the log, and the places of the grants that its revocation ended
+-- each of its places has the own words of its place in the log, and the ranks of the records that its revocation ended
 pub record AreFinished (span : FinishedRange) (words ended : List (List ℕ)) : Type 0 where
   pub own : (index : ℕ) → index < span.size
       → slice_index_or words index [] ≡ words_at (columns_by span.log.names) span.log.statements (span.first + index)

@@ -1,3 +1,4 @@
+pub mod Keys
 pub mod Bodies
 pub mod Numbers
 pub mod Readings

@@ -3,7 +3,7 @@ use Rattle.std.specs.Prelude.{◌≡◌, ◌⊎◌, ◌+◌, ℕ, true, Option, 
 use Rattle.model_base.specs.declared.outcome.Outcome.{Outcome}
 use Rattle.model_base.specs.Outcomes.{outcome}
 use Rattle.own_words.specs.Words.{ended_in}
-use Rattle.bohm_core_base.specs.Batch.{Batch, place_at, was_done}
+use Rattle.bohm_core_base.specs.Batch.{Batch, rank_at, was_done}
 use Rattle.bohm_core_base.specs.Serial.{serial_ends, serial_words}
 use Rattle.log_batch.specs.Supplied.{LogRange, batch_of}
 use Rattle.words.specs.declared.knowledge.Knowledge.{Knowledge}
@@ -12,11 +12,11 @@ use Rattle.filling_base.specs.Extending.{OnlyLearns}
 use Rattle.filling_base.specs.References.{IsRevocation}
 use Rattle.filling_base.specs.Tries.{IsKnownDone}
 
--- of the grants of these slots, the places of those whose records the place ends
-abbrev pub ended_places_at : Batch → List ℕ → ℕ → List ℕ
-ended_places_at batch [] index = []
-ended_places_at batch (slot ∷ slots) index =
-    if serial_ends batch index slot then place_at batch slot ∷ ended_places_at batch slots index else ended_places_at batch slots index
+-- of the records of these slots, the ranks of those that the place ends
+abbrev pub ended_ranks_at : Batch → List ℕ → ℕ → List ℕ
+ended_ranks_at batch [] index = []
+ended_ranks_at batch (slot ∷ slots) index =
+    if serial_ends batch index slot then rank_at batch slot ∷ ended_ranks_at batch slots index else ended_ranks_at batch slots index
 
 -- the outcome of an index of the range in its log
 abbrev pub outcome_in : LogRange → ℕ → Option Outcome

@@ -8,7 +8,7 @@ use Rattle.placing.specs.declared.latest.Latest.{Latest}
 use Rattle.placing.specs.Latest.{IsLatest, IsUpTo}
 use Rattle.bohm_core_base.specs.Batch.{Batch, reference_words}
 use Rattle.log_batch.specs.Supplied.{LogRange}
-use Rattle.log_batch.specs.Keys.{Key}
+use Rattle.filling.specs.Keys.{Key}
 use Rattle.words.specs.declared.knowledge.Knowledge.{Knowledge}
 use Rattle.words.specs.Layout.{partition_at}
 use Rattle.words.specs.Passes.{IsPlacerOf, PlacerState, Words, placed_on}

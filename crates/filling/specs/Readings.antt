@@ -4,7 +4,7 @@ use Rattle.model_base.specs.Records.{end_below}
 use Rattle.bohm_core_base.specs.Batch.{Batch, is_listed, table_at}
 use Rattle.bohm_core_base.specs.Serial.{whole_end}
 use Rattle.log_batch.specs.Supplied.{LogRange, batch_of}
-use Rattle.log_batch.specs.Keys.{Key}
+use Rattle.filling.specs.Keys.{Key}
 use Rattle.evaluation.specs.ReadSource.{Reader, PassWork}
 use Rattle.words.specs.declared.knowledge.Knowledge.{Knowledge}
 use Rattle.words.specs.Passes.{IsPassOf, PassState, Words}

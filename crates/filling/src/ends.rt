@@ -5,6 +5,7 @@ ghost use Rattle.std.specs.List.{list_any};
 ghost use Rattle.std.specs.List.Sorted.{IsStrictlyIncreasing};
 ghost use Rattle.std.specs.Option.{option_to_list};
 ghost use Rattle.model_base.specs.declared.deed.Grant.{Grant};
+ghost use Rattle.model_base.specs.Ranks.{rank};
 ghost use Rattle.bohm_core_base.specs.Batch.{batch_slots, was_done};
 ghost use Rattle.bohm_core_base.specs.Serial.{serial_ends, serial_words};
 ghost use Rattle.log_batch.specs.Supplied.{batch_of};
@@ -23,7 +24,7 @@ use bohm_core_base::{
 };
 use evaluation::{ends_by_source, was_done};
 use log_batch::LogBatch;
-use model_base::{Deed, Place};
+use model_base::{Deed, RecordName};
 use std::alloc::AllocError;
 use std::marker::{Brand, PhantomData};
 use words::{BatchData, BatchWords, Holding};
@@ -74,35 +75,39 @@ fn no_ends(key: &RangeKey<'_>, index: usize) -> Vec<usize>
     Vec::new(key.batch().alloc())
 }
 
-// One more number, if the grant of the place has a listed end.
-fn put_number(key: &RangeKey<'_>, place: Place, numbers: &mut Vec<usize>) -> Result<(), AllocError>
+// One more number, if the record has a listed end.
+fn put_number(
+    key: &RangeKey<'_>,
+    name: RecordName,
+    numbers: &mut Vec<usize>,
+) -> Result<(), AllocError>
     ensures { OnOk result
-        (numbers.new.items ≡ numbers.old.items ++ option_to_list (number_at (batch_of key.now.batch) key.now.slots place)) }
+        (numbers.new.items ≡ numbers.old.items ++ option_to_list (number_at (batch_of key.now.batch) key.now.slots name)) }
 {
-    if let Some(number) = key.number_at(place) {
+    if let Some(number) = key.number_at(name) {
         numbers.push(number)?;
     }
     Ok(())
 }
 
-// The numbers of the listed ends of the grants of these places.
-fn numbers_of(key: &RangeKey<'_>, places: &[Place]) -> Result<Vec<usize>, AllocError>
-    ensures { IfOk result (λ numbers. numbers.items ≡ numbers_at (batch_of key.now.batch) key.now.slots places.now) }
+// The numbers of the listed ends of these records.
+fn numbers_of(key: &RangeKey<'_>, names: &[RecordName]) -> Result<Vec<usize>, AllocError>
+    ensures { IfOk result (λ numbers. numbers.items ≡ numbers_at (batch_of key.now.batch) key.now.slots names.now) }
 {
     let mut numbers = Vec::new(key.batch().alloc());
-    for place in places {
-        put_number(key, *place, &mut numbers)?;
+    for name in names {
+        put_number(key, *name, &mut numbers)?;
     }
     Ok(numbers)
 }
 
-// The places of the grants that a done place ends, for the words that are named and a pass that keeps what is named.
-fn judge_places<'b, 'a, N: Named>(
+// The names of the records that a done place ends, for the words that are named and a pass that keeps what is named.
+fn judge_names<'b, 'a, N: Named>(
     key: &'b RangeKey<'a>,
     words: &'b BatchWords<RangeKey<'a>>,
     holding: Holding,
     index: usize,
-) -> (Holding, Result<Vec<Place>, AllocError>)
+) -> (Holding, Result<Vec<RecordName>, AllocError>)
     requires same_table { IsPassOf words.now holding }
     requires key { words.now.key ≡ key.now }
     requires within { index < key.now.batch.size }
@@ -111,9 +116,9 @@ fn judge_places<'b, 'a, N: Named>(
     requires named { Some words.now ≡ N.words }
     requires knows { KeepsKnown N.known holding.view.known }
     requires done { was_done (serial_words (batch_of key.now.batch) index) ≡ true }
-    ensures ends { IfOk result.1 (λ places. (slot : ℕ) (grant : Grant) → slice_get (batch_slots (batch_of key.now.batch)) slot ≡ Some grant
-        → list_any (λ place. place == grant.place) places.items ≡ serial_ends (batch_of key.now.batch) index slot) }
-    ensures order { IfOk result.1 (λ places. IsStrictlyIncreasing places.items) }
+    ensures ends { IfOk result.1 (λ names. (slot : ℕ) (grant : Grant) → slice_get (batch_slots (batch_of key.now.batch)) slot ≡ Some grant
+        → list_any (λ name. name == rank grant) names.items ≡ serial_ends (batch_of key.now.batch) index slot) }
+    ensures order { IfOk result.1 (λ names. IsStrictlyIncreasing names.items) }
     ensures same_table { IsPassOf words.now result.0 }
     ensures knows { KeepsKnown N.known result.0.view.known }
     ensures work { work_of result.0 ≡ work_of holding }
@@ -125,7 +130,7 @@ fn judge_places<'b, 'a, N: Named>(
         index,
         named: PhantomData,
     };
-    let (reader, places) = ends_by_source(key.batch().alloc(), key.batch(), reader);
+    let (reader, names) = ends_by_source(key.batch().alloc(), key.batch(), reader);
     let PassReader {
         key: _,
         words: _,
@@ -133,49 +138,49 @@ fn judge_places<'b, 'a, N: Named>(
         index: _,
         named: _,
     } = reader;
-    (holding, places)
+    (holding, names)
 }
 
-// The places of the grants that a done place ends, in rising order, by a pass that knows the place placed and all done that it is referred
-// to; it only learns. An error means out of memory.
-pub(crate) fn places_told<'b, 'a>(
+// The names of the records that a done place ends, in order, by a pass that knows the place placed and all done that it is referred to; it
+// only learns. An error means out of memory.
+pub(crate) fn names_told<'b, 'a>(
     key: &'b RangeKey<'a>,
     words: &'b BatchWords<RangeKey<'a>>,
     holding: Holding,
     index: usize,
-) -> (Holding, Result<Vec<Place>, AllocError>)
+) -> (Holding, Result<Vec<RecordName>, AllocError>)
     requires same_table { IsPassOf words.now holding }
     requires key { words.now.key ≡ key.now }
     requires within { index < key.now.batch.size }
     requires past { KnowsPast (batch_of key.now.batch) holding.view index }
     requires ready { KnowsReferences (batch_of key.now.batch) holding.view index }
     requires done { was_done (serial_words (batch_of key.now.batch) index) ≡ true }
-    ensures ends { IfOk result.1 (λ places. (slot : ℕ) (grant : Grant) → slice_get (batch_slots (batch_of key.now.batch)) slot ≡ Some grant
-        → list_any (λ place. place == grant.place) places.items ≡ serial_ends (batch_of key.now.batch) index slot) }
-    ensures order { IfOk result.1 (λ places. IsStrictlyIncreasing places.items) }
+    ensures ends { IfOk result.1 (λ names. (slot : ℕ) (grant : Grant) → slice_get (batch_slots (batch_of key.now.batch)) slot ≡ Some grant
+        → list_any (λ name. name == rank grant) names.items ≡ serial_ends (batch_of key.now.batch) index slot) }
+    ensures order { IfOk result.1 (λ names. IsStrictlyIncreasing names.items) }
     ensures same { IsSamePass holding result.0 }
     ensures bodies { result.0.bodies ≡ holding.bodies }
     ensures learns { OnlyLearns holding.view result.0.view }
 {
-    judge_places::<Brand>(key, words, holding, index)
+    judge_names::<Brand>(key, words, holding, index)
 }
 
-// The numbers of the ends that a done place sets, from the places of the grants.
+// The numbers of the ends that a done place sets, from the names of the records.
 fn ends_numbered(
     key: &RangeKey<'_>,
     index: usize,
-    places: &[Place],
+    names: &[RecordName],
 ) -> Result<Vec<usize>, AllocError>
-    requires order { IsStrictlyIncreasing places.now }
+    requires order { IsStrictlyIncreasing names.now }
     requires ends { (slot : ℕ) (grant : Grant) → slice_get (batch_slots (batch_of key.now.batch)) slot ≡ Some grant
-        → list_any (λ place. place == grant.place) places.now ≡ serial_ends (batch_of key.now.batch) index slot }
+        → list_any (λ name. name == rank grant) names.now ≡ serial_ends (batch_of key.now.batch) index slot }
     ensures { IfOk result (λ ends. IsEnding (batch_of key.now.batch) key.now.slots index ends.items) }
 {
     slots_stand_in_order();
     let _places = key.places();
     let _ends = key.ends();
     let _index = index;
-    numbers_of(key, places)
+    numbers_of(key, names)
 }
 
 // The numbers of the ends that a place with these own words sets, which for one that wasn't done or has no revocation are none. The pass
@@ -202,9 +207,9 @@ pub(crate) fn ends_of<'b, 'a>(
     if !was_revoking(key.batch(), index, own) {
         return (holding, Ok(no_ends(key, index)));
     }
-    let (holding, places) = places_told(key, words, holding, index);
-    match places {
-        Ok(places) => (holding, ends_numbered(key, index, places.as_slice())),
+    let (holding, names) = names_told(key, words, holding, index);
+    match names {
+        Ok(names) => (holding, ends_numbered(key, index, names.as_slice())),
         Err(fault) => (holding, Err(fault)),
     }
 }

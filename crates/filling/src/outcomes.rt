@@ -9,7 +9,7 @@ ghost use Rattle.words.specs.Passes.{IsPassOf};
 ghost use Rattle.words.specs.Views.{In};
 ghost use Rattle.filling_base.specs.Extending.{IsSamePass};
 ghost use Rattle.filling_base.specs.References.{IsRevocation};
-ghost use Rattle.filling.specs.Outcomes.{IsEndedList, OutcomeMeans, ended_places_at, outcome_in};
+ghost use Rattle.filling.specs.Outcomes.{IsEndedList, OutcomeMeans, ended_ranks_at, outcome_in};
 
 use crate::ends::has_revocation;
 use crate::key::RangeKey;
@@ -17,7 +17,7 @@ use bohm_core_base::slots_stand_in_order;
 use evaluation::words_tell_outcomes;
 use filling_base::Batch;
 use log_batch::words_length;
-use model_base::{Items, Outcome, Place};
+use model_base::{Items, Outcome, RecordName};
 use own_words::{MOST_OWN_WORDS, decoded};
 use std::alloc::AllocError;
 use words::{BatchData, BatchWords, Holding, Pass, Seen};
@@ -70,14 +70,14 @@ fn ended_record<'a>(
     }
 }
 
-// One more place, if the place ended the record of the listed slot.
+// One more name, if the place ended the record of the listed slot.
 fn put_ended<'a>(
     key: &RangeKey<'a>,
     words: &BatchWords<RangeKey<'a>>,
     holding: &mut Holding,
     index: usize,
     number: usize,
-    places: &mut Vec<Place>,
+    names: &mut Vec<RecordName>,
 ) -> Result<(), AllocError>
     requires same_table { IsPassOf words.now holding.old }
     requires key { words.now.key ≡ key.now }
@@ -86,47 +86,46 @@ fn put_ended<'a>(
     requires listed { number < length key.now.slots }
     ensures same { holding.new ≡ holding.old }
     ensures put { OnOk result
-        (places.new.items ≡ places.old.items ++ ended_places_at (batch_of key.now.batch) (listed_slot_at key.now.slots number ∷ []) index) }
+        (names.new.items ≡ names.old.items ++ ended_ranks_at (batch_of key.now.batch) (listed_slot_at key.now.slots number ∷ []) index) }
 {
     let _ends = key.ends();
     if !ended_record(key, words, holding, index, number) {
         return Ok(());
     }
     let grant = key.batch().grant(key.slots()[number]);
-    places.push(grant.place)?;
+    names.push(grant.name())?;
     Ok(())
 }
 
-// The places of the grants whose listed ends name the place, which the pass knows done. An error means out of memory.
-fn ended_places<'a>(
+// The names of the records whose listed ends are at the place, which the pass knows done. An error means out of memory.
+fn ended_names<'a>(
     key: &RangeKey<'a>,
     words: &BatchWords<RangeKey<'a>>,
     holding: &mut Holding,
     index: usize,
-) -> Result<Vec<Place>, AllocError>
+) -> Result<Vec<RecordName>, AllocError>
     requires same_table { IsPassOf words.now holding.old }
     requires key { words.now.key ≡ key.now }
     requires within { index < key.now.batch.size }
     requires known { In index holding.old.view.known }
     ensures same { holding.new ≡ holding.old }
-    ensures value { IfOk result (λ places. places.items ≡ ended_places_at (batch_of key.now.batch) key.now.slots index) }
+    ensures value { IfOk result (λ names. names.items ≡ ended_ranks_at (batch_of key.now.batch) key.now.slots index) }
 {
     let _ends = key.ends();
-    let mut places = Vec::new(key.batch().alloc());
+    let mut names = Vec::new(key.batch().alloc());
     for number in 0..key.slots().len() {
-        put_ended(key, words, holding, index, number, &mut places)?;
+        put_ended(key, words, holding, index, number, &mut names)?;
     }
-    Ok(places)
+    Ok(names)
 }
 
-// The outcome that the own words of a place give, which the pass knows done. Of a revocation the places of the grants are given that it
-// ended.
+// The outcome that the own words of a place give, which the pass knows done. Of a revocation the records are given that it ended.
 fn outcome_told<'a>(
     key: &RangeKey<'a>,
     words: &BatchWords<RangeKey<'a>>,
     holding: &mut Holding,
     index: usize,
-    ended: Items<Place>,
+    ended: Items<RecordName>,
 ) -> Outcome
     requires same_table { IsPassOf words.now holding.old }
     requires key { words.now.key ≡ key.now }
@@ -145,14 +144,14 @@ fn outcome_told<'a>(
     decoded(&statement.form, &own[..count], ended)
 }
 
-// The places of the grants that a place ended, if it has a revocation, as far as its outcome gives them. The pass knows it done. An error
+// The names of the records that a place ended, if it has a revocation, as far as its outcome gives them. The pass knows it done. An error
 // means out of memory, which only a revocation may have.
 fn ended_list<'a>(
     key: &RangeKey<'a>,
     words: &BatchWords<RangeKey<'a>>,
     holding: &mut Holding,
     index: usize,
-) -> Result<Items<Place>, AllocError>
+) -> Result<Items<RecordName>, AllocError>
     requires same_table { IsPassOf words.now holding.old }
     requires key { words.now.key ≡ key.now }
     requires within { index < key.now.batch.size }
@@ -169,8 +168,8 @@ fn ended_list<'a>(
     let _statement = batch.statement(index);
     let _slots = key.slots();
     let _ends = key.ends();
-    let places = ended_places(key, words, holding, index)?;
-    Ok(Items::new(places))
+    let names = ended_names(key, words, holding, index)?;
+    Ok(Items::new(names))
 }
 
 // The outcome of a place that the pass knows done. An error means out of memory, which only a revocation may have.

@@ -1,7 +1,7 @@
 //! A pass, as it reads for a place that it is about to fill.
 
 ghost use Rattle.std.specs.Prelude.{[], ℕ, List, None, Option};
-ghost use Rattle.log_batch.specs.Keys.{Key};
+ghost use Rattle.filling.specs.Keys.{Key};
 ghost use Rattle.words.specs.Passes.{Words};
 
 use crate::key::RangeKey;

@@ -2,7 +2,7 @@
 
 ghost use Rattle.std.specs.Prelude.{◌≡◌, ◌<◌, [], ◌∷◌, false};
 ghost use Rattle.words.specs.Passes.{IsPassOf};
-ghost use Rattle.words.specs.Views.{HoldsNone, KnowsPast};
+ghost use Rattle.words.specs.Views.{KnowsPast};
 ghost use Rattle.filling_base.specs.Counting.{CountsBodies};
 ghost use Rattle.filling_base.specs.Extending.{HoldsJust, IsSamePass};
 ghost use Rattle.filling_base.specs.Tries.{IsKnownDone, TriedMeans, is_unplaced};
@@ -69,25 +69,6 @@ impl<K: Fills> Batch<K> {
         }
     }
 
-    // Claims a place that every partition has placed, and runs it.
-    fn take(&self, mut holding: Holding, index: usize) -> (Pass, Tried)
-        requires same_table { IsPassOf self.now holding }
-        requires within { index < (K.batch self.now.key).size }
-        requires idle { HoldsNone holding.view }
-        requires past { KnowsPast (K.batch self.now.key) holding.view index }
-        ensures same { IsSamePass holding result.0 }
-        ensures tells { TriedMeans (K.batch self.now.key) index holding.view result.1 result.0.view }
-        ensures bodies { CountsBodies (K.runs self.now.key) holding result.0 }
-        ensures placed { is_unplaced result.1 ≡ false }
-        ensures told { IsKnownDone (K.batch self.now.key) holding.view index → result.1 ≡ Tried.Done }
-    {
-        match self.words.claim(&mut holding, index) {
-            Claimed::Done => (holding.end(), Tried::Done),
-            Claimed::Held => (holding.end(), Tried::Busy(index)),
-            Claimed::Won => self.run(holding, index),
-        }
-    }
-
     /// Runs a place, and before it those that it is referred to and that aren't done. The pass holds none afterwards, and what was finished
     /// on the way stays finished. `Busy` gives a place, at most the one asked for, that another pass held at a step of this call; all
     /// claims of the call were given back. `NotPlaced` gives a partition that was found in this call not to have placed the place, and that
@@ -108,8 +89,12 @@ impl<K: Fills> Batch<K> {
             Seen::Done => (holding.end(), Tried::Done),
             Seen::Held => (holding.end(), Tried::Busy(index)),
             Seen::Free => match self.unplaced(&mut holding, index) {
-                None => self.take(holding, index),
                 Some(partition) => (holding.end(), Tried::NotPlaced(partition)),
+                None => match self.words.claim(&mut holding, index) {
+                    Claimed::Done => (holding.end(), Tried::Done),
+                    Claimed::Held => (holding.end(), Tried::Busy(index)),
+                    Claimed::Won => self.run(holding, index),
+                },
             },
         }
     }

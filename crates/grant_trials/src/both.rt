@@ -1,6 +1,6 @@
 //! A book and the plain one beside it: each call is made in both, and the answers are compared.
 
-use crate::deeds::{ends_in, enter, give, has_table, take};
+use crate::deeds::{ends_in, enter, give, has_table, places_of, take};
 use crate::fault::{TrialFault, expect};
 use grants::{Book, Records, denial, holds, holds_option, last_loss};
 use model_base::{Cause, Grant, Need, Place, Revocation, Table, User};
@@ -165,5 +165,6 @@ fn take_plain(
     if !book.is_later(place) || !has_table(book.tables(), table) {
         return Err(TrialFault::Deed);
     }
-    Ok(book.revoke(alloc, revocation)?)
+    let ended = book.revoke(alloc, revocation)?;
+    Ok(places_of(alloc, &ended)?)
 }

@@ -4,8 +4,8 @@ ghost use Rattle.std.specs.Prelude.{Decides, ◌<◌, length};
 
 use crate::fault::TrialFault;
 use grants::{Book, Creation, Records, holds_option, to_end};
-use model_base::{Grant, Place, Revocation, Table, User};
-use std::alloc::Global;
+use model_base::{Grant, Place, RecordName, Revocation, Table, User};
+use std::alloc::{AllocError, Global};
 
 /// Whether a table is one of these.
 pub fn has_table(tables: &[Creation], table: Table) -> bool
@@ -38,6 +38,15 @@ pub fn give(book: &mut Book, grant: &Grant) -> Result<bool, TrialFault> {
     Ok(held)
 }
 
+/// The places of the records.
+pub fn places_of(alloc: Global, names: &[RecordName]) -> Result<Vec<Place>, AllocError> {
+    let mut places = Vec::new(alloc);
+    for name in names {
+        places.push(name.place)?;
+    }
+    Ok(places)
+}
+
 /// The places that a revocation would end, as a view says.
 pub fn ends_in<V: Records>(
     alloc: Global,
@@ -47,7 +56,8 @@ pub fn ends_in<V: Records>(
     if view.at() != revocation.place || !view.covers(revocation.table) {
         return Err(TrialFault::Deed);
     }
-    Ok(to_end(alloc, view, revocation)?)
+    let ended = to_end(alloc, view, revocation)?;
+    Ok(places_of(alloc, &ended)?)
 }
 
 /// Makes the revocation, and returns the places that end.
@@ -60,5 +70,6 @@ pub fn take(
     if !book.is_later(place) || !has_table(book.tables(), table) {
         return Err(TrialFault::Deed);
     }
-    Ok(book.revoke(alloc, revocation)?)
+    let ended = book.revoke(alloc, revocation)?;
+    Ok(places_of(alloc, &ended)?)
 }

@@ -7,7 +7,7 @@
 use crate::both::{Both, NeedAnswer};
 use crate::fault::TrialFault;
 use model_base::{
-    Deed, Grant, Grantee, Grantees, Kind, Kinds, Need, Place, Revocation, Table, User,
+    Deed, Grant, Grantee, Grantees, Kind, Kinds, Need, Place, Position, Revocation, Table, User,
 };
 use std::alloc::Global;
 use trials_base::Generator;
@@ -85,6 +85,7 @@ fn drawn_grant(generator: &mut Generator, place: Place) -> Grant {
         place,
         grantor: User(generator.below(6) % USERS),
         grantee: drawn_grantee(generator),
+        position: Position::First,
         kind: drawn_kind(generator),
         table: TABLE,
         option: generator.below(4) > 0,

@@ -2,7 +2,9 @@
 
 use crate::both::Both;
 use crate::fault::TrialFault;
-use model_base::{Grant, Grantee, Grantees, Kind, Kinds, Need, Place, Revocation, Table, User};
+use model_base::{
+    Grant, Grantee, Grantees, Kind, Kinds, Need, Place, Position, Revocation, Table, User,
+};
 use std::alloc::Global;
 
 /// What is done in an example. Grants and revocations are of reading table 0, and users go by their numbers.
@@ -42,6 +44,7 @@ fn give(both: &mut Both, place: Place, users: (u32, u32), option: bool) -> Resul
         place,
         grantor: User(grantor),
         grantee: Grantee::User(User(grantee)),
+        position: Position::First,
         kind: Kind::Read,
         table: Table(0),
         option,

@@ -11,12 +11,12 @@ use Rattle.model_base.specs.declared.deed.Kind.{Kind}
 use Rattle.model_base.specs.declared.deed.Revocation.{Revocation}
 use Rattle.model_base.proofs.Replay.{by_cases}
 use Rattle.grants_base.specs.Index.{is_one_of}
-use Rattle.grants_base.specs.Sides.{kind_code}
+use Rattle.model_base.specs.Ranks.{kind_code}
 use Rattle.grants_base.specs.View.{View, slot_at}
 use Rattle.grants_base.proofs.Indexing.{code-same}
 use Rattle.grants.specs.Pass.{keeps}
-use Rattle.grants.specs.Work.{AllPassed, ArePassed, bears, kind_holder_cmp, kind_holder, same_kind_holder, staying}
-use Rattle.grants.specs.declared.cascade.KindHolder.{KindHolder}
+use Rattle.grants.specs.Work.{AllPassed, ArePassed, bears, kind_holder_cmp, kind_holder_key, same_kind_holder, staying}
+use Rattle.grants.specs.declared.cascade.KindHolderKey.{KindHolderKey}
 use Rattle.grants.proofs.Asked.{not_false}
 use Rattle.grants.proofs.Passing.{same_kind-true}
 use Rattle.grants.proofs.Worklist.{keeps_by, keeps_none}
@@ -33,24 +33,24 @@ is_eq-ordering_then Equal p = refl
 is_eq-ordering_then Greater p = refl
 
 -- the order of users with kinds finds those that are the same
-pub at_holder : (a b : KindHolder) → is_at (kind_holder_cmp a) b ≡ same_kind_holder a b
+pub at_holder : (a b : KindHolderKey) → is_at (kind_holder_cmp a) b ≡ same_kind_holder a b
 at_holder a b =
     is_eq-ordering_then (nat_cmp a.user b.user) (nat_cmp a.kind b.kind)
     ∙ ap (λ e. e && is_eq (nat_cmp a.kind b.kind)) (is_eq-nat_cmp a.user b.user)
     ∙ ap (λ e. eqb a.user b.user && e) (is_eq-nat_cmp a.kind b.kind)
 
 -- which are of one user and one kind
-same_user : (user other : ℕ) (kind of : Kind) → same_kind_holder (kind_holder user kind) (kind_holder other of) ≡ true → user ≡ other
+same_user : (user other : ℕ) (kind of : Kind) → same_kind_holder (kind_holder_key user kind) (kind_holder_key other of) ≡ true → user ≡ other
 same_user user other kind of same = eqb-true user other (and_parts (user == other) (kind_code kind == kind_code of) same).0
 
-one_kind : (user other : ℕ) (kind of : Kind) → same_kind_holder (kind_holder user kind) (kind_holder other of) ≡ true → kind ≡ of
+one_kind : (user other : ℕ) (kind of : Kind) → same_kind_holder (kind_holder_key user kind) (kind_holder_key other of) ≡ true → kind ≡ of
 one_kind user other kind of same =
     sym (same_kind-true of kind (sym (code-same kind of) ∙ (and_parts (user == other) (kind_code kind == kind_code of) same).1))
 
 module _ (revocation : Revocation) (view : View) where
   -- what is put there for one user and kind
   module _ (ended : List ℕ) (user slot : ℕ) (kind : Kind) (here : ArePassed revocation view ended user kind slot) where
-    passed_same : (other s : ℕ) (of : Kind) → same_kind_holder (kind_holder user kind) (kind_holder other of) ≡ true → Some slot ≡ Some s
+    passed_same : (other s : ℕ) (of : Kind) → same_kind_holder (kind_holder_key user kind) (kind_holder_key other of) ≡ true → Some slot ≡ Some s
         → ArePassed revocation view ended other of s
     passed_same other s of same found =
         let at : slot ≡ s = cc in
@@ -58,37 +58,37 @@ module _ (revocation : Revocation) (view : View) where
         (subst (λ v. ArePassed revocation view ended v kind s) (same_user user other kind of same)
         (subst (ArePassed revocation view ended user kind) at here))
 
-  put_for : (ended : List ℕ) (old now : BTreeMap KindHolder ℕ) (user slot : ℕ) (kind : Kind)
-      → ((q : KindHolder) → get kind_holder_cmp now q ≡ cond (is_at (kind_holder_cmp (kind_holder user kind)) q) (Some slot) (get kind_holder_cmp old q))
+  put_for : (ended : List ℕ) (old now : BTreeMap KindHolderKey ℕ) (user slot : ℕ) (kind : Kind)
+      → ((q : KindHolderKey) → get kind_holder_cmp now q ≡ cond (is_at (kind_holder_cmp (kind_holder_key user kind)) q) (Some slot) (get kind_holder_cmp old q))
       → ArePassed revocation view ended user kind slot → AllPassed revocation view ended old → AllPassed revocation view ended now
   put_for ended old now user slot kind updates here passed = λ other s of is.
-      let told : get kind_holder_cmp now (kind_holder other of)
-      ≡ cond (same_kind_holder (kind_holder user kind) (kind_holder other of)) (Some slot) (get kind_holder_cmp old (kind_holder other of)) =
-      updates (kind_holder other of) ∙ ap (λ b. cond b (Some slot) (get kind_holder_cmp old (kind_holder other of))) (at_holder (kind_holder user kind) (kind_holder other of)) in
-      by_cases (same_kind_holder (kind_holder user kind) (kind_holder other of))
+      let told : get kind_holder_cmp now (kind_holder_key other of)
+      ≡ cond (same_kind_holder (kind_holder_key user kind) (kind_holder_key other of)) (Some slot) (get kind_holder_cmp old (kind_holder_key other of)) =
+      updates (kind_holder_key other of) ∙ ap (λ b. cond b (Some slot) (get kind_holder_cmp old (kind_holder_key other of))) (at_holder (kind_holder_key user kind) (kind_holder_key other of)) in
+      by_cases (same_kind_holder (kind_holder_key user kind) (kind_holder_key other of))
       (λ same.
-      let one : Some slot ≡ Some s = sym (told ∙ ap (λ b. cond b (Some slot) (get kind_holder_cmp old (kind_holder other of))) same) ∙ is in
+      let one : Some slot ≡ Some s = sym (told ∙ ap (λ b. cond b (Some slot) (get kind_holder_cmp old (kind_holder_key other of))) same) ∙ is in
       passed_same ended user slot kind here other s of same one)
-      (λ apart. passed other s of (sym (told ∙ ap (λ b. cond b (Some slot) (get kind_holder_cmp old (kind_holder other of))) apart) ∙ is))
+      (λ apart. passed other s of (sym (told ∙ ap (λ b. cond b (Some slot) (get kind_holder_cmp old (kind_holder_key other of))) apart) ∙ is))
 
-  pub passed_put : (ended : List ℕ) (old now : BTreeMap KindHolder ℕ) (user slot : ℕ) (kind : Kind) (holder : KindHolder) → holder ≡ kind_holder user kind
-      → ((q : KindHolder) → get kind_holder_cmp now q ≡ cond (is_at (kind_holder_cmp holder) q) (Some slot) (get kind_holder_cmp old q))
+  pub passed_put : (ended : List ℕ) (old now : BTreeMap KindHolderKey ℕ) (user slot : ℕ) (kind : Kind) (holder : KindHolderKey) → holder ≡ kind_holder_key user kind
+      → ((q : KindHolderKey) → get kind_holder_cmp now q ≡ cond (is_at (kind_holder_cmp holder) q) (Some slot) (get kind_holder_cmp old q))
       → ArePassed revocation view ended user kind slot → AllPassed revocation view ended old → AllPassed revocation view ended now
   passed_put ended old now user slot kind holder of updates =
       put_for ended old now user slot kind
-      (subst (λ (h : KindHolder). (q : KindHolder) → get kind_holder_cmp now q ≡ cond (is_at (kind_holder_cmp h) q) (Some slot) (get kind_holder_cmp old q)) of updates)
+      (subst (λ (h : KindHolderKey). (q : KindHolderKey) → get kind_holder_cmp now q ≡ cond (is_at (kind_holder_cmp h) q) (Some slot) (get kind_holder_cmp old q)) of updates)
 
   -- what is known stays so when a slot ends
-  pub passed_ended : (ended after : List ℕ) (slot : ℕ) (asked : BTreeMap KindHolder ℕ) → ((k : ℕ) → is_one_of after k ≡ ((slot == k) || is_one_of ended k))
+  pub passed_ended : (ended after : List ℕ) (slot : ℕ) (asked : BTreeMap KindHolderKey ℕ) → ((k : ℕ) → is_one_of after k ≡ ((slot == k) || is_one_of ended k))
       → AllPassed revocation view ended asked → AllPassed revocation view after asked
   passed_ended ended after slot asked more passed = λ u s kind is k less stays.
       passed u s kind is k less (or_parts (slot == k) (is_one_of ended k) (sym (more k) ∙ stays)).1
 
-  pub passed_start : (ended : List ℕ) (asked : BTreeMap KindHolder ℕ) (user : ℕ) (kind : Kind) → AllPassed revocation view ended asked
-      → ArePassed revocation view ended user kind (unwrap_or (get kind_holder_cmp asked (kind_holder user kind)) 0)
-  passed_start ended asked user kind passed = by_found (get kind_holder_cmp asked (kind_holder user kind)) refl
+  pub passed_start : (ended : List ℕ) (asked : BTreeMap KindHolderKey ℕ) (user : ℕ) (kind : Kind) → AllPassed revocation view ended asked
+      → ArePassed revocation view ended user kind (unwrap_or (get kind_holder_cmp asked (kind_holder_key user kind)) 0)
+  passed_start ended asked user kind passed = by_found (get kind_holder_cmp asked (kind_holder_key user kind)) refl
     where
-      by_found : (found : Option ℕ) → get kind_holder_cmp asked (kind_holder user kind) ≡ found → ArePassed revocation view ended user kind (unwrap_or found 0)
+      by_found : (found : Option ℕ) → get kind_holder_cmp asked (kind_holder_key user kind) ≡ found → ArePassed revocation view ended user kind (unwrap_or found 0)
       by_found None is = λ k less stays. absurd (omega arith)
       by_found (Some slot) is = passed user slot kind is
 
@@ -104,15 +104,15 @@ module _ (revocation : Revocation) (view : View) where
         | inr more ↦ le-ltb first below more ∙ sym (keeps_none revocation view ended below user kind (λ k less. passed k (omega arith)))
       ]
 
-  module _ (old now : BTreeMap KindHolder ℕ) (user slot : ℕ) (kind : Kind)
-      (told : (other : KindHolder) → get kind_holder_cmp now other
-      ≡ (if same_kind_holder (kind_holder user kind) other && is_some (get kind_holder_cmp old (kind_holder user kind)) then Some slot else get kind_holder_cmp old other)) where
+  module _ (old now : BTreeMap KindHolderKey ℕ) (user slot : ℕ) (kind : Kind)
+      (told : (other : KindHolderKey) → get kind_holder_cmp now other
+      ≡ (if same_kind_holder (kind_holder_key user kind) other && is_some (get kind_holder_cmp old (kind_holder_key user kind)) then Some slot else get kind_holder_cmp old other)) where
     pub passed_kept : (ended : List ℕ) → ArePassed revocation view ended user kind slot → AllPassed revocation view ended old → AllPassed revocation view ended now
     passed_kept ended here passed = λ other s of is.
-        let same = same_kind_holder (kind_holder user kind) (kind_holder other of) in
-        let known = is_some (get kind_holder_cmp old (kind_holder user kind)) in
+        let same = same_kind_holder (kind_holder_key user kind) (kind_holder_key other of) in
+        let known = is_some (get kind_holder_cmp old (kind_holder_key user kind)) in
         by_cases (same && known)
         (λ both.
-        let one : Some slot ≡ Some s = sym (told (kind_holder other of) ∙ ap (λ b. if b then Some slot else get kind_holder_cmp old (kind_holder other of)) both) ∙ is in
+        let one : Some slot ≡ Some s = sym (told (kind_holder_key other of) ∙ ap (λ b. if b then Some slot else get kind_holder_cmp old (kind_holder_key other of)) both) ∙ is in
         passed_same ended user slot kind here other s of (and_parts same known both).0 one)
-        (λ neither. passed other s of (sym (told (kind_holder other of) ∙ ap (λ b. if b then Some slot else get kind_holder_cmp old (kind_holder other of)) neither) ∙ is))
+        (λ neither. passed other s of (sym (told (kind_holder_key other of) ∙ ap (λ b. if b then Some slot else get kind_holder_cmp old (kind_holder_key other of)) neither) ∙ is))

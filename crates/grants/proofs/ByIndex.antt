@@ -17,7 +17,7 @@ use Rattle.grants_base.specs.Book.{Entries, lies_below, slot_below, view_of}
 use Rattle.grants_base.specs.Force.{end_if, gives_to, greatest_end, is_in_force, later_of}
 use Rattle.grants_base.specs.InForce.{IsNextInForce, ShowsNextInForce}
 use Rattle.grants_base.specs.Index.{IsFirst}
-use Rattle.grants_base.specs.Sides.{kind_code}
+use Rattle.model_base.specs.Ranks.{kind_code}
 use Rattle.grants_base.specs.View.{View, flatten, slot_at, slot_gives}
 use Rattle.grants_base.specs.declared.force.NextBy.{NextBy}
 use Rattle.grants_base.specs.declared.force.NextInForce.{NextInForce}

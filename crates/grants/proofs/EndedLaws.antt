@@ -10,6 +10,7 @@ use Rattle.std.proofs.lemmas.Option.{slice_get_within}
 use Rattle.model_base.specs.declared.deed.Grant.{Grant}
 use Rattle.model_base.specs.declared.deed.Record.{Record}
 use Rattle.model_base.specs.declared.deed.Revocation.{Revocation}
+use Rattle.model_base.specs.Ranks.{rank}
 use Rattle.model_base.specs.Laws.{IsRising}
 use Rattle.model_base.specs.Privileges.{concerns}
 use Rattle.model_base.specs.Records.{end_below, ended_at, recorded}
@@ -85,24 +86,24 @@ end_more before after end is k = ap (λ (es : List End). is_one_of (slots_of es)
     more [] = refl
     more (e ∷ es) = ap (λ b. (e.slot == k) || b) (more es) ∙ swapped (e.slot == k) (end.slot == k) (is_one_of (slots_of es) k)
 
--- one end more, and the place of its grant
-pub are_more : (revocation : Revocation) (view : View) (ends after : List End) (places now : List ℕ) (end : End) (made : ℕ)
-    → after ≡ ends ++ end ∷ [] → now ≡ places ++ made ∷ [] → AreEnds revocation view ends places → IsEnd revocation view end made → AreEnds revocation view after now
-are_more revocation view ends after places now end made ends_is places_is are is =
-    rw (ends_is, places_is) (more ends places are)
+-- one end more, and the rank of its grant
+pub are_more : (revocation : Revocation) (view : View) (ends after : List End) (ranks now : List ℕ) (end : End) (ranked : ℕ)
+    → after ≡ ends ++ end ∷ [] → now ≡ ranks ++ ranked ∷ [] → AreEnds revocation view ends ranks → IsEnd revocation view end ranked → AreEnds revocation view after now
+are_more revocation view ends after ranks now end ranked ends_is ranks_is are is =
+    rw (ends_is, ranks_is) (more ends ranks are)
   where
-    more : (es : List End) (ps : List ℕ) → AreEnds revocation view es ps → AreEnds revocation view (es ++ end ∷ []) (ps ++ made ∷ [])
+    more : (es : List End) (ps : List ℕ) → AreEnds revocation view es ps → AreEnds revocation view (es ++ end ∷ []) (ps ++ ranked ∷ [])
     more [] [] are = (is, tt)
     more [] (p ∷ ps) are = absurd are
     more (e ∷ es) [] are = absurd are
     more (e ∷ es) (p ∷ ps) are = (are.0, more es ps are.1)
 
--- in a list of records the end is of the slot of one that has none, and whose grant was made at a place
-pub record IsOpen (entries : List Record) (place : ℕ) (end : End) (made : ℕ) : Type 0 where
+-- in a list of records the end is of the slot of one that has none, and whose grant has this rank
+pub record IsOpen (entries : List Record) (place : ℕ) (end : End) (ranked : ℕ) : Type 0 where
   pub entry : Record
   pub there : slice_get entries end.slot ≡ Some entry
   pub unended : is_none entry.end ≡ true
-  pub made_at : entry.grant.place ≡ made
+  pub named : rank entry.grant ≡ ranked
   pub same : end.place ≡ place
 
 concerned_parts : (entry : Record) (revocation : Revocation) (grant : Grant) → concerned (Some entry) revocation ≡ Some grant → (is_none entry.end ≡ true) × (entry.grant ≡ grant)
@@ -131,47 +132,47 @@ found_at place (x ∷ xs) (suc i) revocation grant low is =
     found_at place xs i revocation grant (All-tail (λ (entry : Record). IfSome entry.end (λ end. end < place)) x xs low) is
 
 -- so it is with what a revocation ends in a book whose ends lie below its place
-open_end : (book : Entries) (revocation : Revocation) (end : End) (made : ℕ) → IsLater book revocation.place → IsEnd revocation (view_of book revocation.place) end made
-    → IsOpen book.records revocation.place end made
-open_end book revocation end made later is =
+open_end : (book : Entries) (revocation : Revocation) (end : End) (ranked : ℕ) → IsLater book revocation.place → IsEnd revocation (view_of book revocation.place) end ranked
+    → IsOpen book.records revocation.place end ranked
+open_end book revocation end ranked later is =
     let found = found_at revocation.place book.records end.slot revocation is.grant later.ends is.found in
     record {
       entry = found.0;
       there = found.1;
       unended = found.2;
-      made_at = ap (λ (g : Grant). g.place) found.3 ∙ is.made_at;
+      named = ap (λ (g : Grant). rank g) found.3 ∙ is.named;
       same = is.place;
     }
 
 -- one such end
-pub ends_open : (entries : List Record) → IsRising (recorded entries) → (place : ℕ) (before : List ℕ) (end : End) (made : ℕ) → IsOpen entries place end made
-    → end_slot (map (ended_at place before) entries) end.slot end.place ≡ map (ended_at place (before ++ made ∷ [])) entries
-ends_open entries rising place before end made is =
+pub ends_open : (entries : List Record) → IsRising (recorded entries) → (place : ℕ) (before : List ℕ) (end : End) (ranked : ℕ) → IsOpen entries place end ranked
+    → end_slot (map (ended_at place before) entries) end.slot end.place ≡ map (ended_at place (before ++ ranked ∷ [])) entries
+ends_open entries rising place before end ranked is =
     ap (end_slot (map (ended_at place before) entries) end.slot) is.same
-    ∙ ends_one place before made entries end.slot is.entry is.there here apart
+    ∙ ends_one place before ranked entries end.slot is.entry is.there here apart
   where
-    here : (is_none is.entry.end && (made == is.entry.grant.place)) ≡ true
-    here = rw (is.unended, eq-eqb made is.entry.grant.place (sym is.made_at)) refl
+    here : (is_none is.entry.end && (ranked == rank is.entry.grant)) ≡ true
+    here = rw (is.unended, eq-eqb ranked (rank is.entry.grant) (sym is.named)) refl
 
-    apart : (k : ℕ) (entry : Record) → slice_get entries k ≡ Some entry → k ≢ end.slot → (made == entry.grant.place) ≡ false
+    apart : (k : ℕ) (entry : Record) → slice_get entries k ≡ Some entry → k ≢ end.slot → (ranked == rank entry.grant) ≡ false
     apart k entry at other =
         elim (cases_lt k end.slot) [
           | inl less ↦
               let low = rise_at entries rising k end.slot entry is.entry at is.there less in
-              ne_eqb made entry.grant.place (λ same. omega (arith, is.made_at))
+              ne_eqb ranked (rank entry.grant) (λ same. omega (arith, is.named))
           | inr more ↦
               elim (cases_lt end.slot k) [
                 | inl above ↦
                     let high = rise_at entries rising end.slot k is.entry entry is.there at above in
-                    ne_eqb made entry.grant.place (λ same. omega (arith, is.made_at))
+                    ne_eqb ranked (rank entry.grant) (λ same. omega (arith, is.named))
                 | inr not_above ↦ absurd (other (omega arith))
               ]
         ]
 
 -- and all of them
 module _ (book : Entries) (revocation : Revocation) (later : IsLater book revocation.place) where
-  ends_from : IsRising (recorded book.records) → (ends : List End) (places : List ℕ) → AreEnds revocation (view_of book revocation.place) ends places → (before : List ℕ)
-      → end_slots (map (ended_at revocation.place before) book.records) ends ≡ map (ended_at revocation.place (before ++ places)) book.records
+  ends_from : IsRising (recorded book.records) → (ends : List End) (ranks : List ℕ) → AreEnds revocation (view_of book revocation.place) ends ranks → (before : List ℕ)
+      → end_slots (map (ended_at revocation.place before) book.records) ends ≡ map (ended_at revocation.place (before ++ ranks)) book.records
   ends_from rising [] [] are before = ap (λ (ps : List ℕ). map (ended_at revocation.place ps) book.records) (sym (append-nil before))
   ends_from rising [] (p ∷ ps) are before = absurd are
   ends_from rising (e ∷ es) [] are before = absurd are
@@ -180,15 +181,15 @@ module _ (book : Entries) (revocation : Revocation) (later : IsLater book revoca
       ∙ ends_from rising es ps are.1 (before ++ p ∷ [])
       ∙ ap (λ (qs : List ℕ). map (ended_at revocation.place qs) book.records) (append_assoc before (p ∷ []) ps)
 
-  pub ends_all : IsRising (recorded book.records) → (ends : List End) (places : List ℕ) → AreEnds revocation (view_of book revocation.place) ends places
-      → end_slots book.records ends ≡ map (ended_at revocation.place places) book.records
-  ends_all rising ends places are =
-      ap (λ (entries : List Record). end_slots entries ends) (ended_none revocation.place book.records) ∙ ends_from rising ends places are []
+  pub ends_all : IsRising (recorded book.records) → (ends : List End) (ranks : List ℕ) → AreEnds revocation (view_of book revocation.place) ends ranks
+      → end_slots book.records ends ≡ map (ended_at revocation.place ranks) book.records
+  ends_all rising ends ranks are =
+      ap (λ (entries : List Record). end_slots entries ends) (ended_none revocation.place book.records) ∙ ends_from rising ends ranks are []
 
   -- and their slots are there
-  pub ends_within : (ends : List End) (places : List ℕ) → AreEnds revocation (view_of book revocation.place) ends places
+  pub ends_within : (ends : List End) (ranks : List ℕ) → AreEnds revocation (view_of book revocation.place) ends ranks
       → All (λ (end : End). end.slot < length book.records) ends
-  ends_within [] places are = λ k d less. absurd (omega arith)
+  ends_within [] ranks are = λ k d less. absurd (omega arith)
   ends_within (e ∷ es) [] are = absurd are
   ends_within (e ∷ es) (p ∷ ps) are =
       let is = open_end book revocation e p later are.0 in

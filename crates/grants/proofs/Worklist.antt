@@ -7,6 +7,7 @@ use Rattle.model_base.specs.declared.deed.Grant.{Grant}
 use Rattle.model_base.specs.declared.deed.Kind.{Kind}
 use Rattle.model_base.specs.declared.deed.Record.{Record}
 use Rattle.model_base.specs.declared.deed.Revocation.{Revocation}
+use Rattle.model_base.specs.Ranks.{rank}
 use Rattle.model_base.specs.Privileges.{lends_to, names, option_holder, same_kind}
 use Rattle.model_base.proofs.Reaching.{lends_is}
 use Rattle.model_base.proofs.Replay.{by_cases}
@@ -126,9 +127,9 @@ module _ (revocation : Revocation) (view : View) where
     -- a slot whose grant ends
     pub over_ending : (ended after : List ℕ) (p : ℕ) (grant : Grant) → p < length view.slots → concerned (slot_at view p) revocation ≡ Some grant
         → ((k : ℕ) → is_one_of after k ≡ ((p == k) || is_one_of ended k)) → outlasts owner (staying revocation view ended p) revocation grant ≡ false
-        → grant.place ∷ ends_from after (p + 1) ≡ ends_from ended p
+        → rank grant ∷ ends_from after (p + 1) ≡ ends_from ended p
     over_ending ended after p grant within found more falls =
-        ap (λ h. grant.place ∷ cascade owner revocation h (rest_from (p + 1))) same
+        ap (λ h. rank grant ∷ cascade owner revocation h (rest_from (p + 1))) same
         ∙ passed
         ∙ ap (cascade owner revocation (staying revocation view ended p)) (step_on owner revocation view p within grant found)
       where
@@ -141,18 +142,18 @@ module _ (revocation : Revocation) (view : View) where
         same : staying revocation view after (p + 1) ≡ staying revocation view ended p
         same = rw (add-one p, gone) (staying-agree after ended p below)
 
-        passed : grant.place ∷ cascade owner revocation (staying revocation view ended p) (rest_from (p + 1))
+        passed : rank grant ∷ cascade owner revocation (staying revocation view ended p) (rest_from (p + 1))
             ≡ cascade owner revocation (staying revocation view ended p) (grant ∷ rest_from (p + 1))
         passed = rw (about_concerned (slot_at view p) revocation grant found, falls) refl
 
-    pub whole_ending : (places now ended after : List ℕ) (p next : ℕ) (grant : Grant) → next ≡ p + 1 → p < length view.slots → now ≡ places ++ grant.place ∷ []
+    pub whole_ending : (ranks now ended after : List ℕ) (p next : ℕ) (grant : Grant) → next ≡ p + 1 → p < length view.slots → now ≡ ranks ++ rank grant ∷ []
         → concerned (slot_at view p) revocation ≡ Some grant → ((k : ℕ) → is_one_of after k ≡ ((p == k) || is_one_of ended k))
-        → outlasts owner (staying revocation view ended p) revocation grant ≡ false → now ++ ends_from after next ≡ places ++ ends_from ended p
-    whole_ending places now ended after p next grant is_next within items found more falls =
+        → outlasts owner (staying revocation view ended p) revocation grant ≡ false → now ++ ends_from after next ≡ ranks ++ ends_from ended p
+    whole_ending ranks now ended after p next grant is_next within items found more falls =
         ap (λ n. now ++ ends_from after n) is_next
         ∙ ap (λ (xs : List ℕ). xs ++ ends_from after (p + 1)) items
-        ∙ append_assoc places (grant.place ∷ []) (ends_from after (p + 1))
-        ∙ ap (λ rest. places ++ rest) (over_ending ended after p grant within found more falls)
+        ∙ append_assoc ranks (rank grant ∷ []) (ends_from after (p + 1))
+        ∙ ap (λ rest. ranks ++ rest) (over_ending ended after p grant within found more falls)
 
     module _ (borne : AreBorne owner revocation view) (due ended : List ℕ) (next : ℕ) (state : AreDue revocation view due ended next) where
       -- what isn't due stays

@@ -19,12 +19,12 @@ use grants_base::{
     records_below, tables_below,
 };
 use model_base::{
-    Grant, Grantee, HashSeed, Kind, MOST_NAMES, Place, Record, Revocation, Table, User,
+    Grant, Grantee, HashSeed, Kind, MOST_NAMES, Place, Record, RecordName, Revocation, Table, User,
 };
 use std::alloc::{AllocError, Global};
 use std::marker::Model;
 
-/// The tables in the order of their creation, and each grant that was made on them, with its end, in the order of their places. No grant is
+/// The tables in the order of their creation, and a record of each grant that was made on them, with its end, in order. No grant is
 /// dropped and none is kept twice: a repeated grant is kept with its own place, as R. Fagin found that it must ("On an Authorization
 /// Mechanism", ACM TODS 3, 1978). The grants of a user are found by an index, so no call goes through those of others.
 #[derive(Drop)]
@@ -75,7 +75,7 @@ impl Book {
         &self.tables
     }
 
-    /// The grants that were made, each with its end, in the order of their places.
+    /// The records of the grants that were made, each with its end, in order.
     pub fn records(&self) -> &[Record]
         ensures records { result.now ≡ self.now.records }
         ensures sound { IsSoundBook self.now }
@@ -182,37 +182,37 @@ impl Book {
         ensures { result ≡ true → (slot : ℕ) (entry : Record) → slice_get self.now.records slot ≡ Some entry
             → lies_below place entry ≡ true }
     {
-        // A book is sound, as its accessors say, and so the places of its grants rise.
+        // A book is sound, as its accessors say, and so its records are in order.
         let _tables = self.tables();
         self.records.lie_below(place)
     }
 
-    /// What the revocation takes out of force: the ends of these grants, and their places.
+    /// What the revocation takes out of force: the ends of these grants, and the names of their records.
     fn cascade(&self, alloc: Global, revocation: &Revocation) -> Result<Ended, AllocError>
         requires later { IsLater self.now revocation.now.place }
         requires table { revocation.now.table < length self.now.tables }
         ensures ended { IfOk result (λ ended. (owners : List ℕ) (deeds : List Deed) → ShowsBook self.now owners deeds
-            → All (λ deed. place_of deed < revocation.now.place) deeds → ended.places ≡ ended_by owners deeds revocation.now) }
+            → All (λ deed. place_of deed < revocation.now.place) deeds → ended.ranks ≡ ended_by owners deeds revocation.now) }
         ensures slots { IfOk result (λ ended. All (λ (end : End). end.slot < length self.now.records) ended.ends) }
         ensures value { IfOk result (λ ended. end_slots self.now.records ended.ends
-            ≡ map (ended_at revocation.now.place ended.places) self.now.records) }
+            ≡ map (ended_at revocation.now.place ended.ranks) self.now.records) }
     {
-        // A book is sound, as its accessors say, and so each place has one record.
+        // A book is sound, as its accessors say, and so each rank has one record.
         let _tables = self.tables();
         let mut view = self.at(revocation.place);
         let ended = cascade(alloc, &mut view, revocation)?;
         Ok(ended)
     }
 
-    /// Ends the grants that the revocation takes out of force, at its place, and returns their places in rising order. The place has to lie
-    /// above all of the book, and the table to be one of its tables. It costs what `to_end` does on the book's view, and for each grant
+    /// Ends the grants that the revocation takes out of force, at its place, and returns the names of their records in order. The place has
+    /// to lie above all of the book, and the table to be one of its tables. It costs what `to_end` does on the book's view, and for each grant
     /// that ends the logarithm of the number of these and of the grants in force of its kind on its table to its grantee. On `Err` memory
     /// was refused, and the book is as it was.
     pub fn revoke(
         &mut self,
         alloc: Global,
         revocation: &Revocation,
-    ) -> Result<Vec<Place>, AllocError>
+    ) -> Result<Vec<RecordName>, AllocError>
         requires later { IsLater self.old revocation.now.place }
         requires table { revocation.now.table < length self.old.tables }
         ensures ended { IfOk result (λ ends. (owners : List ℕ) (deeds : List Deed) → ShowsBook self.old owners deeds
@@ -226,7 +226,7 @@ impl Book {
     {
         let ended = self.cascade(alloc, revocation)?;
         self.records.end(ended.ends())?;
-        Ok(ended.into_places())
+        Ok(ended.into_names())
     }
 
     /// Whether the place lies above those of all tables, grants and ends of the book. It looks once at each, so it is there for who can't

@@ -8,15 +8,41 @@ ghost use Rattle.model_base.specs.declared.deed.Deed.{Deed};
 ghost use Rattle.model_base.specs.declared.deed.Grant.{Grant};
 ghost use Rattle.grants.specs.Pass.{cascade, concerned, concerned_grants, keeps, outlasts};
 ghost use Rattle.grants_base.specs.Index.{is_one_of};
-ghost use Rattle.grants.specs.Work.{AllPassed, AreDue, AreEnds, ArePassed, IsStillBorne, IsNextCandidate, IsNextNamed, bears, kind_holder_cmp, kind_holder, same_kind_holder, slots_of, staying};
-ghost use Rattle.grants.specs.declared.cascade.KindHolder.{KindHolder};
+ghost use Rattle.grants.specs.Work.{AllPassed, AreDue, AreEnds, ArePassed, IsStillBorne, IsNextCandidate, IsNextNamed, bears, kind_holder_cmp, kind_holder_key, same_kind_holder, slots_of, staying};
+ghost use Rattle.grants.specs.declared.cascade.KindHolderKey.{KindHolderKey};
 ghost use Rattle.grants_base.specs.View.{ShowsDeeds, slot_at};
 
 use crate::ended::Ended;
-use grants_base::{Records, SlotSet, kind_code};
-use model_base::{Grant, Grantee, Kind, Place, Revocation, User};
+use grants_base::{Records, SlotSet};
+use model_base::{Grant, Grantee, Kind, RecordName, Revocation, User};
 use std::alloc::{AllocError, Global};
 use std::collections::BTreeMap;
+
+/// A user who has the option of a kind, or had it.
+#[derive(Clone, Copy, PartialEq, Eq, Debug)]
+struct KindHolder {
+    user: User,
+    kind: Kind,
+}
+
+/// The user of a holder, with the code of its kind.
+#[derive(Clone, Copy, PartialEq, Eq, PartialOrd, Ord)]
+pub(crate) struct KindHolderKey {
+    user: User,
+    kind: u8,
+}
+
+impl KindHolder {
+    /// What is looked up for it.
+    fn key(&self) -> KindHolderKey
+        ensures { result ≡ kind_holder_key self.now.user self.now.kind }
+    {
+        KindHolderKey {
+            user: self.user,
+            kind: self.kind.code(),
+        }
+    }
+}
 
 /// The grant of the slot, if it is in force and the revocation speaks of its kind and table.
 fn concerned<V: Records>(view: &mut V, i: usize, revocation: &Revocation) -> Option<Grant>
@@ -33,20 +59,14 @@ fn concerned<V: Records>(view: &mut V, i: usize, revocation: &Revocation) -> Opt
     }
 }
 
-/// Whether the slot has a grant in force, which the revocation speaks of, that gives the user the option of the kind.
-fn bears<V: Records>(
-    view: &mut V,
-    i: usize,
-    revocation: &Revocation,
-    user: User,
-    kind: Kind,
-) -> bool
+/// Whether the slot has a grant in force, which the revocation speaks of, that gives the holder the option of its kind.
+fn bears<V: Records>(view: &mut V, i: usize, revocation: &Revocation, holder: &KindHolder) -> bool
     requires within { i < length (V.shown view.old).slots }
-    ensures value { result ≡ bears revocation.now user kind (slot_at (V.shown view.old) i) }
+    ensures value { result ≡ bears revocation.now holder.now.user holder.now.kind (slot_at (V.shown view.old) i) }
     ensures same { V.shown view.new ≡ V.shown view.old }
 {
     match concerned(view, i, revocation) {
-        Some(grant) => kind == grant.kind && grant.lends_to(user),
+        Some(grant) => holder.kind == grant.kind && grant.lends_to(holder.user),
         None => false,
     }
 }
@@ -57,15 +77,14 @@ fn stands<V: Records>(
     i: usize,
     revocation: &Revocation,
     ended: &Ended,
-    user: User,
-    kind: Kind,
+    holder: &KindHolder,
 ) -> bool
     requires within { i < length (V.shown view.old).slots }
-    ensures value { result ≡ (bears revocation.now user kind (slot_at (V.shown view.old) i)
+    ensures value { result ≡ (bears revocation.now holder.now.user holder.now.kind (slot_at (V.shown view.old) i)
         && not (is_one_of (slots_of ended.now.ends) i)) }
     ensures same { V.shown view.new ≡ V.shown view.old }
 {
-    !ended.contains(i) && bears(view, i, revocation, user, kind)
+    !ended.contains(i) && bears(view, i, revocation, holder)
 }
 
 /// A slot at or above another such that no slot from that one on and before it has a grant in force, of the kind on the revocation's
@@ -107,30 +126,30 @@ fn next_named<V: Records>(
     }
 }
 
-/// The first slot below another that gives the user the option of the kind and hasn't ended, where none below `start` does. It is not
+/// The first slot below another that gives the holder the option of its kind and hasn't ended, where none below `start` does. It is not
 /// below the other where there is none.
 #[inline(always)]
 fn first_bearer<V: Records>(
     view: &mut V,
     revocation: &Revocation,
     ended: &Ended,
-    user: User,
-    kind: Kind,
+    holder: &KindHolder,
     start: usize,
     below: usize,
 ) -> usize
     requires within { below ≤ length (V.shown view.old).slots }
-    requires passed { ArePassed revocation.now (V.shown view.old) (slots_of ended.now.ends) user kind start }
-    ensures passed { ArePassed revocation.now (V.shown view.old) (slots_of ended.now.ends) user kind result }
-    ensures found { result < below → (bears revocation.now user kind (slot_at (V.shown view.old) result)
+    requires passed { ArePassed revocation.now (V.shown view.old) (slots_of ended.now.ends) holder.now.user holder.now.kind start }
+    ensures passed { ArePassed revocation.now (V.shown view.old) (slots_of ended.now.ends) holder.now.user holder.now.kind result }
+    ensures found { result < below → (bears revocation.now holder.now.user holder.now.kind (slot_at (V.shown view.old) result)
         && not (is_one_of (slots_of ended.now.ends) result)) ≡ true }
     ensures same { V.shown view.new ≡ V.shown view.old }
 {
+    let grantee = Grantee::User(holder.user);
     let mut from = start;
     while from < below {
-        match next_candidate(view, revocation, &Grantee::User(user), kind, from) {
+        match next_candidate(view, revocation, &grantee, holder.kind, from) {
             Some(i) if i < below => {
-                if stands(view, i, revocation, ended, user, kind) {
+                if stands(view, i, revocation, ended, holder) {
                     return i;
                 }
                 from = i + 1;
@@ -141,99 +160,85 @@ fn first_bearer<V: Records>(
     from
 }
 
-/// A user, with the code of a kind.
-#[derive(Clone, Copy, PartialEq, Eq, PartialOrd, Ord)]
-pub(crate) struct KindHolder {
-    user: User,
-    kind: u8,
-}
-
-/// The user with the kind.
-fn kind_holder(user: User, kind: Kind) -> KindHolder
-    ensures { result ≡ kind_holder user kind }
+/// The slot below which no grant gives the holder the option of its kind any more, as far as it was looked at.
+fn passed_by(asked: &BTreeMap<KindHolderKey, usize>, holder: &KindHolder) -> usize
+    ensures { result ≡ unwrap_or (get kind_holder_cmp asked.now (kind_holder_key holder.now.user holder.now.kind)) 0 }
 {
-    KindHolder {
-        user,
-        kind: kind_code(kind),
-    }
+    asked.get(&holder.key()).copied().unwrap_or(0)
 }
 
-/// The slot below which no grant gives the user the option of the kind any more, as far as it was looked at.
-fn passed_by(asked: &BTreeMap<KindHolder, usize>, user: User, kind: Kind) -> usize
-    ensures { result ≡ unwrap_or (get kind_holder_cmp asked.now (kind_holder user kind)) 0 }
-{
-    asked.get(&kind_holder(user, kind)).copied().unwrap_or(0)
-}
-
-/// Keeps that slot, if the user with the kind is one of those that are asked about.
-fn pass(asked: &mut BTreeMap<KindHolder, usize>, user: User, kind: Kind, slot: usize)
-    ensures { (other : KindHolder) → get kind_holder_cmp asked.new other
-        ≡ (if same_kind_holder (kind_holder user kind) other && is_some (get kind_holder_cmp asked.old (kind_holder user kind))
+/// Keeps that slot, if the holder is one of those that are asked about.
+fn pass(asked: &mut BTreeMap<KindHolderKey, usize>, holder: &KindHolder, slot: usize)
+    ensures { (other : KindHolderKey) → get kind_holder_cmp asked.new other
+        ≡ (if same_kind_holder (kind_holder_key holder.now.user holder.now.kind) other
+        && is_some (get kind_holder_cmp asked.old (kind_holder_key holder.now.user holder.now.kind))
         then Some slot
         else get kind_holder_cmp asked.old other) }
 {
-    if let Some(passed) = asked.get_mut(&kind_holder(user, kind)) {
+    if let Some(passed) = asked.get_mut(&holder.key()) {
         *passed = slot;
     }
 }
 
-/// Whether the user keeps the option of the kind by a slot below this one that hasn't ended. For a user who lost it, it goes on where
+/// Whether the holder keeps the option of its kind by a slot below this one that hasn't ended. For one who lost it, it goes on where
 /// it stopped when it was asked last.
 fn keeps<V: Records>(
     view: &mut V,
     revocation: &Revocation,
     ended: &Ended,
-    asked: &mut BTreeMap<KindHolder, usize>,
-    user: User,
-    kind: Kind,
+    asked: &mut BTreeMap<KindHolderKey, usize>,
+    holder: &KindHolder,
     below: usize,
 ) -> bool
     requires within { below ≤ length (V.shown view.old).slots }
     requires passed { AllPassed revocation.now (V.shown view.old) (slots_of ended.now.ends) asked.old }
-    ensures value { result ≡ keeps (staying revocation.now (V.shown view.old) (slots_of ended.now.ends) below) user kind }
+    ensures value { result ≡ keeps (staying revocation.now (V.shown view.old) (slots_of ended.now.ends) below)
+        holder.now.user holder.now.kind }
     ensures passed { AllPassed revocation.now (V.shown view.old) (slots_of ended.now.ends) asked.new }
     ensures same { V.shown view.new ≡ V.shown view.old }
 {
-    let start = passed_by(asked, user, kind);
+    let start = passed_by(asked, holder);
     if below <= start {
         return false;
     }
-    let first = first_bearer(view, revocation, ended, user, kind, start, below);
-    pass(asked, user, kind, first);
+    let first = first_bearer(view, revocation, ended, holder, start, below);
+    pass(asked, holder, first);
     first < below
 }
 
-/// Whether the slot's grant outlasts the revocation, of which these slots below it have ended.
+/// A grant that is to be judged, with its slot.
+#[derive(Clone, Copy, PartialEq, Eq, Debug)]
+struct DueGrant {
+    slot: usize,
+    grant: Grant,
+}
+
+/// Whether the grant outlasts the revocation, of which these slots below its own have ended.
 #[tactic(auto, unfolding(crate::specs::Pass::outlasts))]
 fn stays<V: Records>(
     view: &mut V,
     owner: User,
     revocation: &Revocation,
     ended: &Ended,
-    asked: &mut BTreeMap<KindHolder, usize>,
-    grant: &Grant,
-    slot: usize,
+    asked: &mut BTreeMap<KindHolderKey, usize>,
+    due: &DueGrant,
 ) -> bool
-    requires within { slot ≤ length (V.shown view.old).slots }
+    requires within { due.now.slot ≤ length (V.shown view.old).slots }
     requires passed { AllPassed revocation.now (V.shown view.old) (slots_of ended.now.ends) asked.old }
     ensures value { result ≡ outlasts owner
-        (staying revocation.now (V.shown view.old) (slots_of ended.now.ends) slot) revocation.now grant.now }
+        (staying revocation.now (V.shown view.old) (slots_of ended.now.ends) due.now.slot) revocation.now due.now.grant }
     ensures passed { AllPassed revocation.now (V.shown view.old) (slots_of ended.now.ends) asked.new }
     ensures same { V.shown view.new ≡ V.shown view.old }
 {
+    let grant = &due.grant;
     if revocation.names(grant) {
         return false;
     }
-    owner == grant.grantor
-        || keeps(
-            view,
-            revocation,
-            ended,
-            asked,
-            grant.grantor,
-            grant.kind,
-            slot,
-        )
+    let grantor = KindHolder {
+        user: grant.grantor,
+        kind: grant.kind,
+    };
+    owner == grant.grantor || keeps(view, revocation, ended, asked, &grantor, due.slot)
 }
 
 /// Whether the slot has a grant in force that the revocation names.
@@ -316,26 +321,25 @@ fn named<V: Records>(
     ensures same { V.shown view.new ≡ V.shown view.old }
 {
     let mut due = SlotSet::new(alloc);
-    let grantees = revocation.grantees.as_slice();
-    for grantee in grantees {
-        add_named_to(view, revocation, grantee, &mut due)?;
+    for index in 0..revocation.grantees.len() {
+        let grantee = revocation.grantees.at(index);
+        add_named_to(view, revocation, &grantee, &mut due)?;
     }
     Ok(due)
 }
 
-/// Adds the slots from one on to the last one whose grants are by the user, of the kind on the revocation's table.
+/// Adds the slots from one on to the last one whose grants are by the holder, of its kind on the revocation's table.
 fn add_grants_by<V: Records>(
     view: &mut V,
-    user: User,
-    kind: Kind,
     revocation: &Revocation,
+    holder: &KindHolder,
     start: usize,
     last: usize,
     due: &mut SlotSet,
 ) -> Result<(), AllocError>
     ensures found { OnOk result ((j : ℕ) (grant : Grant) → start ≤ j → j ≤ last
-        → concerned (slot_at (V.shown view.old) j) revocation.now ≡ Some grant → grant.grantor ≡ user → grant.kind ≡ kind
-        → is_one_of due.new j ≡ true) }
+        → concerned (slot_at (V.shown view.old) j) revocation.now ≡ Some grant
+        → grant.grantor ≡ holder.now.user → grant.kind ≡ holder.now.kind → is_one_of due.new j ≡ true) }
     ensures kept { OnOk result ((j : ℕ) → is_one_of due.old j ≡ true → is_one_of due.new j ≡ true) }
     ensures within { OnOk result ((j : ℕ) → is_one_of due.new j ≡ true
         → (is_one_of due.old j ≡ true) ⊎ ((start ≤ j) × (j < length (V.shown view.old).slots))) }
@@ -344,7 +348,7 @@ fn add_grants_by<V: Records>(
     let end = view.slots();
     let mut from = start;
     while from < end {
-        match view.next_by(user, kind, revocation.table, from) {
+        match view.next_by(holder.user, holder.kind, revocation.table, from) {
             Some(i) if i <= last => {
                 due.insert(i)?;
                 from = i + 1;
@@ -355,44 +359,42 @@ fn add_grants_by<V: Records>(
     Ok(())
 }
 
-/// The user lost the option of the kind: the slots from this one on whose grants are by the user, of the kind on the revocation's
-/// table, are due, up to the first slot that still gives the user the option. What lies above that one isn't looked at: it stays,
-/// unless that one ends too.
-fn lose<V: Records>(
-    view: &mut V,
-    user: User,
-    kind: Kind,
-    revocation: &Revocation,
-    ended: &Ended,
-    start: usize,
-    due: &mut SlotSet,
-    asked: &mut BTreeMap<KindHolder, usize>,
-) -> Result<(), AllocError>
-    requires { AllPassed revocation.now (V.shown view.old) (slots_of ended.now.ends) asked.old }
-    ensures found { OnOk result ((j : ℕ) (grant : Grant) → start ≤ j → concerned (slot_at (V.shown view.old) j) revocation.now ≡ Some grant
-        → grant.grantor ≡ user → grant.kind ≡ kind
-        → (is_one_of due.new j ≡ true) ⊎ IsStillBorne revocation.now (V.shown view.old) (slots_of ended.now.ends) user kind j) }
-    ensures kept { OnOk result ((j : ℕ) → is_one_of due.old j ≡ true → is_one_of due.new j ≡ true) }
-    ensures within { OnOk result ((j : ℕ) → is_one_of due.new j ≡ true
-        → (is_one_of due.old j ≡ true) ⊎ ((start ≤ j) × (j < length (V.shown view.old).slots))) }
-    ensures passed { OnOk result (AllPassed revocation.now (V.shown view.old) (slots_of ended.now.ends) asked.new) }
-    ensures same { V.shown view.new ≡ V.shown view.old }
-{
-    let end = view.slots();
-    let passed = passed_by(asked, user, kind);
-    let first = first_bearer(view, revocation, ended, user, kind, passed, end);
-    asked.insert(kind_holder(user, kind), first)?;
-    add_grants_by(view, user, kind, revocation, start, first, due)?;
-    Ok(())
-}
-
 /// The slots that are still to be judged; the users who lost an option, each with its kind and the slot below which none gives it any
 /// more, as far as it was looked at; and the slots that have ended.
 #[derive(Drop)]
 struct CascadeWork {
     due: SlotSet,
-    asked: BTreeMap<KindHolder, usize>,
+    asked: BTreeMap<KindHolderKey, usize>,
     ended: Ended,
+}
+
+/// The holder lost the option of its kind: the slots from this one on whose grants are by it, of its kind on the revocation's table, are
+/// due, up to the first slot that still gives it the option. What lies above that one isn't looked at: it stays, unless that one ends too.
+fn lose<V: Records>(
+    view: &mut V,
+    revocation: &Revocation,
+    holder: &KindHolder,
+    start: usize,
+    work: &mut CascadeWork,
+) -> Result<(), AllocError>
+    requires { AllPassed revocation.now (V.shown view.old) (slots_of work.old.ended.ends) work.old.asked }
+    ensures found { OnOk result ((j : ℕ) (grant : Grant) → start ≤ j → concerned (slot_at (V.shown view.old) j) revocation.now ≡ Some grant
+        → grant.grantor ≡ holder.now.user → grant.kind ≡ holder.now.kind
+        → (is_one_of work.new.due j ≡ true)
+        ⊎ IsStillBorne revocation.now (V.shown view.old) (slots_of work.old.ended.ends) holder.now.user holder.now.kind j) }
+    ensures kept { OnOk result ((j : ℕ) → is_one_of work.old.due j ≡ true → is_one_of work.new.due j ≡ true) }
+    ensures within { OnOk result ((j : ℕ) → is_one_of work.new.due j ≡ true
+        → (is_one_of work.old.due j ≡ true) ⊎ ((start ≤ j) × (j < length (V.shown view.old).slots))) }
+    ensures passed { OnOk result (AllPassed revocation.now (V.shown view.old) (slots_of work.old.ended.ends) work.new.asked) }
+    ensures ended { work.new.ended ≡ work.old.ended }
+    ensures same { V.shown view.new ≡ V.shown view.old }
+{
+    let end = view.slots();
+    let passed = passed_by(&work.asked, holder);
+    let first = first_bearer(view, revocation, &work.ended, holder, passed, end);
+    work.asked.insert(holder.key(), first)?;
+    add_grants_by(view, revocation, holder, start, first, &mut work.due)?;
+    Ok(())
 }
 
 /// One slot that is due: either its grant ends, or its grantee keeps what it gives. With a grant that ends, the later
@@ -410,51 +412,36 @@ fn judge<V: Records>(
     requires due { AreDue revocation.now (V.shown view.old) work.old.due (slots_of work.old.ended.ends) next }
     requires passed { AllPassed revocation.now (V.shown view.old) (slots_of work.old.ended.ends) work.old.asked }
     requires behind { (e : ℕ) → is_one_of (slots_of work.old.ended.ends) e ≡ true → e < slot }
-    requires ends { AreEnds revocation.now (V.shown view.old) work.old.ended.ends work.old.ended.places }
+    requires ends { AreEnds revocation.now (V.shown view.old) work.old.ended.ends work.old.ended.ranks }
     ensures due { OnOk result (AreDue revocation.now (V.shown view.old) work.new.due (slots_of work.new.ended.ends) next) }
     ensures passed { OnOk result (AllPassed revocation.now (V.shown view.old) (slots_of work.new.ended.ends) work.new.asked) }
-    ensures whole { OnOk result (work.new.ended.places
+    ensures whole { OnOk result (work.new.ended.ranks
         ++ cascade owner revocation.now
         (staying revocation.now (V.shown view.old) (slots_of work.new.ended.ends) next)
         (concerned_grants revocation.now (drop next (V.shown view.old).slots))
-        ≡ work.old.ended.places
+        ≡ work.old.ended.ranks
         ++ cascade owner revocation.now
         (staying revocation.now (V.shown view.old) (slots_of work.old.ended.ends) slot)
         (concerned_grants revocation.now (drop slot (V.shown view.old).slots))) }
-    ensures ends { OnOk result (AreEnds revocation.now (V.shown view.old) work.new.ended.ends work.new.ended.places) }
+    ensures ends { OnOk result (AreEnds revocation.now (V.shown view.old) work.new.ended.ends work.new.ended.ranks) }
     ensures same { V.shown view.new ≡ V.shown view.old }
 {
     let Some(grant) = concerned(view, slot, revocation) else {
         return Ok(());
     };
-    if stays(
-        view,
-        owner,
-        revocation,
-        &work.ended,
-        &mut work.asked,
-        &grant,
-        slot,
-    ) {
+    let due = DueGrant { slot, grant };
+    if stays(view, owner, revocation, &work.ended, &mut work.asked, &due) {
         return Ok(());
     }
-    work.ended.push(slot, revocation.place, grant.place)?;
-    if let Some(user) = grant.option_holder() {
-        lose(
-            view,
-            user,
-            grant.kind,
-            revocation,
-            &work.ended,
-            next,
-            &mut work.due,
-            &mut work.asked,
-        )?;
+    work.ended.push(slot, revocation.place, due.grant.name())?;
+    if let Some(user) = due.grant.option_holder() {
+        let kind = due.grant.kind;
+        lose(view, revocation, &KindHolder { user, kind }, next, work)?;
     }
     Ok(())
 }
 
-/// What the revocation takes out of force: the ends of these grants, and their places, in rising order.
+/// What the revocation takes out of force: the ends of these grants, and the names of their records, in order.
 pub(crate) fn cascade<V: Records>(
     alloc: Global,
     view: &mut V,
@@ -463,8 +450,8 @@ pub(crate) fn cascade<V: Records>(
     requires covered { IsSome ((V.shown view.old).owner revocation.now.table) }
     requires now { revocation.now.place ≡ (V.shown view.old).place }
     ensures ended { IfOk result (λ ended. (owners : List ℕ) (deeds : List Deed) → ShowsDeeds (V.shown view.old) owners deeds
-        → ended.places ≡ ended_by owners deeds revocation.now) }
-    ensures ends { IfOk result (λ ended. AreEnds revocation.now (V.shown view.old) ended.ends ended.places) }
+        → ended.ranks ≡ ended_by owners deeds revocation.now) }
+    ensures ends { IfOk result (λ ended. AreEnds revocation.now (V.shown view.old) ended.ends ended.ranks) }
     ensures same { V.shown view.new ≡ V.shown view.old }
 {
     let owner = view.owner(revocation.table);
@@ -484,7 +471,7 @@ pub(crate) fn cascade<V: Records>(
     Ok(work.ended)
 }
 
-/// The places of the grants that the revocation takes out of force, in rising order: what the deeds of the view's place
+/// The names of the records of the grants that the revocation takes out of force, in order: of those that the deeds of the view's place
 /// give, and without the revoked grants no longer do. It is the recursive revocation of Griffiths and Wade: a grant in force
 /// of one of its kinds on its table ends if the revocation names it, or if its grantor isn't the owner and has the option of its kind
 /// by no earlier grant that stays. So a cycle of grants doesn't bear itself, and a grant that an earlier way bears stays. Of each of
@@ -497,7 +484,7 @@ pub fn to_end<V: Records>(
     alloc: Global,
     view: &mut V,
     revocation: &Revocation,
-) -> Result<Vec<Place>, AllocError>
+) -> Result<Vec<RecordName>, AllocError>
     requires covered { IsSome ((V.shown view.old).owner revocation.now.table) }
     requires now { revocation.now.place ≡ (V.shown view.old).place }
     ensures ended { IfOk result (λ ends. (owners : List ℕ) (deeds : List Deed) → ShowsDeeds (V.shown view.old) owners deeds
@@ -505,5 +492,5 @@ pub fn to_end<V: Records>(
     ensures same { V.shown view.new ≡ V.shown view.old }
 {
     let ended = cascade(alloc, view, revocation)?;
-    Ok(ended.into_places())
+    Ok(ended.into_names())
 }

@@ -8,7 +8,7 @@ ghost use Rattle.grants.specs.Work.{slots_of};
 ghost use Rattle.grants_base.specs.declared.entries.End.{End};
 
 use grants_base::End;
-use model_base::Place;
+use model_base::{Place, RecordName};
 use std::alloc::{AllocError, Global};
 use std::marker::Model;
 
@@ -34,11 +34,11 @@ fn has_end(ends: &[End], slot: usize) -> bool
     is_of(ends, i, slot)
 }
 
-/// The ends of some slots, which rise, and the places of their grants.
+/// The ends of some slots, which rise, and the names of the records of their grants.
 #[derive(Drop)]
 pub(crate) struct Ended {
     ends: Vec<End>,
-    places: Vec<Place>,
+    names: Vec<RecordName>,
 }
 
 impl Model for Ended {
@@ -47,7 +47,7 @@ impl Model for Ended {
 
     ghost Value = { Ends };
 
-    ghost view = { λ ended. record { ends = ended.ends.items; places = ended.places.items } };
+    ghost view = { λ ended. record { ends = ended.ends.items; ranks = ended.names.items } };
 
     ghost invariant = { λ ended. AreAscending (slots_of ended.ends.items) };
 }
@@ -56,21 +56,21 @@ impl Ended {
     /// No ends, and room for some. On `Err`, out of memory.
     pub fn with_room(alloc: Global) -> Result<Self, AllocError>
         ensures ends { IfOk result (λ ended. ended.ends ≡ []) }
-        ensures places { IfOk result (λ ended. ended.places ≡ []) }
+        ensures ranks { IfOk result (λ ended. ended.ranks ≡ []) }
     {
         Ok(Ended {
             ends: Vec::with_capacity(alloc, ROOM)?,
-            places: Vec::with_capacity(alloc, ROOM)?,
+            names: Vec::with_capacity(alloc, ROOM)?,
         })
     }
 
-    /// Adds the end of a slot above the others at a place, and the place where its grant was made. On `Err`, out of memory.
-    pub fn push(&mut self, slot: usize, place: Place, made: Place) -> Result<(), AllocError>
+    /// Adds the end of a slot above the others at a place, and the name of its record. On `Err`, out of memory.
+    pub fn push(&mut self, slot: usize, place: Place, name: RecordName) -> Result<(), AllocError>
         requires { (other : ℕ) → is_one_of (slots_of self.old.ends) other ≡ true → other < slot }
         ensures ends { OnOk result (self.new.ends ≡ self.old.ends ++ record { slot = slot; place = place } ∷ []) }
-        ensures places { OnOk result (self.new.places ≡ self.old.places ++ made ∷ []) }
+        ensures ranks { OnOk result (self.new.ranks ≡ self.old.ranks ++ name ∷ []) }
     {
-        self.places.push(made)?;
+        self.names.push(name)?;
         self.ends.push(End { slot, place })?;
         Ok(())
     }
@@ -89,10 +89,10 @@ impl Ended {
         &self.ends
     }
 
-    /// The places of the grants.
-    pub fn into_places(self) -> Vec<Place>
-        ensures { result.items ≡ self.places }
+    /// The names of the records.
+    pub fn into_names(self) -> Vec<RecordName>
+        ensures { result.items ≡ self.ranks }
     {
-        self.places
+        self.names
     }
 }

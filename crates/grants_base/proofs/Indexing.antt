@@ -15,7 +15,7 @@ use Rattle.grants_base.specs.declared.endings.Ending.{Ending}
 use Rattle.grants_base.specs.Book.{end_slot, end_slots, unended}
 use Rattle.grants_base.specs.Index.{IsFirst}
 use Rattle.grants_base.specs.Marks.{HasEnds, has_ending}
-use Rattle.grants_base.specs.Sides.{kind_code}
+use Rattle.model_base.specs.Ranks.{kind_code}
 
 pub code-same : (a b : Kind) → (kind_code a == kind_code b) ≡ same_kind b a
 code-same Read Read = refl

@@ -7,8 +7,10 @@ use Rattle.std.proofs.lemmas.Bool.{true≢false, and_parts, cases_lt, lt-ltb, le
 use Rattle.std.proofs.lemmas.Option.{get_or_from_slice_get, slice_get_within}
 use Rattle.model_base.specs.declared.deed.Grant.{Grant}
 use Rattle.model_base.specs.declared.deed.Record.{Record}
+use Rattle.model_base.specs.Ranks.{rank}
 use Rattle.model_base.specs.Laws.{IsRising}
 use Rattle.model_base.specs.Records.{end_below, ended_at, recorded}
+use Rattle.model_base.proofs.Ranked.{rank-places}
 use Rattle.model_base.proofs.Replay.{by_cases}
 use Rattle.grants_base.specs.Book.{AreRising, end_slot, reopen_slot, reopened}
 use Rattle.grants_base.specs.declared.entries.Creation.{Creation}
@@ -48,27 +50,28 @@ recorded_get [] k d = refl
 recorded_get (x ∷ xs) zero d = refl
 recorded_get (x ∷ xs) (suc k) d = recorded_get xs k d
 
--- and those of records
+-- those of records may repeat, and don't fall
 pub records_rise : (entries : List Record) → IsRising (recorded entries) → IsNonDecreasingBy (λ (entry : Record). entry.grant.place) entries
 records_rise [] rising zero j d le less = absurd (omega arith)
 records_rise [] rising (suc i) j d le less = absurd (omega arith)
 records_rise (x ∷ xs) rising zero zero d le less = omega arith
 records_rise (x ∷ xs) rising zero (suc j) d le less =
-    let above = rising.0 j d.grant (omega (arith, length-recorded xs)) in
+    let above = rank-places x.grant (get_or (recorded xs) j d.grant) (rising.0 j d.grant (omega (arith, length-recorded xs))) in
     let here : (get_or (recorded xs) j d.grant).place ≡ (get_or xs j d).grant.place = ap (λ (g : Grant). g.place) (recorded_get xs j d) in
     omega arith
 records_rise (x ∷ xs) rising (suc i) zero d le less = absurd (omega arith)
 records_rise (x ∷ xs) rising (suc i) (suc j) d le less = records_rise xs rising.1 i j d (omega arith) (omega arith)
 
-pub rise_at : (entries : List Record) → IsRising (recorded entries) → (i j : ℕ) (a b : Record) → slice_get entries i ≡ Some a → slice_get entries j ≡ Some b → i < j → a.grant.place < b.grant.place
+-- the ranks of records rise
+pub rise_at : (entries : List Record) → IsRising (recorded entries) → (i j : ℕ) (a b : Record) → slice_get entries i ≡ Some a → slice_get entries j ≡ Some b → i < j → rank a.grant < rank b.grant
 rise_at [] rising i j a b at_i at_j less = absurd (cc)
 rise_at (x ∷ xs) rising i zero a b at_i at_j less = absurd (omega arith)
 rise_at (x ∷ xs) rising zero (suc j) a b at_i at_j less =
     let same : x ≡ a = cc in
     let above = rising.0 j b.grant (omega (arith, length-recorded xs, slice_get_within xs j b at_j)) in
-    let here : (get_or (recorded xs) j b.grant).place ≡ b.grant.place =
-    ap (λ (g : Grant). g.place) (recorded_get xs j b) ∙ ap (λ (e : Record). e.grant.place) (get_or_from_slice_get xs j b b at_j) in
-    let first : x.grant.place ≡ a.grant.place = ap (λ (e : Record). e.grant.place) same in
+    let here : rank (get_or (recorded xs) j b.grant) ≡ rank b.grant =
+    ap (λ (g : Grant). rank g) (recorded_get xs j b) ∙ ap (λ (e : Record). rank e.grant) (get_or_from_slice_get xs j b b at_j) in
+    let first : rank x.grant ≡ rank a.grant = ap (λ (e : Record). rank e.grant) same in
     omega arith
 rise_at (x ∷ xs) rising (suc i) (suc j) a b at_i at_j less = rise_at xs rising.1 i j a b at_i at_j (omega arith)
 
@@ -84,12 +87,12 @@ module _ (entries : List Record) (place slot : ℕ) (point : IsPartitionPoint (�
       let here = get_or_from_slice_get entries k entry entry at in
       less_false entry.grant.place place (subst (λ (e : Record). ltb e.grant.place place ≡ false) here (point.1 k entry low (slice_get_within entries k entry at)))
 
--- one place more among those that end
-module _ (place : ℕ) (before : List ℕ) (made : ℕ) where
+-- one rank more among those that end
+module _ (place : ℕ) (before : List ℕ) (ranked : ℕ) where
   abbrev now : List ℕ
-  now = before ++ made ∷ []
+  now = before ++ ranked ∷ []
 
-  listed-more : (p : ℕ) → list_any (λ q. q == p) now ≡ (list_any (λ q. q == p) before || (made == p))
+  listed-more : (p : ℕ) → list_any (λ q. q == p) now ≡ (list_any (λ q. q == p) before || (ranked == p))
   listed-more p = more before
     where
       or_none : (b : Bool) → (b || false) ≡ b
@@ -100,51 +103,51 @@ module _ (place : ℕ) (before : List ℕ) (made : ℕ) where
       or_later true b c = refl
       or_later false b c = refl
 
-      more : (ps : List ℕ) → list_any (λ q. q == p) (ps ++ made ∷ []) ≡ (list_any (λ q. q == p) ps || (made == p))
-      more [] = or_none (made == p)
-      more (q ∷ ps) = ap (λ b. (q == p) || b) (more ps) ∙ or_later (q == p) (list_any (λ q. q == p) ps) (made == p)
+      more : (ps : List ℕ) → list_any (λ q. q == p) (ps ++ ranked ∷ []) ≡ (list_any (λ q. q == p) ps || (ranked == p))
+      more [] = or_none (ranked == p)
+      more (q ∷ ps) = ap (λ b. (q == p) || b) (more ps) ∙ or_later (q == p) (list_any (λ q. q == p) ps) (ranked == p)
 
   or_not : (a b : Bool) → b ≡ false → (a || b) ≡ a
   or_not true b is = refl
   or_not false b is = is
 
-  -- a record that isn't of that place
-  ended-apart : (entry : Record) → (made == entry.grant.place) ≡ false → ended_at place now entry ≡ ended_at place before entry
+  -- a record that isn't of that rank
+  ended-apart : (entry : Record) → (ranked == rank entry.grant) ≡ false → ended_at place now entry ≡ ended_at place before entry
   ended-apart entry apart =
-      let same : list_any (λ q. q == entry.grant.place) now ≡ list_any (λ q. q == entry.grant.place) before =
-      listed-more entry.grant.place ∙ or_not (list_any (λ q. q == entry.grant.place) before) (made == entry.grant.place) apart in
+      let same : list_any (λ q. q == rank entry.grant) now ≡ list_any (λ q. q == rank entry.grant) before =
+      listed-more (rank entry.grant) ∙ or_not (list_any (λ q. q == rank entry.grant) before) (ranked == rank entry.grant) apart in
       rw same refl
 
   or_last : (a : Bool) → (a || true) ≡ true
   or_last true = refl
   or_last false = refl
 
-  -- the record of that place, without an end
-  ended-here : (entry : Record) → (is_none entry.end && (made == entry.grant.place)) ≡ true → ended_at place now entry ≡ record { grant = entry.grant; end = Some place }
+  -- the record of that rank, without an end
+  ended-here : (entry : Record) → (is_none entry.end && (ranked == rank entry.grant)) ≡ true → ended_at place now entry ≡ record { grant = entry.grant; end = Some place }
   ended-here entry is =
-      let parts = and_parts (is_none entry.end) (made == entry.grant.place) is in
-      let listed : list_any (λ q. q == entry.grant.place) now ≡ true =
-      listed-more entry.grant.place ∙ ap (λ b. list_any (λ q. q == entry.grant.place) before || b) parts.1 ∙ or_last (list_any (λ q. q == entry.grant.place) before) in
+      let parts = and_parts (is_none entry.end) (ranked == rank entry.grant) is in
+      let listed : list_any (λ q. q == rank entry.grant) now ≡ true =
+      listed-more (rank entry.grant) ∙ ap (λ b. list_any (λ q. q == rank entry.grant) before || b) parts.1 ∙ or_last (list_any (λ q. q == rank entry.grant) before) in
       rw (parts.0, listed) refl
 
   abbrev with_end : Grant → Record
   with_end g = record { grant = g; end = Some place }
 
-  ends_apart : (entries : List Record) → ((k : ℕ) (entry : Record) → slice_get entries k ≡ Some entry → (made == entry.grant.place) ≡ false)
+  ends_apart : (entries : List Record) → ((k : ℕ) (entry : Record) → slice_get entries k ≡ Some entry → (ranked == rank entry.grant) ≡ false)
       → map (ended_at place before) entries ≡ map (ended_at place now) entries
   ends_apart [] apart = refl
   ends_apart (x ∷ xs) apart =
       ap (λ (e : Record). e ∷ map (ended_at place before) xs) (sym (ended-apart x (apart 0 x refl)))
       ∙ ap (λ r. ended_at place now x ∷ r) (ends_apart xs (λ k entry at. apart (suc k) entry at))
 
-  -- a record of that place without an end, which no other is of, ends
-  pub ends_one : (entries : List Record) (slot : ℕ) (found : Record) → slice_get entries slot ≡ Some found → (is_none found.end && (made == found.grant.place)) ≡ true
-      → ((k : ℕ) (entry : Record) → slice_get entries k ≡ Some entry → k ≢ slot → (made == entry.grant.place) ≡ false)
+  -- a record of that rank without an end, which no other is of, ends
+  pub ends_one : (entries : List Record) (slot : ℕ) (found : Record) → slice_get entries slot ≡ Some found → (is_none found.end && (ranked == rank found.grant)) ≡ true
+      → ((k : ℕ) (entry : Record) → slice_get entries k ≡ Some entry → k ≢ slot → (ranked == rank entry.grant) ≡ false)
       → end_slot (map (ended_at place before) entries) slot place ≡ map (ended_at place now) entries
   ends_one [] slot found at is others = refl
   ends_one (x ∷ xs) zero found at is others =
       let same : found ≡ x = cc in
-      let here = ended-here x (subst (λ (e : Record). (is_none e.end && (made == e.grant.place)) ≡ true) same is) in
+      let here = ended-here x (subst (λ (e : Record). (is_none e.end && (ranked == rank e.grant)) ≡ true) same is) in
       let head : record { grant = (ended_at place before x).grant; end = Some place } ≡ ended_at place now x =
       ap (λ (g : Grant). with_end g) (same_grant place before x) ∙ sym here in
       ap (λ (e : Record). e ∷ map (ended_at place before) xs) head
@@ -226,7 +229,7 @@ take-reopened place zero entries = refl
 take-reopened place (suc n) [] = refl
 take-reopened place (suc n) (x ∷ xs) = ap (λ r. reopened place x ∷ r) (take-reopened place n xs)
 
--- where no places are given, nothing ends
+-- where no ranks are given, nothing ends
 pub ended_none : (place : ℕ) (entries : List Record) → entries ≡ map (ended_at place []) entries
 ended_none place [] = refl
 ended_none place (x ∷ xs) = ap (λ (e : Record). e ∷ xs) (by_cases (is_none x.end) (λ free. rw free refl) (λ over. rw over refl)) ∙ ap (λ r. ended_at place [] x ∷ r) (ended_none place xs)

@@ -8,6 +8,7 @@ use Rattle.model_base.specs.declared.deed.Record.{Record}
 use Rattle.model_base.specs.declared.deed.Revocation.{Revocation}
 use Rattle.model_base.specs.declared.deed.Deed.{Deed}
 use Rattle.model_base.specs.declared.deed.Deed.TheVariants.{Revoking}
+use Rattle.model_base.specs.Ranks.{rank}
 use Rattle.model_base.specs.Privileges.{ended_by, place_of}
 use Rattle.model_base.specs.Records.{cut, ended_at, recorded}
 use Rattle.model_base.proofs.Replay.{by_cases}
@@ -26,7 +27,7 @@ module _ (place : ℕ) (ended : List ℕ) where
   -- the grant of a record stays
   pub same_grant : (entry : Record) → (ended_at place ended entry).grant ≡ entry.grant
   same_grant entry =
-      by_cases (is_none entry.end && is_listed entry.grant.place ended) (λ falls. rw falls refl) (λ stays. rw stays refl)
+      by_cases (is_none entry.end && is_listed (rank entry.grant) ended) (λ falls. rw falls refl) (λ stays. rw stays refl)
 
   recorded-ended : (entries : List Record) → recorded (map (ended_at place ended) entries) ≡ recorded entries
   recorded-ended [] = refl
@@ -37,16 +38,16 @@ module _ (place : ℕ) (ended : List ℕ) where
   cut-ended low le [] = refl
   cut-ended low le (entry ∷ entries) =
       let rest = cut-ended low le entries in
-      by_cases (is_none entry.end && is_listed entry.grant.place ended)
+      by_cases (is_none entry.end && is_listed (rank entry.grant) ended)
       (λ falls.
-      let none = none_is entry.end (and_parts (is_none entry.end) (is_listed entry.grant.place ended) falls).0 in
+      let none = none_is entry.end (and_parts (is_none entry.end) (is_listed (rank entry.grant) ended) falls).0 in
       rw (falls, le-ltb place low le, none, rest) refl)
       (λ stays. rw (stays, rest) refl)
 
   ends_above : (entry : Record) → (entry.grant.place < place) × IfSome entry.end (λ end. entry.grant.place < end)
       → IfSome (ended_at place ended entry).end (λ end. (ended_at place ended entry).grant.place < end)
   ends_above entry both =
-      by_cases (is_none entry.end && is_listed entry.grant.place ended) (λ falls. rw falls both.0) (λ stays. rw stays both.1)
+      by_cases (is_none entry.end && is_listed (rank entry.grant) ended) (λ falls. rw falls both.0) (λ stays. rw stays both.1)
 
   authorised-ended : (owner : ℕ → Option ℕ) (before later : List Record) → All (λ (entry : Record). entry.grant.place < place) later
       → AreAuthorised owner before later → AreAuthorised owner (map (ended_at place ended) before) (map (ended_at place ended) later)
@@ -78,12 +79,12 @@ sound_revoke book place ended sound later = record {
   authorised = authorised-ended place ended (slice_get (owners_of book.tables)) [] book.records later.grants sound.authorised;
 }
 
--- places that are the same, in whatever order, end the same
+-- ranks that are the same, in whatever order, end the same
 ended-same : (place : ℕ) (first second : List ℕ) → ((q : ℕ) → is_one_of first q ≡ is_one_of second q) → (entries : List Record)
     → map (ended_at place first) entries ≡ map (ended_at place second) entries
 ended-same place first second same [] = refl
 ended-same place first second same (entry ∷ entries) =
-    rw (same entry.grant.place, ended-same place first second same entries) refl
+    rw (same (rank entry.grant), ended-same place first second same entries) refl
 
 pub shows_revoke : (book : Entries) (owners : List ℕ) (deeds : List Deed) (revocation : Revocation) → revocation.table < length book.tables
     → ShowsBook book owners deeds → All (λ deed. place_of deed < revocation.place) deeds

@@ -13,7 +13,8 @@ use Rattle.model_base.specs.Privileges.{same_grantee, same_kind}
 use Rattle.model_base.specs.Records.{recorded}
 use Rattle.model_base.proofs.Replay.{by_cases}
 use Rattle.grants_base.specs.Index.{is_about, is_one_of, IsFirst, IsNext, is_to, passes_at}
-use Rattle.grants_base.specs.Sides.{AreAscending, Indexes, IsPopped, IsPushed, by_side, holder_code, is_made_by, kind_code, same_side, side_of, slots_from, slots_under, to_side}
+use Rattle.grants_base.specs.Sides.{AreAscending, Indexes, IsPopped, IsPushed, by_side, holder_code, is_made_by, same_side, side_of, slots_from, slots_under, to_side}
+use Rattle.model_base.specs.Ranks.{kind_code}
 use Rattle.grants_base.specs.declared.index.Index.{Index}
 use Rattle.grants_base.specs.declared.index.HolderKey.{HolderKey}
 use Rattle.grants_base.proofs.Indexing.{code-same, first_as, other_order}

@@ -13,7 +13,7 @@ use Rattle.grants_base.specs.View.{View, AreAuthorised}
 use Rattle.grants_base.specs.declared.entries.Creation.{Creation}
 use Rattle.grants_base.specs.declared.entries.End.{End}
 
--- the tables in the order of their creation, and the grants with their ends in the order of their places
+-- the tables in the order of their creation, and the records of the grants with their ends, in order
 pub record Entries : Type 0 where
   pub tables : List Creation
   pub records : List Record
@@ -59,7 +59,7 @@ with_table book creation = record { tables = book.tables ++ creation ∷ []; rec
 abbrev pub with_grant : Entries → Grant → Entries
 with_grant book grant = record { tables = book.tables; records = book.records ++ unended grant ∷ [] }
 
--- the book with the grants of these places ended at a place
+-- the book with the grants of these ranks ended at a place
 abbrev pub with_ends : Entries → ℕ → List ℕ → Entries
 with_ends book place ended = record { tables = book.tables; records = map (ended_at place ended) book.records }
 

@@ -5,20 +5,13 @@ use Rattle.model_base.specs.declared.deed.Grant.{Grant}
 use Rattle.model_base.specs.declared.deed.Grantee.{Grantee}
 use Rattle.model_base.specs.declared.deed.Grantee.TheVariants.{Public, User}
 use Rattle.model_base.specs.declared.deed.Kind.{Kind}
-use Rattle.model_base.specs.declared.deed.Kind.TheVariants.{Read, Insert, Update, Delete}
 use Rattle.model_base.specs.declared.deed.Record.{Record}
 use Rattle.model_base.specs.Privileges.{same_grantee}
+use Rattle.model_base.specs.Ranks.{kind_code}
 use Rattle.model_base.specs.Records.{recorded}
 use Rattle.grants_base.specs.declared.index.Index.{Index}
 use Rattle.grants_base.specs.declared.index.HolderKey.{HolderKey}
 use Rattle.grants_base.specs.Index.{is_about}
-
--- the code of a kind
-abbrev pub kind_code : Kind → ℕ
-kind_code Read = 0
-kind_code Insert = 1
-kind_code Update = 2
-kind_code Delete = 3
 
 -- the code of a grantee, and so of a user: 0 for PUBLIC, else one more than the user's number
 abbrev pub holder_code : Grantee → ℕ

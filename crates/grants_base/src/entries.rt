@@ -1,4 +1,4 @@
-//! Tables and records in the order of their places.
+//! Tables and records in order.
 
 ghost use Rattle.std.specs.Prelude.{filter, nat_lt, vec_capacity, vec_len, ◌+◌, ◌≤◌, ◌≡◌, ◌<◌, ◌++◌, ℕ, All, Some, length, slice_get, take};
 ghost use Rattle.model_base.specs.declared.deed.Record.{Record};
@@ -78,7 +78,7 @@ pub fn tables_below(tables: &[Creation], place: Place) -> usize
     tables.partition_point(|creation| creation.place < place)
 }
 
-/// How many of the records, whose places rise, are of grants that were made below the place: this many come first. It takes a time that
+/// How many of the records, which are in order, are of grants that were made below the place: this many come first. It takes a time that
 /// grows with the logarithm of their number.
 pub fn records_below(records: &[Record], place: Place) -> usize
     requires { IsRising (recorded records.now) }

@@ -5,7 +5,8 @@ ghost use Rattle.std.proofs.Common.{rules};
 ghost use Rattle.std.specs.Cmp.Rules.{hashing};
 ghost use Rattle.std.specs.Hash as fed;
 ghost use Rattle.grants_base.specs.Index.{is_one_of, IsFirst};
-ghost use Rattle.grants_base.specs.Sides.{AreAscending, IsEmpty, IsPopped, IsPushed, IsSame, holder_code, kind_code, side_of, side_word, slots_under, to_side};
+ghost use Rattle.grants_base.specs.Sides.{AreAscending, IsEmpty, IsPopped, IsPushed, IsSame, holder_code, side_of, side_word, slots_under, to_side};
+ghost use Rattle.model_base.specs.Ranks.{kind_code};
 
 use model_base::{Grant, Grantee, HashSeed, Kind, Table};
 use std::alloc::{AllocError, Global};
@@ -42,18 +43,6 @@ impl Hash for HolderKey {
     }
 }
 
-/// The code of a kind: 0 for READ, 1 for INSERT, 2 for UPDATE, 3 for DELETE.
-pub fn kind_code(kind: Kind) -> u8
-    ensures { result ≡ kind_code kind }
-{
-    match kind {
-        Kind::Read => 0,
-        Kind::Insert => 1,
-        Kind::Update => 2,
-        Kind::Delete => 3,
-    }
-}
-
 /// The code of a grantee: 0 for PUBLIC, else one more than the user's number.
 pub fn holder_code(holder: Grantee) -> u64
     ensures { result ≡ holder_code holder }
@@ -71,7 +60,7 @@ pub(crate) fn side_of(holder: Grantee, kind: Kind, table: Table) -> HolderKey
     HolderKey {
         holder: holder_code(holder),
         table,
-        kind: kind_code(kind),
+        kind: kind.code(),
     }
 }
 

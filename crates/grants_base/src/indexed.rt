@@ -103,7 +103,7 @@ fn end_each(records: &mut [Record], in_force: &mut InForceIndex, ends: &[End])
     }
 }
 
-/// Whether the last of the records, whose places rise, is of a grant that was made below a place, or there is none.
+/// Whether the last of the records, which are in order, is of a grant that was made below a place, or there is none.
 fn made_below(records: &[Record], place: Place) -> bool
     requires { IsRising (recorded records.now) }
     ensures { result ≡ true → (slot : ℕ) (entry : Record) → slice_get records.now slot ≡ Some entry → entry.grant.place < place }
@@ -283,8 +283,8 @@ impl IndexedRecords {
             .next_by(&side_of(grantee, kind, table), user, from)
     }
 
-    /// Whether each grant, whose places rise, and each end lies below a place. It looks at the last of each alone. Where it says no,
-    /// some may not.
+    /// Whether each grant and each end of the records, which are in order, lies below a place. It looks at the last of each alone. Where it
+    /// says no, some may not.
     pub fn lie_below(&self, place: Place) -> bool
         requires { IsRising (recorded self.now) }
         ensures { result ≡ true → (slot : ℕ) (entry : Record) → slice_get self.now slot ≡ Some entry → lies_below place entry ≡ true }

@@ -6,7 +6,10 @@ ghost use Rattle.grants_base.specs.Book.{IsLater};
 use crate::fault::TrialFault;
 use crate::refusal::print_refused;
 use grants::{Book, Creation, End, Records, holds_option, to_end};
-use model_base::{Grant, Grantee, Grantees, Kind, Kinds, Place, Record, Revocation, Table, User};
+use model_base::{
+    Grant, Grantee, Grantees, Kind, Kinds, Place, Position, Record, RecordName, Revocation, Table,
+    User,
+};
 use std::alloc::{AllocError, Global};
 
 /// How many tables are created, by the first deeds.
@@ -76,8 +79,12 @@ fn give(book: &mut Book, grant: &Grant) -> Result<(), TrialFault> {
     Ok(book.grant(*grant)?)
 }
 
-/// The places that a revocation would end.
-fn ends(alloc: Global, book: &Book, revocation: &Revocation) -> Result<Vec<Place>, TrialFault> {
+/// The records that a revocation would end.
+fn ends(
+    alloc: Global,
+    book: &Book,
+    revocation: &Revocation,
+) -> Result<Vec<RecordName>, TrialFault> {
     let mut view = book.at(revocation.place);
     if !view.covers(revocation.table) {
         return Err(TrialFault::Call);
@@ -85,8 +92,12 @@ fn ends(alloc: Global, book: &Book, revocation: &Revocation) -> Result<Vec<Place
     Ok(to_end(alloc, &mut view, revocation)?)
 }
 
-/// Makes a revocation, and returns the places that end.
-fn take(alloc: Global, book: &mut Book, revocation: &Revocation) -> Result<Vec<Place>, TrialFault> {
+/// Makes a revocation, and returns the records that end.
+fn take(
+    alloc: Global,
+    book: &mut Book,
+    revocation: &Revocation,
+) -> Result<Vec<RecordName>, TrialFault> {
     let (place, table) = (revocation.place, revocation.table);
     if !book.is_later(place) || !has_table(book.tables(), table) {
         return Err(TrialFault::Call);
@@ -125,6 +136,7 @@ fn link(place: Place, user: u32, table: u32) -> Grant
         place,
         grantor: User(user),
         grantee: Grantee::User(User(user.saturating_add(1))),
+        position: Position::First,
         kind: Kind::Read,
         table: Table(table),
         option: true,
@@ -167,8 +179,8 @@ impl Deed {
         }
     }
 
-    /// Makes it in a book. A revocation returns the places that end, and the others return none.
-    fn make(&self, alloc: Global, book: &mut Book) -> Result<Vec<Place>, TrialFault> {
+    /// Makes it in a book. A revocation returns the records that end, and the others return none.
+    fn make(&self, alloc: Global, book: &mut Book) -> Result<Vec<RecordName>, TrialFault> {
         match self {
             Deed::Table(place) => enter(book, *place)?,
             Deed::Grant(grant) => give(book, grant)?,

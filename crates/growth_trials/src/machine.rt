@@ -10,8 +10,7 @@ use crate::ranges::{Before, batch_of, log_of, nothing, open_batch};
 use crate::refusal::{print_begun, print_refused};
 use bohm_core::{Machine, State};
 use bohm_core_base::Event;
-use filling::{CompletedBatch, Finished, finish};
-use log_batch::{LogBatch, LogKey, ended_slots};
+use filling::{CompletedBatch, Finished, RangeKey, finish};
 use log_machine::OfLog;
 use sequencer::LogTail;
 use std::alloc::{AllocError, Global};
@@ -182,8 +181,8 @@ fn try_machines(
 fn words_of<'a>(
     rt: &impl Print,
     alloc: Global,
-    key: &LogKey<'a>,
-) -> Result<(BatchWords<LogKey<'a>>, Pass), TrialFault>
+    key: &RangeKey<'a>,
+) -> Result<(BatchWords<RangeKey<'a>>, Pass), TrialFault>
     requires { key.now.batch.placed ≡ true }
     ensures { IfOk result (λ made. (made.0.key ≡ key.now) × (made.1 ≡ first_pass made.0)) }
 {
@@ -196,20 +195,11 @@ fn words_of<'a>(
     }
 }
 
-/// The key of a batch that has a place.
-fn key_of<'a>(alloc: Global, batch: LogBatch<'a>) -> Result<LogKey<'a>, AllocError>
-    requires { 0 < batch.size }
-    ensures { IfOk result (λ key. key.batch ≡ batch.entry) }
-{
-    let slots = ended_slots(alloc, &batch)?;
-    Ok(LogKey::new(batch, slots))
-}
-
 /// Finishes a batch after words of which nothing is stored.
 fn finish_unstored<'a>(
     rt: &impl Print,
     alloc: Global,
-    key: LogKey<'a>,
+    key: RangeKey<'a>,
 ) -> Result<Result<Finished<'a>, AllocError>, TrialFault>
     requires { key.batch.placed ≡ true }
     ensures { IfOk result (λ found. IfOk found (λ done. done.size ≡ key.entry.batch.size)) }
@@ -232,7 +222,7 @@ fn finish_log<'a>(
     ensures { IfOk result (λ found. IfOk found (λ done. done.size ≡ length log.now.log.statements)) }
 {
     let batch = batch_of(rt, alloc, log, before, 1)?;
-    let key = key_of(alloc, batch)?;
+    let key = RangeKey::of(alloc, batch)?;
     finish_unstored(rt, alloc, key)
 }
 

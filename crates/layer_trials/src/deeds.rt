@@ -2,7 +2,9 @@
 
 use crate::fault::TrialFault;
 use grants::{Book, Records, holds_option};
-use model_base::{Grant, Grantee, Grantees, Kind, Kinds, Place, Revocation, Table, User};
+use model_base::{
+    Grant, Grantee, Grantees, Kind, Kinds, Place, Position, RecordName, Revocation, Table, User,
+};
 use std::alloc::Global;
 
 pub const TABLE: Table = Table(0);
@@ -14,6 +16,7 @@ pub fn reading(place: Place, users: (u32, u32), option: bool) -> Grant {
         place,
         grantor: User(grantor),
         grantee: Grantee::User(User(grantee)),
+        position: Position::First,
         kind: Kind::Read,
         table: TABLE,
         option,
@@ -56,8 +59,12 @@ pub fn give(book: &mut Book, grant: Grant) -> Result<(), TrialFault> {
     Ok(book.grant(grant)?)
 }
 
-/// Makes a revocation, and returns the places that end.
-pub fn take(alloc: Global, book: &mut Book, taken: &Revocation) -> Result<Vec<Place>, TrialFault> {
+/// Makes a revocation, and returns the records that end.
+pub fn take(
+    alloc: Global,
+    book: &mut Book,
+    taken: &Revocation,
+) -> Result<Vec<RecordName>, TrialFault> {
     if !book.is_later(taken.place) || book.tables().len() <= taken.table.0 as usize {
         return Err(TrialFault::Deed);
     }

@@ -17,8 +17,7 @@ use std::io::Read;
 fn empty_buffer(alloc: Global, bytes: usize) -> Result<Vec<u8>, AllocError>
     ensures { IfOk result (λ buffer. vec_len buffer ≡ bytes) }
 {
-    let buffer = vec![in alloc; 0; bytes]?;
-    Ok(buffer)
+    vec![in alloc; 0; bytes]
 }
 
 /// Reads a text line by line, through a buffer of `FIRST_BUFFER_BYTES`, or one that grows up to `BUFFER_BYTES`. Lines are cut at LF, and a

@@ -13,6 +13,7 @@ use Rattle.model_base.specs.declared.deed.Grant.{Grant}
 use Rattle.model_base.specs.declared.deed.Record.{Record}
 use Rattle.model_base.specs.Outcomes.{deeds_before, owners}
 use Rattle.model_base.specs.declared.statement.Statement.{Statement}
+use Rattle.model_base.specs.Ranks.{rank}
 use Rattle.model_base.specs.Privileges.{place_of}
 use Rattle.model_base.specs.Records.{end_after, end_below, grants_of, record_of, records}
 use Rattle.model_base.proofs.Ends.{end-within}
@@ -100,7 +101,7 @@ records-below : (users : List ℕ) (place : ℕ) (deeds : List Deed) → All (λ
 records-below users place deeds all =
     All-map (LiesBelow place) (record_of users deeds) (grants_of deeds)
     (All-weaker (λ (grant : Grant). grant.place < place) (λ (grant : Grant). LiesBelow place (record_of users deeds grant))
-    (λ grant low. (low, λ end is. end-within users (λ p. p < place) [] deeds grant.place end all is)) (grants_of deeds) (grants-below place deeds all))
+    (λ grant low. (low, λ end is. end-within users (λ p. p < place) [] deeds (rank grant) end all is)) (grants_of deeds) (grants-below place deeds all))
 
 -- a book of the deeds before a place shows there the records of these deeds
 module _ (book : Entries) (log : List Statement) (place : ℕ) (same : book.records ≡ records (owners log) (deeds_before log place)) where
@@ -120,7 +121,7 @@ module _ (book : Entries) (log : List Statement) (place : ℕ) (same : book.reco
 -- a grant of some deeds, with its record
 pub record Made (users : List ℕ) (deeds : List Deed) (grants : List Grant) (k : ℕ) (entry : Record) : Type 0 where
   pub at : slice_get grants k ≡ Some entry.grant
-  pub end : entry.end ≡ end_after users [] deeds entry.grant.place
+  pub end : entry.end ≡ end_after users [] deeds (rank entry.grant)
 
 made-at : (users : List ℕ) (deeds : List Deed) (grants : List Grant) (k : ℕ) (entry : Record)
     → slice_get (map (record_of users deeds) grants) k ≡ Some entry → Made users deeds grants k entry

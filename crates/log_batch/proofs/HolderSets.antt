@@ -17,7 +17,8 @@ use Rattle.model_base.specs.Privileges.{same_grantee, same_kind}
 use Rattle.grants_base.specs.Index.{is_by}
 use Rattle.log_batch.specs.declared.holders.HolderKey.{HolderKey}
 use Rattle.log_batch.specs.Holders.{grantor_of, holder_cmp, holder_of, same_holder}
-use Rattle.grants_base.specs.Sides.{holder_code, kind_code}
+use Rattle.grants_base.specs.Sides.{holder_code}
+use Rattle.model_base.specs.Ranks.{kind_code}
 use Rattle.grants_base.proofs.SideLaws.{holder_code-same}
 use Rattle.model_base.proofs.Replay.{by_cases}
 

@@ -11,25 +11,26 @@ use Rattle.model_base.specs.declared.deed.Revocation.{Revocation}
 use Rattle.model_base.specs.declared.outcome.Outcome.{Outcome}
 use Rattle.model_base.specs.declared.statement.Statement.{Statement}
 use Rattle.model_base.specs.Outcomes.{at_place, deed_of, outcome, owners, world_before}
+use Rattle.model_base.specs.Ranks.{rank}
 use Rattle.model_base.specs.Privileges.{ended_by}
 use Rattle.model_base.proofs.Ends.{is_ended}
 use Rattle.model_base.proofs.Replay.{by_cases}
 use Rattle.own_words.specs.Places.{own_words}
 use Rattle.own_words.specs.Words.{ended_in, outcome_word}
-use Rattle.bohm_core_base.specs.Batch.{Batch, IsSoundBatch, place_at, batch_slots, was_done}
+use Rattle.bohm_core_base.specs.Batch.{Batch, IsSoundBatch, rank_at, batch_slots, was_done}
 use Rattle.bohm_core_base.specs.Serial.{serial_ends, serial_words, batch_world_before}
 use Rattle.bohm_core_base.proofs.Whole.{IsEnder, no_grant, serial-at, serial-only}
-use Rattle.log_batch.specs.Laws.{IsOfLog, places_that}
+use Rattle.log_batch.specs.Laws.{IsOfLog, ranks_that}
 use Rattle.log_batch.specs.LogBatch.{StatementRange, batch_of_statements}
 use Rattle.log_batch.proofs.LogsEnded.{ended-form, ended_of}
 use Rattle.log_batch.proofs.SerialRuns.{serial_runs_agree, serial_words_are}
 use Rattle.log_batch.proofs.SlotsEnded.{same_test, slots-lost}
 use Rattle.log_batch.proofs.Sound.{batches_are_sound}
 
--- where a test of slots says of each what another says of its grant, the places that pass are those of the grants that pass
+-- where a test of slots says of each what another says of its grant, the ranks that are found are those of the grants that pass
 that-filter : (by : ℕ → Bool) (test : Grant → Bool) (slot : ℕ) (grants : List Grant)
     → ((k : ℕ) → k < length grants → by (slot + k) ≡ test (get_or grants k no_grant))
-    → places_that by slot grants ≡ map (λ (grant : Grant). grant.place) (filter test grants)
+    → ranks_that by slot grants ≡ map rank (filter test grants)
 that-filter by test slot [] told = refl
 that-filter by test slot (grant ∷ grants) told =
     let first : slot ≡ slot + 0 = omega arith in
@@ -38,12 +39,12 @@ that-filter by test slot (grant ∷ grants) told =
     that-filter by test (suc slot) grants
     (λ k less. let next : suc slot + k ≡ slot + suc k = omega arith in ap by next ∙ told (suc k) (omega arith)) in
     by_cases (test grant)
-    (λ passes. rw (here, passes) (ap (λ places. grant.place ∷ places) rest))
+    (λ passes. rw (here, passes) (ap (λ ranks. rank grant ∷ ranks) rest))
     (λ fails. rw (here, fails) rest)
 
 -- where no slot passes, there is none
 that-none : (by : ℕ → Bool) (slot : ℕ) (grants : List Grant) → ((k : ℕ) → k < length grants → by (slot + k) ≡ false)
-    → places_that by slot grants ≡ []
+    → ranks_that by slot grants ≡ []
 that-none by slot [] none = refl
 that-none by slot (grant ∷ grants) none =
     let first : slot ≡ slot + 0 = omega arith in
@@ -54,7 +55,7 @@ that-none by slot (grant ∷ grants) none =
 
 module _ (b : Batch) (sound : IsSoundBatch b) (n : ℕ) where
   -- where the serial run ends none at the place, none is given
-  none-ended : ((k : ℕ) → IsEnder b sound n k → ⊥) → places_that (serial_ends b n) 0 (batch_slots b) ≡ []
+  none-ended : ((k : ℕ) → IsEnder b sound n k → ⊥) → ranks_that (serial_ends b n) 0 (batch_slots b) ≡ []
   none-ended none =
       that-none (serial_ends b n) 0 (batch_slots b)
       (λ k slot. ap (serial_ends b n) (zero-add k) ∙ by_cases (serial_ends b n k)
@@ -63,23 +64,23 @@ module _ (b : Batch) (sound : IsSoundBatch b) (n : ℕ) where
 
   -- at a place that makes its revocation those end that the revocation takes out of force
   revoked-ended : (revocation : Revocation) → n < b.size → was_done (serial_words b n) ≡ true → b.deed n ≡ Some (Revoking revocation)
-      → places_that (serial_ends b n) 0 (batch_slots b) ≡ ended_by b.owners (batch_world_before b n).deeds revocation
+      → ranks_that (serial_ends b n) 0 (batch_slots b) ≡ ended_by b.owners (batch_world_before b n).deeds revocation
   revoked-ended revocation within made is =
-      that-filter (serial_ends b n) (λ grant. is_ended b.owners (batch_world_before b n).deeds (Revoking revocation) grant.place) 0 (batch_slots b) each
+      that-filter (serial_ends b n) (λ grant. is_ended b.owners (batch_world_before b n).deeds (Revoking revocation) (rank grant)) 0 (batch_slots b) each
       ∙ slots-lost b sound n revocation (omega arith)
     where
       each : (k : ℕ) → k < length (batch_slots b)
-          → serial_ends b n (0 + k) ≡ is_ended b.owners (batch_world_before b n).deeds (Revoking revocation) (get_or (batch_slots b) k no_grant).place
+          → serial_ends b n (0 + k) ≡ is_ended b.owners (batch_world_before b n).deeds (Revoking revocation) (rank (get_or (batch_slots b) k no_grant))
       each k slot =
           let deeds = (batch_world_before b n).deeds in
-          let at : place_at b k ≡ (get_or (batch_slots b) k no_grant).place = get_or-map (λ (grant : Grant). grant.place) (batch_slots b) k no_grant 0 slot in
+          let at : rank_at b k ≡ rank (get_or (batch_slots b) k no_grant) = get_or-map rank (batch_slots b) k no_grant 0 slot in
           ap (serial_ends b n) (zero-add k)
-          ∙ same_test (serial_ends b n k) (is_ended b.owners deeds (Revoking revocation) (get_or (batch_slots b) k no_grant).place)
+          ∙ same_test (serial_ends b n k) (is_ended b.owners deeds (Revoking revocation) (rank (get_or (batch_slots b) k no_grant)))
           (λ ends.
           let ender = serial-only b sound n k slot ends in
           let same : ender.revocation ≡ revocation = revoking-same ender.revocation (sym ender.deed ∙ is) in
           subst (λ p. is_ended b.owners deeds (Revoking revocation) p ≡ true) at
-          (subst (λ (r : Revocation). is_ended b.owners deeds (Revoking r) (place_at b k) ≡ true) same ender.ended))
+          (subst (λ (r : Revocation). is_ended b.owners deeds (Revoking r) (rank_at b k) ≡ true) same ender.ended))
           (λ ended.
           serial-at b sound n k revocation within made is
           (subst (λ p. is_ended b.owners deeds (Revoking revocation) p ≡ true) (sym at) ended))
@@ -92,7 +93,7 @@ module _ (range : StatementRange) (is : IsOfLog range) (index : ℕ) (within : i
   place = range.first + index
 
   abbrev seen : List ℕ
-  seen = places_that (serial_ends (batch_of_statements range) index) 0 (batch_slots (batch_of_statements range))
+  seen = ranks_that (serial_ends (batch_of_statements range) index) 0 (batch_slots (batch_of_statements range))
 
   module _ (statement : Statement) (at : slice_get range.log place ≡ Some statement) where
     abbrev found : Outcome

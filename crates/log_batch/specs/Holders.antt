@@ -9,7 +9,8 @@ use Rattle.model_base.specs.declared.deed.Grantee.TheVariants.{User}
 use Rattle.model_base.specs.declared.deed.Kind.{Kind}
 use Rattle.log_batch.specs.declared.holders.HolderKey.{HolderKey}
 use Rattle.log_batch.specs.declared.holders.Holders.{Holders}
-use Rattle.grants_base.specs.Sides.{holder_code, kind_code}
+use Rattle.grants_base.specs.Sides.{holder_code}
+use Rattle.model_base.specs.Ranks.{kind_code}
 
 -- a grantee with a kind on a table; a grantor is the user that it is
 abbrev pub holder_of : Grantee → Kind → ℕ → HolderKey

@@ -1,8 +1,9 @@
-//! The slots of a batch by the places of their grants, by whom these are to, and by whom.
+//! The slots of a batch by the names of their records, and by whom their grants are to, and by whom.
 
 ghost use Rattle.std.specs.Prelude.{◌≡◌, ◌≢◌, ◌<◌, ◌≤◌, ℕ, Some, length, slice_get};
 ghost use Rattle.std.specs.Option.{MatchOption};
 ghost use Rattle.model_base.specs.declared.deed.Grant.{Grant};
+ghost use Rattle.model_base.specs.Ranks.{rank};
 ghost use Rattle.grants_base.specs.Index.{IsNext, is_by, is_to};
 ghost use Rattle.bohm_core_base.specs.Batch.{batch_slots};
 ghost use Rattle.log_batch.specs.Earlier.{earlier_count};
@@ -10,23 +11,24 @@ ghost use Rattle.log_batch.specs.Supplied.{batch_of};
 
 use crate::batch::LogBatch;
 use bohm_core_base::slots_stand_in_order;
-use model_base::{Grantee, Kind, Place, Table, User};
+use model_base::{Grantee, Kind, RecordName, Table, User};
 
 impl LogBatch<'_> {
-    /// The first slot whose grant doesn't lie below the place. It doesn't allocate, and takes a time that grows with the logarithm of the
-    /// number of slots.
-    fn slot_from(&self, place: Place) -> usize
+    /// The first slot whose record isn't before this one. It doesn't allocate, and takes a time that grows with the logarithm of the number
+    /// of slots.
+    fn slot_from(&self, name: RecordName) -> usize
         ensures below { (slot : ℕ) (grant : Grant)
-            → slot < result → slice_get (batch_slots (batch_of self.now)) slot ≡ Some grant → grant.place < place }
+            → slot < result → slice_get (batch_slots (batch_of self.now)) slot ≡ Some grant → rank grant < name }
         ensures from { (slot : ℕ) (grant : Grant)
-            → result ≤ slot → slice_get (batch_slots (batch_of self.now)) slot ≡ Some grant → place ≤ grant.place }
+            → result ≤ slot → slice_get (batch_slots (batch_of self.now)) slot ≡ Some grant → name ≤ rank grant }
     {
         slots_stand_in_order();
         let mut low = 0;
         let mut high = self.slot_count();
         while low < high {
             let middle = low + (high - low) / 2;
-            if self.grant(middle).place < place {
+            let here = self.grant(middle).name();
+            if here.is_before(name) {
                 low = middle + 1;
             } else {
                 high = middle;
@@ -35,19 +37,18 @@ impl LogBatch<'_> {
         low
     }
 
-    /// The slot of the grant of a place, if there is one. It doesn't allocate, and takes a time that grows with the logarithm of the number
-    /// of slots.
-    pub fn slot_of(&self, place: Place) -> Option<usize>
+    /// The slot of a record, if there is one. It doesn't allocate, and takes a time that grows with the logarithm of the number of slots.
+    pub fn slot_of(&self, name: RecordName) -> Option<usize>
         ensures found { MatchOption result
-            ((slot : ℕ) (grant : Grant) → slice_get (batch_slots (batch_of self.now)) slot ≡ Some grant → grant.place ≢ place)
-            (λ slot. (grant : Grant) × (slice_get (batch_slots (batch_of self.now)) slot ≡ Some grant) × (grant.place ≡ place)) }
+            ((slot : ℕ) (grant : Grant) → slice_get (batch_slots (batch_of self.now)) slot ≡ Some grant → rank grant ≢ name)
+            (λ slot. (grant : Grant) × (slice_get (batch_slots (batch_of self.now)) slot ≡ Some grant) × (rank grant ≡ name)) }
         ensures only { (slot : ℕ) (grant : Grant)
             → slice_get (batch_slots (batch_of self.now)) slot ≡ Some grant
-            → grant.place ≡ place → result ≡ Some slot }
+            → rank grant ≡ name → result ≡ Some slot }
     {
         slots_stand_in_order();
-        let slot = self.slot_from(place);
-        if slot < self.slot_count() && self.grant(slot).place == place {
+        let slot = self.slot_from(name);
+        if slot < self.slot_count() && self.grant(slot).name().is_same(name) {
             Some(slot)
         } else {
             None

@@ -4,7 +4,7 @@ ghost use Rattle.std.specs.Prelude.{◌≡◌, ◌||◌, not, false, IfOk, OnOk}
 ghost use Rattle.log_batch.specs.Holders.{has_holder, holder_of, same_holder};
 ghost use Rattle.log_batch.specs.declared.holders.HolderKey.{HolderKey};
 
-use grants_base::{holder_code, kind_code};
+use grants_base::holder_code;
 use model_base::{Grantee, Kind, Table};
 use std::alloc::{AllocError, Global};
 use std::collections::BTreeSet;
@@ -24,7 +24,7 @@ pub(crate) fn holder_of(holder: Grantee, kind: Kind, table: Table) -> HolderKey
     HolderKey {
         holder: holder_code(holder),
         table,
-        kind: kind_code(kind),
+        kind: kind.code(),
     }
 }
 

@@ -205,9 +205,9 @@ fn put_revocation(
     ensures { OnOk result (AddsGrantees (batch_of batch.now) revocation.now revocation.now.grantees
         revoked.old revoked.new due.old.keys due.new.keys) }
 {
-    let grantees = revocation.grantees.as_slice();
-    for grantee in grantees {
-        put_grantee(batch, revocation, grantee, revoked, due)?;
+    for index in 0..revocation.grantees.len() {
+        let grantee = revocation.grantees.at(index);
+        put_grantee(batch, revocation, &grantee, revoked, due)?;
     }
     Ok(())
 }

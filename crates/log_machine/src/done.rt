@@ -3,6 +3,7 @@
 ghost use Rattle.std.specs.Prelude.{◌≡◌, ◌≢◌, ◌+◌, ◌++◌, ◌∷◌, [], IfOk, IfSome, IsTrue, OnErr, OnOk, Some, if◌then◌else◌};
 ghost use Rattle.std.specs.Option.{MatchOption};
 ghost use Rattle.model_base.specs.Outcomes.{outcome};
+ghost use Rattle.model_base.specs.Ranks.{rank};
 ghost use Rattle.model_base.specs.declared.outcome.Outcome.{Outcome};
 ghost use Rattle.own_words.specs.Places.{words_at};
 ghost use Rattle.own_words.specs.Words.{ended_in};
@@ -10,13 +11,13 @@ ghost use Rattle.sequencer.specs.Whole.{columns_by};
 ghost use Rattle.bohm_core_base.specs.Batch.{batch_slots};
 ghost use Rattle.bohm_core_base.specs.Machine.{hold_of};
 ghost use Rattle.bohm_core_base.specs.declared.hold.Hold.TheVariants.{Done};
-ghost use Rattle.log_batch.specs.Laws.{ended_places};
+ghost use Rattle.log_batch.specs.Laws.{ended_ranks};
 ghost use Rattle.log_batch.specs.Supplied.{batch_of};
 
 use crate::of_log::OfLog;
 use bohm_core::{Hold, Machine, State};
 use log_batch::LogBatch;
-use model_base::{Grant, Items, Outcome, Place};
+use model_base::{Grant, Items, Outcome, Place, RecordName};
 use own_words::decoded;
 use std::alloc::{AllocError, Global};
 
@@ -34,48 +35,48 @@ pub fn done_words<'a>(machine: &'a Machine<OfLog<'_>>, index: usize) -> Option<&
     }
 }
 
-/// Appends the grant's place to the others, if its record ended. Otherwise it doesn't allocate.
-fn push_ended(places: &mut Vec<Place>, ended: bool, grant: &Grant) -> Result<(), AllocError>
-    ensures pushed { OnOk result (places.new.items ≡ places.old.items ++ (if ended then grant.now.place ∷ [] else [])) }
+/// Appends the name of the grant's record to the others, if that ended. Otherwise it doesn't allocate.
+fn push_ended(names: &mut Vec<RecordName>, ended: bool, grant: &Grant) -> Result<(), AllocError>
+    ensures pushed { OnOk result (names.new.items ≡ names.old.items ++ (if ended then rank grant.now ∷ [] else [])) }
     ensures memory { OnErr result (IsTrue ended) }
 {
     if ended {
-        places.push(grant.place)?;
+        names.push(grant.name())?;
     }
     Ok(())
 }
 
-/// The places of the grants of slots whose records ended at the place of the log, in order. Where there are none it doesn't allocate.
+/// The names of the records of slots that ended at the place of the log, in order. Where there are none it doesn't allocate.
 fn ended_at(
     alloc: Global,
     batch: &LogBatch<'_>,
     state: &State,
     place: Place,
-) -> Result<Vec<Place>, AllocError>
-    ensures value { IfOk result (λ places. places.items ≡ ended_places (batch_slots (batch_of batch.now)) state.now.ends place) }
-    ensures memory { OnErr result (ended_places (batch_slots (batch_of batch.now)) state.now.ends place ≢ []) }
+) -> Result<Vec<RecordName>, AllocError>
+    ensures value { IfOk result (λ names. names.items ≡ ended_ranks (batch_slots (batch_of batch.now)) state.now.ends place) }
+    ensures memory { OnErr result (ended_ranks (batch_slots (batch_of batch.now)) state.now.ends place ≢ []) }
 {
-    let mut places = Vec::new(alloc);
+    let mut names = Vec::new(alloc);
     for slot in 0..batch.slot_count().min(state.slots()) {
         push_ended(
-            &mut places,
+            &mut names,
             state.is_ended_by(slot, place),
             &batch.grant(slot),
         )?;
     }
-    Ok(places)
+    Ok(names)
 }
 
-/// The places of the grants that the revocation of a place ended, if the place is done: those of its outcome in the log, and none where it
+/// The names of the records that the revocation of a place ended, if the place is done: those of its outcome in the log, and none where it
 /// has no revocation, or wasn't done. An error means out of memory, and comes only where there are some.
 pub fn done_ends(
     alloc: Global,
     machine: &Machine<OfLog<'_>>,
     index: usize,
-) -> Result<Option<Vec<Place>>, AllocError>
-    ensures told { IfOk result (λ told. MatchOption told (hold_of machine.now.state index ≢ Done) (λ places. (found : Outcome)
+) -> Result<Option<Vec<RecordName>>, AllocError>
+    ensures told { IfOk result (λ told. MatchOption told (hold_of machine.now.state index ≢ Done) (λ names. (found : Outcome)
         → outcome machine.now.statements.log.statements (machine.now.statements.first + index) ≡ Some found
-        → places.items ≡ ended_in found)) }
+        → names.items ≡ ended_in found)) }
     ensures done { IfOk result (λ told. IfSome told (λ _. hold_of machine.now.state index ≡ Done)) }
     ensures memory { OnErr result ((found : Outcome)
         × (outcome machine.now.statements.log.statements (machine.now.statements.first + index) ≡ Some found) × (ended_in found ≢ [])) }
@@ -86,15 +87,15 @@ pub fn done_ends(
     match state.hold(index) {
         Hold::Done => {
             let place = batch.first_place() + index as u64;
-            let places = ended_at(alloc, batch, state, place)?;
-            Ok(Some(places))
+            let names = ended_at(alloc, batch, state, place)?;
+            Ok(Some(names))
         }
         _ => Ok(None),
     }
 }
 
-/// The outcome of a place that is done, whatever the events were: what its own words give, with the places of the grants that its
-/// revocation ended. The list of these places is all that takes memory, so an error comes only where there are some.
+/// The outcome of a place that is done, whatever the events were: what its own words give, with the records that its revocation ended. The
+/// list of their names is all that takes memory, so an error comes only where there are some.
 pub fn done_outcome(
     alloc: Global,
     machine: &Machine<OfLog<'_>>,

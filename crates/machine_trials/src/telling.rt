@@ -70,9 +70,9 @@ fn print_outcome(rt: &impl Print, outcome: &Outcome) -> Result<(), TrialFault> {
             match deed {
                 DeedDone::None => println!(rt; "done {outputs:?}")?,
                 DeedDone::Granted => println!(rt; "done {outputs:?} granted")?,
-                DeedDone::Revoked(places) => {
-                    let places = places.as_slice();
-                    println!(rt; "done {outputs:?} revoked {places:?}")?;
+                DeedDone::Revoked(names) => {
+                    let names = names.as_slice();
+                    println!(rt; "done {outputs:?} revoked {names:?}")?;
                 }
             }
         }

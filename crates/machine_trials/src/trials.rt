@@ -11,12 +11,13 @@ use crate::telling::{print_events, print_found};
 use bohm_core::Machine;
 use bohm_core_base::Event;
 use engine::RunState;
-use filling::{Finished, finish, take};
-use log_batch::{LogBatch, LogKey, LogWords, ended_slots};
+use filling::{Finished, RangeKey, finish, take};
+use log_batch::{LogBatch, ended_slots};
 use log_machine::OfLog;
 use log_trials_base::{TrialFault, WholeLog, before_place, log_of};
 use model_base::Place;
 use std::alloc::{AllocError, Global};
+use words::BatchWords;
 
 /// What is tried on a batch.
 #[derive(Clone, Copy)]
@@ -91,10 +92,9 @@ fn finish_unstored<'a>(alloc: Global, batch: LogBatch<'a>) -> Result<Finished<'a
     ensures { IfOk result (λ done. done
         ≡ record { log = batch.entry.log; first = batch.entry.first; size = batch.entry.size }) }
 {
-    let slots = ended_slots(alloc, &batch)?;
-    let key = LogKey::new(batch, slots);
-    let (words, pass) = LogWords::new(alloc, key)?;
-    let (key, closed) = words.close(pass);
+    let key = RangeKey::of(alloc, batch)?;
+    let (words, pass) = BatchWords::new(alloc, &key)?;
+    let closed = words.close(pass);
     finish(alloc, key, &closed)
 }
 

@@ -16,12 +16,12 @@ use crate::batches::new_batch;
 use bohm_core::{Hold, Machine, done_places_are_serial};
 use bohm_core_base::Event;
 use engine::RunState;
-use filling::{CompletedBatch, Finished, finish};
-use log_batch::{LogBatch, LogKey, LogWords, ended_slots};
+use filling::{CompletedBatch, Finished, RangeKey, finish};
+use log_batch::LogBatch;
 use log_machine::OfLog;
 use log_trials_base::{TrialFault, WholeLog, before_place, log_of};
 use std::alloc::{AllocError, Global};
-use words::{BatchData, Claimed, Holding, Pass, own_events_tell_what_is_held};
+use words::{BatchData, BatchWords, Claimed, Holding, Pass, own_events_tell_what_is_held};
 
 /// The reader is done by the machine before anything else.
 const READING: [Event; 8] = [
@@ -78,7 +78,13 @@ fn word_at(own: &[u64], number: usize) -> u64
 }
 
 /// Stores the first two own words of the reader, which is held with nothing stored.
-fn store_two(machine: &Machine<OfLog<'_>>, words: &LogWords<'_>, holding: &mut Holding)
+fn store_two(
+    machine: &Machine<OfLog<'_>>,
+    key: &RangeKey<'_>,
+    words: &BatchWords<RangeKey<'_>>,
+    holding: &mut Holding,
+)
+    requires key { words.now.key ≡ key.now }
     requires same { machine.now.statements ≡ words.now.key.batch }
     requires size { words.now.key.batch.size ≡ 2 }
     requires done { hold_of machine.now.state 0 ≡ Done }
@@ -89,9 +95,9 @@ fn store_two(machine: &Machine<OfLog<'_>>, words: &LogWords<'_>, holding: &mut H
 {
     own_events_tell_what_is_held();
     let own = serial_own(machine, 0);
-    for number in 0..words.key().words_length(0).min(2) {
+    for number in 0..key.words_length(0).min(2) {
         let word = word_at(own, number);
-        words.words().fill(holding, 0, number, word);
+        words.fill(holding, 0, number, word);
     }
 }
 
@@ -99,25 +105,27 @@ fn store_two(machine: &Machine<OfLog<'_>>, words: &LogWords<'_>, holding: &mut H
 fn print_dropped(
     rt: &impl Print,
     machine: &Machine<OfLog<'_>>,
-    words: &LogWords<'_>,
+    key: &RangeKey<'_>,
+    words: &BatchWords<RangeKey<'_>>,
     pass: Pass,
 ) -> Result<(), TrialFault>
+    requires key { words.now.key ≡ key.now }
     requires same { machine.now.statements ≡ words.now.key.batch }
     requires size { words.now.key.batch.size ≡ 2 }
     requires done { hold_of machine.now.state 0 ≡ Done }
     requires none { (other : ℕ) → ¬ (In (suc other) (reference_words (batch_of words.now.key.batch) 0)) }
     requires same_table { IsPassOf words.now pass }
 {
-    let (first, second) = words.words().split(pass);
+    let (first, second) = words.split(pass);
     let mut one = Holding::begin(first);
     let mut other = Holding::begin(second);
     if !one.knows_placed() || !other.knows_placed() {
         return Err(TrialFault::Unplaced);
     }
-    match words.words().claim(&mut one, 0) {
+    match words.claim(&mut one, 0) {
         Claimed::Won => {
-            store_two(machine, words, &mut one);
-            let found = words.words().claim(&mut other, 0);
+            store_two(machine, key, words, &mut one);
+            let found = words.claim(&mut other, 0);
             println!(rt;
                 "two words stored of 3 by a pass that is dropped; another claims 3: {found:?}"
             )?;
@@ -141,29 +149,22 @@ fn print_finished(rt: &impl Print, done: &Finished<'_>) -> Result<(), TrialFault
 fn print_closed(
     rt: &impl Print,
     alloc: Global,
-    words: LogWords<'_>,
+    key: RangeKey<'_>,
+    words: BatchWords<RangeKey<'_>>,
     pass: Pass,
 ) -> Result<(), TrialFault>
+    requires key { words.key ≡ key }
     requires same_table { IsPassOf words pass }
-    requires size { words.key.batch.size ≡ 2 }
+    requires size { key.batch.size ≡ 2 }
 {
     if !pass.knows_placed() {
         return Err(TrialFault::Unplaced);
     }
-    let (key, closed) = words.close(pass);
+    let closed = words.close(pass);
     let (reader, revocation) = (closed.claim(0), closed.claim(1));
     println!(rt; "closed, the claims of 3 and 4 are {reader} and {revocation}")?;
     let done = finish(alloc, key, &closed)?;
     print_finished(rt, &done)
-}
-
-/// The key of a batch.
-fn key_of<'a>(alloc: Global, batch: LogBatch<'a>) -> Result<LogKey<'a>, AllocError>
-    requires { batch.size ≡ 2 }
-    ensures { IfOk result (λ key. key.batch ≡ batch.entry) }
-{
-    let slots = ended_slots(alloc, &batch)?;
-    Ok(LogKey::new(batch, slots))
 }
 
 /// Reports the words of a batch of two places, of which a machine has done the first.
@@ -179,11 +180,11 @@ fn print_batch_words(
     requires done { hold_of machine.now.state 0 ≡ Done }
     requires none { (other : ℕ) → ¬ (In (suc other) (reference_words (batch_of machine.now.statements) 0)) }
 {
-    let key = key_of(alloc, batch)?;
-    let (words, pass) = LogWords::new(alloc, key)?;
-    let (pass, last) = words.words().split(pass);
-    print_dropped(rt, machine, &words, pass)?;
-    print_closed(rt, alloc, words, last)
+    let key = RangeKey::of(alloc, batch)?;
+    let (words, pass) = BatchWords::new(alloc, &key)?;
+    let (pass, last) = words.split(pass);
+    print_dropped(rt, machine, &key, &words, pass)?;
+    print_closed(rt, alloc, key, words, last)
 }
 
 /// Reports the reader beside a machine that has done it.

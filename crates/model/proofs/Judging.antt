@@ -16,14 +16,12 @@ module _ (owners : List ℕ) (place : ℕ) (world : World) (statement : Statemen
   by_form (Form.Deed deed) other = refl
 
   -- a statement that creates no table is judged by the first need that its user doesn't have by the grants in force
-  pub at_place-judged : (grants : List Grant) (found : List Need) (lack : Option Need)
+  pub at_place-judged : (grants : List Grant) (lack : Option Need)
       → ((table columns : ℕ) → statement.form ≡ Form.Create table columns → ⊥)
-      → grants ≡ kept owners world.deeds → found ≡ needs statement.form
-      → lack ≡ find (λ need. not (has owners grants statement.user need)) found
+      → grants ≡ kept owners world.deeds
+      → lack ≡ find (λ need. not (has owners grants statement.user need)) (needs statement.form)
       → at_place owners place world statement ≡ judged owners place world statement lack
-  at_place-judged grants found lack other in_force needed first =
+  at_place-judged grants lack other in_force first =
       by_form statement.form other
       ∙ ap (judged owners place world statement)
-      (sym (first
-      ∙ ap (λ (gs : List Grant). find (λ need. not (has owners gs statement.user need)) found) in_force
-      ∙ ap (find (λ need. not (has owners (kept owners world.deeds) statement.user need))) needed))
+      (sym (first ∙ ap (λ (gs : List Grant). find (λ need. not (has owners gs statement.user need)) (needs statement.form)) in_force))

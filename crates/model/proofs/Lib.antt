@@ -1,3 +1,4 @@
 pub mod Steps
 pub mod Judging
+pub mod Finding
 pub mod Outcomes

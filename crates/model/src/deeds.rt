@@ -7,27 +7,27 @@ ghost use Rattle.model_base.specs.Privileges.{is_among, kept, lost};
 ghost use Rattle.model_base.specs.Rows.{Rows};
 
 use crate::replay::kept;
-use model_base::{Deed, DeedDone, Grant, Items, Place, User};
+use model_base::{Deed, DeedDone, Grant, Items, RecordName, User};
 use std::alloc::{AllocError, Global};
 
-/// Whether a grant of this place is among the grants.
-fn is_among(place: Place, grants: &[Grant]) -> bool
-    ensures { result ≡ is_among place grants.now }
+/// Whether the grant of this record is among the grants.
+fn is_among(name: RecordName, grants: &[Grant]) -> bool
+    ensures { result ≡ is_among name grants.now }
 {
-    grants.iter().any(|grant| grant.place == place)
+    grants.iter().any(|grant| grant.name().is_same(name))
 }
 
-/// The places, in order, of the grants of the first list that the second no longer has.
-fn lost(alloc: Global, before: &[Grant], after: &[Grant]) -> Result<Vec<Place>, AllocError>
-    ensures { IfOk result (λ places. places.items ≡ lost before.now after.now) }
+/// The records, in order, of the grants of the first list that the second no longer has.
+fn lost(alloc: Global, before: &[Grant], after: &[Grant]) -> Result<Vec<RecordName>, AllocError>
+    ensures { IfOk result (λ names. names.items ≡ lost before.now after.now) }
 {
-    let mut places = Vec::new(alloc);
+    let mut names = Vec::new(alloc);
     for grant in before {
-        if !is_among(grant.place, after) {
-            places.push(grant.place)?;
+        if !is_among(grant.name(), after) {
+            names.push(grant.name())?;
         }
     }
-    Ok(places)
+    Ok(names)
 }
 
 /// Appends the deed of a completed statement, if it has one, after those made so far, after which the grants are in force. Says what the
@@ -52,8 +52,8 @@ pub(crate) fn make(
         Deed::Granting(_) => Ok(DeedDone::Granted),
         Deed::Revoking(_) => {
             let after = kept(alloc, owners, deeds)?;
-            let places = lost(alloc, grants, &after)?;
-            Ok(DeedDone::Revoked(Items::new(places)))
+            let names = lost(alloc, grants, &after)?;
+            Ok(DeedDone::Revoked(Items::new(names)))
         }
     }
 }

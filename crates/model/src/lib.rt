@@ -13,7 +13,7 @@ ghost use Rattle.model_base.specs.Outcomes.{outcome};
 ghost use Rattle.body.specs.Premises.{IsRunnable};
 
 mod deeds;
-mod needs;
+mod missing;
 mod replay;
 mod serial_state;
 

@@ -7,7 +7,7 @@ ghost use Rattle.body.specs.Premises.{IsRunnable};
 ghost use Rattle.model.specs.State.{world_of};
 
 use crate::deeds::make;
-use crate::needs::{first_missing, needs};
+use crate::missing::first_missing;
 use crate::replay::{cause, kept};
 use body::{BodyEnd, RowMap, run_on};
 use model_base::{Deed, Form, Grant, HashSeed, Outcome, Place, Statement, User};
@@ -47,8 +47,7 @@ impl State {
             return Ok(Outcome::Created);
         }
         let grants = kept(alloc, owners, &self.deeds)?;
-        let needs = needs(alloc, &statement.form)?;
-        match first_missing(owners, &grants, statement.user, &needs) {
+        match first_missing(owners, &grants, statement.user, &statement.form) {
             Some(need) => {
                 let cause = cause(alloc, owners, &self.deeds, statement.user, &need)?;
                 Ok(Outcome::Denied { need, cause })

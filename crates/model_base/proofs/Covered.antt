@@ -10,6 +10,7 @@ use Rattle.model_base.specs.declared.deed.Kind.TheVariants.{Read, Insert, Update
 use Rattle.model_base.specs.declared.deed.Grant.{Grant}
 use Rattle.model_base.specs.declared.deed.Need.{Need}
 use Rattle.model_base.specs.declared.deed.Revocation.{Revocation}
+use Rattle.model_base.specs.Ranks.{rank}
 use Rattle.model_base.specs.Privileges.{owns, reaches, gives, has, option_of, same_kind, names, replayed, is_among}
 use Rattle.model_base.proofs.Replay.{by_cases}
 
@@ -124,13 +125,13 @@ module _ (owners : List ℕ) (covers : Kind → ℕ → Bool) where
           (λ fails. rw fails (unnamed grants))
 
   -- where each grant of a place is covered, the place is among the covered grants if it is among all
-  pub among-covered : (place : ℕ) (grants : List Grant) → All (λ grant. grant.place ≡ place → is_covered grant ≡ true) grants
+  pub among-covered : (place : ℕ) (grants : List Grant) → All (λ grant. rank grant ≡ place → is_covered grant ≡ true) grants
       → is_among place (filter is_covered grants) ≡ is_among place grants
   among-covered place [] all = refl
   among-covered place (grant ∷ grants) all =
-      let rest = among-covered place grants (All-tail (λ x. x.place ≡ place → is_covered x ≡ true) grant grants all) in
+      let rest = among-covered place grants (All-tail (λ x. rank x ≡ place → is_covered x ≡ true) grant grants all) in
       by_cases (is_covered grant)
       (λ covered. rw (covered, rest) refl)
-      (λ other. by_cases (grant.place == place)
-      (λ same. contrary (is_covered grant) (All-head (λ x. x.place ≡ place → is_covered x ≡ true) grant grants all (eqb-true grant.place place same)) other)
+      (λ other. by_cases (rank grant == place)
+      (λ same. contrary (is_covered grant) (All-head (λ x. rank x ≡ place → is_covered x ≡ true) grant grants all (eqb-true (rank grant) place same)) other)
       (λ differs. rw (other, differs) rest))

@@ -8,6 +8,7 @@ use Rattle.std.proofs.lemmas.List.Elements.{All-nil, All-cons, All-head, All-tai
 use Rattle.model_base.specs.declared.deed.Record.{Record}
 use Rattle.model_base.specs.declared.deed.Deed.{Deed}
 use Rattle.model_base.specs.declared.deed.Deed.TheVariants.{Granting, Revoking}
+use Rattle.model_base.specs.Ranks.{rank}
 use Rattle.model_base.specs.Privileges.{place_of, IsProper, IsProperAfter}
 use Rattle.model_base.specs.Laws.{GrowsAt}
 use Rattle.model_base.specs.Records.{grants_of, end_after, end_below, record_of, records, cut, deeds_below}
@@ -33,7 +34,7 @@ module _ (owners : List ℕ) (place : ℕ) (past later : List Deed) (before : Al
   cut-low [] all = refl
   cut-low (Granting grant ∷ deeds) all =
       let rest = cut-low deeds (All-tail (λ deed. place_of deed < place) (Granting grant) deeds all) in
-      rw (lt-ltb grant.place place (All-head (λ deed. place_of deed < place) (Granting grant) deeds all), end-cut grant.place, rest) refl
+      rw (lt-ltb grant.place place (All-head (λ deed. place_of deed < place) (Granting grant) deeds all), end-cut (rank grant), rest) refl
   cut-low (Revoking revocation ∷ deeds) all = cut-low deeds (All-tail (λ deed. place_of deed < place) (Revoking revocation) deeds all)
 
   -- those of the others fall away

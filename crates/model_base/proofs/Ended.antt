@@ -9,6 +9,7 @@ use Rattle.model_base.specs.declared.deed.Record.{Record}
 use Rattle.model_base.specs.declared.deed.Revocation.{Revocation}
 use Rattle.model_base.specs.declared.deed.Deed.{Deed}
 use Rattle.model_base.specs.declared.deed.Deed.TheVariants.{Revoking}
+use Rattle.model_base.specs.Ranks.{rank}
 use Rattle.model_base.specs.Privileges.{has_grantee, has_kind, concerns, names, replayed, kept, is_among, lost, ended_by, IsProper}
 use Rattle.model_base.specs.Laws.{IsRising}
 use Rattle.model_base.specs.Records.{records, in_force, ended_by_records, covered}
@@ -21,36 +22,36 @@ use Rattle.model_base.proofs.Covered.{contrary, is_covered, left_by, left_by-cov
 use Rattle.model_base.proofs.ByTables.{taken, in_force-taken}
 
 -- each grant that passes a test is among those that pass
-pub all_among-filter : (test : Grant → Bool) (grants : List Grant) → All (λ grant. test grant ≡ true → is_among grant.place (filter test grants) ≡ true) grants
-all_among-filter test [] = All-nil (λ grant. test grant ≡ true → is_among grant.place [] ≡ true)
+pub all_among-filter : (test : Grant → Bool) (grants : List Grant) → All (λ grant. test grant ≡ true → is_among (rank grant) (filter test grants) ≡ true) grants
+all_among-filter test [] = All-nil (λ grant. test grant ≡ true → is_among (rank grant) [] ≡ true)
 all_among-filter test (grant ∷ grants) =
-    let Found : Grant → Type 0 = λ x. test x ≡ true → is_among x.place (filter test (grant ∷ grants)) ≡ true in
-    All-cons Found grant grants (λ passes. rw (passes, eq-eqb grant.place grant.place refl) refl)
-    (All-weaker (λ x. test x ≡ true → is_among x.place (filter test grants) ≡ true) Found (λ x found passes. later x (found passes)) grants
+    let Found : Grant → Type 0 = λ x. test x ≡ true → is_among (rank x) (filter test (grant ∷ grants)) ≡ true in
+    All-cons Found grant grants (λ passes. rw (passes, eq-eqb (rank grant) (rank grant) refl) refl)
+    (All-weaker (λ x. test x ≡ true → is_among (rank x) (filter test grants) ≡ true) Found (λ x found passes. later x (found passes)) grants
     (all_among-filter test grants))
   where
-    later : (x : Grant) → is_among x.place (filter test grants) ≡ true → is_among x.place (filter test (grant ∷ grants)) ≡ true
+    later : (x : Grant) → is_among (rank x) (filter test grants) ≡ true → is_among (rank x) (filter test (grant ∷ grants)) ≡ true
     later x found =
         by_cases (test grant)
-        (λ passes. rw passes (or_right (grant.place == x.place) (is_among x.place (filter test grants)) found))
+        (λ passes. rw passes (or_right (rank grant == rank x) (is_among (rank x) (filter test grants)) found))
         (λ fails. rw fails found)
 
 -- what is lost of the grants that pass a test is all that is lost, if the others stay and the test keeps those that stay
 lost-filter : (test : Grant → Bool) (before after : List Grant)
-    → All (λ grant. test grant ≡ false → is_among grant.place after ≡ true) before
-    → All (λ grant. test grant ≡ true → is_among grant.place (filter test after) ≡ is_among grant.place after) before
+    → All (λ grant. test grant ≡ false → is_among (rank grant) after ≡ true) before
+    → All (λ grant. test grant ≡ true → is_among (rank grant) (filter test after) ≡ is_among (rank grant) after) before
     → lost (filter test before) (filter test after) ≡ lost before after
 lost-filter test [] after others same = refl
 lost-filter test (grant ∷ before) after others same =
-    let Stays : Grant → Type 0 = λ x. test x ≡ false → is_among x.place after ≡ true in
-    let Same : Grant → Type 0 = λ x. test x ≡ true → is_among x.place (filter test after) ≡ is_among x.place after in
+    let Stays : Grant → Type 0 = λ x. test x ≡ false → is_among (rank x) after ≡ true in
+    let Same : Grant → Type 0 = λ x. test x ≡ true → is_among (rank x) (filter test after) ≡ is_among (rank x) after in
     let rest = lost-filter test before after (All-tail Stays grant before others) (All-tail Same grant before same) in
     by_cases (test grant)
     (λ passes.
     let here = All-head Same grant before same passes in
-    by_cases (is_among grant.place after)
+    by_cases (is_among (rank grant) after)
     (λ found. rw (passes, here, found) rest)
-    (λ gone. rw (passes, here, gone) (ap (λ r. grant.place ∷ r) rest)))
+    (λ gone. rw (passes, here, gone) (ap (λ r. rank grant ∷ r) rest)))
     (λ fails. rw (fails, All-head Stays grant before others fails) rest)
 
 module _ (owners : List ℕ) (revocation : Revocation) where
@@ -70,21 +71,21 @@ module _ (owners : List ℕ) (revocation : Revocation) where
 
   -- of grants that bear their own replay, a revocation leaves those that it doesn't concern
   pub stays-other : (grants : List Grant) → replayed owners [] grants ≡ grants
-      → All (λ grant. concerns revocation grant ≡ false → is_among grant.place (left_by owners revocation grants) ≡ true) grants
+      → All (λ grant. concerns revocation grant ≡ false → is_among (rank grant) (left_by owners revocation grants) ≡ true) grants
   stays-other grants stands =
       let test : Grant → Bool = λ grant. not (concerns revocation grant) in
       let after = left_by owners revocation grants in
       let same : filter test after ≡ filter test grants = left_by-other owners (λ kind table. not (is_of kind table)) revocation grants stands unnamed in
-      All-weaker (λ grant. test grant ≡ true → is_among grant.place (filter test grants) ≡ true)
-      (λ grant. concerns revocation grant ≡ false → is_among grant.place after ≡ true)
+      All-weaker (λ grant. test grant ≡ true → is_among (rank grant) (filter test grants) ≡ true)
+      (λ grant. concerns revocation grant ≡ false → is_among (rank grant) after ≡ true)
       (λ grant found other.
-      let there : is_among grant.place (filter test after) ≡ true = ap (is_among grant.place) same ∙ found (rw other refl) in
-      among-part grant.place (part-filter test after) there)
+      let there : is_among (rank grant) (filter test after) ≡ true = ap (is_among (rank grant)) same ∙ found (rw other refl) in
+      among-part (rank grant) (part-filter test after) there)
       grants (all_among-filter test grants)
 
   -- so of the grants in force
   pub kept-stays_other : (deeds : List Deed)
-      → All (λ grant. concerns revocation grant ≡ false → is_among grant.place (kept owners (deeds ++ Revoking revocation ∷ [])) ≡ true) (kept owners deeds)
+      → All (λ grant. concerns revocation grant ≡ false → is_among (rank grant) (kept owners (deeds ++ Revoking revocation ∷ [])) ≡ true) (kept owners deeds)
   kept-stays_other deeds = rw (kept-revoke owners deeds revocation) (stays-other (kept owners deeds) (kept-replayed owners deeds))
 
   -- what a revocation ends, the records of some kinds on some tables tell, if they have its own: of all records whose
@@ -96,15 +97,15 @@ module _ (owners : List ℕ) (revocation : Revocation) where
       let test : Grant → Bool = is_covered owners covers in
       let before = in_force entries in
       let after = left_by owners revocation before in
-      let Alone : Grant → Grant → Type 0 = λ grant x. x.place ≡ grant.place → x ≡ grant in
+      let Alone : Grant → Grant → Type 0 = λ grant x. rank x ≡ rank grant → x ≡ grant in
       ap (λ grants. lost grants (left_by owners revocation grants)) (in_force-taken owners covers entries)
       ∙ ap (lost (filter test before)) (left_by-covered owners covers revocation before)
       ∙ lost-filter test before after
-      (All-weaker (λ grant. concerns revocation grant ≡ false → is_among grant.place after ≡ true) (λ grant. test grant ≡ false → is_among grant.place after ≡ true)
+      (All-weaker (λ grant. concerns revocation grant ≡ false → is_among (rank grant) after ≡ true) (λ grant. test grant ≡ false → is_among (rank grant) after ≡ true)
       (λ grant stays other. stays (unconcerned grant other)) before (stays-other before stands))
-      (All-weaker (λ grant. All (Alone grant) before) (λ grant. test grant ≡ true → is_among grant.place (filter test after) ≡ is_among grant.place after)
-      (λ grant alone passes. among-covered owners covers grant.place after
-      (All-weaker (Alone grant) (λ x. x.place ≡ grant.place → test x ≡ true)
+      (All-weaker (λ grant. All (Alone grant) before) (λ grant. test grant ≡ true → is_among (rank grant) (filter test after) ≡ is_among (rank grant) after)
+      (λ grant alone passes. among-covered owners covers (rank grant) after
+      (All-weaker (Alone grant) (λ x. rank x ≡ rank grant → test x ≡ true)
       (λ x same at. let is : x ≡ grant = same at in rw is passes) after
       (part-all (Alone grant) (part-part (part-replayed owners [] (filter (λ grant. not (names revocation grant)) before)) (part-filter (λ grant. not (names revocation grant)) before)) alone)))
       before (rising-unique before rising))

@@ -2,6 +2,7 @@ mod Padding
 pub mod Replay
 pub mod Parts
 pub mod Places
+pub mod Ranked
 pub mod Causes
 pub mod Growth
 pub mod Paths
@@ -20,3 +21,4 @@ pub mod Unended
 pub mod Growing
 pub mod Reaching
 pub mod Admitted
+pub mod NeedsLeft

@@ -41,7 +41,7 @@ module _ (owners : List ℕ) where
       let Above : Grant → Type 0 = λ x. place_of deed < x.place in
       All-weaker (λ x. Above x × held_when_made (start ++ deed ∷ []) deeds x) (held_when_made start (deed ∷ deeds))
       (λ x both. rw (lt-ltb (place_of deed) x.place both.0) (rw append_assoc at both.1)) (grants_of deeds)
-      (All-both Above (held_when_made (start ++ deed ∷ []) deeds) (grants_of deeds) (All-grants (λ p. place_of deed < p) deeds above) held)
+      (All-both Above (held_when_made (start ++ deed ∷ []) deeds) (grants_of deeds) (All-grants (λ next. place_of deed < place_of next) deeds above) held)
 
   -- the grantor of each grant held the option by the deeds before it
   authorised-after : (start deeds : List Deed) → IsProperAfter owners start deeds → All (held_when_made start deeds) (grants_of deeds)

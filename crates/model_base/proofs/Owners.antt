@@ -12,6 +12,7 @@ use Rattle.model_base.specs.declared.deed.Revocation.{Revocation}
 use Rattle.model_base.specs.declared.deed.Need.{Need}
 use Rattle.model_base.specs.declared.deed.Deed.{Deed}
 use Rattle.model_base.specs.declared.deed.Deed.TheVariants.{Granting, Revoking}
+use Rattle.model_base.specs.Ranks.{rank}
 use Rattle.model_base.specs.Privileges.{owns, gives, has, option_of, erased, replayed, kept, holds, is_among, lost, ended_by, place_of, IsProper, IsProperAfter, names}
 use Rattle.model_base.specs.Outcomes.{cause, cause_after}
 use Rattle.model_base.specs.Records.{grants_of, end_after, record_of, records, in_force, ended_by_records, holds_by, cut, last_loss_by}
@@ -77,7 +78,7 @@ module _ (first second : List ℕ) where
   same_records : (deeds : List Deed) (grants : List Grant) → AreSameOwners (grants_of deeds)
       → map (record_of first deeds) grants ≡ map (record_of second deeds) grants
   same_records deeds [] agree = refl
-  same_records deeds (grant ∷ grants) agree = rw (end-owners [] deeds grant.place agree, same_records deeds grants agree) refl
+  same_records deeds (grant ∷ grants) agree = rw (end-owners [] deeds (rank grant) agree, same_records deeds grants agree) refl
 
   -- the records are the same
   pub records-owners : (deeds : List Deed) → AreSameOwners (grants_of deeds) → records first deeds ≡ records second deeds

@@ -1,8 +1,8 @@
--- The grants in force are in the order of their places, and one that has left force never comes back.
+-- The grants in force are in the order of their ranks, and one that has left force never comes back.
 use Rattle.std.proofs.Common.{◌≡◌, ℕ, ◌<◌, ◌||◌, true, false, List, [], ◌∷◌, ◌++◌, refl, sym, ◌∙◌, append_assoc, arith, inl, inr, subst}
-use Rattle.std.specs.Prelude.{All, Contains, ◌==◌}
+use Rattle.std.specs.Prelude.{All, Contains, ◌==◌, ◌≢◌}
 use Rattle.std.specs.List.{list_any}
-use Rattle.std.proofs.lemmas.Bool.{or_cases, or_from, true≢false, eqb-true, ne_eqb, false_from_ne_true}
+use Rattle.std.proofs.lemmas.Bool.{cases_order, or_cases, or_from, true≢false, eqb-true, ne_eqb, false_from_ne_true}
 use Rattle.std.proofs.lemmas.List.{append-nil}
 use Rattle.std.proofs.lemmas.List.Folds.{list_any-append}
 use Rattle.std.proofs.lemmas.List.Elements.{All-nil, All-cons, All-head, All-tail, All-weaker, All-contains, Contains-push, Contains-append_left}
@@ -10,60 +10,83 @@ use Rattle.model_base.specs.declared.deed.Grant.{Grant}
 use Rattle.model_base.specs.declared.deed.Revocation.{Revocation}
 use Rattle.model_base.specs.declared.deed.Deed.{Deed}
 use Rattle.model_base.specs.declared.deed.Deed.TheVariants.{Granting, Revoking}
+use Rattle.model_base.specs.Ranks.{deed_number, rank, rank_of}
+use Rattle.model_base.specs.RecordNames.{few_kinds, few_positions}
 use Rattle.model_base.specs.Privileges.{has, option_of, revokes, erased, kept, is_among, place_of, MayFollow, IsProper, IsProperAfter}
 use Rattle.model_base.specs.Laws.{IsPart, IsRising, none, left_out, stays}
 use Rattle.model_base.proofs.Replay.{by_cases, kept-grant, kept-refused}
 use Rattle.model_base.proofs.Parts.{part-all, part-any, part-kept_revoke, part-replayed}
 
 -- what holds of each grant's place holds of the place of one of them
-pub among_all : (P : ℕ → Type 0) (grants : List Grant) (place : ℕ) → All (λ grant. P grant.place) grants → is_among place grants ≡ true → P place
-among_all P [] place all found = absurd (true≢false (sym found))
-among_all P (grant ∷ grants) place all found =
-    elim (or_cases (grant.place == place) (is_among place grants) found) [
-      | inl same ↦ subst P (eqb-true grant.place place same) (All-head (λ x. P x.place) grant grants all)
-      | inr later ↦ among_all P grants place (All-tail (λ x. P x.place) grant grants all) later
+pub among_all : (P : ℕ → Type 0) (grants : List Grant) (ranked : ℕ) → All (λ grant. P (rank grant)) grants → is_among ranked grants ≡ true → P ranked
+among_all P [] ranked all found = absurd (true≢false (sym found))
+among_all P (grant ∷ grants) ranked all found =
+    elim (or_cases (rank grant == ranked) (is_among ranked grants) found) [
+      | inl same ↦ subst P (eqb-true (rank grant) ranked same) (All-head (λ x. P (rank x)) grant grants all)
+      | inr later ↦ among_all P grants ranked (All-tail (λ x. P (rank x)) grant grants all) later
     ]
 
 -- no grant of this place is among grants of other places
-pub none_among : (grants : List Grant) (place : ℕ) → All (λ grant. grant.place ≡ place → ⊥) grants → is_among place grants ≡ false
-none_among [] place all = refl
-none_among (grant ∷ grants) place all =
-    or_from (grant.place == place) (is_among place grants) (ne_eqb grant.place place (All-head (λ x. x.place ≡ place → ⊥) grant grants all))
-    (none_among grants place (All-tail (λ x. x.place ≡ place → ⊥) grant grants all))
+pub none_among : (grants : List Grant) (ranked : ℕ) → All (λ grant. rank grant ≡ ranked → ⊥) grants → is_among ranked grants ≡ false
+none_among [] ranked all = refl
+none_among (grant ∷ grants) ranked all =
+    or_from (rank grant == ranked) (is_among ranked grants) (ne_eqb (rank grant) ranked (All-head (λ x. rank x ≡ ranked → ⊥) grant grants all))
+    (none_among grants ranked (All-tail (λ x. rank x ≡ ranked → ⊥) grant grants all))
 
 -- nor among those of lower places
-pub none_above : (grants : List Grant) (place : ℕ) → All (λ grant. grant.place < place) grants → is_among place grants ≡ false
-none_above grants place all =
-    none_among grants place (All-weaker (λ grant. grant.place < place) (λ grant. grant.place ≡ place → ⊥) (λ x lt same. omega arith) grants all)
+pub none_above : (grants : List Grant) (ranked : ℕ) → All (λ grant. rank grant < ranked) grants → is_among ranked grants ≡ false
+none_above grants ranked all =
+    none_among grants ranked (All-weaker (λ grant. rank grant < ranked) (λ grant. rank grant ≡ ranked → ⊥) (λ x lt same. omega arith) grants all)
 
 -- nor among those of higher ones
-pub none_below : (grants : List Grant) (place : ℕ) → All (λ grant. place < grant.place) grants → is_among place grants ≡ false
-none_below grants place all =
-    none_among grants place (All-weaker (λ grant. place < grant.place) (λ grant. grant.place ≡ place → ⊥) (λ x lt same. omega arith) grants all)
+pub none_below : (grants : List Grant) (ranked : ℕ) → All (λ grant. ranked < rank grant) grants → is_among ranked grants ≡ false
+none_below grants ranked all =
+    none_among grants ranked (All-weaker (λ grant. ranked < rank grant) (λ grant. rank grant ≡ ranked → ⊥) (λ x lt same. omega arith) grants all)
 
 -- a grant is among two lists together if it is among one
-pub among-append : (first later : List Grant) (place : ℕ) → is_among place (first ++ later) ≡ (is_among place first || is_among place later)
-among-append first later place = list_any-append (λ grant. grant.place == place) first later
+pub among-append : (first later : List Grant) (ranked : ℕ) → is_among ranked (first ++ later) ≡ (is_among ranked first || is_among ranked later)
+among-append first later ranked = list_any-append (λ grant. rank grant == ranked) first later
 
 -- the grant of a place among a part is among the whole
-pub among-part : (place : ℕ) {part grants : List Grant} → IsPart part grants → is_among place part ≡ true → is_among place grants ≡ true
-among-part place part found = part-any (λ grant. grant.place == place) part found
+pub among-part : (ranked : ℕ) {part grants : List Grant} → IsPart part grants → is_among ranked part ≡ true → is_among ranked grants ≡ true
+among-part ranked part found = part-any (λ grant. rank grant == ranked) part found
 
 -- the places of a part rise as those of the whole
 pub rising-part : {part grants : List Grant} → IsPart part grants → IsRising grants → IsRising part
 rising-part none rising = tt
 rising-part (left_out {part} {grants} {grant} p) rising = rising-part p rising.1
-rising-part (stays {part} {grants} {grant} p) rising = (part-all (λ later. grant.place < later.place) p rising.0, rising-part p rising.1)
+rising-part (stays {part} {grants} {grant} p) rising = (part-all (λ later. rank grant < rank later) p rising.0, rising-part p rising.1)
 
--- what holds of the places of all deeds holds of those of the grants that aren't erased
-pub All-erased : (P : ℕ → Type 0) (deeds : List Deed) → All (λ deed. P (place_of deed)) deeds → All (λ grant. P grant.place) (erased deeds)
-All-erased P [] all = All-nil (λ grant. P grant.place)
+-- what is at a later place has a greater number
+pub number-rises : (deed next : Deed) → place_of deed < place_of next → deed_number deed < deed_number next
+unfolding rank_of
+number-rises (Granting grant) (Granting next) less =
+    let kinds = few_kinds grant.kind in let positions = few_positions grant.position in omega arith
+number-rises (Granting grant) (Revoking next) less =
+    let kinds = few_kinds grant.kind in let positions = few_positions grant.position in omega arith
+number-rises (Revoking revocation) (Granting next) less = omega arith
+number-rises (Revoking revocation) (Revoking next) less = omega arith
+
+-- what has a number and is at another place has another number
+pub number-apart : (deed : Deed) (grant : Grant) → place_of deed ≢ grant.place → deed_number deed ≢ rank grant
+number-apart deed grant other same =
+    elim (cases_order (place_of deed) grant.place) [
+      | inl at ↦ other at
+      | inr differ ↦ elim differ [
+        | inl less ↦ let above = number-rises deed (Granting grant) less in omega arith
+        | inr more ↦ let above = number-rises (Granting grant) deed more in omega arith
+      ]
+    ]
+
+-- what holds of the numbers of all deeds holds of the ranks of the grants that aren't erased
+pub All-erased : (P : ℕ → Type 0) (deeds : List Deed) → All (λ deed. P (deed_number deed)) deeds → All (λ grant. P (rank grant)) (erased deeds)
+All-erased P [] all = All-nil (λ grant. P (rank grant))
 All-erased P (Granting grant ∷ deeds) all =
-    let rest = All-erased P deeds (All-tail (λ deed. P (place_of deed)) (Granting grant) deeds all) in
+    let rest = All-erased P deeds (All-tail (λ deed. P (deed_number deed)) (Granting grant) deeds all) in
     by_cases (list_any (λ deed. revokes deed grant) deeds)
     (λ named. rw named rest)
-    (λ other. rw other (All-cons (λ x. P x.place) grant (erased deeds) (All-head (λ deed. P (place_of deed)) (Granting grant) deeds all) rest))
-All-erased P (Revoking revocation ∷ deeds) all = All-erased P deeds (All-tail (λ deed. P (place_of deed)) (Revoking revocation) deeds all)
+    (λ other. rw other (All-cons (λ x. P (rank x)) grant (erased deeds) (All-head (λ deed. P (deed_number deed)) (Granting grant) deeds all) rest))
+All-erased P (Revoking revocation ∷ deeds) all = All-erased P deeds (All-tail (λ deed. P (deed_number deed)) (Revoking revocation) deeds all)
 
 module _ (owners : List ℕ) where
   -- a deed that may follow has a place above all others
@@ -91,61 +114,68 @@ module _ (owners : List ℕ) where
       (All-contains (λ earlier. place_of earlier < place_of next) past deed (follows past next proper.0) here)
       (proper-above (past ++ next ∷ []) later deed (Contains-append_left past (next ∷ []) deed here) proper.1)
 
-  -- what holds of the places of all deeds holds of those of the grants in force
-  pub All-kept : (P : ℕ → Type 0) (deeds : List Deed) → All (λ deed. P (place_of deed)) deeds → All (λ grant. P grant.place) (kept owners deeds)
-  All-kept P deeds all = part-all (λ grant. P grant.place) (part-replayed owners [] (erased deeds)) (All-erased P deeds all)
+  -- a deed of the past has a number below those of all later deeds
+  pub number-above : (past later : List Deed) (deed : Deed) → Contains past deed → IsProperAfter owners past later
+      → All (λ next. deed_number deed < deed_number next) later
+  number-above past later deed here proper =
+      All-weaker (λ next. place_of deed < place_of next) (λ next. deed_number deed < deed_number next) (λ next less. number-rises deed next less)
+      later (proper-above past later deed here proper)
 
-  -- the places of a proper list's grants rise
+  -- what holds of the numbers of all deeds holds of the ranks of the grants in force
+  pub All-kept : (P : ℕ → Type 0) (deeds : List Deed) → All (λ deed. P (deed_number deed)) deeds → All (λ grant. P (rank grant)) (kept owners deeds)
+  All-kept P deeds all = part-all (λ grant. P (rank grant)) (part-replayed owners [] (erased deeds)) (All-erased P deeds all)
+
+  -- the ranks of a proper list's grants rise
   IsRising-erased : (past deeds : List Deed) → IsProperAfter owners past deeds → IsRising (erased deeds)
   IsRising-erased past [] proper = tt
   IsRising-erased past (Granting grant ∷ deeds) proper =
       let rest = IsRising-erased (past ++ Granting grant ∷ []) deeds proper.1 in
-      let above = proper-above (past ++ Granting grant ∷ []) deeds (Granting grant) (Contains-push past (Granting grant)) proper.1 in
+      let above = number-above (past ++ Granting grant ∷ []) deeds (Granting grant) (Contains-push past (Granting grant)) proper.1 in
       by_cases (list_any (λ deed. revokes deed grant) deeds)
       (λ named. rw named rest)
-      (λ other. rw other (All-erased (λ q. grant.place < q) deeds above, rest))
+      (λ other. rw other (All-erased (λ q. rank grant < q) deeds above, rest))
   IsRising-erased past (Revoking revocation ∷ deeds) proper = IsRising-erased (past ++ Revoking revocation ∷ []) deeds proper.1
 
-  -- the grants in force are in the order of their places
+  -- the grants in force are in the order of their ranks
   pub IsRising-kept : (deeds : List Deed) → IsProper owners deeds → IsRising (kept owners deeds)
   IsRising-kept deeds proper = rising-part (part-replayed owners [] (erased deeds)) (IsRising-erased [] deeds proper)
 
   -- what is in force after a revocation was so before it
-  pub among-kept_revoke : (deeds : List Deed) (revocation : Revocation) (place : ℕ)
-      → is_among place (kept owners (deeds ++ Revoking revocation ∷ [])) ≡ true → is_among place (kept owners deeds) ≡ true
-  among-kept_revoke deeds revocation place found = among-part place (part-kept_revoke owners deeds revocation) found
+  pub among-kept_revoke : (deeds : List Deed) (revocation : Revocation) (ranked : ℕ)
+      → is_among ranked (kept owners (deeds ++ Revoking revocation ∷ [])) ≡ true → is_among ranked (kept owners deeds) ≡ true
+  among-kept_revoke deeds revocation ranked found = among-part ranked (part-kept_revoke owners deeds revocation) found
 
   -- a grant ends none
-  pub among-kept_grant : (deeds : List Deed) (grant : Grant) (place : ℕ)
-      → is_among place (kept owners deeds) ≡ true → is_among place (kept owners (deeds ++ Granting grant ∷ [])) ≡ true
-  among-kept_grant deeds grant place found =
+  pub among-kept_grant : (deeds : List Deed) (grant : Grant) (ranked : ℕ)
+      → is_among ranked (kept owners deeds) ≡ true → is_among ranked (kept owners (deeds ++ Granting grant ∷ [])) ≡ true
+  among-kept_grant deeds grant ranked found =
       by_cases (has owners (kept owners deeds) grant.grantor (option_of grant))
-      (λ held. rw (kept-grant owners deeds grant held, among-append (kept owners deeds) (grant ∷ []) place, found) refl)
+      (λ held. rw (kept-grant owners deeds grant held, among-append (kept owners deeds) (grant ∷ []) ranked, found) refl)
       (λ missing. rw (kept-refused owners deeds grant missing) found)
 
-  -- what isn't in force, with a lower place, isn't after one more deed
-  stays_out-one : (past : List Deed) (deed : Deed) (place : ℕ) → place < place_of deed
-      → is_among place (kept owners past) ≡ false → is_among place (kept owners (past ++ deed ∷ [])) ≡ false
-  stays_out-one past (Granting grant) place below out =
+  -- what isn't in force, with a lower rank, isn't after one more deed
+  stays_out-one : (past : List Deed) (deed : Deed) (ranked : ℕ) → ranked < deed_number deed
+      → is_among ranked (kept owners past) ≡ false → is_among ranked (kept owners (past ++ deed ∷ [])) ≡ false
+  stays_out-one past (Granting grant) ranked below out =
       by_cases (has owners (kept owners past) grant.grantor (option_of grant))
-      (λ held. rw (kept-grant owners past grant held, among-append (kept owners past) (grant ∷ []) place)
-      (or_from _ _ out (or_from _ _ (ne_eqb grant.place place (λ same. omega arith)) refl)))
+      (λ held. rw (kept-grant owners past grant held, among-append (kept owners past) (grant ∷ []) ranked)
+      (or_from _ _ out (or_from _ _ (ne_eqb (rank grant) ranked (λ same. omega arith)) refl)))
       (λ missing. rw (kept-refused owners past grant missing) out)
-  stays_out-one past (Revoking revocation) place below out =
-      false_from_ne_true (is_among place (kept owners (past ++ Revoking revocation ∷ [])))
-      (λ found. true≢false (sym (among-kept_revoke past revocation place found) ∙ out))
+  stays_out-one past (Revoking revocation) ranked below out =
+      false_from_ne_true (is_among ranked (kept owners (past ++ Revoking revocation ∷ [])))
+      (λ found. true≢false (sym (among-kept_revoke past revocation ranked found) ∙ out))
 
   -- a grant that has left force never comes back
-  pub stays_out : (past later : List Deed) (place : ℕ) → All (λ deed. place < place_of deed) later
-      → is_among place (kept owners past) ≡ false → is_among place (kept owners (past ++ later)) ≡ false
-  stays_out past [] place above out = rw append-nil out
-  stays_out past (deed ∷ later) place above out =
-      let one = stays_out-one past deed place (All-head (λ deed. place < place_of deed) deed later above) out in
-      let all = stays_out (past ++ deed ∷ []) later place (All-tail (λ deed. place < place_of deed) deed later above) one in
+  pub stays_out : (past later : List Deed) (ranked : ℕ) → All (λ deed. ranked < deed_number deed) later
+      → is_among ranked (kept owners past) ≡ false → is_among ranked (kept owners (past ++ later)) ≡ false
+  stays_out past [] ranked above out = rw append-nil out
+  stays_out past (deed ∷ later) ranked above out =
+      let one = stays_out-one past deed ranked (All-head (λ deed. ranked < deed_number deed) deed later above) out in
+      let all = stays_out (past ++ deed ∷ []) later ranked (All-tail (λ deed. ranked < deed_number deed) deed later above) one in
       rw append_assoc at all
 
   -- so it is with each grant of a proper list of deeds
   pub proper-stays_out : (past later : List Deed) (grant : Grant) → IsProper owners (past ++ later) → Contains past (Granting grant)
-      → is_among grant.place (kept owners past) ≡ false → is_among grant.place (kept owners (past ++ later)) ≡ false
+      → is_among (rank grant) (kept owners past) ≡ false → is_among (rank grant) (kept owners (past ++ later)) ≡ false
   proper-stays_out past later grant proper here out =
-      stays_out past later grant.place (proper-above past later (Granting grant) here (proper-later [] past later proper)) out
+      stays_out past later (rank grant) (number-above past later (Granting grant) here (proper-later [] past later proper)) out

@@ -1,4 +1,4 @@
--- The grants of the records are all that the deeds made, and their places rise.
+-- The grants of the records are all that the deeds made, and their ranks rise.
 use Rattle.std.proofs.Common.{◌≡◌, ℕ, ◌<◌, List, [], ◌∷◌, ◌++◌, refl, ap, arith, map, Bool, filter, is_none}
 use Rattle.std.specs.Prelude.{All, nat_lt}
 use Rattle.std.specs.List.{list_any}
@@ -7,36 +7,36 @@ use Rattle.model_base.specs.declared.deed.Grant.{Grant}
 use Rattle.model_base.specs.declared.deed.Record.{Record}
 use Rattle.model_base.specs.declared.deed.Deed.{Deed}
 use Rattle.model_base.specs.declared.deed.Deed.TheVariants.{Granting, Revoking}
-use Rattle.model_base.specs.Privileges.{revokes, erased, kept, place_of, IsProper, IsProperAfter}
+use Rattle.model_base.specs.Ranks.{deed_number, rank}
+use Rattle.model_base.specs.Privileges.{revokes, erased, kept, IsProper, IsProperAfter}
 use Rattle.model_base.specs.Laws.{IsPart, IsRising, none, left_out, stays}
 use Rattle.model_base.specs.Records.{grants_of, record_of, records, recorded, in_force, covered, cut}
 use Rattle.model_base.proofs.Replay.{by_cases}
 use Rattle.model_base.proofs.Parts.{part-part, part-replayed}
-use Rattle.model_base.proofs.Places.{proper-above}
+use Rattle.model_base.proofs.Places.{number-above}
 
 -- two facts on each item are one
 pub All-both : {X : Type 0} (P Q : X → Type 0) (xs : List X) → All P xs → All Q xs → All (λ x. P x × Q x) xs
 All-both P Q xs first second = λ k d less. (first k d less, second k d less)
 
--- what holds of the places of all deeds holds of those of their grants
-pub All-grants : (P : ℕ → Type 0) (deeds : List Deed) → All (λ deed. P (place_of deed)) deeds → All (λ grant. P grant.place) (grants_of deeds)
-All-grants P [] all = All-nil (λ grant. P grant.place)
+-- what holds of all deeds holds of their grants
+pub All-grants : (P : Deed → Type 0) (deeds : List Deed) → All P deeds → All (λ grant. P (Granting grant)) (grants_of deeds)
+All-grants P [] all = All-nil (λ grant. P (Granting grant))
 All-grants P (Granting grant ∷ deeds) all =
-    All-cons (λ x. P x.place) grant (grants_of deeds) (All-head (λ deed. P (place_of deed)) (Granting grant) deeds all)
-    (All-grants P deeds (All-tail (λ deed. P (place_of deed)) (Granting grant) deeds all))
-All-grants P (Revoking revocation ∷ deeds) all = All-grants P deeds (All-tail (λ deed. P (place_of deed)) (Revoking revocation) deeds all)
+    All-cons (λ x. P (Granting x)) grant (grants_of deeds) (All-head P (Granting grant) deeds all) (All-grants P deeds (All-tail P (Granting grant) deeds all))
+All-grants P (Revoking revocation ∷ deeds) all = All-grants P deeds (All-tail P (Revoking revocation) deeds all)
 
--- of grants with rising places no two have the same
-pub rising-unique : (grants : List Grant) → IsRising grants → All (λ grant. All (λ x. x.place ≡ grant.place → x ≡ grant) grants) grants
-rising-unique [] rising = All-nil (λ grant. All (λ x. x.place ≡ grant.place → x ≡ grant) [])
+-- of grants with rising ranks no two have the same
+pub rising-unique : (grants : List Grant) → IsRising grants → All (λ grant. All (λ x. rank x ≡ rank grant → x ≡ grant) grants) grants
+rising-unique [] rising = All-nil (λ grant. All (λ x. rank x ≡ rank grant → x ≡ grant) [])
 rising-unique (grant ∷ grants) rising =
-    let Same : Grant → Grant → Type 0 = λ g x. x.place ≡ g.place → x ≡ g in
-    let Above : Grant → Type 0 = λ later. grant.place < later.place in
+    let Same : Grant → Grant → Type 0 = λ g x. rank x ≡ rank g → x ≡ g in
+    let Above : Grant → Type 0 = λ later. rank grant < rank later in
     let Alone : Grant → Type 0 = λ g. All (Same g) grants in
     All-cons (λ g. All (Same g) (grant ∷ grants)) grant grants
     (All-cons (Same grant) grant grants (λ same. refl) (All-weaker Above (Same grant) (λ x less same. absurd (omega arith)) grants rising.0))
     (All-weaker (λ g. Above g × Alone g) (λ g. All (Same g) (grant ∷ grants))
-    (λ g both. let less : grant.place < g.place = both.0 in All-cons (Same g) grant grants (λ same. absurd (omega arith)) both.1) grants
+    (λ g both. let less : rank grant < rank g = both.0 in All-cons (Same g) grant grants (λ same. absurd (omega arith)) both.1) grants
     (All-both Above Alone grants rising.0 (rising-unique grants rising.1)))
 
 -- the grants that aren't erased are some of all
@@ -62,17 +62,17 @@ module _ (owners : List ℕ) where
   pub recorded-records : (deeds : List Deed) → recorded (records owners deeds) ≡ grants_of deeds
   recorded-records deeds = recorded-map deeds (grants_of deeds)
 
-  -- the places of the grants of later deeds rise
+  -- the ranks of the grants of later deeds rise
   rising-after : (past deeds : List Deed) → IsProperAfter owners past deeds → IsRising (grants_of deeds)
   rising-after past [] proper = tt
   rising-after past (Granting grant ∷ deeds) proper = (
-    All-grants (λ place. grant.place < place) deeds
-        (proper-above owners (past ++ Granting grant ∷ []) deeds (Granting grant) (Contains-push past (Granting grant)) proper.1),
+    All-grants (λ deed. rank grant < deed_number deed) deeds
+        (number-above owners (past ++ Granting grant ∷ []) deeds (Granting grant) (Contains-push past (Granting grant)) proper.1),
     rising-after (past ++ Granting grant ∷ []) deeds proper.1,
   )
   rising-after past (Revoking revocation ∷ deeds) proper = rising-after (past ++ Revoking revocation ∷ []) deeds proper.1
 
-  -- the places of the grants rise
+  -- the ranks of the grants rise
   pub rising-grants : (deeds : List Deed) → IsProper owners deeds → IsRising (grants_of deeds)
   rising-grants deeds proper = rising-after [] deeds proper
 

@@ -12,12 +12,13 @@ use Rattle.model_base.specs.declared.deed.Need.{Need}
 use Rattle.model_base.specs.declared.deed.Revocation.{Revocation}
 use Rattle.model_base.specs.declared.deed.Deed.{Deed}
 use Rattle.model_base.specs.declared.deed.Deed.TheVariants.{Granting, Revoking}
+use Rattle.model_base.specs.Ranks.{deed_number, rank}
 use Rattle.model_base.specs.Privileges.{has, holds, kept, is_among, lost, ended_by, place_of, MayFollow, IsProper, IsProperAfter}
 use Rattle.model_base.specs.Laws.{IsPart, IsRising, none, left_out, stays}
 use Rattle.model_base.specs.Records.{grants_of, end_after, record_of, records, in_force, holds_by, ended_at}
 use Rattle.model_base.proofs.Replay.{by_cases, kept-grant}
 use Rattle.model_base.proofs.Parts.{part-all, part-kept_revoke}
-use Rattle.model_base.proofs.Places.{none_among, none_below, among-kept_grant, All-kept, IsRising-kept, proper-one}
+use Rattle.model_base.proofs.Places.{none_among, number-apart, none_below, among-kept_grant, All-kept, IsRising-kept, proper-one}
 
 -- whether this place is among the places
 abbrev pub is_listed : ℕ → List ℕ → Bool
@@ -34,13 +35,13 @@ pub listed-lost : (place : ℕ) (before after : List Grant) → is_listed place 
 listed-lost place [] after = refl
 listed-lost place (grant ∷ before) after =
     let rest = listed-lost place before after in
-    by_cases (grant.place == place)
+    by_cases (rank grant == place)
     (λ same.
-    let at : grant.place ≡ place = eqb-true grant.place place same in
-    by_cases (is_among grant.place after)
+    let at : rank grant ≡ place = eqb-true (rank grant) place same in
+    by_cases (is_among (rank grant) after)
     (λ found. let there : is_among place after ≡ true = rw at at found in rw (found, same, there, rest, there) (and_false (is_among place before)))
     (λ gone. let absent : is_among place after ≡ false = rw at at gone in rw (gone, same, absent) refl))
-    (λ other. by_cases (is_among grant.place after)
+    (λ other. by_cases (is_among (rank grant) after)
     (λ found. rw (found, other) rest)
     (λ gone. rw (gone, other) rest))
   where
@@ -56,12 +57,12 @@ in_force-append first later =
 
 -- of the records with new ends those without an end are the others
 pub in_force-ended : (place : ℕ) (ended : List ℕ) (entries : List Record)
-    → in_force (map (ended_at place ended) entries) ≡ filter (λ grant. not (is_listed grant.place ended)) (in_force entries)
+    → in_force (map (ended_at place ended) entries) ≡ filter (λ grant. not (is_listed (rank grant) ended)) (in_force entries)
 in_force-ended place ended [] = refl
 in_force-ended place ended (entry ∷ entries) =
     let rest = in_force-ended place ended entries in
     by_cases (is_none entry.end)
-    (λ unended. by_cases (is_listed entry.grant.place ended)
+    (λ unended. by_cases (is_listed (rank entry.grant) ended)
     (λ ends. rw (unended, ends) rest)
     (λ left. rw (unended, left, unended) (ap (λ r. entry.grant ∷ r) rest)))
     (λ closed. rw (closed, closed) rest)
@@ -78,26 +79,26 @@ filter-same first second (grant ∷ grants) all =
     (λ fails. rw (here, fails) rest)
 
 -- a part of grants with rising places is found again by its places
-pub filter-part : {part grants : List Grant} → IsPart part grants → IsRising grants → filter (λ grant. is_among grant.place part) grants ≡ part
+pub filter-part : {part grants : List Grant} → IsPart part grants → IsRising grants → filter (λ grant. is_among (rank grant) part) grants ≡ part
 filter-part none rising = refl
 filter-part (left_out {part} {grants} {grant} p) rising =
-    rw (none_below part grant.place (part-all (λ later. grant.place < later.place) p rising.0)) (filter-part p rising.1)
+    rw (none_below part (rank grant) (part-all (λ later. rank grant < rank later) p rising.0)) (filter-part p rising.1)
 filter-part (stays {part} {grants} {grant} p) rising =
-    let whole : Grant → Bool = λ x. is_among x.place (grant ∷ part) in
-    let rest : Grant → Bool = λ x. is_among x.place part in
+    let whole : Grant → Bool = λ x. is_among (rank x) (grant ∷ part) in
+    let rest : Grant → Bool = λ x. is_among (rank x) part in
     let others : filter whole grants ≡ filter rest grants =
     filter-same whole rest grants
-    (All-weaker (λ later. grant.place < later.place) (λ x. whole x ≡ rest x) (λ x less. rw (ne_eqb grant.place x.place (λ same. omega arith)) refl)
+    (All-weaker (λ later. rank grant < rank later) (λ x. whole x ≡ rest x) (λ x less. rw (ne_eqb (rank grant) (rank x) (λ same. omega arith)) refl)
     grants rising.0) in
-    rw (eq-eqb grant.place grant.place refl) (ap (λ r. grant ∷ r) (others ∙ filter-part p rising.1))
+    rw (eq-eqb (rank grant) (rank grant) refl) (ap (λ r. grant ∷ r) (others ∙ filter-part p rising.1))
 
 -- each of the grants is among them
-pub all_among : (grants : List Grant) → All (λ grant. is_among grant.place grants ≡ true) grants
-all_among [] = All-nil (λ grant. is_among grant.place [] ≡ true)
+pub all_among : (grants : List Grant) → All (λ grant. is_among (rank grant) grants ≡ true) grants
+all_among [] = All-nil (λ grant. is_among (rank grant) [] ≡ true)
 all_among (grant ∷ grants) =
-    All-cons (λ x. is_among x.place (grant ∷ grants) ≡ true) grant grants (rw (eq-eqb grant.place grant.place refl) refl)
-    (All-weaker (λ x. is_among x.place grants ≡ true) (λ x. is_among x.place (grant ∷ grants) ≡ true)
-    (λ x found. or_right (grant.place == x.place) (is_among x.place grants) found) grants (all_among grants))
+    All-cons (λ x. is_among (rank x) (grant ∷ grants) ≡ true) grant grants (rw (eq-eqb (rank grant) (rank grant) refl) refl)
+    (All-weaker (λ x. is_among (rank x) grants ≡ true) (λ x. is_among (rank x) (grant ∷ grants) ≡ true)
+    (λ x found. or_right (rank grant == rank x) (is_among (rank x) grants) found) grants (all_among grants))
 
 -- what fails to fail passes
 not_not : (b : Bool) → not (not b) ≡ b
@@ -119,16 +120,16 @@ module _ (owners : List ℕ) where
       (λ ends. rw ends refl)
       (λ left. rw (left, end-append (past ++ deed ∷ []) first later place, append_assoc) refl)
 
-  -- a place that no deed has isn't that of a grant in force
-  pub none_among-kept : (deeds : List Deed) (place : ℕ) → All (λ deed. place_of deed ≢ place) deeds → is_among place (kept owners deeds) ≡ false
+  -- a number that no deed has isn't the rank of a grant in force
+  pub none_among-kept : (deeds : List Deed) (place : ℕ) → All (λ deed. deed_number deed ≢ place) deeds → is_among place (kept owners deeds) ≡ false
   none_among-kept deeds place others = none_among (kept owners deeds) place (All-kept owners (λ q. q ≢ place) deeds others)
 
-  -- a place that no deed has gets no end
-  end-none : (past later : List Deed) (place : ℕ) → All (λ deed. place_of deed ≢ place) past → All (λ deed. place_of deed ≢ place) later
+  -- a number that no deed has gets no end
+  end-none : (past later : List Deed) (place : ℕ) → All (λ deed. deed_number deed ≢ place) past → All (λ deed. deed_number deed ≢ place) later
       → end_after owners past later place ≡ None
   end-none past [] place before after = refl
   end-none past (deed ∷ later) place before after =
-      let other : Deed → Type 0 = λ deed. place_of deed ≢ place in
+      let other : Deed → Type 0 = λ deed. deed_number deed ≢ place in
       let rest = end-none (past ++ deed ∷ []) later place (All-push other past deed before (All-head other deed later after)) (All-tail other deed later after) in
       rw (none_among-kept past place before) rest
 
@@ -148,14 +149,15 @@ module _ (owners : List ℕ) where
   same_ends : (deeds : List Deed) (grant : Grant) (grants : List Grant)
       → map (record_of owners (deeds ++ Granting grant ∷ [])) grants ≡ map (record_of owners deeds) grants
   same_ends deeds grant [] = refl
-  same_ends deeds grant (x ∷ grants) = rw (end-grant deeds grant x.place, same_ends deeds grant grants) refl
+  same_ends deeds grant (x ∷ grants) = rw (end-grant deeds grant (rank x), same_ends deeds grant grants) refl
 
   -- a grant of a new place is recorded after the others, with no end
   pub records-grant : (deeds : List Deed) (grant : Grant) → All (λ deed. place_of deed ≢ grant.place) deeds
       → records owners (deeds ++ Granting grant ∷ []) ≡ records owners deeds ++ record { grant = grant; end = None } ∷ []
   records-grant deeds grant others =
-      let own : end_after owners [] (deeds ++ Granting grant ∷ []) grant.place ≡ None =
-      end-grant deeds grant grant.place ∙ end-none [] deeds grant.place (All-nil (λ deed. place_of deed ≢ grant.place)) others in
+      let apart = All-weaker (λ deed. place_of deed ≢ grant.place) (λ deed. deed_number deed ≢ rank grant) (λ deed other. number-apart deed grant other) deeds others in
+      let own : end_after owners [] (deeds ++ Granting grant ∷ []) (rank grant) ≡ None =
+      end-grant deeds grant (rank grant) ∙ end-none [] deeds (rank grant) (All-nil (λ deed. deed_number deed ≢ rank grant)) apart in
       rw (grants-append deeds (Granting grant ∷ []), map-append (record_of owners (deeds ++ Granting grant ∷ [])) (grants_of deeds) (grant ∷ []), same_ends deeds grant (grants_of deeds), own)
       refl
 
@@ -172,16 +174,16 @@ module _ (owners : List ℕ) where
   new_end deeds revocation grant =
       let before = kept owners deeds in
       let after = kept owners (deeds ++ Revoking revocation ∷ []) in
-      let listed = listed-lost grant.place before after in
-      rw (end-append [] deeds (Revoking revocation ∷ []) grant.place) (by_end (end_after owners [] deeds grant.place) refl listed)
+      let listed = listed-lost (rank grant) before after in
+      rw (end-append [] deeds (Revoking revocation ∷ []) (rank grant)) (by_end (end_after owners [] deeds (rank grant)) refl listed)
     where
-      by_end : (end : Option ℕ) → end_after owners [] deeds grant.place ≡ end
-          → is_listed grant.place (ended_by owners deeds revocation) ≡ (is_among grant.place (kept owners deeds) && not (is_among grant.place (kept owners (deeds ++ Revoking revocation ∷ []))))
-          → record { grant = grant; end = option_or (end_after owners [] deeds grant.place) (end_after owners deeds (Revoking revocation ∷ []) grant.place) }
+      by_end : (end : Option ℕ) → end_after owners [] deeds (rank grant) ≡ end
+          → is_listed (rank grant) (ended_by owners deeds revocation) ≡ (is_among (rank grant) (kept owners deeds) && not (is_among (rank grant) (kept owners (deeds ++ Revoking revocation ∷ []))))
+          → record { grant = grant; end = option_or (end_after owners [] deeds (rank grant)) (end_after owners deeds (Revoking revocation ∷ []) (rank grant)) }
           ≡ ended_at revocation.place (ended_by owners deeds revocation) (record_of owners deeds grant)
       by_end (Some q) is listed = rw is refl
       by_end None is listed =
-          by_cases (is_among grant.place (kept owners deeds) && not (is_among grant.place (kept owners (deeds ++ Revoking revocation ∷ []))))
+          by_cases (is_among (rank grant) (kept owners deeds) && not (is_among (rank grant) (kept owners (deeds ++ Revoking revocation ∷ []))))
           (λ ends. rw (is, listed, ends) refl)
           (λ left. rw (is, listed, left) refl)
 
@@ -208,12 +210,12 @@ module _ (owners : List ℕ) where
   in_force-one past (Revoking revocation) proper may same =
       let before = kept owners past in
       let after = kept owners (past ++ Revoking revocation ∷ []) in
-      let left : Grant → Bool = λ grant. not (is_listed grant.place (ended_by owners past revocation)) in
-      let stands : Grant → Bool = λ grant. is_among grant.place after in
+      let left : Grant → Bool = λ grant. not (is_listed (rank grant) (ended_by owners past revocation)) in
+      let stands : Grant → Bool = λ grant. is_among (rank grant) after in
       rw (records-revoke past revocation, in_force-ended revocation.place (ended_by owners past revocation) (records owners past), same)
       (filter-same left stands before
-      (All-weaker (λ grant. is_among grant.place before ≡ true) (λ grant. left grant ≡ stands grant)
-      (λ grant found. rw (listed-lost grant.place before after, found) (not_not (is_among grant.place after))) before (all_among before))
+      (All-weaker (λ grant. is_among (rank grant) before ≡ true) (λ grant. left grant ≡ stands grant)
+      (λ grant found. rw (listed-lost (rank grant) before after, found) (not_not (is_among (rank grant) after))) before (all_among before))
       ∙ filter-part (part-kept_revoke owners past revocation) (IsRising-kept owners past proper))
 
   -- so do all deeds that may follow

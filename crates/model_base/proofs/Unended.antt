@@ -8,6 +8,7 @@ use Rattle.model_base.specs.declared.deed.Grant.{Grant}
 use Rattle.model_base.specs.declared.deed.Record.{Record}
 use Rattle.model_base.specs.declared.deed.Need.{Need}
 use Rattle.model_base.specs.declared.deed.Deed.{Deed}
+use Rattle.model_base.specs.Ranks.{rank}
 use Rattle.model_base.specs.Privileges.{owns, gives, has, kept, is_among, IsProper}
 use Rattle.model_base.specs.Records.{grants_of, end_after, record_of, records, in_force, holds_by}
 use Rattle.model_base.proofs.Replay.{by_cases}
@@ -16,40 +17,40 @@ use Rattle.model_base.proofs.Recorded.{All-both}
 use Rattle.model_base.proofs.Ends.{end-out}
 
 -- the grant of a record without an end is among those in force by the records
-among-unended : (entries : List Record) → All (λ entry. is_none entry.end ≡ true → is_among entry.grant.place (in_force entries) ≡ true) entries
-among-unended [] = All-nil (λ entry. is_none entry.end ≡ true → is_among entry.grant.place [] ≡ true)
+among-unended : (entries : List Record) → All (λ entry. is_none entry.end ≡ true → is_among (rank entry.grant) (in_force entries) ≡ true) entries
+among-unended [] = All-nil (λ entry. is_none entry.end ≡ true → is_among (rank entry.grant) [] ≡ true)
 among-unended (entry ∷ entries) =
-    let Found : Record → Type 0 = λ x. is_none x.end ≡ true → is_among x.grant.place (in_force (entry ∷ entries)) ≡ true in
-    All-cons Found entry entries (λ unended. rw (unended, eq-eqb entry.grant.place entry.grant.place refl) refl)
-    (All-weaker (λ x. is_none x.end ≡ true → is_among x.grant.place (in_force entries) ≡ true) Found (λ x found unended. later x (found unended)) entries
+    let Found : Record → Type 0 = λ x. is_none x.end ≡ true → is_among (rank x.grant) (in_force (entry ∷ entries)) ≡ true in
+    All-cons Found entry entries (λ unended. rw (unended, eq-eqb (rank entry.grant) (rank entry.grant) refl) refl)
+    (All-weaker (λ x. is_none x.end ≡ true → is_among (rank x.grant) (in_force entries) ≡ true) Found (λ x found unended. later x (found unended)) entries
     (among-unended entries))
   where
-    later : (x : Record) → is_among x.grant.place (in_force entries) ≡ true → is_among x.grant.place (in_force (entry ∷ entries)) ≡ true
+    later : (x : Record) → is_among (rank x.grant) (in_force entries) ≡ true → is_among (rank x.grant) (in_force (entry ∷ entries)) ≡ true
     later x found =
         by_cases (is_none entry.end)
-        (λ unended. rw unended (or_right (entry.grant.place == x.grant.place) (is_among x.grant.place (in_force entries)) found))
+        (λ unended. rw unended (or_right (rank entry.grant == rank x.grant) (is_among (rank x.grant) (in_force entries)) found))
         (λ ended. rw ended found)
 
 module _ (owners : List ℕ) where
   -- the grant of a record with an end isn't in force
   ended-out : (deeds : List Deed) → IsProper owners deeds
-      → All (λ entry. is_none entry.end ≡ false → is_among entry.grant.place (kept owners deeds) ≡ false) (records owners deeds)
+      → All (λ entry. is_none entry.end ≡ false → is_among (rank entry.grant) (kept owners deeds) ≡ false) (records owners deeds)
   ended-out deeds proper =
-      All-map (λ entry. is_none entry.end ≡ false → is_among entry.grant.place (kept owners deeds) ≡ false) (record_of owners deeds) (grants_of deeds)
-      (All-weaker (Contains (grants_of deeds)) (λ grant. is_none (end_after owners [] deeds grant.place) ≡ false → is_among grant.place (kept owners deeds) ≡ false)
-      (λ grant here ended. by_end grant (end_after owners [] deeds grant.place) refl ended) (grants_of deeds) (All-contains_itself (grants_of deeds)))
+      All-map (λ entry. is_none entry.end ≡ false → is_among (rank entry.grant) (kept owners deeds) ≡ false) (record_of owners deeds) (grants_of deeds)
+      (All-weaker (Contains (grants_of deeds)) (λ grant. is_none (end_after owners [] deeds (rank grant)) ≡ false → is_among (rank grant) (kept owners deeds) ≡ false)
+      (λ grant here ended. by_end grant (end_after owners [] deeds (rank grant)) refl ended) (grants_of deeds) (All-contains_itself (grants_of deeds)))
     where
-      by_end : (grant : Grant) (end : Option ℕ) → end_after owners [] deeds grant.place ≡ end → is_none end ≡ false → is_among grant.place (kept owners deeds) ≡ false
+      by_end : (grant : Grant) (end : Option ℕ) → end_after owners [] deeds (rank grant) ≡ end → is_none end ≡ false → is_among (rank grant) (kept owners deeds) ≡ false
       by_end grant None is ended = absurd (true≢false ended)
-      by_end grant (Some end) is ended = end-out owners [] deeds grant.place end proper is
+      by_end grant (Some end) is ended = end-out owners [] deeds (rank grant) end proper is
 
   -- a record has no end exactly if its grant is in force
   pub records-unended : (deeds : List Deed) → IsProper owners deeds
-      → All (λ entry. is_none entry.end ≡ is_among entry.grant.place (kept owners deeds)) (records owners deeds)
+      → All (λ entry. is_none entry.end ≡ is_among (rank entry.grant) (kept owners deeds)) (records owners deeds)
   records-unended deeds proper =
-      let Stands : Record → Type 0 = λ entry. is_none entry.end ≡ true → is_among entry.grant.place (in_force (records owners deeds)) ≡ true in
-      let Fell : Record → Type 0 = λ entry. is_none entry.end ≡ false → is_among entry.grant.place (kept owners deeds) ≡ false in
-      All-weaker (λ entry. Stands entry × Fell entry) (λ entry. is_none entry.end ≡ is_among entry.grant.place (kept owners deeds))
+      let Stands : Record → Type 0 = λ entry. is_none entry.end ≡ true → is_among (rank entry.grant) (in_force (records owners deeds)) ≡ true in
+      let Fell : Record → Type 0 = λ entry. is_none entry.end ≡ false → is_among (rank entry.grant) (kept owners deeds) ≡ false in
+      All-weaker (λ entry. Stands entry × Fell entry) (λ entry. is_none entry.end ≡ is_among (rank entry.grant) (kept owners deeds))
       (λ entry both. by_cases (is_none entry.end)
       (λ unended. unended ∙ sym (rw (in_force-records owners deeds proper) at (both.0 unended)))
       (λ ended. ended ∙ sym (both.1 ended)))

@@ -4,6 +4,7 @@ use Rattle.model_base.specs.declared.deed.Grant.{Grant}
 use Rattle.model_base.specs.declared.deed.Need.{Need}
 use Rattle.model_base.specs.declared.deed.Deed.{Deed}
 use Rattle.model_base.specs.Privileges.{holds, place_of}
+use Rattle.model_base.specs.Ranks.{rank}
 
 -- the first list is the second with some of its grants left out
 pub data IsPart : List Grant → List Grant → Type 0 where
@@ -11,10 +12,10 @@ pub data IsPart : List Grant → List Grant → Type 0 where
   left_out : {part grants : List Grant} {grant : Grant} → IsPart part grants → IsPart part (grant ∷ grants)
   stays : {part grants : List Grant} {grant : Grant} → IsPart part grants → IsPart (grant ∷ part) (grant ∷ grants)
 
--- the places of the grants rise
+-- the ranks of the grants rise
 abbrev pub IsRising : List Grant → Type 0
 IsRising [] = Unit {0}
-IsRising (grant ∷ grants) = All (λ later. grant.place < later.place) grants × IsRising grants
+IsRising (grant ∷ grants) = All (λ later. rank grant < rank later) grants × IsRising grants
 
 -- a deed of this place took the need away last: the deeds before it hold the need, and no longer beginning of the deeds does
 pub record IsLastLoss (owners : List ℕ) (deeds : List Deed) (user : ℕ) (need : Need) (place : ℕ) : Type 0 where

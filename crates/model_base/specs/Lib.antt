@@ -2,6 +2,8 @@ pub mod Rows
 pub mod Values
 pub mod Registers
 pub mod Grantees
+pub mod Ranks
+pub mod RecordNames
 pub mod Privileges
 pub mod Body
 pub mod Outcomes
@@ -14,3 +16,4 @@ pub mod Records
 pub mod Growing
 pub mod OwnedTables
 pub mod Seeds
+pub mod NeedsLeft

@@ -7,6 +7,7 @@ use Rattle.std.specs.Option.{option_map_or, option_map}
 use Rattle.model_base.specs.declared.deed.Kind.{Kind}
 use Rattle.model_base.specs.declared.deed.Kind.TheVariants.{Read, Insert, Update, Delete}
 use Rattle.model_base.specs.declared.deed.Kinds.{Kinds}
+use Rattle.model_base.specs.declared.deed.Position.TheVariants.{First}
 use Rattle.model_base.specs.declared.deed.Need.{Need}
 use Rattle.model_base.specs.declared.deed.Cause.{Cause}
 use Rattle.model_base.specs.declared.deed.Cause.TheVariants.{Never, Taken}
@@ -62,7 +63,7 @@ needs (Form.Deed deed) = needs_of_deed deed
 -- the deed of a user at a place
 abbrev pub deed_at : ℕ → ℕ → DeedForm → Deed
 deed_at place user (DeedForm.Grant kind table grantee option) =
-    Granting (record { place = place; grantor = user; grantee = grantee; kind = kind; table = table; option = option })
+    Granting (record { place = place; grantor = user; grantee = grantee; position = First; kind = kind; table = table; option = option })
 deed_at place user (DeedForm.Revoke kinds table grantees) =
     Revoking (record { place = place; grantor = user; grantees = grantees; kinds = kinds; table = table })
 

@@ -16,6 +16,7 @@ use Rattle.model_base.specs.declared.deed.Revocation.{Revocation}
 use Rattle.model_base.specs.declared.deed.Need.{Need}
 use Rattle.model_base.specs.declared.deed.Deed.{Deed}
 use Rattle.model_base.specs.declared.deed.Deed.TheVariants.{Granting, Revoking}
+use Rattle.model_base.specs.Ranks.{rank}
 
 -- whether the kind is among these
 abbrev pub has_kind : Kinds → Kind → Bool
@@ -125,16 +126,16 @@ kept owners deeds = replayed owners [] (erased deeds)
 abbrev pub holds : List ℕ → List Deed → ℕ → Need → Bool
 holds owners deeds user need = has owners (kept owners deeds) user need
 
--- whether the grant of this place is among the grants
+-- whether the grant of this rank is among the grants
 abbrev pub is_among : ℕ → List Grant → Bool
-is_among place grants = list_any (λ grant. grant.place == place) grants
+is_among ranked grants = list_any (λ grant. rank grant == ranked) grants
 
--- the places, in order, of the grants of the first list that the second no longer has
+-- the ranks, in order, of the grants of the first list that the second no longer has
 abbrev pub lost : List Grant → List Grant → List ℕ
 lost [] after = []
-lost (grant ∷ before) after = if is_among grant.place after then lost before after else grant.place ∷ lost before after
+lost (grant ∷ before) after = if is_among (rank grant) after then lost before after else rank grant ∷ lost before after
 
--- the places of the grants that a revocation takes out of force, after the deeds
+-- the ranks of the grants that a revocation takes out of force, after the deeds
 abbrev pub ended_by : List ℕ → List Deed → Revocation → List ℕ
 ended_by owners deeds revocation = lost (kept owners deeds) (kept owners (deeds ++ Revoking revocation ∷ []))
 

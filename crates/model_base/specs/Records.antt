@@ -9,6 +9,7 @@ use Rattle.model_base.specs.declared.deed.Record.{Record}
 use Rattle.model_base.specs.declared.deed.Need.{Need}
 use Rattle.model_base.specs.declared.deed.Deed.{Deed}
 use Rattle.model_base.specs.declared.deed.Deed.TheVariants.{Granting, Revoking}
+use Rattle.model_base.specs.Ranks.{rank}
 use Rattle.model_base.specs.Privileges.{has, names, replayed, kept, is_among, lost, place_of}
 
 -- all grants of the deeds, in order
@@ -17,17 +18,17 @@ grants_of [] = []
 grants_of (Granting grant ∷ deeds) = grant ∷ grants_of deeds
 grants_of (Revoking _ ∷ deeds) = grants_of deeds
 
--- the place of the first of the later deeds that takes the grant of this place out of force
+-- the place of the first of the later deeds that takes the grant of this rank out of force
 abbrev pub end_after : List ℕ → List Deed → List Deed → ℕ → Option ℕ
-end_after owners past [] place = None
-end_after owners past (deed ∷ later) place =
-    if is_among place (kept owners past) && not (is_among place (kept owners (past ++ deed ∷ [])))
+end_after owners past [] ranked = None
+end_after owners past (deed ∷ later) ranked =
+    if is_among ranked (kept owners past) && not (is_among ranked (kept owners (past ++ deed ∷ [])))
     then Some (place_of deed)
-    else end_after owners (past ++ deed ∷ []) later place
+    else end_after owners (past ++ deed ∷ []) later ranked
 
 -- a grant of the deeds with its end: the place of the deed that takes it out of force, or none
 abbrev pub record_of : List ℕ → List Deed → Grant → Record
-record_of owners deeds grant = record { grant = grant; end = end_after owners [] deeds grant.place }
+record_of owners deeds grant = record { grant = grant; end = end_after owners [] deeds (rank grant) }
 
 -- all grants of the deeds, in order, each with its end
 abbrev pub records : List ℕ → List Deed → List Record
@@ -45,15 +46,15 @@ in_force entries = recorded (filter (λ (entry : Record). is_none entry.end) ent
 abbrev pub holds_by : List ℕ → List Record → ℕ → Need → Bool
 holds_by owners entries user need = has owners (in_force entries) user need
 
--- the places of the grants that a revocation takes out of force, by the records
+-- the ranks of the grants that a revocation takes out of force, by the records
 abbrev pub ended_by_records : List ℕ → List Record → Revocation → List ℕ
 ended_by_records owners entries revocation =
     lost (in_force entries) (replayed owners [] (filter (λ grant. not (names revocation grant)) (in_force entries)))
 
--- the record with its end at this place, if it has none yet and its grant's place is among those ended
+-- the record with its end at this place, if it has none yet and its grant's rank is among those ended
 abbrev pub ended_at : ℕ → List ℕ → Record → Record
 ended_at place ended entry =
-    if is_none entry.end && list_any (λ made. made == entry.grant.place) ended
+    if is_none entry.end && list_any (λ ranked. ranked == rank entry.grant) ended
     then record { grant = entry.grant; end = Some place }
     else entry
 

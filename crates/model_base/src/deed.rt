@@ -3,7 +3,7 @@
 //! After P. P. Griffiths and B. W. Wade, "An Authorization Mechanism for a Relational Database System", ACM TODS 1
 //! (1976), and R. Fagin, "On an Authorization Mechanism", ACM TODS 3 (1978).
 
-use crate::limits::MOST_GRANTEES;
+use crate::grantees::Grantees;
 use crate::name::{Place, Table, User};
 use std::marker::Model;
 
@@ -19,6 +19,19 @@ pub enum Kind {
 impl Kind {
     ghost use Rattle.std.specs.Prelude.{◌≡◌};
     ghost use Rattle.model_base.specs.Privileges.{same_kind};
+    ghost use Rattle.model_base.specs.Ranks.{kind_code};
+
+    /// The code of the kind, in the order of the kinds.
+    pub fn code(self) -> u8
+        ensures { result ≡ kind_code self }
+    {
+        match self {
+            Kind::Read => 0,
+            Kind::Insert => 1,
+            Kind::Update => 2,
+            Kind::Delete => 3,
+        }
+    }
 
     /// Whether the two kinds are the same.
     fn is_same(self, other: Kind) -> bool
@@ -113,68 +126,99 @@ impl Grantee {
     }
 }
 
-/// From one to `MOST_GRANTEES` grantees, each once, in order, kept in the value itself, so that a copy doesn't allocate.
+/// Which of its deed's grantees a grant is to, in the order in which the deed names them.
 #[derive(Clone, Copy, PartialEq, Eq, Debug)]
-pub struct Grantees {
-    len: u8,
-    grantees: [Grantee; MOST_GRANTEES],
+pub enum Position {
+    First,
+    Second,
+    Third,
+    Fourth,
+    Fifth,
+    Sixth,
+    Seventh,
+    Eighth,
 }
 
-impl Model for Grantees {
-    ghost use Rattle.std.specs.Prelude.{List};
-    ghost use Rattle.model_base.specs.declared.deed.Grantee.{Grantee};
+impl Position {
+    ghost use Rattle.std.specs.Prelude.{◌≡◌};
+    ghost use Rattle.model_base.specs.Ranks.{position_code};
 
-    ghost Value = { List Grantee };
-
-    ghost use Rattle.model_base.specs.Grantees.{grantees_of, IsPadded, padded, padded-undoes};
-
-    ghost view = { grantees_of };
-
-    ghost invariant = { IsPadded };
-
-    ghost inverse = { padded };
-
-    ghost inverse_ok = { padded-undoes };
-}
-
-impl Grantees {
-    ghost use Rattle.std.specs.Prelude.{◌≡◌, ◌≤◌, ◌∷◌, [], length};
-    ghost use Rattle.model_base.specs.Grantees.{AreDistinct};
-    ghost use Rattle.model_base.specs.Privileges.{has_grantee};
-
-    /// The one grantee alone.
-    pub fn of(grantee: Grantee) -> Self
-        ensures { result ≡ grantee ∷ [] }
+    /// The code of the position, from 0.
+    fn code(self) -> u8
+        ensures { result ≡ position_code self }
     {
-        let mut grantees = [Grantee::Public; MOST_GRANTEES];
-        grantees[0] = grantee;
-        Grantees { len: 1, grantees }
-    }
-
-    /// The grantees, in order.
-    pub fn as_slice(&self) -> &[Grantee]
-        ensures value { result.now ≡ self.now }
-        ensures some { 1 ≤ length self.now }
-        ensures most { length self.now ≤ MOST_GRANTEES }
-        ensures apart { AreDistinct self.now }
-    {
-        &self.grantees[..self.len as usize]
-    }
-
-    /// Whether the grantee is one of these.
-    pub fn contains(&self, grantee: &Grantee) -> bool
-        ensures { result ≡ has_grantee self.now grantee.now }
-    {
-        self.as_slice().iter().any(|other| other.is_same(*grantee))
+        match self {
+            Position::First => 0,
+            Position::Second => 1,
+            Position::Third => 2,
+            Position::Fourth => 3,
+            Position::Fifth => 4,
+            Position::Sixth => 5,
+            Position::Seventh => 6,
+            Position::Eighth => 7,
+        }
     }
 }
 
-/// One grant of one kind on one table to one user, or to all, with the place of its transaction.
+/// The name of the record of one grant: the place of its deed, its kind, and the position of its grantee in the deed. Records are in the
+/// order of these three.
+#[derive(Clone, Copy, Debug)]
+pub struct RecordName {
+    pub place: Place,
+    pub kind: Kind,
+    pub position: Position,
+}
+
+impl Model for RecordName {
+    ghost use Rattle.std.specs.Prelude.{ℕ};
+
+    ghost Value = { ℕ };
+
+    ghost use Rattle.model_base.specs.Ranks.{rank_of};
+    ghost use Rattle.model_base.specs.RecordNames.{named, named-undoes};
+
+    ghost view = { λ name. rank_of name.place name.kind name.position };
+
+    ghost inverse = { named };
+
+    ghost inverse_ok = { λ name _. named-undoes name };
+}
+
+impl RecordName {
+    ghost use Rattle.std.specs.Prelude.{◌≡◌, ◌==◌, ◌%◌, nat_lt};
+
+    /// The number of the record among those of its place, in order.
+    fn number_at_place(self) -> u8
+        ensures { result ≡ self % 32 }
+    {
+        self.kind.code() * 8 + self.position.code()
+    }
+
+    /// Whether the record is before the other, in the order of records.
+    pub fn is_before(self, other: RecordName) -> bool
+        ensures { result ≡ nat_lt self other }
+    {
+        self.place < other.place
+            || (self.place == other.place && self.number_at_place() < other.number_at_place())
+    }
+
+    /// Whether the two are names of the same record.
+    pub fn is_same(self, other: RecordName) -> bool
+        ensures { result ≡ (self == other) }
+    {
+        let kinds = self.kind.code() == other.kind.code();
+        let positions = self.position.code() == other.position.code();
+        (self.place == other.place) & kinds & positions
+    }
+}
+
+/// One grant of one kind on one table to one user, or to all, with the place of its transaction and the position of its grantee there.
 #[derive(Clone, Copy, PartialEq, Eq, Debug)]
 pub struct Grant {
     pub place: Place,
     pub grantor: User,
     pub grantee: Grantee,
+    pub position: Position,
     pub kind: Kind,
     pub table: Table,
     pub option: bool,
@@ -190,6 +234,18 @@ pub struct Record {
 impl Grant {
     ghost use Rattle.std.specs.Prelude.{◌≡◌};
     ghost use Rattle.model_base.specs.Privileges.{gives, lends_to, option_holder};
+    ghost use Rattle.model_base.specs.Ranks.{rank};
+
+    /// The name of its record.
+    pub fn name(&self) -> RecordName
+        ensures { result ≡ rank self.now }
+    {
+        RecordName {
+            place: self.place,
+            kind: self.kind,
+            position: self.position,
+        }
+    }
 
     /// To whom it gives the right to grant further: to its grantee, if it is with the option. PUBLIC never has it.
     pub fn option_holder(&self) -> Option<User>

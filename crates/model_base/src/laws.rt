@@ -1,10 +1,11 @@
 //! What holds of every list of deeds, of the grants in force after it, and of every log.
 
-ghost use Rattle.std.specs.Prelude.{◌==◌, ◌≡◌, ◌↔◌, ℕ, ◌+◌, ◌<◌, true, false, List, [], ◌∷◌, ◌++◌, All, Any, Contains, take, if◌then◌else◌};
+ghost use Rattle.std.specs.Prelude.{◌==◌, ◌≡◌, ◌↔◌, ℕ, ◌+◌, ◌<◌, ◌≤◌, true, false, List, [], ◌∷◌, ◌++◌, All, Any, Contains, take, if◌then◌else◌};
 ghost use Rattle.model_base.specs.Admitted.{IsAsked, IsDenial, IsPrivileged, WasAdmitted, WasDenied};
 ghost use Rattle.model_base.specs.Laws.{GrowsAt, IsLastLoss, IsPart, IsRising};
 ghost use Rattle.model_base.specs.Outcomes.{cause, deeds_before, needs, outcome, owners};
 ghost use Rattle.model_base.specs.Paths.{LeadsTo, path};
+ghost use Rattle.model_base.specs.Ranks.{deed_number, place_of_rank, rank};
 ghost use Rattle.model_base.specs.Privileges.{IsProper, gives, has, holds, is_among, kept, lends_to, option_of, owns, place_of, replayed};
 ghost use Rattle.model_base.specs.declared.deed.Cause.{Cause};
 ghost use Rattle.model_base.specs.declared.deed.Cause.TheVariants.{Never, Taken};
@@ -62,14 +63,14 @@ pub fn fewer_grants_keep_fewer()
         → IsPart standing wider → IsPart fewer more → IsPart (replayed owners standing fewer) (replayed owners wider more) }
 {}
 
-/// A grant that is out of force after some deeds is so after all deeds that follow, whose places lie above its own.
+/// A grant that is out of force after some deeds is so after all deeds that follow, whose numbers lie above its rank.
 pub fn ended_grants_stay_ended()
-    ensures above { (owners : List ℕ) (past later : List Deed) (place : ℕ)
-        → All (λ deed. place < place_of deed) later
-        → is_among place (kept owners past) ≡ false → is_among place (kept owners (past ++ later)) ≡ false }
+    ensures above { (owners : List ℕ) (past later : List Deed) (ranked : ℕ)
+        → All (λ deed. ranked < deed_number deed) later
+        → is_among ranked (kept owners past) ≡ false → is_among ranked (kept owners (past ++ later)) ≡ false }
     ensures proper { (owners : List ℕ) (past later : List Deed) (grant : Grant)
         → IsProper owners (past ++ later) → Contains past (Granting grant)
-        → is_among grant.place (kept owners past) ≡ false → is_among grant.place (kept owners (past ++ later)) ≡ false }
+        → is_among (rank grant) (kept owners past) ≡ false → is_among (rank grant) (kept owners (past ++ later)) ≡ false }
 {}
 
 /// A grant ends none: it joins those in force if its grantor has the option, and what was held stays held.
@@ -112,7 +113,17 @@ pub fn deeds_before_are_proper()
     ensures below { (log : List Statement) (place : ℕ) → All (λ deed. place_of deed < place) (deeds_before log place) }
 {}
 
-/// A need that is held has a path of grants in force, along which the places rise. It leads from the table's owner to
+/// The order of records: what is at a later place has a greater rank, of deeds a greater number; and a rank is that of one place, kind and
+/// position.
+pub fn ranks_follow_places()
+    ensures deeds { (deed next : Deed) → place_of deed < place_of next → deed_number deed < deed_number next }
+    ensures places { (grant other : Grant) → rank grant < rank other → grant.place ≤ other.place }
+    ensures place { (grant : Grant) → place_of_rank (rank grant) ≡ grant.place }
+    ensures one { (grant other : Grant) → rank grant ≡ rank other
+        → (grant.place ≡ other.place) × (grant.kind ≡ other.kind) × (grant.position ≡ other.position) }
+{}
+
+/// A need that is held has a path of grants in force, along which the ranks rise. It leads from the table's owner to
 /// the need: the owner makes the first grant, each gives the grantor of the next the option, and the last gives the need.
 pub fn held_needs_have_paths()
     ensures leads { (owners : List ℕ) (deeds : List Deed) (user : ℕ) (need : Need)

@@ -10,26 +10,31 @@
 #![tactic(auto)]
 
 mod deed;
+mod grantees;
 mod growing_laws;
 mod hash_seed;
 mod laws;
 mod limits;
 mod list;
 mod name;
+mod needs;
 mod outcome;
 mod record_laws;
 mod reference;
 mod row;
 mod statement;
 
-pub use deed::{Cause, Deed, Grant, Grantee, Grantees, Kind, Kinds, Need, Record, Revocation};
+pub use deed::{
+    Cause, Deed, Grant, Grantee, Kind, Kinds, Need, Position, Record, RecordName, Revocation,
+};
+pub use grantees::Grantees;
 pub use growing_laws::earlier_places_stand;
 pub use hash_seed::HashSeed;
 pub use laws::{
     admitted_exactly_when_privileged, causes_are_last_losses, causes_are_revocations,
     deeds_before_are_proper, ended_grants_stay_ended, fewer_grants_keep_fewer, grants_end_none,
     held_needs_have_paths, paths_take_the_earliest, places_make_one_deed_at_most,
-    public_is_every_user, revocations_add_none,
+    public_is_every_user, ranks_follow_places, revocations_add_none,
 };
 pub use limits::{
     MOST_ACCESSES, MOST_BATCH_STATEMENTS, MOST_COLUMNS, MOST_GRANTEES, MOST_KEPT_BATCHES,
@@ -38,6 +43,7 @@ pub use limits::{
 };
 pub use list::Items;
 pub use name::{Place, RowNumber, Table, User};
+pub use needs::Needs;
 pub use outcome::{DeedDone, Outcome, Reason};
 pub use record_laws::{
     causes_are_losses_by_records, covered_records_tell, deeds_change_records,

@@ -1,8 +1,7 @@
 //! What a place of the log results in.
 
-use crate::deed::{Cause, Need};
+use crate::deed::{Cause, Need, RecordName};
 use crate::list::Items;
-use crate::name::Place;
 use crate::row::Outputs;
 
 /// Why a body was aborted.
@@ -24,8 +23,8 @@ pub enum DeedDone {
     /// The transaction has no deed.
     None,
     Granted,
-    /// The places of the grants that the revocation took out of force, ascending.
-    Revoked(Items<Place>),
+    /// The records of the grants that the revocation took out of force, in order.
+    Revoked(Items<RecordName>),
 }
 
 /// The outcome of one place. Only `Done` changes rows and makes the transaction's deed.

@@ -7,6 +7,7 @@ ghost use Rattle.std.specs.Option.{option_map_or};
 ghost use Rattle.model_base.specs.Laws.{IsPart, IsRising};
 ghost use Rattle.model_base.specs.Outcomes.{cause, deeds_before, owners};
 ghost use Rattle.model_base.specs.OwnedTables.{AreOnOwnedTables};
+ghost use Rattle.model_base.specs.Ranks.{rank};
 ghost use Rattle.model_base.specs.Privileges.{IsProper, concerns, ended_by, gives, holds, is_among, kept, option_of, owns, place_of, replayed};
 ghost use Rattle.model_base.specs.Records.{covered, cut, deeds_below, end_after, ended_at, ended_by_records, grants_of, holds_by, in_force, last_loss_by, recorded, records};
 ghost use Rattle.model_base.specs.declared.deed.Cause.TheVariants.{Never, Taken};
@@ -25,7 +26,7 @@ pub fn unended_records_are_in_force()
         → IsProper owners deeds → in_force (records owners deeds) ≡ kept owners deeds }
     ensures each { (owners : List ℕ) (deeds : List Deed)
         → IsProper owners deeds
-        → All (λ entry. is_none entry.end ≡ is_among entry.grant.place (kept owners deeds)) (records owners deeds) }
+        → All (λ entry. is_none entry.end ≡ is_among (rank entry.grant) (kept owners deeds)) (records owners deeds) }
     ensures held { (owners : List ℕ) (deeds : List Deed) (user : ℕ) (need : Need)
         → IsProper owners deeds → holds_by owners (records owners deeds) user need ≡ holds owners deeds user need }
     ensures given { (owners : List ℕ) (entries : List Record) (user : ℕ) (need : Need)
@@ -45,7 +46,7 @@ pub fn deeds_change_records()
         ≡ map (ended_at revocation.place (ended_by owners deeds revocation)) (records owners deeds) }
 {}
 
-/// The records are of all grants of the deeds, and their places rise, as do those of the grants in force, of the records of some tables,
+/// The records are of all grants of the deeds, and their ranks rise, as do those of the grants in force, of the records of some tables,
 /// and of the records as they were at a place, since these are some of all.
 pub fn records_rise()
     ensures grants { (owners : List ℕ) (deeds : List Deed) → recorded (records owners deeds) ≡ grants_of deeds }
@@ -73,10 +74,10 @@ pub fn ends_are_revocations()
 
 /// The end of a grant is the place of the deed before which it is in force and after which it isn't.
 pub fn ends_are_losses()
-    ensures { (owners : List ℕ) (past : List Deed) (deed : Deed) (later : List Deed) (place : ℕ)
+    ensures { (owners : List ℕ) (past : List Deed) (deed : Deed) (later : List Deed) (ranked : ℕ)
         → IsProper owners (past ++ deed ∷ later)
-        → (end_after owners [] (past ++ deed ∷ later) place ≡ Some (place_of deed))
-        ↔ ((is_among place (kept owners past) ≡ true) × (is_among place (kept owners (past ++ deed ∷ [])) ≡ false)) }
+        → (end_after owners [] (past ++ deed ∷ later) ranked ≡ Some (place_of deed))
+        ↔ ((is_among ranked (kept owners past) ≡ true) × (is_among ranked (kept owners (past ++ deed ∷ [])) ≡ false)) }
 {}
 
 /// Each record was authorised when it was made: its grantor held the option by the deeds below its place, and by the records as they were
@@ -118,7 +119,7 @@ pub fn covered_records_tell()
 {}
 
 /// Which grants a revocation ends, the records say, those of some tables with its own among them, and even those of its kinds on its
-/// table alone. This holds of all records whose grants in force have rising places and bear their own replay, as do those of proper
+/// table alone. This holds of all records whose grants in force have rising ranks and bear their own replay, as do those of proper
 /// deeds, and those of some tables.
 pub fn records_tell_what_revocations_end()
     ensures all { (owners : List ℕ) (deeds : List Deed) (revocation : Revocation)

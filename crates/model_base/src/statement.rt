@@ -1,6 +1,7 @@
 //! The statements of a log.
 
-use crate::deed::{Deed, Grant, Grantee, Grantees, Kind, Kinds, Revocation};
+use crate::deed::{Deed, Grant, Grantee, Kind, Kinds, Position, Revocation};
+use crate::grantees::Grantees;
 use crate::limits::{MOST_COLUMNS, MOST_REGISTERS};
 use crate::list::Items;
 use crate::name::{Place, RowNumber, Table, User};
@@ -237,6 +238,7 @@ impl DeedForm {
                 place,
                 grantor: user,
                 grantee,
+                position: Position::First,
                 kind,
                 table,
                 option,

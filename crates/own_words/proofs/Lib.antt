@@ -1,3 +1,2 @@
-pub mod NeedsLeft
 pub mod Padding
 pub mod Undoing

@@ -22,7 +22,7 @@ use Rattle.model_base.specs.declared.statement.Form.{Form}
 use Rattle.model_base.specs.Outcomes.{kind_if, kinds_in, need_of, needs, needs_of_access, needs_of_deed}
 use Rattle.model_base.specs.Privileges.{has_kind, same_kind}
 use Rattle.model_base.specs.Versions.{accesses_of}
-use Rattle.own_words.specs.Words.{FitsColumns, FitsDetails, bits, cause_from, cause_word, deed_form, deed_told, denied_from, places_ended_by, ended_in, header, need_number, numbers_from, outcome_from, outputs_of, outputs_told, row_of, row_words, same_need, same_option, second_detail, signed}
+use Rattle.own_words.specs.Words.{FitsColumns, FitsDetails, bits, cause_from, cause_word, deed_form, deed_told, denied_from, ranks_ended_by, ended_in, header, need_number, numbers_from, outcome_from, outputs_of, outputs_told, row_of, row_words, same_need, same_option, second_detail, signed}
 
 -- numbers of 64 bits are given by their words
 pub numbers_told : (values : List ℤ) → All (FitsSigned w64) values → map signed (map bits values) ≡ values
@@ -128,7 +128,7 @@ details_told form (Outcome.Done outputs deed) more fit =
     let told : numbers_from 4 (min (length outputs) 8) (header form (Outcome.Done outputs deed) ++ more) ≡ outputs =
     ap (λ words. map signed (take (min (length outputs) 8) words)) (append_assoc (map bits outputs) rest more)
     ∙ numbers_told_in_front outputs (rest ++ more) (min (length outputs) 8) few fit.range in
-    ap (λ told. Outcome.Done told (deed_told (places_ended_by deed) (deed_form form))) told ∙ ap (Outcome.Done outputs) (sym fit.kind)
+    ap (λ told. Outcome.Done told (deed_told (ranks_ended_by deed) (deed_form form))) told ∙ ap (Outcome.Done outputs) (sym fit.kind)
 
 -- the row of a version cell is given by its words, with more words after them
 pub row_told : (columns : ℕ) (row : Option (List ℤ)) (more : List ℕ) → FitsColumns columns row → row_of columns (row_words columns row ++ more) ≡ row

@@ -1,4 +1,3 @@
 pub mod Room
 pub mod Words
-pub mod Needs
 pub mod Places

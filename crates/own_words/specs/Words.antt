@@ -126,7 +126,7 @@ deed_form (Form.Create table columns) = None
 deed_form (Form.Run accesses steps deed) = deed
 deed_form (Form.Deed deed) = Some deed
 
--- what a deed results in, by the places that its revocation ended
+-- what a deed results in, by the ranks of the records that its revocation ended
 abbrev pub deed_told : List ℕ → Option DeedForm → DeedDone
 deed_told ended None = DeedDone.None
 deed_told ended (Some (DeedForm.Grant kind table grantee option)) = DeedDone.Granted
@@ -155,8 +155,8 @@ aborted_from step word =
     then Outcome.Aborted step RowExists
     else (if word == 2 then Outcome.Aborted step Overflow else (if word == 3 then Outcome.Aborted step Check else Outcome.Undeclared step)))
 
--- the outcome that a place's words give, with the places that its revocation ended. Words that are missing read as 0, and where word 0 is
--- none of the five, the place reads as undeclared at the step of word 1
+-- the outcome that a place's words give, with the ranks of the records that its revocation ended. Words that are missing read as 0, and
+-- where word 0 is none of the five, the place reads as undeclared at the step of word 1
 abbrev pub outcome_from : Form → List ℕ → List ℕ → Outcome
 outcome_from form words ended =
     if slice_index words 0 == 1
@@ -183,15 +183,15 @@ is_created (Outcome.Denied need cause) = false
 is_created (Outcome.Aborted step reason) = false
 is_created (Outcome.Undeclared step) = false
 
--- the places that a deed ended
-abbrev pub places_ended_by : DeedDone → List ℕ
-places_ended_by DeedDone.None = []
-places_ended_by DeedDone.Granted = []
-places_ended_by (DeedDone.Revoked places) = places
+-- the ranks of the records that a deed ended
+abbrev pub ranks_ended_by : DeedDone → List ℕ
+ranks_ended_by DeedDone.None = []
+ranks_ended_by DeedDone.Granted = []
+ranks_ended_by (DeedDone.Revoked ranks) = ranks
 
--- the places that the revocation of an outcome ended
+-- the ranks of the records that the revocation of an outcome ended
 abbrev pub ended_in : Outcome → List ℕ
-ended_in (Outcome.Done outputs deed) = places_ended_by deed
+ended_in (Outcome.Done outputs deed) = ranks_ended_by deed
 ended_in Outcome.Created = []
 ended_in (Outcome.Denied need cause) = []
 ended_in (Outcome.Aborted step reason) = []
@@ -202,7 +202,7 @@ pub record FitsDone (form : Form) (outputs : List ℤ) (deed : DeedDone) : Type 
   pub room : length outputs ≤ outputs_of form
   pub few : length outputs ≤ MOST_OUTPUTS
   pub range : All (FitsSigned w64) outputs
-  pub kind : deed ≡ deed_told (places_ended_by deed) (deed_form form)
+  pub kind : deed ≡ deed_told (ranks_ended_by deed) (deed_form form)
 
 -- the row of a version cell, if there is one, has a number of 64 bits for each column
 abbrev pub FitsColumns : ℕ → Option (List ℤ) → Type 0

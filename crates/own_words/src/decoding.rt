@@ -10,7 +10,7 @@ use crate::coding::{ABORTED, CREATED, DENIED, DONE};
 use crate::numbering::need_at;
 use model_base::{
     Cause, DeedDone, DeedForm, Form, Items, MOST_COLUMNS, MOST_OUTPUTS, MOST_VALUES, Outcome,
-    Place, Reason, Row, Values,
+    Reason, RecordName, Row, Values,
 };
 
 /// The word of an index, or 0 past the last.
@@ -68,8 +68,8 @@ pub fn row_of(columns: u8, words: &[u64]) -> Option<Row>
     }
 }
 
-/// What a deed results in, by the places that its revocation ended.
-fn deed_told(ended: Items<Place>, deed: Option<DeedForm>) -> DeedDone
+/// What a deed results in, by the records that its revocation ended.
+fn deed_told(ended: Items<RecordName>, deed: Option<DeedForm>) -> DeedDone
     ensures { result ≡ deed_told ended deed }
 {
     match deed {
@@ -91,7 +91,7 @@ fn deed_form(form: &Form) -> Option<DeedForm>
 }
 
 /// A completed transaction.
-fn done_from(form: &Form, words: &[u64], ended: Items<Place>) -> Outcome
+fn done_from(form: &Form, words: &[u64], ended: Items<RecordName>) -> Outcome
     ensures { result ≡ done_from form.now words.now ended }
 {
     let count = word_at(words, 3).min(MOST_OUTPUTS as u64);
@@ -136,11 +136,11 @@ fn aborted_from(step: u64, word: u64) -> Outcome
     Outcome::Aborted { step, reason }
 }
 
-/// The outcome that a place's words give; the places that its revocation ended are given, since the words don't have them. Words that are
+/// The outcome that a place's words give; the records that its revocation ended are given, since the words don't have them. Words that are
 /// missing read as 0. Where word 0 is none of the five, where a denial has a number that no need of the statement has, and where an
 /// abortion has no reason, the outcome is undeclared at the step of word 1. Of more than `MOST_OUTPUTS` outputs this many are known. It
 /// doesn't allocate.
-pub fn decoded(form: &Form, words: &[u64], ended: Items<Place>) -> Outcome
+pub fn decoded(form: &Form, words: &[u64], ended: Items<RecordName>) -> Outcome
     ensures { result ≡ outcome_from form.now words.now ended }
 {
     let detail = word_at(words, 1);

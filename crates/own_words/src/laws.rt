@@ -9,7 +9,7 @@ ghost use Rattle.model_base.specs.Outcomes.{needs};
 ghost use Rattle.model_base.specs.Versions.{accesses_of};
 ghost use Rattle.own_words.specs.Words.{FitsColumns, FitsForm, bits, ended_in, header, outcome_from, outputs_of, row_of, row_words, second_detail, signed};
 
-/// The words of an outcome give it, with the places that its revocation ended, whatever words are after them.
+/// The words of an outcome give it, with the records that its revocation ended, whatever words are after them.
 pub fn decoding_undoes_coding()
     ensures alone { (form : Form) (outcome : Outcome) → FitsForm form outcome
         → outcome_from form (header form outcome) (ended_in outcome) ≡ outcome }

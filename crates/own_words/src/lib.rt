@@ -13,7 +13,6 @@ mod bits;
 mod coding;
 mod decoding;
 mod laws;
-mod needs;
 mod numbering;
 mod room;
 

@@ -4,8 +4,7 @@ ghost use Rattle.std.specs.Prelude.{◌≡◌, ◌<◌, ◌^◌, length, slice_g
 ghost use Rattle.model_base.specs.Outcomes.{needs};
 ghost use Rattle.own_words.specs.Words.{is_out, need_number, outputs_of};
 
-use crate::needs::Needs;
-use model_base::{Form, Need, Step};
+use model_base::{Form, Need, Needs, Step};
 
 /// Whether the step gives an output.
 fn is_out(step: &Step) -> bool

@@ -115,7 +115,7 @@ done-said (Form.Create table columns) outputs deed rest is = false≢true (ap (�
 done-said (Form.Run accesses steps asked) outputs deed rest is = false≢true (ap (λ (bs : List ℕ). eqb (get_or bs 2 0) 101) is)
 done-said (Form.Deed asked) outputs DeedDone.None rest is = false≢true (ap (λ (bs : List ℕ). eqb (get_or bs 0 0) 32) is)
 done-said (Form.Deed asked) outputs DeedDone.Granted rest is = false≢true (ap (λ (bs : List ℕ). eqb (get_or bs 1 0) 100) is)
-done-said (Form.Deed asked) outputs (DeedDone.Revoked places) rest is = false≢true (ap (λ (bs : List ℕ). eqb (get_or bs 1 0) 100) is)
+done-said (Form.Deed asked) outputs (DeedDone.Revoked ranks) rest is = false≢true (ap (λ (bs : List ℕ). eqb (get_or bs 1 0) 100) is)
 
 -- only a denial is spelled as one
 said-denied : (tables : List (List ℕ)) (form : Form) (o : Outcome) (rest : List ℕ)

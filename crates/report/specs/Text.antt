@@ -11,6 +11,7 @@ use Rattle.model_base.specs.declared.outcome.Reason.{Reason}
 use Rattle.model_base.specs.declared.outcome.Reason.TheVariants.{NoRow, RowExists, Overflow, Check}
 use Rattle.model_base.specs.declared.outcome.DeedDone.{DeedDone}
 use Rattle.model_base.specs.declared.outcome.Outcome.{Outcome}
+use Rattle.model_base.specs.Ranks.{place_of_rank}
 use Rattle.log_text.specs.Statement.{kind_word}
 use Rattle.line_words.specs.declared.fault.LineFault.{LineFault}
 use Rattle.sequencer.specs.declared.refused.Refused.{Refused}
@@ -59,15 +60,15 @@ reason_word Check = codes "check"
 abbrev pub numbers_text : List ℤ → List ℕ
 numbers_text numbers = flat_map (λ n. 32 ∷ signed_decimal n) numbers
 
--- each place after a space
-abbrev pub places_text : List ℕ → List ℕ
-places_text places = flat_map (λ place. 32 ∷ decimal place) places
+-- the place of each record after a space
+abbrev pub records_text : List ℕ → List ℕ
+records_text ranks = flat_map (λ ranked. 32 ∷ decimal (place_of_rank ranked)) ranks
 
 -- what the deed of a transaction resulted in
 abbrev pub deed_text : DeedDone → List ℕ
 deed_text DeedDone.None = []
 deed_text DeedDone.Granted = codes " granted"
-deed_text (DeedDone.Revoked places) = codes " revoked" ++ places_text places
+deed_text (DeedDone.Revoked ranks) = codes " revoked" ++ records_text ranks
 
 -- a RUN that is done has its outputs, and a deed by itself only what it resulted in
 abbrev pub done_text : Form → List ℤ → DeedDone → List ℕ

@@ -2,11 +2,11 @@
 
 ghost use Rattle.std.specs.Prelude.{◌≡◌, ◌<◌, ◌≤◌, ◌++◌, List, length, codes, OnErr, OnOk, vec_capacity};
 ghost use Rattle.std.specs.Fmt.{decimal, signed_decimal};
-ghost use Rattle.report.specs.Text.{IsNamed, LacksRoom, cause_text, deed_text, done_text, ending_text, fault_word, need_text, numbers_text, outcome_text, places_text, reason_word, refused_text, refused_word};
+ghost use Rattle.report.specs.Text.{IsNamed, LacksRoom, cause_text, deed_text, done_text, ending_text, fault_word, need_text, numbers_text, outcome_text, reason_word, records_text, refused_text, refused_word};
 
 use itoa::Buffer;
 use log_text::{LineFault, kind_word};
-use model_base::{Cause, DeedDone, Form, Need, Outcome, Place, Reason};
+use model_base::{Cause, DeedDone, Form, Need, Outcome, Place, Reason, RecordName};
 use sequencer::{NameTable, Refused};
 use std::alloc::AllocError;
 
@@ -87,13 +87,13 @@ fn put_numbers(text: &mut Vec<u8>, numbers: &[i64]) -> Result<(), AllocError>
     Ok(())
 }
 
-/// Appends each place after a space. After an error some of them may be to the text.
-pub fn put_places(text: &mut Vec<u8>, places: &[Place]) -> Result<(), AllocError>
-    ensures { OnOk result (text.new.items ≡ text.old.items ++ places_text places.now) }
+/// Appends the place of each record after a space. After an error some of them may be to the text.
+pub fn put_records(text: &mut Vec<u8>, names: &[RecordName]) -> Result<(), AllocError>
+    ensures { OnOk result (text.new.items ≡ text.old.items ++ records_text names.now) }
 {
-    for place in places {
+    for name in names {
         text.extend_from_slice(b" ")?;
-        put_decimal(text, *place)?;
+        put_decimal(text, name.place)?;
     }
     Ok(())
 }
@@ -106,9 +106,9 @@ fn put_deed(text: &mut Vec<u8>, deed: &DeedDone) -> Result<(), AllocError>
     match deed {
         DeedDone::None => Ok(()),
         DeedDone::Granted => text.extend_from_slice(b" granted"),
-        DeedDone::Revoked(places) => {
+        DeedDone::Revoked(names) => {
             text.extend_from_slice(b" revoked")?;
-            put_places(text, places.as_slice())
+            put_records(text, names.as_slice())
         }
     }
 }

@@ -100,7 +100,7 @@ fn print_closed(
     let (key, closed) = batch.close(pass);
     let (reader, revocation) = (closed.claim(0), closed.claim(1));
     println!(rt; "closed, the claims of 3 and 4 are {reader} and {revocation}")?;
-    let done = finish(alloc, key.into_key(), &closed)?;
+    let done = finish(alloc, key, &closed)?;
     let (reader, revocation, ended) = (done.own(0), done.own(1), done.ended(1));
     println!(rt; "finished, 3 has {reader:?} and 4 has {revocation:?} and ended {ended:?}")?;
     Ok(())

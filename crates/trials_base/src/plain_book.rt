@@ -1,12 +1,12 @@
 //! The book of grants as two plain lists, through which each call goes: to compare the book with.
 
-ghost use Rattle.std.specs.Prelude.{Decides, filter, nat_lt, vec_capacity, vec_len, ◌+◌, ◌≤◌, ◌≡◌, ◌<◌, ◌++◌, ◌∷◌, [], ℕ, List, All, IfOk, IsTrue, OnErr, OnOk, length, map, take, slice_get, Some};
+ghost use Rattle.std.specs.Prelude.{◌==◌, Decides, filter, nat_lt, vec_capacity, vec_len, ◌+◌, ◌≤◌, ◌≡◌, ◌<◌, ◌++◌, ◌∷◌, [], ℕ, List, All, IfOk, IsTrue, OnErr, OnOk, length, map, take, slice_get, Some};
+ghost use Rattle.std.specs.List.{list_any};
 ghost use Rattle.model_base.specs.declared.deed.Deed.TheVariants.{Granting, Revoking};
 ghost use Rattle.model_base.specs.declared.deed.Deed.{Deed};
 ghost use Rattle.model_base.specs.Privileges.{ended_by, option_of, place_of};
 ghost use Rattle.model_base.specs.Records.{deeds_below, ended_at, recorded};
 ghost use Rattle.grants_base.specs.Index.{IsNext, is_by, is_to};
-ghost use Rattle.grants_base.specs.Index.{is_one_of};
 ghost use Rattle.grants_base.specs.Book.{end_slots, lies_below, reopened, unended};
 ghost use Rattle.grants_base.specs.declared.entries.End.{End};
 ghost use Rattle.grants_base.specs.declared.entries.Creation.{Creation};
@@ -16,9 +16,10 @@ use grants::to_end;
 use grants_base::{
     Creation, End, Records, append_tables, is_by, is_to, lies_below, reopened, set_ends,
 };
-use model_base::{Grant, Grantee, Kind, MOST_NAMES, Place, Record, Revocation, Table, User};
+use model_base::{
+    Grant, Grantee, Kind, MOST_NAMES, Place, Record, RecordName, Revocation, Table, User,
+};
 use std::alloc::{AllocError, Global};
-use std::collections::BTreeSet;
 use std::marker::Model;
 
 /// What a `Book` has, as two plain lists, with the same contracts. Its calls go through the lists, so it is slow, and there to
@@ -63,7 +64,7 @@ impl PlainBook {
         &self.tables
     }
 
-    /// The grants that were made, each with its end, in the order of their places.
+    /// The records of the grants that were made, each with its end, in order.
     pub fn records(&self) -> &[Record]
         ensures records { result.now ≡ self.now.records }
         ensures sound { IsSoundBook self.now }
@@ -117,8 +118,8 @@ impl PlainBook {
         PlainView { book: self, place }
     }
 
-    /// The places of the grants that the revocation takes out of force.
-    fn to_end(&self, alloc: Global, revocation: &Revocation) -> Result<Vec<Place>, AllocError>
+    /// The records of the grants that the revocation takes out of force.
+    fn to_end(&self, alloc: Global, revocation: &Revocation) -> Result<Vec<RecordName>, AllocError>
         requires table { revocation.now.table < length self.now.tables }
         ensures { IfOk result (λ ends. (owners : List ℕ) (deeds : List Deed) → ShowsBook self.now owners deeds
             → All (λ deed. place_of deed < revocation.now.place) deeds → ends.items ≡ ended_by owners deeds revocation.now) }
@@ -128,15 +129,14 @@ impl PlainBook {
         Ok(ended)
     }
 
-    /// Ends the grants that the revocation takes out of force, at its place, and returns their places in rising order. The place has to lie
-    /// above all of the book, and the table to be one of its tables. It costs what `to_end` does on the book's view, and for each grant of
-    /// the book a look-up among the ended places, in a time that grows with the logarithm of their number. On `Err`, out of memory,
-    /// the book is as it was.
+    /// Ends the grants that the revocation takes out of force, at its place, and returns the names of their records in order. The place has
+    /// to lie above all of the book, and the table to be one of its tables. It costs what `to_end` does on the book's view, and a look at
+    /// each ended grant for each grant of the book. On `Err`, out of memory, the book is as it was.
     pub fn revoke(
         &mut self,
         alloc: Global,
         revocation: &Revocation,
-    ) -> Result<Vec<Place>, AllocError>
+    ) -> Result<Vec<RecordName>, AllocError>
         requires later { IsLater self.old revocation.now.place }
         requires table { revocation.now.table < length self.old.tables }
         ensures ended { IfOk result (λ ends. (owners : List ℕ) (deeds : List Deed) → ShowsBook self.old owners deeds
@@ -149,8 +149,7 @@ impl PlainBook {
         ensures err { OnErr result (self.new ≡ self.old) }
     {
         let ended = self.to_end(alloc, revocation)?;
-        let places = place_set(alloc, &ended)?;
-        close(&mut self.records, revocation.place, &places);
+        close(&mut self.records, revocation.place, &ended);
         Ok(ended)
     }
 
@@ -239,35 +238,32 @@ fn reopen(records: &mut [Record], place: Place)
     }
 }
 
-/// The places as a set.
-fn place_set(alloc: Global, places: &[Place]) -> Result<BTreeSet<Place>, AllocError>
-    ensures { IfOk result (λ set. (place : ℕ) → is_one_of set.keys place ≡ is_one_of places.now place) }
+/// Whether the name is one of these.
+fn is_listed(names: &[RecordName], own: RecordName) -> bool
+    ensures { result ≡ list_any (λ ranked. ranked == own) names.now }
 {
-    let mut set = BTreeSet::new(alloc);
-    for place in places {
-        set.insert(*place)?;
-    }
-    Ok(set)
+    names.iter().any(|name| name.is_same(own))
 }
 
-/// The record, ended at this place if it has no end and its grant's place is one of these.
-#[tactic(auto, using(grants_base::proofs::SlotSetLaws::contains_one))]
-fn ended_at(entry: Record, place: Place, ended: &BTreeSet<Place>) -> Record
-    ensures { result ≡ ended_at place ended.now.keys entry }
+/// The record, ended at this place if it has no end and is one of these.
+fn ended_at(entry: Record, place: Place, ended: &[RecordName]) -> Record
+    ensures { result ≡ ended_at place ended.now entry }
 {
-    if entry.end.is_none() && ended.contains(&entry.grant.place) {
-        Record {
-            grant: entry.grant,
-            end: Some(place),
-        }
-    } else {
-        entry
+    if entry.end.is_some() {
+        return entry;
+    }
+    if !is_listed(ended, entry.grant.name()) {
+        return entry;
+    }
+    Record {
+        grant: entry.grant,
+        end: Some(place),
     }
 }
 
-/// Ends the records of the grants of these places that have no end.
-fn close(records: &mut [Record], place: Place, ended: &BTreeSet<Place>)
-    ensures { records.new ≡ map (ended_at place ended.now.keys) records.old }
+/// Ends those of these records that have no end.
+fn close(records: &mut [Record], place: Place, ended: &[RecordName])
+    ensures { records.new ≡ map (ended_at place ended.now) records.old }
 {
     for entry in records.iter_mut() {
         *entry = ended_at(*entry, place, ended);

@@ -32,15 +32,15 @@ pub record IsAlive (me : Me ℕ Knowledge) (knows : Bool) : Type 0 where
   pub bare : me.1 ≡ []
   pub alive : me.0.spent ≡ false
   pub pass : me.0.placer ≡ false
-  -- where it says so, it knows that all is placed
-  pub placed : knows ≡ true → me.0.placed ≡ true
+  -- it knows that all is placed exactly where it says so
+  pub placed : knows ≡ me.0.placed
 
 -- and it holds no place
 pub record IsIdle (me : Me ℕ Knowledge) (knows : Bool) : Type 0 where
   pub bare : me.1 ≡ []
   pub alive : me.0.spent ≡ false
   pub pass : me.0.placer ≡ false
-  pub placed : knows ≡ true → me.0.placed ≡ true
+  pub placed : knows ≡ me.0.placed
   pub idle : HoldsNone me.0
 
 -- a placer: its table, its number there, and what it did

@@ -246,13 +246,13 @@ impl<K: BatchData> BatchWords<K> {
         let Pass {
             seat: second,
             bodies: more,
-            placed: _,
+            placed: also_placed,
         } = other;
         let seat = self.take_in(first, second);
         Pass {
             seat,
             bodies: bodies.saturating_add(more),
-            placed,
+            placed: placed || also_placed,
         }
     }
 }

@@ -2,7 +2,10 @@
 -- D. J. Abadi, "Rethinking Serializable Multiversion Concurrency Control", PVLDB 8 (2015), section 3; that a pass carries what
 -- a thread knows is this project's own.
 use Rattle.std.specs.Prelude.{◌≡◌, ◌⊎◌, ◌<◌, ℕ, List, Result, Ok, Err}
+use Rattle.bohm_core_base.specs.Batch.{Batch}
 use Rattle.words.specs.declared.knowledge.Knowledge.{Knowledge}
+use Rattle.filling_base.specs.declared.run.Tried.TheVariants as tried
+use Rattle.filling_base.specs.Tries.{TriedMeans}
 use Rattle.workers.specs.declared.fault.RunFault.{RunFault}
 use Rattle.workers.specs.declared.work.Worked.{Worked}
 use Rattle.workers.specs.declared.work.Worked.TheVariants.{Done, NoMemory, NotStarted}
@@ -13,6 +16,16 @@ use Rattle.words.specs.Views.{In, KeepsFronts}
 pub record AreLeft (size : ℕ) (known rest : List ℕ) : Type 0 where
   pub within : (index : ℕ) → In index rest → index < size
   pub every : (index : ℕ) → index < size → In index known ⊎ In index rest
+
+-- what the pass found where it leaves a place for later: another held it, or one that it is referred to, or it isn't placed
+abbrev pub IsMissed : Batch → ℕ → Knowledge → Knowledge → Type 0
+IsMissed batch index view after =
+    ((other : ℕ) × TriedMeans batch index view (tried.Busy other) after)
+    ⊎ ((partition : ℕ) × TriedMeans batch index view (tried.NotPlaced partition) after)
+
+-- and where it stops: it didn't ask for the place, or memory was refused
+abbrev pub IsStopped : Batch → ℕ → PassState → PassState → Type 0
+IsStopped batch index pass after = (after ≡ pass) ⊎ TriedMeans batch index pass.view tried.NoMemory after.view
 
 -- the pass knows each of this many places done
 abbrev pub KnowsAll : ℕ → Knowledge → Type 0

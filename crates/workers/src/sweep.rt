@@ -4,7 +4,7 @@ ghost use Rattle.std.specs.Prelude.{◌≡◌, ◌⊎◌, ◌<◌, ◌≤◌, �
 ghost use Rattle.std.specs.VecDeque.{deque_capacity, deque_len};
 ghost use Rattle.words.specs.Passes.{IsPassOf};
 ghost use Rattle.words.specs.Views.{In};
-ghost use Rattle.workers.specs.Working.{AreLeft, GoesOn, KnowsAll};
+ghost use Rattle.workers.specs.Working.{AreLeft, GoesOn, IsMissed, IsStopped, KnowsAll};
 
 use crate::gate::Gate;
 use crate::shared::Shared;
@@ -43,6 +43,8 @@ fn ask<K: Fills, G: Gate>(shared: &Shared<'_, K, G>, pass: Pass, index: usize) -
     requires within { index < (K.batch shared.now.key).size }
     ensures on { GoesOn pass result.0 }
     ensures done { result.1 ≡ Asked.Done → In index result.0.view.known }
+    ensures missed { result.1 ≡ Asked.Open → IsMissed (K.batch shared.now.key) index pass.view result.0.view }
+    ensures stopped { result.1 ≡ Asked.Stopped → IsStopped (K.batch shared.now.key) index pass result.0 }
 {
     if shared.stop.load(Ordering::SeqCst) {
         return (pass, Asked::Stopped);

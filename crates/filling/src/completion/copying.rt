@@ -12,7 +12,8 @@ ghost use Rattle.filling.specs.BatchProgress.{HasDone, IsDoneTo, NotesEndsOfDone
 use crate::completion::batch_progress::BatchProgress;
 use crate::completion::ends::Ends;
 use crate::completion::places::judge;
-use log_batch::{LogBatch, LogKey, words_length};
+use crate::key::RangeKey;
+use log_batch::{LogBatch, words_length};
 use model_base::Place;
 use own_words::OwnWords;
 use std::alloc::{AllocError, Global};
@@ -30,7 +31,7 @@ fn take_end(slot: usize, end: Option<Place>, ends: &mut Ends) -> Result<(), Allo
 
 /// Tells all ends that a closed batch has.
 pub(crate) fn take_ends(
-    key: &LogKey<'_>,
+    key: &RangeKey<'_>,
     closed: &Closed,
     ends: &mut Ends,
 ) -> Result<(), AllocError>

@@ -12,7 +12,7 @@ ghost use Rattle.filling.specs.FinishedRange.{AreOutcomes};
 use crate::completion::cells::push_versions;
 use crate::completion::completed_batch::CompletedBatch;
 use chains::Version;
-use model_base::{Items, Outcome, Place};
+use model_base::{Items, Outcome, Place, RecordName};
 use own_words::{decoded, outputs_of, words_after};
 use sequencer::LogTail;
 use std::alloc::{AllocError, Global};
@@ -25,9 +25,9 @@ pub struct DecodedBatch {
     pub versions: Vec<Version>,
 }
 
-/// The outcome that the own words of a place give, with the places of the grants that its revocation ended.
+/// The outcome that the own words of a place give, with the records that its revocation ended.
 #[tactic(auto, using(crate::proofs::Told::outcome_told))]
-fn outcome_of(log: &LogTail, place: Place, own: &[u64], ended: Vec<Place>) -> Outcome
+fn outcome_of(log: &LogTail, place: Place, own: &[u64], ended: Vec<RecordName>) -> Outcome
     requires kept { log.now.dropped ≤ place }
     requires within { place < length log.now.log.statements }
     requires words { own.now ≡ words_at (columns_by log.now.log.names) log.now.log.statements place }
@@ -85,8 +85,8 @@ pub fn take<C: CompletedBatch>(
     for index in 0..size {
         let place = range.start + index as u64;
         let own = closed.own(index);
-        let places = closed.ended(index);
-        let ended = Vec::from_slice(alloc, places)?;
+        let names = closed.ended(index);
+        let ended = Vec::from_slice(alloc, names)?;
         outcomes.push(outcome_of(log, place, own, ended))?;
         push_left(&mut versions, log, place, own)?;
     }

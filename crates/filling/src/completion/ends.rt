@@ -1,21 +1,21 @@
 //! Which records of grants a batch has ended so far, and at which of its places.
 
 ghost use Rattle.std.specs.Prelude.{◌≡◌, ◌==◌, ◌<◌, ◌+◌, ◌++◌, ◌∷◌, [], ℕ, IfOk, None, OnOk, Some, length, slice_index_or, if◌then◌else◌};
-ghost use Rattle.bohm_core_base.specs.Batch.{place_at, batch_slots};
+ghost use Rattle.bohm_core_base.specs.Batch.{rank_at, batch_slots};
 ghost use Rattle.bohm_core_base.specs.Serial.{serial_ends};
-ghost use Rattle.log_batch.specs.Laws.{places_that};
+ghost use Rattle.log_batch.specs.Laws.{ranks_that};
 ghost use Rattle.log_batch.specs.Supplied.{batch_of};
 
 use log_batch::LogBatch;
-use model_base::Place;
+use model_base::{Place, RecordName};
 use std::alloc::{AllocError, Global};
 use std::collections::BTreeMap;
 use std::marker::Model;
 
-/// Lists of places of grants, one for each place of a batch by its index.
+/// Lists of names of records, one for each place of a batch by its index.
 #[derive(Drop)]
 pub(crate) struct Groups {
-    lists: Vec<Vec<Place>>,
+    lists: Vec<Vec<RecordName>>,
 }
 
 impl Model for Groups {
@@ -42,7 +42,7 @@ impl Groups {
     }
 
     /// The list of an index; past the last it is empty.
-    pub(crate) fn at(&self, index: usize) -> &[Place]
+    pub(crate) fn at(&self, index: usize) -> &[RecordName]
         ensures { result.now ≡ slice_index_or self.now index [] }
     {
         if index < self.lists.len() {
@@ -52,13 +52,13 @@ impl Groups {
         }
     }
 
-    /// Appends the place to the others of an index, if there is a list for it. On `Err`, out of memory.
-    fn push(&mut self, index: usize, place: Place) -> Result<(), AllocError>
-        ensures { OnOk result (self.new ≡ slice_set self.old index (slice_index_or self.old index [] ++ place ∷ [])) }
+    /// Appends the name to the others of an index, if there is a list for it. On `Err`, out of memory.
+    fn push(&mut self, index: usize, name: RecordName) -> Result<(), AllocError>
+        ensures { OnOk result (self.new ≡ slice_set self.old index (slice_index_or self.old index [] ++ name ∷ [])) }
     {
         if index < self.lists.len() {
             let list = &mut self.lists[index];
-            list.push(place)?;
+            list.push(name)?;
         }
         Ok(())
     }
@@ -70,7 +70,7 @@ pub(crate) struct Ends {
     places: BTreeMap<usize, Place>,
 }
 
-/// Appends the place of a slot's grant to the others that ended at the same place, if that is one of the batch.
+/// Appends the name of a slot's record to the others that ended at the same place, if that is one of the batch.
 fn put_ended(
     batch: &LogBatch<'_>,
     slot: usize,
@@ -80,12 +80,12 @@ fn put_ended(
     requires { slot < length (batch_slots (batch_of batch.now)) }
     ensures put { OnOk result ((index : ℕ) → index < length groups.old
         → slice_index_or groups.new index [] ≡ slice_index_or groups.old index []
-        ++ (if end == batch.now.first + index then place_at (batch_of batch.now) slot ∷ [] else [])) }
+        ++ (if end == batch.now.first + index then rank_at (batch_of batch.now) slot ∷ [] else [])) }
     ensures many { OnOk result (length groups.new ≡ length groups.old) }
 {
     let first = batch.first_place();
     if end >= first {
-        groups.push((end - first) as usize, batch.grant(slot).place)?;
+        groups.push((end - first) as usize, batch.grant(slot).name())?;
     }
     Ok(())
 }
@@ -117,13 +117,13 @@ impl Ends {
         Ok(())
     }
 
-    /// For each place of the batch the places of the grants whose records ended there, in the order of their slots. An error means out of
+    /// For each place of the batch the names of the records that ended there, in the order of their slots. An error means out of
     /// memory.
     pub(crate) fn by_place(&self, alloc: Global, batch: &LogBatch<'_>) -> Result<Groups, AllocError>
         requires told { AreSerialEnds (batch_of batch.now) self.now }
         requires all { (index : ℕ) → index < batch.now.size → NotesEndsOf (batch_of batch.now) index self.now }
         ensures { IfOk result (λ groups. (index : ℕ) → index < batch.now.size
-            → slice_index_or groups index [] ≡ places_that (serial_ends (batch_of batch.now) index) 0 (batch_slots (batch_of batch.now))) }
+            → slice_index_or groups index [] ≡ ranks_that (serial_ends (batch_of batch.now) index) 0 (batch_slots (batch_of batch.now))) }
     {
         let mut groups = Groups::new(alloc, batch.size())?;
         for (slot, end) in self.places.iter() {

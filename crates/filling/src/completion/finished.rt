@@ -10,11 +10,11 @@ use crate::completion::ends::Groups;
 use crate::completion::lists::Lists;
 use bohm_core_base::{records_end_by_done_places, slots_stand_in_order};
 use log_batch::{LogBatch, serial_ends_are_of_the_log, serial_words_are_of_the_log};
-use model_base::Place;
+use model_base::RecordName;
 use std::alloc::{AllocError, Global};
 use std::marker::Model;
 
-/// The places of a range of a log, all done: the own words of each, and the places of the grants that its revocation ended.
+/// The places of a range of a log, all done: the own words of each, and the names of the records that its revocation ended.
 #[derive(Drop)]
 pub struct Finished<'a> {
     batch: LogBatch<'a>,
@@ -64,7 +64,7 @@ impl CompletedBatch for Finished<'_> {
         self.words.at(index)
     }
 
-    fn ended(&self, index: usize) -> &[Place] {
+    fn ended(&self, index: usize) -> &[RecordName] {
         self.ended.at(index)
     }
 }

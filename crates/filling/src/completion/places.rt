@@ -3,6 +3,7 @@
 ghost use Rattle.std.specs.Prelude.{◌≡◌, ◌==◌, ◌<◌, ◌+◌, ℕ, suc, true, IfOk, OnOk, Some, length, slice_get};
 ghost use Rattle.std.specs.List.{list_any};
 ghost use Rattle.model_base.specs.declared.deed.Grant.{Grant};
+ghost use Rattle.model_base.specs.Ranks.{rank};
 ghost use Rattle.bohm_core_base.specs.Batch.{batch_slots, was_done};
 ghost use Rattle.bohm_core_base.specs.Serial.{serial_ends, serial_words};
 ghost use Rattle.log_batch.specs.Supplied.{batch_of};
@@ -16,7 +17,7 @@ use crate::completion::ends::Ends;
 use bohm_core_base::records_end_by_done_places;
 use evaluation::{ends_by_source, was_done, words_by_source};
 use log_batch::LogBatch;
-use model_base::Place;
+use model_base::RecordName;
 use own_words::OwnWords;
 use std::alloc::{AllocError, Global};
 use words::Closed;
@@ -38,66 +39,66 @@ fn judge_words(
     let _ = words_by_source(batch, place, words);
 }
 
-/// The places of the grants whose records a place ends that was done.
+/// The names of the records that a place ends that was done.
 fn judged_ends(
     alloc: Global,
     batch: &LogBatch<'_>,
     closed: &Closed,
     progress: &BatchProgress,
     index: usize,
-) -> Result<Vec<Place>, AllocError>
+) -> Result<Vec<RecordName>, AllocError>
     requires within { index < batch.now.size }
     requires references { HasItsReferences (batch_of batch.now) closed.now }
     requires stands { IsDoneTo (batch_of batch.now) index progress.now }
     requires done { was_done (serial_words (batch_of batch.now) index) ≡ true }
-    ensures { IfOk result (λ places. (slot : ℕ) (grant : Grant) → slice_get (batch_slots (batch_of batch.now)) slot ≡ Some grant
-        → list_any (λ place. place == grant.place) places.items ≡ serial_ends (batch_of batch.now) index slot) }
+    ensures { IfOk result (λ names. (slot : ℕ) (grant : Grant) → slice_get (batch_slots (batch_of batch.now)) slot ≡ Some grant
+        → list_any (λ name. name == rank grant) names.items ≡ serial_ends (batch_of batch.now) index slot) }
 {
     let place = Below::new(batch, closed, progress, index);
-    let (_, places) = ends_by_source(alloc, batch, place);
-    places
+    let (_, names) = ends_by_source(alloc, batch, place);
+    names
 }
 
-/// Tells that the record of a place's grant ended at the place of an index.
+/// Tells that a record ended at the place of an index.
 fn note_end(
     batch: &LogBatch<'_>,
-    place: Place,
+    name: RecordName,
     index: usize,
     ends: &mut Ends,
 ) -> Result<(), AllocError>
     requires within { index < batch.now.size }
     requires ends { (slot : ℕ) (grant : Grant) → slice_get (batch_slots (batch_of batch.now)) slot ≡ Some grant
-        → grant.place ≡ place → serial_ends (batch_of batch.now) index slot ≡ true }
+        → rank grant ≡ name → serial_ends (batch_of batch.now) index slot ≡ true }
     requires told { AreSerialEnds (batch_of batch.now) ends.old }
     ensures told { OnOk result (AreSerialEnds (batch_of batch.now) ends.new) }
     ensures kept { OnOk result (KeepsNoted ends.old ends.new) }
     ensures found { OnOk result ((slot : ℕ) (grant : Grant) → slice_get (batch_slots (batch_of batch.now)) slot ≡ Some grant
-        → grant.place ≡ place → noted_end ends.new slot ≡ Some (batch.now.first + index)) }
+        → rank grant ≡ name → noted_end ends.new slot ≡ Some (batch.now.first + index)) }
 {
     let end = batch.first_place() + index as u64;
-    if let Some(slot) = batch.slot_of(place) {
+    if let Some(slot) = batch.slot_of(name) {
         ends.tell(slot, end)?;
     }
     Ok(())
 }
 
-/// Tells all ends that a place of an index sets: those of the records of these places' grants.
+/// Tells all ends that a place of an index sets: those of these records.
 fn note_ends(
     batch: &LogBatch<'_>,
-    places: &[Place],
+    names: &[RecordName],
     index: usize,
     ends: &mut Ends,
 ) -> Result<(), AllocError>
     requires within { index < batch.now.size }
     requires ends { (slot : ℕ) (grant : Grant) → slice_get (batch_slots (batch_of batch.now)) slot ≡ Some grant
-        → list_any (λ place. place == grant.place) places.now ≡ serial_ends (batch_of batch.now) index slot }
+        → list_any (λ name. name == rank grant) names.now ≡ serial_ends (batch_of batch.now) index slot }
     requires told { AreSerialEnds (batch_of batch.now) ends.old }
     ensures told { OnOk result (AreSerialEnds (batch_of batch.now) ends.new) }
     ensures kept { OnOk result (KeepsNoted ends.old ends.new) }
     ensures all { OnOk result (NotesEndsOf (batch_of batch.now) index ends.new) }
 {
-    for place in places {
-        note_end(batch, *place, index, ends)?;
+    for name in names {
+        note_end(batch, *name, index, ends)?;
     }
     Ok(())
 }
@@ -123,8 +124,8 @@ fn judge_ends(
     records_end_by_done_places();
     let _log = batch.log();
     if was_done(words) {
-        let places = judged_ends(alloc, batch, closed, progress, index)?;
-        note_ends(batch, places.as_slice(), index, &mut progress.ends)?;
+        let names = judged_ends(alloc, batch, closed, progress, index)?;
+        note_ends(batch, names.as_slice(), index, &mut progress.ends)?;
     }
     Ok(())
 }

@@ -8,7 +8,8 @@ ghost use Rattle.filling.specs.BatchProgress.{HasDone, IsDoneTo, NotesEndsOfDone
 use crate::completion::batch_progress::BatchProgress;
 use crate::completion::copying::{complete, take_ends};
 use crate::completion::finished::Finished;
-use log_batch::{LogBatch, LogKey};
+use crate::key::RangeKey;
+use log_batch::LogBatch;
 use own_words::OwnWords;
 use std::alloc::{AllocError, Global};
 use words::Closed;
@@ -34,7 +35,7 @@ fn complete_all(
 }
 
 /// What a closed batch has of the places that are done.
-fn taken(alloc: Global, key: &LogKey<'_>, closed: &Closed) -> Result<BatchProgress, AllocError>
+fn taken(alloc: Global, key: &RangeKey<'_>, closed: &Closed) -> Result<BatchProgress, AllocError>
     requires { IsSettledBy (batch_of key.now.batch) key.now.slots closed.now }
     ensures done { IfOk result (λ progress. NotesEndsOfDone (batch_of key.now.batch) closed.now progress.ends) }
     ensures stands { IfOk result (λ progress. IsDoneTo (batch_of key.now.batch) 0 progress) }
@@ -48,7 +49,7 @@ fn taken(alloc: Global, key: &LogKey<'_>, closed: &Closed) -> Result<BatchProgre
 /// others are run, those among them that a worker held when it was dropped. All of it is placed. An error means out of memory.
 pub fn finish<'a>(
     alloc: Global,
-    key: LogKey<'a>,
+    key: RangeKey<'a>,
     closed: &Closed,
 ) -> Result<Finished<'a>, AllocError>
     requires settled { IsSettledBy (batch_of key.batch) key.slots closed.now }

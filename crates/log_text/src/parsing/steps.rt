@@ -123,8 +123,7 @@ fn ending<'a>(words: &mut Words<'a>) -> Result<RawDeed<'a>, LineFault>
     if !begins_deed(word) {
         return Err(LineFault::UnknownWord);
     }
-    let deed = deed(word, words)?;
-    Ok(deed)
+    deed(word, words)
 }
 
 /// How many outputs a step makes.

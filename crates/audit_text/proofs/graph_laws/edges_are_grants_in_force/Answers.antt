@@ -25,11 +25,11 @@ returns-clause-dashed c = λ book owners deeds revocation shows there.
     let force = drawn-cut place (records owners deeds)
     ∙ ap in_force (sym (c.earlier_records_are_cut.ensures.below owners place deeds shows.proper))
     ∙ c.unended_records_are_in_force.ensures.in_force owners past (below-proper owners place deeds shows.proper) in
-    let falls : (made : ℕ) → (end_after owners [] deeds made ≡ Some place)
-    ↔ ((is_among made (kept owners past) ≡ true) × (is_among made (kept owners (past ++ Revoking revocation ∷ [])) ≡ false))
-    = λ made. subst (λ (ds : List Deed). (end_after owners [] ds made ≡ Some place)
-    ↔ ((is_among made (kept owners past) ≡ true) × (is_among made (kept owners (past ++ Revoking revocation ∷ [])) ≡ false))) (sym split.1)
-    (c.ends_are_losses.ensures owners past (Revoking revocation) split.0 made (subst (IsProper owners) split.1 shows.proper)) in
+    let falls : (ranked : ℕ) → (end_after owners [] deeds ranked ≡ Some place)
+    ↔ ((is_among ranked (kept owners past) ≡ true) × (is_among ranked (kept owners (past ++ Revoking revocation ∷ [])) ≡ false))
+    = λ ranked. subst (λ (ds : List Deed). (end_after owners [] ds ranked ≡ Some place)
+    ↔ ((is_among ranked (kept owners past) ≡ true) × (is_among ranked (kept owners (past ++ Revoking revocation ∷ [])) ≡ false))) (sym split.1)
+    (c.ends_are_losses.ensures owners past (Revoking revocation) split.0 ranked (subst (IsProper owners) split.1 shows.proper)) in
     ap (fallen place) shows.same ∙ fallen-lost owners deeds past revocation falls force
 
 pub returns-clause-plain : goal.returns-clause-plain

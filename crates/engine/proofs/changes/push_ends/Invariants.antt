@@ -6,10 +6,10 @@ use Rattle.grants_base.specs.declared.entries.End.{End}
 use Rattle.engine.proofs.changes.push_ends.Given as goal
 
 -- the ends of the first of these grants are there
-abbrev pub invariant-loop-made : goal.invariant-loop-made
-invariant-loop-made l = record {
+abbrev pub invariant-loop-name : goal.invariant-loop-name
+invariant-loop-name l = record {
   ends : (extended l.book [] l.grants l.ends.items).records
-      ≡ map (ended_at l.place (take l.made-index l.ended)) (extended l.book [] l.grants l.initial.ends.items).records;
+      ≡ map (ended_at l.place (take l.name-index l.ended)) (extended l.book [] l.grants l.initial.ends.items).records;
   slots : All (λ (end : End). end.slot < length l.book.records + length l.grants) l.initial.ends.items
       → All (λ (end : End). end.slot < length l.book.records + length l.grants) l.ends.items;
 }

@@ -70,8 +70,8 @@ returns-in-Some-Revoking c =
     ≡ map (ended_at at (ended_in c.args.came.now)) (extended c.args.book.now [] changes.grants.items old).records) =
     subst (λ (grants : List Grant). OnOk c.push_ends.result ((extended c.args.book.now [] grants new).records
     ≡ map (ended_at at (ended_in c.args.came.now)) (extended c.args.book.now [] grants old).records)) c.as_slice.ensures.value
-    (subst (λ (places : List ℕ). OnOk c.push_ends.result ((extended c.args.book.now [] c.as_slice.result.now new).records
-    ≡ map (ended_at at places) (extended c.args.book.now [] c.as_slice.result.now old).records)) c.ended_in-ended.ensures c.push_ends.ensures.ends) in
+    (subst (λ (ranks : List ℕ). OnOk c.push_ends.result ((extended c.args.book.now [] c.as_slice.result.now new).records
+    ≡ map (ended_at at ranks) (extended c.args.book.now [] c.as_slice.result.now old).records)) c.ended_in-ended.ensures c.push_ends.ensures.ends) in
     let slots : OnOk c.push_ends.result (All (Within changes.grants.items) old → All (Within changes.grants.items) new) =
     subst (λ (grants : List Grant). OnOk c.push_ends.result (All (Within grants) old → All (Within grants) new)) c.as_slice.ensures.value c.push_ends.ensures.slots in
     both_ok c.push_ends.result ended slots

@@ -13,8 +13,8 @@ use Rattle.evaluation.proofs.Comes.{deed-covered}
 use Rattle.evaluation.proofs.Slots.{all-covered, shows_seen}
 use Rattle.evaluation.proofs.judged.judge_ends.Goals as goal
 
-pub ended-places-requires : goal.ended-places-requires
-ended-places-requires g c =
+pub ended-names-requires : goal.ended-names-requires
+ended-names-requires g c =
     let ranged = c.args.batch.now in
     let statement = c.statement-statement.result.now in
     record {
@@ -35,11 +35,11 @@ returns-clause-value g c statement at =
     let same : c.statement-statement.result.now ≡ statement = cc in
     let size = ap (λ (batch : Batch). batch.size) c.requires.batch in
     let shows = shows_seen ranged c.statement-statement.ensures.of_log index (omega (arith, c.reader.ensures.within, c.reader.ensures.value, size)) in
-    IfOk-weaker c.ended-places.result
-    (λ (places : Vec ℕ Global). (users : List ℕ) (deeds : List Deed) → ShowsDeeds (seen_view (seen_at ranged index)) users deeds
-    → places.items ≡ ended_by_deed users deeds (deed_of place c.statement-statement.result.now.user c.statement-statement.result.now.form))
-    (λ (places : Vec ℕ Global). places.items ≡ ended_by_deed (owners log) (deeds_before log place) (deed_of place statement.user statement.form))
-    (λ places source.
+    IfOk-weaker c.ended-names.result
+    (λ (names : Vec ℕ Global). (users : List ℕ) (deeds : List Deed) → ShowsDeeds (seen_view (seen_at ranged index)) users deeds
+    → names.items ≡ ended_by_deed users deeds (deed_of place c.statement-statement.result.now.user c.statement-statement.result.now.form))
+    (λ (names : Vec ℕ Global). names.items ≡ ended_by_deed (owners log) (deeds_before log place) (deed_of place statement.user statement.form))
+    (λ names source.
     source (owners log) (deeds_before log place) shows
     ∙ ap (λ (one : Statement). ended_by_deed (owners log) (deeds_before log place) (deed_of place one.user one.form)) same)
-    c.ended-places.ensures.value
+    c.ended-names.ensures.value

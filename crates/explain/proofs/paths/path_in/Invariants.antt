@@ -1,7 +1,7 @@
 use Rattle.std.proofs.Common.{◌≡◌, ◌≤◌, ◌++◌, ℕ, List, Some, length}
 use Rattle.std.specs.Prelude.{reverse, slice_get}
 use Rattle.model_base.specs.Paths.{path}
-use Rattle.explain.specs.Lines.{made_places}
+use Rattle.explain.specs.Lines.{ranks_of}
 use Rattle.explain.specs.Steps.{stood}
 use Rattle.explain.proofs.paths.path_in.Given as goal
 
@@ -13,8 +13,8 @@ invariant-loop-giving g l = record {
   table : l.needed.table ≡ l.need.table;
   path :
       (owners : List ℕ) → slice_get owners l.need.table ≡ Some l.owner
-      → made_places (path owners (stood (g.V.Records.shown l.initial.view) (length (g.V.Records.shown l.initial.view).slots)) l.fn.user l.need)
-      ≡ made_places (path owners (stood (g.V.Records.shown l.initial.view) l.end) l.holder l.needed) ++ reverse l.places.items;
+      → ranks_of (path owners (stood (g.V.Records.shown l.initial.view) (length (g.V.Records.shown l.initial.view).slots)) l.fn.user l.need)
+      ≡ ranks_of (path owners (stood (g.V.Records.shown l.initial.view) l.end) l.holder l.needed) ++ reverse l.names.items;
 }
 
 abbrev pub decreases-loop-giving : goal.decreases-loop-giving

@@ -2,7 +2,7 @@ use Rattle.std.proofs.Common.{◌+◌, ℕ, List, length, sym, ap, ◌∙◌, su
 use Rattle.bohm_core_base.specs.Batch.{words_length}
 use Rattle.bohm_core_base.proofs.Kept.{serial-length}
 use Rattle.log_batch.specs.Supplied.{LogRange, batch_of}
-use Rattle.log_batch.specs.Keys.{Key}
+use Rattle.filling.specs.Keys.{Key}
 use Rattle.words.specs.Views.{KnowsReferences}
 use Rattle.filling.proofs.fill.store_place.Goals as goal
 

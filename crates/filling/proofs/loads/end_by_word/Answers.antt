@@ -1,6 +1,6 @@
 use Rattle.std.proofs.Common.{None, ◌∙◌, subst}
 use Rattle.log_batch.specs.Supplied.{batch_of}
-use Rattle.log_batch.specs.Keys.{Key}
+use Rattle.filling.specs.Keys.{Key}
 use Rattle.words.specs.Layout.{listed_slot_at}
 use Rattle.words.specs.Meanings.{EndMeans}
 use Rattle.filling.proofs.Telling.{end-early, end-unlisted, end-word}

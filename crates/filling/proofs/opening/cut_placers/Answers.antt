@@ -1,6 +1,6 @@
 use Rattle.std.proofs.Common.{◌≡◌, ◌+◌, List, ap, sym, ◌∙◌, subst, arith}
 use Rattle.log_batch.specs.Supplied.{LogRange}
-use Rattle.log_batch.specs.Keys.{Key}
+use Rattle.filling.specs.Keys.{Key}
 use Rattle.words.specs.Passes.{PassState, gone_on}
 use Rattle.words.specs.Views.{In}
 use Rattle.filling.specs.declared.placer.Placer.{Placer}

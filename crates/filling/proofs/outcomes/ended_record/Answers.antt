@@ -1,6 +1,6 @@
 use Rattle.std.proofs.Common.{◌+◌, ◌==◌, Some, None, sym, ap, ◌∙◌, subst}
 use Rattle.log_batch.specs.Supplied.{LogRange, batch_of}
-use Rattle.log_batch.specs.Keys.{Key}
+use Rattle.filling.specs.Keys.{Key}
 use Rattle.words.specs.Layout.{listed_slot_at}
 use Rattle.words.specs.Meanings.{EndMeans}
 use Rattle.filling.proofs.Telling.{record-ended}

@@ -1,7 +1,7 @@
 use Rattle.std.proofs.Common.{◌≡◌, ◌<◌, ◌+◌, ◌^◌, Some, List, ℕ, take, sym, ap, ◌∙◌, subst, arith}
 use Rattle.bohm_core_base.specs.Serial.{serial_words}
 use Rattle.log_batch.specs.Supplied.{LogRange, batch_of}
-use Rattle.log_batch.specs.Keys.{Key}
+use Rattle.filling.specs.Keys.{Key}
 use Rattle.filling.specs.Outcomes.{IsEndedList, outcome_in}
 use Rattle.filling.proofs.Decoding.{told-outcome}
 use Rattle.filling.proofs.outcomes.outcome_told.Goals as goal

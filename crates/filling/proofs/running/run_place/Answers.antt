@@ -1,6 +1,6 @@
 use Rattle.std.proofs.Common.{◌≡◌, ◌+◌, ◌-◌, ℕ, ap, ◌∙◌, subst}
 use Rattle.log_batch.specs.Supplied.{LogRange}
-use Rattle.log_batch.specs.Keys.{Key}
+use Rattle.filling.specs.Keys.{Key}
 use Rattle.filling.specs.declared.running.Ran.TheVariants.{Busy, NotPlaced, NoMemory}
 use Rattle.filling.specs.Bodies.{runs_at}
 use Rattle.filling.specs.Runs.{RanMeans}

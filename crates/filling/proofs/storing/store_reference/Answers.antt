@@ -1,7 +1,7 @@
 use Rattle.std.proofs.Common.{◌≡◌, ◌≤◌, ◌+◌, ap, sym, ◌∙◌, subst, arith}
 use Rattle.log_batch.specs.Laws.{word_of}
 use Rattle.log_batch.specs.Supplied.{LogRange, batch_of}
-use Rattle.log_batch.specs.Keys.{Key}
+use Rattle.filling.specs.Keys.{Key}
 use Rattle.words.specs.Layout.{reference_at}
 use Rattle.words.specs.Views.{front_in}
 use Rattle.words.proofs.Lower.{reference-most}

@@ -5,7 +5,7 @@ use Rattle.model_base.specs.Versions.{accesses_of}
 use Rattle.placing.specs.Parts.{table_partition}
 use Rattle.log_batch.specs.Laws.{word_of}
 use Rattle.log_batch.specs.Supplied.{LogRange, batch_of}
-use Rattle.log_batch.specs.Keys.{Key}
+use Rattle.filling.specs.Keys.{Key}
 use Rattle.words.specs.Layout.{partition_at, reference_at}
 use Rattle.words.specs.Views.{front_in}
 use Rattle.filling.specs.Placers.{IsAt, StoredBelow}

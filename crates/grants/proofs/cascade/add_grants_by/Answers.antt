@@ -15,7 +15,7 @@ loop-from-preserved g c =
     let asked = g.V.Records.asked c.loop-from.view in
     let are : AreAsked view asked = subst (λ (v : View). AreAsked v asked) c.loop-from.invariant.same c.in-Some.ensures.asked in
     let i = c.in-Some.i in
-    let within : i < length view.slots = found_within view asked are (is_by c.args.user c.args.kind revocation.table) i c.in-Some.ensures.next.1 in
+    let within : i < length view.slots = found_within view asked are (is_by c.args.holder.now.user c.args.holder.now.kind revocation.table) i c.in-Some.ensures.next.1 in
     let more = slot_more c.loop-from.due c.insert.new.self i c.in_ok-insert-in-Some.ensures.ok in
     record {
       same = c.in-Some.ensures.same ∙ c.loop-from.invariant.same;
@@ -25,7 +25,7 @@ loop-from-preserved g c =
           elim (cases_lt j i) [
             | inl earlier ↦ elim (cases_lt j c.loop-from.from) [
               | inl before ↦ more j ∙ or_right (i == j) (is_one_of c.loop-from.due j) (c.loop-from.invariant.found j grant from before is by kind)
-              | inr after ↦ absurd (by-skipped view asked are revocation c.args.user c.args.kind j grant (c.in-Some.ensures.next.2 j after earlier) is by kind)
+              | inr after ↦ absurd (by-skipped view asked are revocation c.args.holder.now.user c.args.holder.now.kind j grant (c.in-Some.ensures.next.2 j after earlier) is by kind)
             ]
             | inr later ↦ let here : i ≡ j = omega arith in more j ∙ or_first (i == j) (is_one_of c.loop-from.due j) (eq-eqb i j here)
           ];
@@ -44,7 +44,7 @@ returns-in_default-clause-found g c = λ j grant from low is by kind.
     let are : AreAsked view asked = subst (λ (v : View). AreAsked v asked) c.loop-from.invariant.same c.in-Some.ensures.asked in
     elim (cases_lt j c.loop-from.from) [
       | inl before ↦ c.loop-from.invariant.found j grant from before is by kind
-      | inr after ↦ absurd (by-skipped view asked are c.args.revocation.now c.args.user c.args.kind j grant (c.in-Some.ensures.next.2 j after (omega (arith, low, c.if-i-last.false))) is by kind)
+      | inr after ↦ absurd (by-skipped view asked are c.args.revocation.now c.args.holder.now.user c.args.holder.now.kind j grant (c.in-Some.ensures.next.2 j after (omega (arith, low, c.if-i-last.false))) is by kind)
     ]
 
 pub returns-in_default-2-clause-found : goal.returns-in_default-2-clause-found
@@ -54,7 +54,7 @@ returns-in_default-2-clause-found g c = λ j grant from low is by kind.
     let are : AreAsked view asked = subst (λ (v : View). AreAsked v asked) c.loop-from.invariant.same c.in_default.ensures.asked in
     elim (cases_lt j c.loop-from.from) [
       | inl before ↦ c.loop-from.invariant.found j grant from before is by kind
-      | inr after ↦ absurd (by-skipped view asked are c.args.revocation.now c.args.user c.args.kind j grant (c.in_default.ensures.next j after) is by kind)
+      | inr after ↦ absurd (by-skipped view asked are c.args.revocation.now c.args.holder.now.user c.args.holder.now.kind j grant (c.in_default.ensures.next j after) is by kind)
     ]
 
 pub returns-clause-found : goal.returns-clause-found

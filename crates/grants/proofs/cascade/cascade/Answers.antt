@@ -48,7 +48,7 @@ judge-requires-clause-behind g c =
 
 pub judge-requires-clause-ends : goal.judge-requires-clause-ends
 judge-requires-clause-ends g c =
-    subst (λ (v : View). AreEnds c.args.revocation.now v c.loop-slot.work.ended.ends c.loop-slot.work.ended.places) (sym c.loop-slot.invariant.same) c.loop-slot.invariant.ends
+    subst (λ (v : View). AreEnds c.args.revocation.now v c.loop-slot.work.ended.ends c.loop-slot.work.ended.ranks) (sym c.loop-slot.invariant.same) c.loop-slot.invariant.ends
 
 pub loop-slot-smaller : goal.loop-slot-smaller
 loop-slot-smaller g c =
@@ -72,16 +72,16 @@ loop-slot-preserved g c =
       same = c.in_ok-judge.ensures.same ∙ seen;
       due = subst (λ (v : View). AreDue revocation v c.judge.new.work.due (slots_of c.judge.new.work.ended.ends) (slot + 1)) seen c.in_ok-judge.ensures.due;
       passed = subst (λ (v : View). AllPassed revocation v (slots_of c.judge.new.work.ended.ends) c.judge.new.work.asked) seen c.in_ok-judge.ensures.passed;
-      ends = subst (λ (v : View). AreEnds revocation v c.judge.new.work.ended.ends c.judge.new.work.ended.places) seen c.in_ok-judge.ensures.ends;
+      ends = subst (λ (v : View). AreEnds revocation v c.judge.new.work.ended.ends c.judge.new.work.ended.ranks) seen c.in_ok-judge.ensures.ends;
       next = omega (arith, first.within);
       whole = λ borne.
-          let judged : c.judge.new.work.ended.places ++ ends_from revocation view owner (slots_of c.judge.new.work.ended.ends) (slot + 1) ≡ c.loop-slot.work.ended.places ++ ends_from revocation view owner (slots_of c.loop-slot.work.ended.ends) slot =
-          subst (λ (v : View). c.judge.new.work.ended.places ++ ends_from revocation v owner (slots_of c.judge.new.work.ended.ends) (slot + 1) ≡ c.loop-slot.work.ended.places ++ ends_from revocation v owner (slots_of c.loop-slot.work.ended.ends) slot)
+          let judged : c.judge.new.work.ended.ranks ++ ends_from revocation view owner (slots_of c.judge.new.work.ended.ends) (slot + 1) ≡ c.loop-slot.work.ended.ranks ++ ends_from revocation view owner (slots_of c.loop-slot.work.ended.ends) slot =
+          subst (λ (v : View). c.judge.new.work.ended.ranks ++ ends_from revocation v owner (slots_of c.judge.new.work.ended.ends) (slot + 1) ≡ c.loop-slot.work.ended.ranks ++ ends_from revocation v owner (slots_of c.loop-slot.work.ended.ends) slot)
           seen c.in_ok-judge.ensures.whole in
           let on : ends_from revocation view owner (slots_of c.loop-slot.work.ended.ends) slot ≡ ends_from revocation view owner (slots_of c.loop-slot.work.ended.ends) c.loop-slot.next =
           over_free revocation view owner borne c.loop-slot.work.due (slots_of c.loop-slot.work.ended.ends) c.loop-slot.next c.loop-slot.invariant.due (slot - c.loop-slot.next) c.loop-slot.next slot
           (omega (arith, first.from)) (omega arith) (omega (arith, first.within)) first.free in
-          judged ∙ ap (λ rest. c.loop-slot.work.ended.places ++ rest) on ∙ c.loop-slot.invariant.whole borne;
+          judged ∙ ap (λ rest. c.loop-slot.work.ended.ranks ++ rest) on ∙ c.loop-slot.invariant.whole borne;
     }
 
 pub returns-clause-ended : goal.returns-clause-ended
@@ -98,11 +98,11 @@ returns-clause-ended g c = λ owners deeds shows.
     over_free revocation view owner borne c.loop-slot.work.due (slots_of c.loop-slot.work.ended.ends) c.loop-slot.next c.loop-slot.invariant.due (end - c.loop-slot.next) c.loop-slot.next end
     (omega (arith, c.loop-slot.invariant.next)) (omega arith) (omega arith) (λ j _ _. ap (λ (due : List ℕ). is_one_of due j) (subst (λ (found : Option ℕ). IfNone found (c.loop-slot.work.due ≡ [])) (nothing c.pop_first.result c.in_default.not-Some) c.pop_first.ensures.none)) in
     let none : drop end view.slots ≡ [] = drop_of_length-le view.slots (omega arith) in
-    sym (ap (λ slots. c.loop-slot.work.ended.places ++ cascade owner revocation (staying revocation view (slots_of c.loop-slot.work.ended.ends) end) (concerned_grants revocation slots)) none ∙ append-nil c.loop-slot.work.ended.places)
-    ∙ ap (λ rest. c.loop-slot.work.ended.places ++ rest) on
+    sym (ap (λ slots. c.loop-slot.work.ended.ranks ++ cascade owner revocation (staying revocation view (slots_of c.loop-slot.work.ended.ends) end) (concerned_grants revocation slots)) none ∙ append-nil c.loop-slot.work.ended.ranks)
+    ∙ ap (λ rest. c.loop-slot.work.ended.ranks ++ rest) on
     ∙ c.loop-slot.invariant.whole borne
     ∙ pass_ends view owners deeds revocation owner here owned
 
 pub returns-clause-ends : goal.returns-clause-ends
 returns-clause-ends g c =
-    subst (λ (v : View). AreEnds c.args.revocation.now v c.loop-slot.work.ended.ends c.loop-slot.work.ended.places) c.in_ok-due.ensures.same c.loop-slot.invariant.ends
+    subst (λ (v : View). AreEnds c.args.revocation.now v c.loop-slot.work.ended.ends c.loop-slot.work.ended.ranks) c.in_ok-due.ensures.same c.loop-slot.invariant.ends

@@ -8,7 +8,7 @@ use Rattle.grants.proofs.cascade.first_bearer.Given as goal
 abbrev pub invariant-loop-from : goal.invariant-loop-from
 invariant-loop-from g l = record {
   same : g.V.Records.shown l.view ≡ g.V.Records.shown l.initial.view;
-  none : (k : ℕ) → k < l.from → is_one_of (slots_of l.ended.ends) k ≡ false → bears l.revocation l.user l.kind (slot_at (g.V.Records.shown l.initial.view) k) ≡ false;
+  none : (k : ℕ) → k < l.from → is_one_of (slots_of l.ended.ends) k ≡ false → bears l.revocation l.holder.user l.holder.kind (slot_at (g.V.Records.shown l.initial.view) k) ≡ false;
 }
 
 abbrev pub decreases-loop-from : goal.decreases-loop-from

@@ -12,20 +12,20 @@ use Rattle.grants.proofs.cascade.lose.Goals as goal
 pub first_bearer-first-requires-clause-passed : goal.first_bearer-first-requires-clause-passed
 first_bearer-first-requires-clause-passed g c =
     let view = g.V.Records.shown c.args.view.now in
-    let ended = slots_of c.args.ended.now.ends in
-    subst (ArePassed c.args.revocation.now view ended c.args.user c.args.kind) (sym c.passed_by-passed.ensures)
-    (passed_start c.args.revocation.now view ended c.args.asked.now c.args.user c.args.kind c.requires)
+    let ended = slots_of c.args.work.now.ended.ends in
+    subst (ArePassed c.args.revocation.now view ended c.args.holder.now.user c.args.holder.now.kind) (sym c.passed_by-passed.ensures)
+    (passed_start c.args.revocation.now view ended c.args.work.now.asked c.args.holder.now.user c.args.holder.now.kind c.requires)
 
 pub returns-clause-found : goal.returns-clause-found
 returns-clause-found g c = λ j grant from is by kind.
     let view = g.V.Records.shown c.args.view.now in
-    let ended = slots_of c.args.ended.now.ends in
+    let ended = slots_of c.args.work.now.ended.ends in
     let first = c.first_bearer-first.result in
     elim (cases_lt first j) [
       | inl above ↦ elim (cases_lt j (length view.slots)) [
         | inl within ↦
             let less : first < c.slots-end.result = omega (arith, above, within, c.slots-end.ensures) in
-            let parts = and_parts (bears c.args.revocation.now c.args.user c.args.kind (slot_at view first)) (not (is_one_of ended first)) (c.first_bearer-first.ensures.found less) in
+            let parts = and_parts (bears c.args.revocation.now c.args.holder.now.user c.args.holder.now.kind (slot_at view first)) (not (is_one_of ended first)) (c.first_bearer-first.ensures.found less) in
             inr (first, above, not_false (is_one_of ended first) parts.1, parts.0)
         | inr over ↦ absurd (nothing_past view c.args.revocation.now j grant over is)
       ]
@@ -36,9 +36,9 @@ returns-clause-found g c = λ j grant from is by kind.
 
 pub returns-clause-passed : goal.returns-clause-passed
 returns-clause-passed g c =
-    passed_put c.args.revocation.now (g.V.Records.shown c.args.view.now) (slots_of c.args.ended.now.ends) c.args.asked.now c.insert.new.self c.args.user c.first_bearer-first.result c.args.kind
-    c.kind_holder.result c.kind_holder.ensures c.in_ok-insert.ensures.updates.0 c.first_bearer-first.ensures.passed c.requires
+    passed_put c.args.revocation.now (g.V.Records.shown c.args.view.now) (slots_of c.args.work.now.ended.ends) c.args.work.now.asked c.insert.new.self c.args.holder.now.user c.first_bearer-first.result c.args.holder.now.kind
+    c.key.result c.key.ensures c.in_ok-insert.ensures.updates.0 c.first_bearer-first.ensures.passed c.requires
 
 pub returns-clause-within : goal.returns-clause-within
 returns-clause-within g c = λ j is.
-    subst (λ (v : View). (is_one_of c.args.due.now j ≡ true) ⊎ ((c.args.start ≤ j) × (j < length v.slots))) c.first_bearer-first.ensures.same (c.in_ok-add_grants_by.ensures.within j is)
+    subst (λ (v : View). (is_one_of c.args.work.now.due j ≡ true) ⊎ ((c.args.start ≤ j) × (j < length v.slots))) c.first_bearer-first.ensures.same (c.in_ok-add_grants_by.ensures.within j is)

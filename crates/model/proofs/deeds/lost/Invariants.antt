@@ -3,4 +3,4 @@ use Rattle.model_base.specs.Privileges.{lost}
 use Rattle.model.proofs.deeds.lost.Given as goal
 
 abbrev pub invariant-loop-grant : goal.invariant-loop-grant
-invariant-loop-grant l = l.places.items ++ lost (drop l.grant-index l.before) l.after ≡ lost l.before l.after
+invariant-loop-grant l = l.names.items ++ lost (drop l.grant-index l.before) l.after ≡ lost l.before l.after

@@ -1,5 +1,5 @@
 use Rattle.std.proofs.Common.{ap, arith}
-use Rattle.log_batch.specs.Keys.{Key}
+use Rattle.filling.specs.Keys.{Key}
 use Rattle.thread_trials.proofs.threads.print_claiming.Goals as goal
 
 pub claim-requires-clause-begins : goal.claim-requires-clause-begins

@@ -10,7 +10,7 @@ loop-number-preserved c =
     let b = batch_of c.args.key.now.batch in
     let listed = c.args.key.now.slots in
     let n = c.loop-number.number in
-    let items = c.slots-slot-items.ensures in
+    let items = c.slots-slot-items.ensures.value in
     let long : length c.slots-slot-items.result.now ≡ length listed = ap (λ (list : List ℕ). length list) items in
     let within : n < length listed = omega arith in
     let same : get_or c.slots-slot-items.result.now n 0 ≡ listed_slot_at listed n = ap (λ (list : List ℕ). get_or list n 0) items in
@@ -24,7 +24,7 @@ pub returns-clause-done : goal.returns-clause-done
 returns-clause-done c =
     let b = batch_of c.args.key.now.batch in
     let listed = c.args.key.now.slots in
-    let long : length c.slots-slot-items.result.now ≡ length listed = ap (λ (list : List ℕ). length list) c.slots-slot-items.ensures in
+    let long : length c.slots-slot-items.result.now ≡ length listed = ap (λ (list : List ℕ). length list) c.slots-slot-items.ensures.value in
     let all : length listed ≤ c.loop-number.number = omega arith in
     told-done b listed c.args.closed.now c.requires.settled c.ends-listed.ensures.listed c.loop-number.ends
     (record { told = c.loop-number.invariant.told; taken = λ end place less set. c.loop-number.invariant.taken end place (omega arith) set })

@@ -31,8 +31,8 @@ pub outcome_of-requires-clause-ended : goal.outcome_of-requires-clause-ended
 outcome_of-requires-clause-ended g c =
     λ found is.
     c.in_ok-ended.ensures.items
-    ∙ subst (λ (span : FinishedRange). (one : Outcome) → outcome span.log.statements (span.first + c.loop-index.index) ≡ Some one → c.ended-places.result.now ≡ ended_in one)
-    c.requires.span c.ended-places.ensures found is
+    ∙ subst (λ (span : FinishedRange). (one : Outcome) → outcome span.log.statements (span.first + c.loop-index.index) ≡ Some one → c.ended-names.result.now ≡ ended_in one)
+    c.requires.span c.ended-names.ensures found is
 
 pub push_left-requires-clause-words : goal.push_left-requires-clause-words
 push_left-requires-clause-words g c =

@@ -1,7 +1,7 @@
 use Rattle.std.proofs.Common.{◌≡◌, ◌<◌, ◌+◌, ap, ◌∙◌, subst, arith}
 use Rattle.placing.specs.Latest.{IsLatest}
 use Rattle.log_batch.specs.Supplied.{LogRange}
-use Rattle.log_batch.specs.Keys.{Key}
+use Rattle.filling.specs.Keys.{Key}
 use Rattle.filling.specs.declared.placer.Placer.{Placer}
 use Rattle.filling.specs.Placers.{placer_front}
 use Rattle.filling.proofs.Placing.{placer-more}

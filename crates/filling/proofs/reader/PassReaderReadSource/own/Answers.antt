@@ -2,7 +2,7 @@ use Rattle.std.proofs.Common.{◌<◌, get_or, sym, ap, ◌∙◌, subst, arith}
 use Rattle.bohm_core_base.specs.Batch.{words_length}
 use Rattle.bohm_core_base.specs.Serial.{serial_words}
 use Rattle.log_batch.specs.Supplied.{batch_of}
-use Rattle.log_batch.specs.Keys.{Key}
+use Rattle.filling.specs.Keys.{Key}
 use Rattle.evaluation.specs.ReadSource.{IsReferred}
 use Rattle.evaluation.proofs.Referred.{referred-low}
 use Rattle.words.specs.Passes.{PassState}

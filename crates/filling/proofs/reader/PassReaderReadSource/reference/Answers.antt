@@ -1,7 +1,7 @@
 use Rattle.std.proofs.Common.{◌<◌, length, sym, ap, ◌∙◌, subst, arith, get_or}
 use Rattle.bohm_core_base.specs.Batch.{IsSoundBatch, reference_words}
 use Rattle.log_batch.specs.Supplied.{batch_of}
-use Rattle.log_batch.specs.Keys.{Key}
+use Rattle.filling.specs.Keys.{Key}
 use Rattle.words.specs.Layout.{partition_at, reference_at}
 use Rattle.words.specs.Passes.{PassState}
 use Rattle.words.specs.Views.{KnowsFront}

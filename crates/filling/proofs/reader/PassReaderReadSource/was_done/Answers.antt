@@ -2,7 +2,7 @@ use Rattle.std.proofs.Common.{◌<◌, sym, ap, ◌∙◌, subst}
 use Rattle.bohm_core_base.specs.Batch.{was_done}
 use Rattle.bohm_core_base.specs.Serial.{serial_words}
 use Rattle.log_batch.specs.Supplied.{batch_of}
-use Rattle.log_batch.specs.Keys.{Key}
+use Rattle.filling.specs.Keys.{Key}
 use Rattle.evaluation.specs.ReadSource.{IsDeedBefore}
 use Rattle.words.specs.Passes.{PassState}
 use Rattle.words.specs.Views.{KnowsReferences}

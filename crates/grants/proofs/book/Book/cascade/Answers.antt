@@ -18,14 +18,14 @@ pub returns-clause-slots : goal.returns-clause-slots
 returns-clause-slots c =
     let revocation = c.args.revocation.now in
     let ended = c.in_ok-ended.ended in
-    let seen = subst (λ (p : ℕ). AreEnds revocation (view_of c.at-view.result.book.now p) ended.ends ended.places) c.at-view.ensures.place c.in_ok-ended.ensures.ends in
-    let are = subst (λ (book : Entries). AreEnds revocation (view_of book revocation.place) ended.ends ended.places) c.at-view.ensures.book seen in
-    ends_within c.args.self.now revocation c.requires.later ended.ends ended.places are
+    let seen = subst (λ (p : ℕ). AreEnds revocation (view_of c.at-view.result.book.now p) ended.ends ended.ranks) c.at-view.ensures.place c.in_ok-ended.ensures.ends in
+    let are = subst (λ (book : Entries). AreEnds revocation (view_of book revocation.place) ended.ends ended.ranks) c.at-view.ensures.book seen in
+    ends_within c.args.self.now revocation c.requires.later ended.ends ended.ranks are
 
 pub returns-clause-value : goal.returns-clause-value
 returns-clause-value c =
     let revocation = c.args.revocation.now in
     let ended = c.in_ok-ended.ended in
-    let seen = subst (λ (p : ℕ). AreEnds revocation (view_of c.at-view.result.book.now p) ended.ends ended.places) c.at-view.ensures.place c.in_ok-ended.ensures.ends in
-    let are = subst (λ (book : Entries). AreEnds revocation (view_of book revocation.place) ended.ends ended.places) c.at-view.ensures.book seen in
-    ends_all c.args.self.now revocation c.requires.later c.tables-tables.ensures.sound.rising ended.ends ended.places are
+    let seen = subst (λ (p : ℕ). AreEnds revocation (view_of c.at-view.result.book.now p) ended.ends ended.ranks) c.at-view.ensures.place c.in_ok-ended.ensures.ends in
+    let are = subst (λ (book : Entries). AreEnds revocation (view_of book revocation.place) ended.ends ended.ranks) c.at-view.ensures.book seen in
+    ends_all c.args.self.now revocation c.requires.later c.tables-tables.ensures.sound.rising ended.ends ended.ranks are

@@ -14,9 +14,9 @@ returns-in-Some c =
     let owners = c.args.owners.now in
     let user = c.args.statement.now.user in
     let world = world_of c.args.self.now in
-    at_place-judged owners c.args.place world c.args.statement.now c.in_ok-grants.grants.items c.in_ok-needs.needs.items (Some c.in-Some.need)
-    c.in_default.not-Create (c.in_ok-grants.ensures ∙ ap (kept owners) c.deref.ensures.value) c.in_ok-needs.ensures
-    (rw (c.deref-2.ensures.value, c.deref-3.ensures.value) at c.in-Some.ensures)
+    at_place-judged owners c.args.place world c.args.statement.now c.in_ok-grants.grants.items (Some c.in-Some.need)
+    c.in_default.not-Create (c.in_ok-grants.ensures ∙ ap (kept owners) c.deref.ensures.value)
+    (rw c.deref-2.ensures.value at c.in-Some.ensures)
     ∙ ap (λ (why : Cause). (Outcome.Denied c.in-Some.need why, world))
     (sym (c.in_ok-cause-in-Some.ensures ∙ ap (λ (deeds : List Deed). cause owners deeds user c.in-Some.need) c.deref-in-Some.ensures.value))
 
@@ -24,8 +24,8 @@ pub returns : goal.returns
 returns c =
     let owners = c.args.owners.now in
     let world = world_of c.args.self.now in
-    let same = at_place-judged owners c.args.place world c.args.statement.now c.in_ok-grants.grants.items c.in_ok-needs.needs.items None
-    c.in_default.not-Create (c.in_ok-grants.ensures ∙ ap (kept owners) c.deref.ensures.value) c.in_ok-needs.ensures
-    (rw (c.deref-2.ensures.value, c.deref-3.ensures.value) at c.in-None.ensures) in
+    let same = at_place-judged owners c.args.place world c.args.statement.now c.in_ok-grants.grants.items None
+    c.in_default.not-Create (c.in_ok-grants.ensures ∙ ap (kept owners) c.deref.ensures.value)
+    (rw c.deref-2.ensures.value at c.in-None.ensures) in
     let P : Outcome × World → Type 0 = λ come. IfOk c.run.result (λ outcome. come ≡ (outcome, world_of c.run.new.self)) in
     subst P (sym same) c.run.ensures

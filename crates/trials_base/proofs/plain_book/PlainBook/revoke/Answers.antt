@@ -1,9 +1,8 @@
-use Rattle.std.proofs.Common.{◌≡◌, ◌++◌, ◌∷◌, [], ℕ, List, map, length, sym, ◌∙◌, ap, subst, vec_len}
+use Rattle.std.proofs.Common.{◌≡◌, ◌++◌, ◌∷◌, [], ℕ, List, map, length, refl, sym, ◌∙◌, ap, subst, vec_len}
 use Rattle.std.proofs.lemmas.List.{with_items_is, length-map}
 use Rattle.model_base.specs.declared.deed.Deed.TheVariants.{Revoking}
 use Rattle.model_base.specs.Records.{ended_at}
 use Rattle.grants_base.specs.Book.{Entries, IsLater, ShowsBook, with_ends}
-use Rattle.grants_base.specs.Index.{is_one_of}
 use Rattle.grants.proofs.LaterLaws.{later_ends}
 use Rattle.grants_base.proofs.RevokeLaws.{ended_book, shows_revoke, sound_revoked}
 use Rattle.trials_base.proofs.plain_book.PlainBook.revoke.Goals as goal
@@ -11,19 +10,18 @@ use Rattle.trials_base.proofs.plain_book.PlainBook.revoke.Goals as goal
 pub invariant_of-self : goal.invariant_of-self
 invariant_of-self c =
     let place = c.args.revocation.now.place in
-    let set = c.in_ok-places.places.keys in
-    let long : length c.close.new.records ≡ vec_len c.self.inside.records = ap length c.close.ensures ∙ length-map c.deref_mut.result.now (ended_at place set) ∙ c.deref_mut.ensures.len in
-    let now = with_items_is c.self.inside.records c.close.new.records long ∙ c.close.ensures ∙ ap (map (ended_at place set)) c.deref_mut.ensures.value in
-    sound_revoked (record { tables = c.self.inside.tables.items; records = c.self.inside.records.items }) c.args.self.now place set _ c.self.view_is c.self.invariant c.requires.later now
+    let ended = c.in_ok-ended.ended.items in
+    let long : length c.close.new.records ≡ vec_len c.self.inside.records = ap length c.close.ensures ∙ length-map c.deref_mut.result.now (ended_at place c.deref.result.now) ∙ c.deref_mut.ensures.len in
+    let now = with_items_is c.self.inside.records c.close.new.records long ∙ c.close.ensures ∙ ap (λ ranks. map (ended_at place ranks) c.deref_mut.result.now) c.deref.ensures.value ∙ ap (map (ended_at place ended)) c.deref_mut.ensures.value in
+    sound_revoked (record { tables = c.self.inside.tables.items; records = c.self.inside.records.items }) c.args.self.now place ended _ c.self.view_is c.self.invariant c.requires.later now
 
 pub returns-clause-ok : goal.returns-clause-ok
 returns-clause-ok c =
     let place = c.args.revocation.now.place in
-    let set = c.in_ok-places.places.keys in
-    let long : length c.close.new.records ≡ vec_len c.self.inside.records = ap length c.close.ensures ∙ length-map c.deref_mut.result.now (ended_at place set) ∙ c.deref_mut.ensures.len in
-    let now = with_items_is c.self.inside.records c.close.new.records long ∙ c.close.ensures ∙ ap (map (ended_at place set)) c.deref_mut.ensures.value in
-    ended_book (record { tables = c.self.inside.tables.items; records = c.self.inside.records.items }) c.args.self.now place set c.in_ok-ended.ended.items _ c.self.view_is now
-    (λ q. c.in_ok-places.ensures q ∙ ap (λ places. is_one_of places q) c.deref.ensures.value)
+    let ended = c.in_ok-ended.ended.items in
+    let long : length c.close.new.records ≡ vec_len c.self.inside.records = ap length c.close.ensures ∙ length-map c.deref_mut.result.now (ended_at place c.deref.result.now) ∙ c.deref_mut.ensures.len in
+    let now = with_items_is c.self.inside.records c.close.new.records long ∙ c.close.ensures ∙ ap (λ ranks. map (ended_at place ranks) c.deref_mut.result.now) c.deref.ensures.value ∙ ap (map (ended_at place ended)) c.deref_mut.ensures.value in
+    ended_book (record { tables = c.self.inside.tables.items; records = c.self.inside.records.items }) c.args.self.now place ended ended _ c.self.view_is now (λ q. refl)
 
 pub returns-clause-after : goal.returns-clause-after
 returns-clause-after c = λ owners deeds shows below.

@@ -20,7 +20,7 @@ get-word-requires-clause-allows g c =
 pub invariant_of-pass : goal.invariant_of-pass
 invariant_of-pass g c =
     let me = c.get-word.ensures.then.0 in
-    record { bare = ap (λ m. m.1) me ∙ c.pass.invariant.bare; alive = ap (λ m. m.0.spent) me ∙ c.pass.invariant.alive; pass = ap (λ m. m.0.placer) me ∙ c.pass.invariant.pass; placed = λ yes. ap (λ m. m.0.placed) me ∙ c.pass.invariant.placed yes }
+    record { bare = ap (λ m. m.1) me ∙ c.pass.invariant.bare; alive = ap (λ m. m.0.spent) me ∙ c.pass.invariant.alive; pass = ap (λ m. m.0.placer) me ∙ c.pass.invariant.pass; placed = c.pass.invariant.placed ∙ sym (ap (λ m. m.0.placed) me) }
 
 pub returns-clause-same : goal.returns-clause-same
 returns-clause-same g c =

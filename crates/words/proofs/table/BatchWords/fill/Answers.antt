@@ -21,7 +21,7 @@ put-requires-clause-allows g c =
 pub invariant_of-pass : goal.invariant_of-pass
 invariant_of-pass g c =
     let then = c.put.ensures.then in
-    record { bare = then.0.0 ∙ c.pass.invariant.bare; alive = then.0.1 ∙ c.pass.invariant.alive; pass = then.0.2 ∙ c.pass.invariant.pass; placed = λ yes. then.0.3 ∙ c.pass.invariant.placed yes }
+    record { bare = then.0.0 ∙ c.pass.invariant.bare; alive = then.0.1 ∙ c.pass.invariant.alive; pass = then.0.2 ∙ c.pass.invariant.pass; placed = c.pass.invariant.placed ∙ sym then.0.3 }
 
 pub returns : goal.returns
 returns g c =

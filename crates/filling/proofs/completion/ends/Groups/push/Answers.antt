@@ -6,5 +6,5 @@ pub returns-in_ok-push : goal.returns-in_ok-push
 returns-in_ok-push c =
     let s = c.self.inside in
     let within : c.args.index < length s.lists.items = omega arith in
-    list-pushed s.lists.items c.args.index c.push.new.self c.index_mut-list.result.now c.args.place within c.index_mut-list.ensures.value c.in_ok-push.ensures.items
-    ∙ ap (λ (lists : List (List ℕ)). set lists c.args.index (get_or lists c.args.index [] ++ c.args.place ∷ [])) c.self.view_is
+    list-pushed s.lists.items c.args.index c.push.new.self c.index_mut-list.result.now c.args.name within c.index_mut-list.ensures.value c.in_ok-push.ensures.items
+    ∙ ap (λ (lists : List (List ℕ)). set lists c.args.index (get_or lists c.args.index [] ++ c.args.name ∷ [])) c.self.view_is
