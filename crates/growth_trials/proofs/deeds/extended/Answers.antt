@@ -4,6 +4,7 @@ use Rattle.std.specs.Prelude.{IfSome, slice_get}
 use Rattle.std.proofs.lemmas.List.Elements.{All-push, All-weaker}
 use Rattle.model_base.specs.declared.deed.Grant.{Grant}
 use Rattle.model_base.specs.declared.deed.Record.{Record}
+use Rattle.model_base.specs.Ranks.{rank}
 use Rattle.model_base.specs.Privileges.{option_of}
 use Rattle.grants_base.specs.View.{has_by, holds_in}
 use Rattle.model_base.specs.Records.{ended_at}
@@ -63,11 +64,11 @@ last_ended : (book : Entries) (grant : Grant) (slot place : ℕ) → IsSoundBook
 last_ended book grant slot place sound later is =
     let entries = book.records ++ unended grant ∷ [] in
     let end : End = record { slot = slot; place = place } in
-    let last : IsOpen entries place end grant.place =
-    record { entry = unended grant; there = ap (slice_get entries) is ∙ last_is book.records (unended grant); unended = refl; made_at = refl; same = refl } in
-    let ended : end_slot entries slot place ≡ map (ended_at place (grant.place ∷ [])) entries =
-    ap (λ (es : List Record). end_slot es slot place) (ended_none place entries) ∙ ends_open entries sound.rising place [] end grant.place last in
-    subst (λ (es : List Record). IsSoundBook (record { tables = book.tables; records = es })) (sym ended) (sound_revoke (with_grant book grant) place (grant.place ∷ []) sound later)
+    let last : IsOpen entries place end (rank grant) =
+    record { entry = unended grant; there = ap (slice_get entries) is ∙ last_is book.records (unended grant); unended = refl; named = refl; same = refl } in
+    let ended : end_slot entries slot place ≡ map (ended_at place (rank grant ∷ [])) entries =
+    ap (λ (es : List Record). end_slot es slot place) (ended_none place entries) ∙ ends_open entries sound.rising place [] end (rank grant) last in
+    subst (λ (es : List Record). IsSoundBook (record { tables = book.tables; records = es })) (sym ended) (sound_revoke (with_grant book grant) place (rank grant ∷ []) sound later)
 
 pub extend-requires-clause-sound : goal.extend-requires-clause-sound
 extend-requires-clause-sound c =
