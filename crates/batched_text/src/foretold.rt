@@ -102,29 +102,8 @@ fn take_ahead<'a>(
     }
 }
 
-/// Deals with the line that begins at an index of the bytes: it waits for the end of its batch, or its batch is reported. It returns the
-/// index before which all is dealt with then, which is the same where no line is whole there.
-fn report_next<'a, T: Threads + Wait + Sync>(
-    runner: &Runner<T>,
-    batching: &mut Batching,
-    buffered: &Buffered<'a>,
-    from: usize,
-    raw: &mut LineBuffers<'a>,
-) -> Result<usize, EngineFault>
-    requires within { from < length buffered.now.bytes.now }
-    requires ready { IsReadyAt runner.now.plan batching.old buffered.now from }
-    ensures order { IfOk result (λ to. from ≤ to) }
-    ensures runs { Runs runner.now.plan buffered.now from batching.old batching.new result }
-{
-    let Some(count) = take_next(batching, buffered.bytes, from, raw)? else {
-        return Ok(from);
-    };
-    let _dropped = batching.engine.log().dropped();
-    report_full(runner, batching)?;
-    Ok(from + count)
-}
-
-/// Deals with a line that was read ahead, as `report_next`, if the lines before an index end where it begins.
+/// Deals with a line that was read ahead if the lines before an index end where it begins: it waits for the end of its batch, or its batch
+/// is reported. It returns the index before which all is dealt with then.
 fn report_one<'a, T: Threads + Wait + Sync>(
     runner: &Runner<T>,
     batching: &mut Batching,
@@ -149,7 +128,8 @@ fn report_one<'a, T: Threads + Wait + Sync>(
     Ok(from + count)
 }
 
-/// Deals with the lines that begin from one index of the bytes on and before another, as `report_next`.
+/// Deals with the lines that begin from one index of the bytes on and before another: each waits for the end of its batch, or its batch is
+/// reported. It returns the index before which all is dealt with then, which is before the other one where a line isn't whole.
 pub(crate) fn report_until<'a, T: Threads + Wait + Sync>(
     runner: &Runner<T>,
     batching: &mut Batching,
@@ -165,12 +145,12 @@ pub(crate) fn report_until<'a, T: Threads + Wait + Sync>(
 {
     let mut at = from;
     'lines: while at < to {
-        let next = report_next(runner, batching, buffered, at, raw)?;
-        let is_stuck = next == at;
-        at = next;
-        if is_stuck {
-            break;
-        }
+        let Some(count) = take_next(batching, buffered.bytes, at, raw)? else {
+            return Ok(at);
+        };
+        let _dropped = batching.engine.log().dropped();
+        report_full(runner, batching)?;
+        at += count;
     }
     Ok(at)
 }
@@ -211,29 +191,9 @@ fn report_each<'a, T: Threads + Wait + Sync>(
     Ok(at)
 }
 
-/// Deals with lines that were read ahead, as `report_each`. Then it reports the lines that wait, unless all is kept, and gives back what
-/// was dropped.
-fn report_group<'a, T: Threads + Wait + Sync>(
-    runner: &Runner<T>,
-    batching: &mut Batching,
-    buffered: &Buffered<'a>,
-    lines: &mut [Ahead],
-    from: usize,
-    raw: &mut LineBuffers<'a>,
-) -> Result<usize, EngineFault>
-    requires within { from ≤ length buffered.now.bytes.now }
-    requires ready { IsReadyAt runner.now.plan batching.old buffered.now from }
-    requires ahead { WereReadAhead (log_names batching.old) buffered.now.bytes.now lines.old }
-    ensures { Runs runner.now.plan buffered.now from batching.old batching.new result }
-{
-    let at = report_each(runner, batching, buffered, lines, from, raw)?;
-    report_early(runner, batching)?;
-    give_back(&mut batching.engine, lines);
-    Ok(at)
-}
-
-/// Deals with lines that were read ahead, as `report_group`, as many at a time as a batch has places: a statement stays with its line but
-/// for that time. So what a piece's statements hold lies in memory in the order in which it is read and filled again.
+/// Deals with lines that were read ahead, as `report_each`, as many at a time as a batch has places. Then it reports the lines that wait,
+/// unless all is kept, and gives back what was dropped: a statement stays with its line but for that time. So what a piece's statements hold
+/// lies in memory in the order in which it is read and filled again.
 pub(crate) fn report_foretold<'a, T: Threads + Wait + Sync>(
     runner: &Runner<T>,
     batching: &mut Batching,
@@ -249,7 +209,9 @@ pub(crate) fn report_foretold<'a, T: Threads + Wait + Sync>(
 {
     let mut at = from;
     'groups: for group in lines.chunks_mut(runner.plan.settings.batch as usize) {
-        at = report_group(runner, batching, buffered, group, at, raw)?;
+        at = report_each(runner, batching, buffered, group, at, raw)?;
+        report_early(runner, batching)?;
+        give_back(&mut batching.engine, group);
     }
     Ok(at)
 }

@@ -99,37 +99,6 @@ impl Lookahead {
     {
         let _learned = self.names.catch_up(catalog);
     }
-
-    /// Deals with a stretch of the bytes, as `run_ahead`.
-    fn run<T: Threads + Wait + Sync>(
-        &mut self,
-        runner: &Runner<T>,
-        batching: Batching,
-        buffered: &Buffered,
-    ) -> Ran
-        requires begins { Begins self.old.names (log_names batching) }
-        requires ready { IsReadyAt runner.now.plan batching buffered.now 0 }
-        ensures ran { Runs runner.now.plan buffered.now 0 batching result.batching result.result }
-        ensures names { self.new.names ≡ self.old.names }
-    {
-        let to = self.next_stretch(buffered.bytes.len());
-        let extent = Extent {
-            to,
-            pieces: self.pieces_of(to),
-            threads: self.ahead.threads,
-        };
-        let spare = mem::replace(&mut self.spare, Vec::new(runner.alloc));
-        let (ran, spare) = run_ahead::<Brand, T>(
-            runner,
-            batching,
-            &self.names,
-            buffered,
-            &extent,
-            spare,
-        );
-        self.spare = spare;
-        ran
-    }
 }
 
 /// Deals with whole lines at the front of the bytes, a stretch of them, with lines read before their turn. It returns how many bytes
@@ -145,11 +114,21 @@ pub(crate) fn report_stretch<T: Threads + Wait + Sync>(
     ensures runs { Runs runner.now.plan buffered.now 0 batching.old batching.new result }
     ensures names { OnOk result (Begins lookahead.new.names (log_names batching.new)) }
 {
+    let to = lookahead.next_stretch(buffered.bytes.len());
+    let extent = Extent {
+        to,
+        pieces: lookahead.pieces_of(to),
+        threads: lookahead.ahead.threads,
+    };
+    let spare = mem::replace(&mut lookahead.spare, Vec::new(runner.alloc));
     let before = mem::replace(batching, Batching::new(runner.alloc));
+    let names = &lookahead.names;
+    let (ran, spare) = run_ahead::<Brand, T>(runner, before, names, buffered, &extent, spare);
+    lookahead.spare = spare;
     let Ran {
         batching: after,
         result,
-    } = lookahead.run(runner, before, buffered);
+    } = ran;
     *batching = after;
     let taken = result?;
     lookahead.learn(batching.engine.log().catalog());

@@ -16,12 +16,23 @@ pub(crate) struct Runner<'r, T> {
 
 impl<'r, T> Runner<'r, T> {
     /// By these settings. All that is finished is kept.
-    pub(crate) fn new(rt: &'r T, alloc: Global, settings: Settings) -> Self
+    pub(crate) fn keeping(rt: &'r T, alloc: Global, settings: Settings) -> Self
         ensures { result.plan ≡ record { settings = settings; history = History.Kept } }
     {
         let plan = Plan {
             settings,
             history: History::Kept,
+        };
+        Runner { rt, alloc, plan }
+    }
+
+    /// By these settings. Nothing that is finished is kept.
+    pub(crate) fn dropping(rt: &'r T, alloc: Global, settings: Settings) -> Self
+        ensures { result.plan ≡ record { settings = settings; history = History.Dropped } }
+    {
+        let plan = Plan {
+            settings,
+            history: History::Dropped,
         };
         Runner { rt, alloc, plan }
     }

@@ -19,7 +19,7 @@ ghost use Rattle.batched_text.specs.Settings.{IsTrimmed, are_within_limits};
 use crate::batching::{Batching, report_batch, report_early};
 use crate::buffered::Buffered;
 use crate::foretold::report_until;
-use crate::history::{History, Plan};
+use crate::history::History;
 use crate::lines::deal;
 use crate::lookahead::{Lookahead, ReadingAhead, report_stretch};
 use crate::runner::Runner;
@@ -135,26 +135,8 @@ fn deal_at_hand<T: Threads + Wait + Sync>(
     report_until(runner, batching, buffered, 0, to, &mut raw)
 }
 
-/// Deals with whole lines at the front of the bytes, as `deal_at_hand`. Then it reports the lines that wait, unless all is kept.
-fn report_at_hand<T: Threads + Wait + Sync>(
-    runner: &Runner<T>,
-    lookahead: &mut Lookahead,
-    batching: &mut Batching,
-    buffered: &Buffered,
-) -> Result<usize, TextFault>
-    requires begins { Begins lookahead.old.names (log_names batching.old) }
-    requires ready { IsReadyAt runner.now.plan batching.old buffered.now 0 }
-    ensures runs { Runs runner.now.plan buffered.now 0 batching.old batching.new result }
-    ensures names { OnOk result (Begins lookahead.new.names (log_names batching.new)) }
-    ensures none { OnOk result (NoneWait runner.now.plan.history batching.new.waiting.items) }
-{
-    let taken = deal_at_hand(runner, lookahead, batching, buffered)?;
-    report_early(runner, batching)?;
-    Ok(taken)
-}
-
-/// Takes the next line, as `report_line`, and then the whole buffered lines, as `report_at_hand`. Then it writes what is pending of the
-/// report.
+/// Takes the next line, as `report_line`, and then whole buffered lines, as `deal_at_hand`. Then it reports the lines that wait, unless
+/// all is kept, and writes what is pending of the report.
 #[tactic(auto, using(crate::proofs::Faults::several_told, crate::proofs::Faults::several_kept))]
 fn report_turn<T: Threads + Wait + Sync, R: Read, W: Write>(
     runner: &Runner<T>,
@@ -187,7 +169,8 @@ fn report_turn<T: Threads + Wait + Sync, R: Read, W: Write>(
         bytes,
         given: reader.given,
     };
-    let taken = report_at_hand(runner, lookahead, batching, &buffered)?;
+    let taken = deal_at_hand(runner, lookahead, batching, &buffered)?;
+    report_early(runner, batching)?;
     lines.take_ahead(taken);
     write_pending(writer, &mut batching.pending)?;
     Ok(true)
@@ -229,35 +212,6 @@ fn lines_for(alloc: Global, reading: ReadingAhead) -> Result<LineReader, AllocEr
     LineReader::new(alloc)
 }
 
-/// Takes the lines of the input from the first to the last, and runs and reports each batch as it is full.
-#[tactic(auto, using(crate::proofs::Faults::several_told, crate::proofs::Faults::several_kept))]
-fn report_lines<T: Threads + Wait + Sync, R: Read, W: Write>(
-    runner: &Runner<T>,
-    reader: &mut Counted<R>,
-    writer: &mut Counted<W>,
-    batching: &mut Batching,
-    reading: ReadingAhead,
-) -> Result<(), TextFault>
-    requires within { are_within_limits runner.now.plan.settings ≡ true }
-    requires first { IsFresh batching.old }
-    ensures room { OnOk result (IsOpen runner.now.plan batching.new) }
-    ensures done { OnOk result (Gathers (R.remaining reader.old.inner) (R.remaining reader.new.inner) (W.contents writer.old.inner)
-        (W.contents writer.new.inner) batching.new) }
-    ensures begun { HasBegunReport (R.remaining reader.old.inner) (W.contents writer.old.inner) (W.contents writer.new.inner)
-        batching.new.pending.items }
-    ensures begun_read { HasBegunReportOfRead (R.remaining reader.old.inner) (R.remaining reader.new.inner)
-        (W.contents writer.old.inner) (W.contents writer.new.inner) batching.new.pending.items }
-    ensures reads { reader.new.errors ≡ read_errors result reader.old.errors }
-    ensures writes { writer.new.errors ≡ write_errors result writer.old.errors }
-    ensures flushes { writer.new.flushes ≡ writer.old.flushes }
-    ensures alone { IfErr result (λ f. f ≡ TextFault.Spawn → 1 < runner.now.plan.settings.workers) }
-{
-    let mut lines = lines_for(runner.alloc, reading)?;
-    let seed = batching.engine.log().catalog().seed();
-    let mut lookahead = Lookahead::seeded(runner.alloc, reading, seed);
-    report_rest(runner, reader, writer, &mut lines, &mut lookahead, batching)
-}
-
 /// Takes the lines of the input, and runs and reports all of it, the end of the report still pending.
 #[tactic(auto, using(crate::proofs::Faults::several_told, crate::proofs::Faults::several_kept))]
 fn report_all<T: Threads + Wait + Sync, R: Read, W: Write>(
@@ -284,7 +238,10 @@ fn report_all<T: Threads + Wait + Sync, R: Read, W: Write>(
     ensures flushes { writer.new.flushes ≡ writer.old.flushes }
     ensures alone { IfErr result (λ f. f ≡ TextFault.Spawn → 1 < runner.now.plan.settings.workers) }
 {
-    report_lines(runner, reader, writer, batching, reading)?;
+    let mut lines = lines_for(runner.alloc, reading)?;
+    let seed = batching.engine.log().catalog().seed();
+    let mut lookahead = Lookahead::seeded(runner.alloc, reading, seed);
+    report_rest(runner, reader, writer, &mut lines, &mut lookahead, batching)?;
     report_batch(runner, batching)?;
     Ok(())
 }
@@ -335,41 +292,6 @@ fn run_batches<T: Threads + Wait + Sync, R: Read, W: Write>(
     written?;
     end_report(writer)?;
     Ok(())
-}
-
-/// Reads, runs and reports a log as `run_batches`, but keeps nothing that is finished, whatever the plan says.
-fn report_batches<T: Threads + Wait + Sync, R: Read, W: Write>(
-    runner: &Runner<T>,
-    reader: &mut Counted<R>,
-    writer: &mut Counted<W>,
-    batching: &mut Batching,
-    reading: ReadingAhead,
-) -> Result<(), TextFault>
-    requires within { are_within_limits runner.now.plan.settings ≡ true }
-    requires first { IsFresh batching.old }
-    ensures dropped { OnOk result (batching.new.engine.dropped ≡ finished batching.new.engine) }
-    ensures done { OnOk result (IfSome (R.remaining reader.old.inner) (λ input. (text : List ℕ)
-        × (IsReport input text × Appends (W.contents writer.old.inner) (W.contents writer.new.inner) text))) }
-    ensures begun { IfSome (R.remaining reader.old.inner) (λ input. (text : List ℕ)
-        × (IsReport input text × AppendsFront (W.contents writer.old.inner) (W.contents writer.new.inner) text)) }
-    ensures begun_read { IfRead (R.remaining reader.old.inner) (R.remaining reader.new.inner) (λ given. (text : List ℕ)
-        × (IsReport given text × AppendsFront (W.contents writer.old.inner) (W.contents writer.new.inner) text)) }
-    ensures read { result ≡ Err TextFault.Read → reader.old.errors < 2 ^ 64 - 1 → reader.old.errors < reader.new.errors }
-    ensures write { result ≡ Err TextFault.Write → writer.old.errors < 2 ^ 64 - 1 → writer.old.errors < writer.new.errors }
-    ensures whole { OnOk result ((reader.new.errors ≡ reader.old.errors) × (writer.new.errors ≡ writer.old.errors)) }
-    ensures flushed { OnOk result ((writer.new.flushes ≡ raised writer.old.flushes) × (writer.new.is_flushed ≡ true)) }
-    ensures alone { IfErr result (λ f. f ≡ TextFault.Spawn → 1 < runner.now.plan.settings.workers) }
-{
-    let plan = Plan {
-        settings: runner.plan.settings,
-        history: History::Dropped,
-    };
-    let runner = Runner {
-        rt: runner.rt,
-        alloc: runner.alloc,
-        plan,
-    };
-    run_batches(&runner, reader, writer, batching, reading)
 }
 
 /// The fault of a run, as one of an engine.
@@ -467,7 +389,7 @@ pub fn run_text_seeded<T: Threads + Wait + Sync, R: Read, W: Write>(
         return Err(EngineFault::BadSettings);
     }
     let mut batching = Batching::seeded(alloc, seed);
-    let runner = Runner::new(rt, alloc, *settings);
+    let runner = Runner::keeping(rt, alloc, *settings);
     match run_batches(&runner, reader, writer, &mut batching, NONE_AHEAD) {
         Ok(()) => Ok(batching.engine),
         Err(fault) => Err(engine_fault(fault)),
@@ -542,8 +464,8 @@ pub fn report_text_seeded<T: Threads + Wait + Sync, R: Read, W: Write>(
         return Err(EngineFault::BadSettings);
     }
     let mut batching = Batching::seeded(alloc, seed);
-    let runner = Runner::new(rt, alloc, *settings);
-    match report_batches(&runner, reader, writer, &mut batching, NONE_AHEAD) {
+    let runner = Runner::dropping(rt, alloc, *settings);
+    match run_batches(&runner, reader, writer, &mut batching, NONE_AHEAD) {
         Ok(()) => Ok(()),
         Err(fault) => Err(engine_fault(fault)),
     }
@@ -610,6 +532,6 @@ pub fn report_in_order_seeded<T: Threads + Wait + Sync, R: Read, W: Write>(
     ensures alone { result ≢ Err TextFault.Spawn }
 {
     let mut batching = Batching::seeded(alloc, seed);
-    let runner = Runner::new(rt, alloc, IN_ORDER);
-    report_batches(&runner, reader, writer, &mut batching, reading)
+    let runner = Runner::dropping(rt, alloc, IN_ORDER);
+    run_batches(&runner, reader, writer, &mut batching, reading)
 }

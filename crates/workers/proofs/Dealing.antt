@@ -87,3 +87,14 @@ have_dealt {W} {P} {H} items is_of front words workers placers hands dealt all w
 pub none_left : {A : Type 0} (xs : List A) → length xs ≡ 0 → xs ≡ []
 none_left [] none = refl
 none_left (x ∷ xs) none = absurd (omega (arith, none))
+
+-- the first hands of all have what they had
+get_front : {A : Type 0} (xs ys : List A) (at : ℕ) (z : A) → slice_get xs at ≡ Some z → slice_get (xs ++ ys) at ≡ Some z
+get_front [] ys at z is = absurd (cc is)
+get_front (x ∷ xs) ys zero z is = is
+get_front (x ∷ xs) ys (suc at) z is = get_front xs ys at z is
+
+pub dealt_front : {W P H : Type 0} (items : H → List P) (is_of : W → P → Type 0) (front : P → ℕ) (words : W) (before hands : List H) (last : H)
+    → before ≡ hands ++ last ∷ [] → HaveDealt items is_of front words before → HaveDealt items is_of front words hands
+dealt_front {W} {P} {H} items is_of front words before hands last is dealt worker hand at =
+    dealt worker hand (rw is (get_front hands (last ∷ []) worker hand at))

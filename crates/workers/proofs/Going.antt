@@ -1,5 +1,5 @@
 -- A pass that goes on, and what it knows of the places.
-use Rattle.std.proofs.Common.{◌≡◌, ◌⊎◌, ◌<◌, ◌++◌, ℕ, Bool, true, false, List, [], ◌∷◌, length, refl, subst, ◌∙◌, arith, inl, inr}
+use Rattle.std.proofs.Common.{◌≡◌, ◌⊎◌, ◌<◌, ◌++◌, ℕ, Bool, true, false, List, [], ◌∷◌, length, refl, subst, sym, ◌∙◌, arith, inl, inr}
 use Rattle.words.specs.declared.knowledge.Knowledge.{Knowledge}
 use Rattle.words.specs.Passes.{PassState, cut_first, joined_pass}
 use Rattle.words.specs.Views.{In, KeepsFronts}
@@ -31,15 +31,19 @@ in_first x [] ys none = absurd none
 in_first x (z ∷ xs) ys (inl here) = inl here
 in_first x (z ∷ xs) ys (inr there) = inr (in_first x xs ys there)
 
--- the first part of a pass that was cut, and then joined with another
-pub cut_and_joined : (pass middle other : PassState) → GoesOn (cut_first pass) middle → GoesOn pass (joined_pass middle other)
-cut_and_joined pass middle other on = record {
-  table = on.table;
-  number = on.number;
-  knows = λ index known. in_first index middle.view.known other.view.known (on.knows index known);
+-- the first part of a pass that was cut
+pub cut_on : (pass : PassState) → GoesOn pass (cut_first pass)
+cut_on pass = record { table = refl; number = refl; knows = λ index known. known; fronts = ((λ placed. placed), (λ partition count has. has)) }
+
+-- a pass that was joined with another
+pub joined_on : (pass other : PassState) → GoesOn pass (joined_pass pass other)
+joined_on pass other = record {
+  table = refl;
+  number = refl;
+  knows = λ index known. in_first index pass.view.known other.view.known known;
   fronts = (
-    (λ placed. let known = on.fronts.0 placed in rw known refl),
-    (λ partition count has. in_first (partition, count) middle.view.fronts other.view.fronts (on.fronts.1 partition count has)),
+    (λ placed. rw placed refl),
+    (λ partition count has. in_first (partition, count) pass.view.fronts other.view.fronts has),
   );
 }
 
@@ -175,3 +179,8 @@ left_more size known after rest keeps left = record {
   within = left.within;
   every = λ index less. elim (left.every index less) [ inl before ↦ inl (keeps index before) | inr there ↦ inr there ];
 }
+
+-- a list whose last was taken wasn't empty
+pub none_last : {T : Type 0} (xs before : List T) (x : T) → before ≡ xs ++ x ∷ [] → before ≡ [] → ⊥
+none_last [] before x is none = cc (sym is ∙ none)
+none_last (y ∷ ys) before x is none = cc (sym is ∙ none)

@@ -1,7 +1,6 @@
 //! Several workers.
 
-ghost use Rattle.std.specs.Prelude.{◌≡◌, ◌≢◌, ◌<◌, ◌≤◌, ◌+◌, ◌^◌, IfOk, length};
-ghost use Rattle.std.specs.Thread.{IsSync};
+ghost use Rattle.std.specs.Prelude.{◌≡◌, ◌≢◌, ◌<◌, ◌≤◌, ◌+◌, ◌^◌, [], All, IfOk, IfSome, length, vec_capacity};
 ghost use Rattle.words.specs.Passes.{IsPassOf};
 ghost use Rattle.workers.specs.Placing.{HavePlaced, HaveDealt};
 ghost use Rattle.workers.specs.Working.{GoesOn, KnowsAll, came_of, worse};
@@ -17,7 +16,7 @@ use std::alloc::{AllocError, Global};
 use std::sync::Wait;
 use std::sync::atomic::{AtomicBool, Ordering};
 use std::thread;
-use std::thread::{Promise, Scope, Threads};
+use std::thread::{Promise, PromisedHandle, Scope, Threads};
 use words::Pass;
 
 /// The outcome of running a batch.
@@ -106,9 +105,111 @@ impl<'a, K: Fills> Promise<(Pass, Worked)> for OfBatch<'a, K> {
     ghost kept_by = { λ promise ended. IsPassOf promise.0.now ended.0 };
 }
 
-/// The last of these workers on a thread of its own, and those below it, the lowest on this thread. If the thread can't be started, all are
-/// stopped.
-fn work_below<
+/// Starts a worker on a thread of its own. None if the thread can't be started.
+fn start<
+    's,
+    E,
+    K: Fills + Sync,
+    P: BatchPlacer<K> + Send + 's,
+    G: Gate + Sync,
+    R: Threads + Wait + Sync,
+>(
+    rt: &'s R,
+    scope: &Scope<'s, E>,
+    shared: &'s Shared<'s, K, G>,
+    pass: Pass,
+    placers: Vec<P>,
+    first: usize,
+) -> Option<PromisedHandle<(Pass, Worked), OfBatch<'s, K>>>
+    requires same_table { IsPassOf shared.now pass }
+    requires placers { HavePlaced P.is_of P.front shared.now 0 placers.items }
+    requires first { first ≤ (K.batch shared.now.key).size }
+    ensures { IfSome result (λ thread. thread.promise.0.now ≡ shared.now) }
+{
+    let started = scope.spawn_with(
+        OfBatch(shared.batch),
+        move || -> (Pass, Worked)
+            requires { IsPassOf shared.now pass × HavePlaced P.is_of P.front shared.now 0 placers.items
+                × (first ≤ (K.batch shared.now.key).size) }
+            ensures { IsPassOf shared.entry.now result.0 }
+        { work(rt, shared, pass, placers, first) },
+    );
+    started.ok()
+}
+
+/// Starts each of these workers but the lowest, the last one first. If a thread can't be started, all are stopped, and `NotStarted` is
+/// returned. There is room for the threads.
+fn start_others<
+    's,
+    E,
+    K: Fills + Sync,
+    P: BatchPlacer<K> + Send + 's,
+    G: Gate + Sync,
+    R: Threads + Wait + Sync,
+>(
+    rt: &'s R,
+    scope: &Scope<'s, E>,
+    shared: &'s Shared<'s, K, G>,
+    pass: Pass,
+    hands: &mut Vec<Vec<P>>,
+    threads: &mut Vec<PromisedHandle<(Pass, Worked), OfBatch<'s, K>>>,
+) -> (Pass, Worked)
+    requires same_table { IsPassOf shared.now pass }
+    requires hands { HaveDealt (λ hand. hand.items) P.is_of P.front shared.now hands.old.items }
+    requires some { 0 < length hands.old.items }
+    requires none { threads.old.items ≡ [] }
+    requires room { length hands.old.items ≤ vec_capacity threads.old }
+    ensures on { GoesOn pass result.0 }
+    ensures hands { HaveDealt (λ hand. hand.items) P.is_of P.front shared.now hands.new.items }
+    ensures some { 0 < length hands.new.items }
+    ensures helpers { All (λ thread. thread.promise.0.now ≡ shared.now) threads.new.items }
+    ensures each { result.1 ≡ Worked.Done → (length hands.new.items ≡ 1) × (length threads.new.items + 1 ≡ length hands.old.items) }
+    ensures alone { length hands.old.items ≤ 1 → result.1 ≡ Worked.Done }
+{
+    let count = hands.len();
+    let mut rest = pass;
+    'hands: while hands.len() > 1 {
+        let Some(placers) = hands.pop() else {
+            unreachable!()
+        };
+        let first = first_of(hands.len(), count, shared.places());
+        let (kept, other) = shared.batch.split(rest);
+        rest = kept;
+        let Some(thread) = start(rt, scope, shared, other, placers, first) else {
+            shared.stop.store(true, Ordering::SeqCst);
+            return (rest, Worked::NotStarted);
+        };
+        threads.push_reserved(thread);
+    }
+    (rest, Worked::Done)
+}
+
+/// Joins the threads of the other workers. The pass knows what it knew and what they know.
+fn join_others<'a, K: Fills, G, R: Threads>(
+    rt: &R,
+    shared: &Shared<'a, K, G>,
+    pass: Pass,
+    worked: Worked,
+    mut threads: Vec<PromisedHandle<(Pass, Worked), OfBatch<'a, K>>>,
+) -> (Pass, Worked)
+    requires same_table { IsPassOf shared.now pass }
+    requires helpers { All (λ thread. thread.promise.0.now ≡ shared.now) threads.items }
+    ensures on { GoesOn pass result.0 }
+    ensures done { result.1 ≡ Worked.Done → worked ≡ Worked.Done }
+    ensures alone { threads.entry.items ≡ [] → result.1 ≡ worked }
+{
+    let mut known = pass;
+    let mut worst = worked;
+    'threads: while let Some(thread) = threads.pop() {
+        let (other, theirs) = thread.join(rt);
+        known = shared.batch.join(known, other);
+        worst = both(worst, theirs);
+    }
+    (known, worst)
+}
+
+/// These workers, the lowest on this thread and each other one on a thread of its own. If a thread can't be started, all are stopped.
+fn work_all<
     's,
     E,
     K: Fills + Sync,
@@ -121,40 +222,24 @@ fn work_below<
     shared: &'s Shared<'s, K, G>,
     pass: Pass,
     mut hands: Vec<Vec<P>>,
-    count: usize,
 ) -> (Pass, Worked)
     requires same_table { IsPassOf shared.now pass }
     requires hands { HaveDealt (λ hand. hand.items) P.is_of P.front shared.now hands.items }
     requires some { 0 < length hands.items }
-    requires most { length hands.items ≤ count }
     ensures on { GoesOn pass result.0 }
     ensures all { result.1 ≡ Worked.Done → KnowsAll (K.batch shared.now.key).size result.0.view }
     // The lowest worker starts no thread.
     ensures alone { length hands.items ≤ 1 → result.1 ≢ Worked.NotStarted }
 {
+    let Ok(mut threads) = Vec::with_capacity(shared.alloc, hands.len()) else {
+        return (pass, Worked::NoMemory);
+    };
+    let (pass, started) = start_others(rt, scope, shared, pass, &mut hands, &mut threads);
     let Some(placers) = hands.pop() else {
         unreachable!()
     };
-    let first = first_of(hands.len(), count, shared.places());
-    if hands.is_empty() {
-        return work(rt, shared, pass, placers, first);
-    }
-    let (pass, other) = shared.batch.split(pass);
-    let started = scope.spawn_with(
-        OfBatch(shared.batch),
-        move || -> (Pass, Worked)
-            requires { IsPassOf shared.now other × HavePlaced P.is_of P.front shared.now 0 placers.items
-                × (first ≤ (K.batch shared.now.key).size) }
-            ensures { IsPassOf shared.entry.now result.0 }
-        { work(rt, shared, other, placers, first) },
-    );
-    let Ok(thread) = started else {
-        shared.stop.store(true, Ordering::SeqCst);
-        return (pass, Worked::NotStarted);
-    };
-    let (pass, mine) = work_below(rt, scope, shared, pass, hands, count);
-    let (other, theirs) = thread.join(rt);
-    (shared.batch.join(pass, other), both(mine, theirs))
+    let (pass, mine) = work(rt, shared, pass, placers, 0);
+    join_others(rt, shared, pass, both(mine, started), threads)
 }
 
 /// The placers of a batch, dealt to this many workers. An error is out of memory.
@@ -238,10 +323,10 @@ pub fn run_workers<
         rt,
         move |scope| -> (Pass, Worked)
             requires { IsPassOf shared.now pass × HaveDealt (λ hand. hand.items) P.is_of P.front shared.now hands.items
-                × (0 < length hands.items) × (length hands.items ≤ count) }
+                × (0 < length hands.items) }
             ensures { GoesOn pass result.0
                 × (result.1 ≡ Worked.Done → KnowsAll (K.batch shared.entry.now.key).size result.0.view)
                 × (length hands.items ≤ 1 → result.1 ≢ Worked.NotStarted) }
-        { work_below(rt, scope, shared, pass, hands, count) },
+        { work_all(rt, scope, shared, pass, hands) },
     )
 }

@@ -1,9 +1,10 @@
 use Rattle.std.proofs.Common.{◌<◌, rules, subst, sym, ◌∙◌, ap}
 use Rattle.std.specs.Prelude.{Ok}
 use Rattle.std.specs.Slice.Iter.{chunks_mut_rest}
-use Rattle.batched_text.specs.Foretold.{WereReadAhead, log_names}
+use Rattle.engine.specs.Engine.{Run}
+use Rattle.batched_text.specs.Foretold.{Runs, WereReadAhead, log_names}
 use Rattle.batched_text.proofs.ForetoldLines.{were_front, were_others}
-use Rattle.batched_text.proofs.RunLines.{runs_none, runs_then}
+use Rattle.batched_text.proofs.RunLines.{runs_early, runs_early_told, runs_none, runs_then}
 use Rattle.batched_text.proofs.foretold.report_foretold.Goals as goal
 
 pub groups-init : goal.groups-init
@@ -15,18 +16,32 @@ groups-init g c = record {
       (sym (ap chunks_mut_rest c.into_iter-group-iterator.ensures.into_iter_gives ∙ c.chunks_mut-group-items.ensures.rest)) c.requires.ahead;
 }
 
-pub report_group-requires-clause-ahead : goal.report_group-requires-clause-ahead
-report_group-requires-clause-ahead g c κs within =
+pub report_each-requires-clause-ahead : goal.report_each-requires-clause-ahead
+report_each-requires-clause-ahead g c κs within =
     were_front (log_names c.groups.batching) c.args.buffered.now.bytes.now (chunks_mut_rest c.groups.group-iterator) c.in-Some.group.now (chunks_mut_rest c.next.new.self)
     c.in-Some.ensures.steps.1.0 c.groups.invariant.ahead
 
+pub returns-in_err-report_early : goal.returns-in_err-report_early
+returns-in_err-report_early g c =
+    runs_then c.args.runner.now.plan c.args.buffered.now c.args.from c.groups.at c.args.batching.now c.groups.batching c.report_early.new.batching
+    c.from_residual-in_err-report_early.result c.groups.invariant.runs
+    (runs_early_told c.args.runner.now.plan c.args.buffered.now c.groups.at c.in_ok-at.at c.groups.batching c.report_each.new.batching c.report_early.new.batching
+    c.in_err-report_early.field-0.0 c.from_residual-in_err-report_early.result c.in_ok-at.ensures c.in_err-report_early.ensures.err
+    c.in_err-report_early.ensures.stops c.from_residual-in_err-report_early.ensures.1)
+
 pub groups-preserved : goal.groups-preserved
 groups-preserved g c =
-    let second = c.in_ok-at.ensures in
+    let put = c.in_ok-report_early.ensures in
+    let early = runs_early c.args.runner.now.plan c.args.buffered.now c.groups.at c.in_ok-at.at c.groups.batching c.report_each.new.batching c.report_early.new.batching
+    c.in_ok-at.ensures put.log put.number put.reports put.room in
+    let second = subst (λ (run : Run). Runs c.args.runner.now.plan c.args.buffered.now c.groups.at c.groups.batching
+    (record c.report_early.new.batching { engine = run }) (Ok c.in_ok-at.at)) (sym c.give_back.ensures) early in
     record {
       can_next = subst (λ n. 0 < n) (sym c.in-Some.ensures.steps.0) c.groups.invariant.can_next;
       is_finite = tt;
-      runs = runs_then c.args.runner.now.plan c.args.buffered.now c.args.from c.groups.at c.args.batching.now c.groups.batching c.report_group.new.batching (Ok c.in_ok-at.at) c.groups.invariant.runs second;
-      ahead = were_others (log_names c.groups.batching) (log_names c.report_group.new.batching) c.args.buffered.now.bytes.now (chunks_mut_rest c.groups.group-iterator) c.in-Some.group.now (chunks_mut_rest c.next.new.self)
+      runs = runs_then c.args.runner.now.plan c.args.buffered.now c.args.from c.groups.at c.args.batching.now c.groups.batching
+          (record c.report_early.new.batching { engine = c.give_back.new.engine }) (Ok c.in_ok-at.at) c.groups.invariant.runs second;
+      ahead = were_others (log_names c.groups.batching) (log_names (record c.report_early.new.batching { engine = c.give_back.new.engine })) c.args.buffered.now.bytes.now
+          (chunks_mut_rest c.groups.group-iterator) c.in-Some.group.now (chunks_mut_rest c.next.new.self)
           c.in-Some.ensures.steps.1.0 c.groups.invariant.ahead second.begins;
     }

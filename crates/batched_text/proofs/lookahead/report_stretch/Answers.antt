@@ -9,16 +9,16 @@ use Rattle.batched_text.proofs.lookahead.report_stretch.Goals as goal
 
 pub returns-in_err-taken-clause-runs : goal.returns-in_err-taken-clause-runs
 returns-in_err-taken-clause-runs g c =
-    runs_told c.args.runner.now.plan c.args.buffered.now 0 c.args.batching.now c.run-after.result.batching c.in_err-taken.field-0.0 c.from_residual.result
-    (rw (c.replace-before.ensures.value, c.in_err-taken.was) at c.run-after.ensures.ran) c.from_residual.ensures.1
+    runs_told c.args.runner.now.plan c.args.buffered.now 0 c.args.batching.now c.run_ahead-ran.result.0.batching c.in_err-taken.field-0.0 c.from_residual.result
+    (rw (c.replace-before.ensures.value, c.in_err-taken.was) at c.run_ahead-ran.ensures) c.from_residual.ensures.1
 
 pub learn-requires : goal.learn-requires
 learn-requires g c =
-    let ran = rw (c.replace-before.ensures.value, c.in_ok-taken.was) at c.run-after.ensures.ran in
-    let names : c.catalog.result.now ≡ log_names c.run-after.result.batching = c.catalog.ensures ∙ ap (λ (l : Accepted). l.names) c.log.ensures.value in
-    subst (λ (n : Names). Begins n c.catalog.result.now) (sym c.run-after.ensures.names)
+    let ran = rw (c.replace-before.ensures.value, c.in_ok-taken.was) at c.run_ahead-ran.ensures in
+    let names : c.catalog.result.now ≡ log_names c.run_ahead-ran.result.0.batching = c.catalog.ensures ∙ ap (λ (l : Accepted). l.names) c.log.ensures.value in
+    subst (λ (n : Names). Begins n c.catalog.result.now) (sym c.next_stretch-to.ensures.names)
     (subst (Begins c.args.lookahead.now.names) (sym names)
-    (begins_further c.args.lookahead.now.names (log_names c.args.batching.now) (log_names c.run-after.result.batching) c.requires.begins ran.begins))
+    (begins_further c.args.lookahead.now.names (log_names c.args.batching.now) (log_names c.run_ahead-ran.result.0.batching) c.requires.begins ran.begins))
 
 pub returns-clause-runs : goal.returns-clause-runs
-returns-clause-runs g c = rw (c.replace-before.ensures.value, c.in_ok-taken.was) at c.run-after.ensures.ran
+returns-clause-runs g c = rw (c.replace-before.ensures.value, c.in_ok-taken.was) at c.run_ahead-ran.ensures

@@ -13,10 +13,10 @@ pub returns-then-not-are_within_limits-clause-begun_read : goal.returns-then-not
 returns-then-not-are_within_limits-clause-begun_read g c = read_nothing total _ _
 
 pub returns-clause-read : goal.returns-clause-read
-returns-clause-read g c = λ is small. c.report_batches.ensures.read (c.in-Err.is ∙ ap Err (read_told c.in-Err.fault c.engine_fault.result (Err c.engine_fault.result) c.engine_fault.ensures refl is)) small
+returns-clause-read g c = λ is small. c.run_batches.ensures.read (c.in-Err.is ∙ ap Err (read_told c.in-Err.fault c.engine_fault.result (Err c.engine_fault.result) c.engine_fault.ensures refl is)) small
 
 pub returns-clause-write : goal.returns-clause-write
-returns-clause-write g c = λ is small. c.report_batches.ensures.write (c.in-Err.is ∙ ap Err (write_told c.in-Err.fault c.engine_fault.result (Err c.engine_fault.result) c.engine_fault.ensures refl is)) small
+returns-clause-write g c = λ is small. c.run_batches.ensures.write (c.in-Err.is ∙ ap Err (write_told c.in-Err.fault c.engine_fault.result (Err c.engine_fault.result) c.engine_fault.ensures refl is)) small
 
 pub returns-clause-bad : goal.returns-clause-bad
 returns-clause-bad g c = (λ is. absurd (never_bad c.in-Err.fault c.engine_fault.result (Err c.engine_fault.result) c.engine_fault.ensures refl is), λ outside. absurd (cc (sym outside ∙ sym c.if-not-are_within_limits.ensures)))
