@@ -1,12 +1,12 @@
 //! Logs of which one byte is changed to another value.
 
-use crate::case::Changed;
-use crate::fault::TrialFault;
+use crate::parsing::Runs;
 use crate::reports::is_reported;
 use std::alloc::{AllocError, Global};
 use std::rt::Files;
 use std::sync::Wait;
 use std::thread::Threads;
+use trials_base::TrialFault;
 
 /// How many other values a byte may have.
 const OTHERS: usize = 255;
@@ -21,20 +21,20 @@ fn changed_log(alloc: Global, log: &[u8], number: usize) -> Result<Vec<u8>, Allo
     Ok(changed)
 }
 
-/// For how many of the changes of a log all runs write one report with as many lines.
+/// For how many of the changes of a log, of which one of this many is tried, all runs write one report with as many lines.
 pub fn changed_logs<R: Files + Threads + Wait + Sync>(
     rt: &R,
     alloc: Global,
-    case: &Changed<'_>,
+    every: usize,
+    case: &Runs<'_>,
 ) -> Result<String, TrialFault> {
-    let log = case.runs.log.bytes(rt, alloc)?;
+    let log = case.log.bytes(rt, alloc)?;
     let log = log.as_slice();
-    let runs = case.runs.runs.as_slice();
-    let every = case.every.max(1);
+    let runs = case.runs.as_slice();
     let mut tried: usize = 0;
     let mut right: usize = 0;
     for number in 0..log.len().saturating_mul(OTHERS) {
-        if number % every == 0 {
+        if number % every.max(1) == 0 {
             let changed = changed_log(alloc, log, number)?;
             tried = tried.saturating_add(1);
             if is_reported(rt, alloc, changed.as_slice(), runs)? {

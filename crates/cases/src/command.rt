@@ -1,10 +1,10 @@
 //! What words of the command line ask for, and the ends of the program.
 
-use crate::fault::TrialFault;
 use crate::printing::put_part;
 use bohm_base::ArgumentFault;
 use command_line::{ProgramFault, Usage, WorkFault, ending, read_words};
 use std::alloc::Global;
+use trials_base::TrialFault;
 
 /// What the words of a command line ask for, or with which status they end the program. They are parted by single spaces.
 pub fn read_command(alloc: Global, line: &str) -> Result<String, TrialFault> {

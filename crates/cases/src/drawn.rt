@@ -1,54 +1,83 @@
 //! Drawn logs, whose reports by other runs are compared with that of the run in order.
 
-use crate::case::{Change, Drawn};
-use crate::fault::TrialFault;
+use crate::generator::Generator;
+use crate::logs::Log;
 use crate::printing::put_part;
 use crate::run::{Run, right_runs};
 use std::alloc::{AllocError, Global};
 use std::rt::Files;
 use std::sync::Wait;
 use std::thread::Threads;
-use trials_base::{Drawing, FIRST_LINES, Generator, drawn_log, put_drawn_line};
+use trials_base::{TrialFault, read_file};
 
-/// What is counted in the reports: the endings of lines, and lines.
-const ENDINGS: [&str; 12] = [
-    " created\n",
-    " done",
-    " granted\n",
-    " revoked\n",
-    " revoked ",
-    " denied ",
-    " never\n",
-    " taken ",
-    " aborted ",
-    " undeclared ",
-    " refused ",
-    "\n",
-];
-
-/// How often the text has this word.
-fn count_word(text: &[u8], word: &[u8]) -> u32 {
-    let mut found: u32 = 0;
-    for start in 0..text.len() {
-        if text[start..].starts_with(word) {
-            found = found.saturating_add(1);
-        }
-    }
-    found
+/// What is changed of the lines that are drawn.
+#[derive(Clone, Copy, Debug, PartialEq, Eq)]
+pub enum Change {
+    Nothing,
+    /// One byte.
+    Byte,
+    /// One word of some lines.
+    Word,
 }
 
-/// Appends how often the reports have each ending.
-fn put_endings(alloc: Global, outcome: &mut String, reports: &[u8]) -> Result<(), TrialFault> {
-    for ending in ENDINGS {
-        let found = count_word(reports, ending.as_bytes());
-        let part = format!(in alloc; "{found} of {ending:?}")?;
-        put_part(outcome, part.as_str())?;
-    }
-    Ok(())
+/// Drawn logs, and the runs of each.
+#[derive(Drop)]
+pub struct Drawn<'a> {
+    /// What the generator begins with.
+    pub seed: u64,
+    /// How many logs are drawn.
+    pub logs: u32,
+    /// How many lines of each are drawn.
+    pub lines: u32,
+    /// The file of the lines from which they are drawn.
+    pub path: &'a str,
+    pub change: Change,
+    /// The log whose lines come after those that are drawn.
+    pub last: Log<'a>,
+    pub runs: Vec<Run>,
 }
+
+/// The first lines of each log: the tables' owners create them.
+const FIRST_LINES: &[u8] = b"ann CREATE s 1\nbob CREATE t 1\n";
+
+const USERS: [&str; 5] = ["ann", "bob", "cid", "dan", "eve"];
 
 /// The bytes that are written in place of others where lines are spoilt.
 const OTHER_BYTES: &[u8; 20] = b" |:-_0189azrARUIDC\x7f\n";
+
+/// The words, 32, that are written in place of others.
+const OTHER_WORDS: &str =
+    " | ann bob PUBLIC s t u 0 1 15 16 r0 -1 9223372036854775808 4294967296 READ \
+    DELETE OPTION RUN GRANT REVOKE CREATE t:1:RU s:0:I LOAD STORE DELETE CHECK SKIP OUT ADD";
+
+/// What is counted in the reports: the words of lines.
+const ENDINGS: &str = "created done granted revoked denied never taken aborted undeclared refused";
+
+/// Appends a line that is drawn from these. It has a user in place of each `@`, and of all `#` a row, of all `%` a table, and of all `!` its owner.
+fn put_drawn_line(
+    log: &mut Vec<u8>,
+    generator: &mut Generator,
+    lines: &[&[u8]],
+) -> Result<(), AllocError> {
+    let count = lines.len().clamp(1, 1000) as u32;
+    let chosen = generator.below(count) as usize;
+    let row = generator.below(3) as usize;
+    let (table, owner) = if generator.below(3) < 2 {
+        (b's', "ann")
+    } else {
+        (b't', "bob")
+    };
+    for byte in lines.get(chosen).copied().unwrap_or(b"") {
+        match *byte {
+            b'@' => log.extend_from_slice(USERS[generator.below(5) as usize].as_bytes())?,
+            b'#' => log.push(b"012"[row])?,
+            b'%' => log.push(table)?,
+            b'!' => log.extend_from_slice(owner.as_bytes())?,
+            other => log.push(other)?,
+        }
+    }
+    Ok(())
+}
 
 /// Changes one of the bytes from an index on.
 fn spoil(bytes: &mut [u8], start: usize, generator: &mut Generator) {
@@ -59,104 +88,26 @@ fn spoil(bytes: &mut [u8], start: usize, generator: &mut Generator) {
     }
 }
 
-/// A drawn log, of each of whose lines one byte is changed.
-fn spoilt_log(
-    alloc: Global,
-    generator: &mut Generator,
-    drawing: Drawing,
-) -> Result<Vec<u8>, AllocError> {
-    let mut log = Vec::from_slice(alloc, FIRST_LINES)?;
-    for _ in 0..drawing.lines {
-        let start = log.len();
-        put_drawn_line(&mut log, generator, drawing)?;
-        spoil(log.as_mut_slice(), start, generator);
-    }
-    Ok(log)
-}
-
-/// The words that are written in place of others.
-const OTHER_WORDS: [&str; 32] = [
-    "",
-    "|",
-    "ann",
-    "bob",
-    "PUBLIC",
-    "s",
-    "t",
-    "u",
-    "0",
-    "1",
-    "15",
-    "16",
-    "r0",
-    "-1",
-    "9223372036854775808",
-    "4294967296",
-    "READ",
-    "DELETE",
-    "OPTION",
-    "RUN",
-    "GRANT",
-    "REVOKE",
-    "CREATE",
-    "t:1:RU",
-    "s:0:I",
-    "LOAD",
-    "STORE",
-    "DELETE",
-    "CHECK",
-    "SKIP",
-    "OUT",
-    "ADD",
-];
-
-/// Appends a line with the word of this number exchanged for another.
-fn put_with_word(
-    log: &mut Vec<u8>,
-    line: &[u8],
-    number: usize,
-    other: &str,
-) -> Result<(), AllocError> {
-    for (index, word) in line.split(|byte| *byte == b' ').enumerate() {
-        if index > 0 {
-            log.push(b' ')?;
-        }
-        if index == number {
-            log.extend_from_slice(other.as_bytes())?;
-        } else {
-            log.extend_from_slice(word)?;
-        }
-    }
-    log.push(b'\n')?;
-    Ok(())
-}
-
 /// Appends a line with a drawn word exchanged for another, or as it is where it has fewer words.
 fn put_reworded(
     log: &mut Vec<u8>,
     line: &[u8],
     generator: &mut Generator,
 ) -> Result<(), AllocError> {
-    let line = line.strip_suffix(b"\n".as_slice()).unwrap_or(line);
     let number = generator.below(24) as usize;
-    let other = OTHER_WORDS[generator.below(32) as usize];
-    put_with_word(log, line, number, other)
-}
-
-/// A drawn log, of some of whose lines one word is changed.
-fn reworded_log(
-    alloc: Global,
-    generator: &mut Generator,
-    drawing: Drawing,
-) -> Result<Vec<u8>, AllocError> {
-    let mut log = Vec::from_slice(alloc, FIRST_LINES)?;
-    let mut line = Vec::new(alloc);
-    for _ in 0..drawing.lines {
-        line.clear();
-        put_drawn_line(&mut line, generator, drawing)?;
-        put_reworded(&mut log, line.as_slice(), generator)?;
+    let other = generator.below(32) as usize;
+    let other = OTHER_WORDS.split(' ').nth(other).unwrap_or("");
+    for (index, word) in line.split(|byte| *byte == b' ').enumerate() {
+        if index > 0 {
+            log.push(b' ')?;
+        }
+        log.extend_from_slice(if index == number {
+            other.as_bytes()
+        } else {
+            word
+        })?;
     }
-    Ok(log)
+    Ok(())
 }
 
 /// A drawn log, changed as the case says.
@@ -164,38 +115,51 @@ fn log_of(
     alloc: Global,
     generator: &mut Generator,
     case: &Drawn<'_>,
+    lines: &[&[u8]],
 ) -> Result<Vec<u8>, AllocError> {
-    match case.change {
-        Change::Nothing => drawn_log(alloc, generator, case.drawing),
-        Change::Byte => spoilt_log(alloc, generator, case.drawing),
-        Change::Word => reworded_log(alloc, generator, case.drawing),
+    let mut log = Vec::from_slice(alloc, FIRST_LINES)?;
+    let mut line = Vec::new(alloc);
+    for _ in 0..case.lines {
+        line.clear();
+        put_drawn_line(&mut line, generator, lines)?;
+        let start = log.len();
+        match case.change {
+            Change::Word => put_reworded(&mut log, line.as_slice(), generator)?,
+            Change::Nothing | Change::Byte => log.extend_from_slice(line.as_slice())?,
+        }
+        log.push(b'\n')?;
+        if case.change == Change::Byte {
+            spoil(log.as_mut_slice(), start, generator);
+        }
     }
+    Ok(log)
 }
 
-/// Draws a log that ends with these lines, appends its report by the run in order to those before it, and returns by how many of the runs
-/// it has that.
+/// Ends a log with these lines, appends its report by the run in order to those before it, and returns by how many of the runs it has that.
 fn compare_log<R: Threads + Wait + Sync>(
     rt: &R,
     alloc: Global,
-    generator: &mut Generator,
     case: &Drawn<'_>,
+    log: &mut Vec<u8>,
     last: &[u8],
     reports: &mut Vec<u8>,
 ) -> Result<usize, TrialFault> {
-    let mut log = log_of(alloc, generator, case)?;
     log.extend_from_slice(last)?;
     let wanted = Run::in_order().text(rt, alloc, log.as_slice())?;
     reports.extend_from_slice(wanted.as_slice())?;
-    let runs = case.runs.as_slice();
-    right_runs(rt, alloc, log.as_slice(), runs, wanted.as_slice())
+    right_runs(
+        rt,
+        alloc,
+        log.as_slice(),
+        case.runs.as_slice(),
+        wanted.as_slice(),
+    )
 }
 
-/// The lines with which each drawn log ends.
-fn last_lines<R: Files>(rt: &R, alloc: Global, case: &Drawn<'_>) -> Result<Vec<u8>, TrialFault> {
-    match case.last {
-        Some(log) => log.bytes(rt, alloc),
-        None => Ok(Vec::new(alloc)),
-    }
+/// How often the text has this word, after a space.
+fn count_word(text: &[u8], word: &[u8]) -> usize {
+    let words = text.split(|byte| *byte == b' ' || *byte == b'\n');
+    words.filter(|found| *found == word).count()
 }
 
 /// How many runs of drawn logs write the report of the run in order, and how often each ending is in these.
@@ -204,23 +168,31 @@ pub fn drawn_reports<R: Files + Threads + Wait + Sync>(
     alloc: Global,
     case: &Drawn<'_>,
 ) -> Result<String, TrialFault> {
-    let last = last_lines(rt, alloc, case)?;
+    let last = case.last.bytes(rt, alloc)?;
+    let text = read_file(rt, alloc, case.path)?;
+    let text = text
+        .as_slice()
+        .strip_suffix(b"\n".as_slice())
+        .unwrap_or(b"");
+    let lines = text
+        .split(|byte| *byte == b'\n')
+        .collect::<Vec<&[u8]>>(alloc)?;
     let mut generator = Generator::new(case.seed);
     let mut reports = Vec::new(alloc);
     let mut same: usize = 0;
     for _ in 0..case.logs {
-        let found = compare_log(
-            rt,
-            alloc,
-            &mut generator,
-            case,
-            last.as_slice(),
-            &mut reports,
-        )?;
+        let mut log = log_of(alloc, &mut generator, case, lines.as_slice())?;
+        let found = compare_log(rt, alloc, case, &mut log, last.as_slice(), &mut reports)?;
         same = same.saturating_add(found);
     }
     let (logs, runs) = (case.logs, case.runs.len());
     let mut outcome = format!(in alloc; "{logs} logs by {runs} runs, {same} same reports")?;
-    put_endings(alloc, &mut outcome, reports.as_slice())?;
+    for word in ENDINGS.split(' ') {
+        let found = count_word(reports.as_slice(), word.as_bytes());
+        put_part(
+            &mut outcome,
+            format!(in alloc; "{found} of {word}")?.as_str(),
+        )?;
+    }
     Ok(outcome)
 }

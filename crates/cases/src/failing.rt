@@ -1,13 +1,15 @@
 //! Readers that fail at any read, and writers that fail at any write, take no byte, or fail at their flush.
 
-use crate::case::Runs;
-use crate::fault::TrialFault;
+use crate::parsing::Runs;
 use crate::run::Run;
+use audit_text::AuditFault;
+use engine::EngineFault;
 use line_io::{Counted, MemoryReader, MemoryWriter};
 use std::alloc::{AllocError, Global};
 use std::rt::Files;
 use std::sync::Wait;
 use std::thread::Threads;
+use trials_base::TrialFault;
 
 /// How many tries there are beside those that have to fail.
 const TRIES: u64 = 200;
@@ -23,12 +25,18 @@ pub enum Failing {
     Ends,
 }
 
-/// How a run ended: with which fault, how many failures were counted, and what was written.
-#[derive(Drop)]
-struct Trial {
-    ended: Result<(), TrialFault>,
-    failures: u64,
-    written: Vec<u8>,
+/// Whether a run's reader failed.
+fn is_read(fault: TrialFault) -> bool {
+    fault == TrialFault::Text(bohm_base::EngineFault::Read)
+        || fault == TrialFault::Run(EngineFault::Read)
+        || fault == TrialFault::Question(AuditFault::Read)
+}
+
+/// Whether a run's writer failed, or took no byte.
+fn is_write(fault: TrialFault) -> bool {
+    fault == TrialFault::Text(bohm_base::EngineFault::Write)
+        || fault == TrialFault::Run(EngineFault::Write)
+        || fault == TrialFault::Question(AuditFault::Write)
 }
 
 /// How runs with a failing reader or writer ended.
@@ -44,23 +52,28 @@ struct Counts {
 }
 
 impl Counts {
-    /// Counts a run that has to write the wanted text, with no failure counted.
-    fn add_whole(&mut self, trial: &Trial, wanted: &[u8]) {
-        if trial.ended == Ok(()) && trial.failures == 0 && trial.written.as_slice() == wanted {
+    /// Counts a run: it has to write the wanted text where nothing failed, and else to end with a fault of what failed, once, and with a
+    /// beginning of the text written.
+    fn add(
+        &mut self,
+        ended: Result<(), TrialFault>,
+        failures: (u64, u64),
+        written: &[u8],
+        wanted: &[u8],
+    ) {
+        let is_right = match (ended, failures) {
+            (Ok(()), (0, 0)) => written == wanted,
+            (Err(fault), (1, 0)) => is_read(fault) && wanted.starts_with(written),
+            (Err(fault), (0, 1)) => is_write(fault) && wanted.starts_with(written),
+            _ => false,
+        };
+        if !is_right {
+            self.wrong = self.wrong.saturating_add(1);
+        } else if ended.is_ok() {
             self.whole = self.whole.saturating_add(1);
         } else {
-            self.wrong = self.wrong.saturating_add(1);
-        }
-    }
-
-    /// Counts a run that has to end with this fault, with one failure counted and a beginning of the wanted text written.
-    fn add_failed(&mut self, trial: &Trial, wanted: &[u8], fault: TrialFault) {
-        let written = trial.written.as_slice();
-        if trial.ended == Err(fault) && trial.failures == 1 && wanted.starts_with(written) {
             self.failed = self.failed.saturating_add(1);
             self.written = self.written.saturating_add(written.len() as u64);
-        } else {
-            self.wrong = self.wrong.saturating_add(1);
         }
     }
 
@@ -73,112 +86,62 @@ impl Counts {
     }
 }
 
-/// Runs the log, a byte a read, of which the read after this many fails.
-fn with_reads<R: Threads + Wait + Sync>(
-    rt: &R,
-    alloc: Global,
-    log: &[u8],
-    run: &Run,
-    reads: u64,
-) -> Trial {
-    let mut log = Counted::new(MemoryReader {
-        left: log,
-        most: 1,
-        reads: Some(reads),
-    });
-    let mut text = Counted::new(Vec::new(alloc));
-    let ended = run.execute(rt, alloc, &mut log, &mut text);
-    Trial {
-        ended,
-        failures: log.errors,
-        written: text.inner,
-    }
-}
-
-/// Runs the log into a writer.
-fn with_writer<R: Threads + Wait + Sync>(
-    rt: &R,
-    alloc: Global,
-    log: &[u8],
-    run: &Run,
-    writer: MemoryWriter,
-) -> Trial {
-    let mut text = Counted::new(writer);
-    let ended = run.execute(rt, alloc, &mut Counted::new(log), &mut text);
-    Trial {
-        ended,
-        failures: text.errors,
-        written: text.inner.taken,
-    }
-}
-
-/// Counts how a run ends where the reader fails at each of its reads. The end of the log is found by a read too. A read that the run
-/// didn't make fails nothing.
-fn count_reads<R: Threads + Wait + Sync>(
-    rt: &R,
-    alloc: Global,
-    log: &[u8],
-    run: &Run,
-    counts: &mut Counts,
-) -> Result<(), TrialFault> {
-    let wanted = run.text(rt, alloc, log)?;
-    let length = log.len() as u64;
-    for reads in 0..length.saturating_add(TRIES) {
-        let trial = with_reads(rt, alloc, log, run, reads);
-        if trial.failures > 0 {
-            counts.add_failed(&trial, wanted.as_slice(), TrialFault::Read);
-        } else {
-            counts.add_whole(&trial, wanted.as_slice());
-        }
-    }
-    Ok(())
-}
-
-/// Counts how a run ends where the writer takes a byte a write, and fails at each of its writes.
-fn count_writes<R: Threads + Wait + Sync>(
-    rt: &R,
-    alloc: Global,
-    log: &[u8],
-    run: &Run,
-    counts: &mut Counts,
-) -> Result<(), TrialFault> {
-    let wanted = run.text(rt, alloc, log)?;
-    let length = wanted.len() as u64;
-    for writes in 0..length.saturating_add(TRIES) {
-        let writer = MemoryWriter {
-            taken: Vec::new(alloc),
+/// A reader that gives a byte a read, and fails at the read after this many, if that is what fails.
+fn reader_of(failing: Failing, log: &[u8], number: u64) -> MemoryReader<'_> {
+    if failing == Failing::Reads {
+        let reads = Some(number);
+        return MemoryReader {
+            left: log,
             most: 1,
-            writes: Some(writes),
-            flushes: None,
+            reads,
         };
-        let trial = with_writer(rt, alloc, log, run, writer);
-        if writes < length {
-            counts.add_failed(&trial, wanted.as_slice(), TrialFault::Write);
-        } else {
-            counts.add_whole(&trial, wanted.as_slice());
-        }
     }
-    Ok(())
+    MemoryReader::new(log)
 }
 
-/// Counts how a run ends where the writer takes all and fails at its flush, and where it takes no byte.
-fn count_ends<R: Threads + Wait + Sync>(
+/// A writer that takes a byte a write, and fails at the write after this many; or that fails at its flush, or takes no byte.
+fn writer_of(alloc: Global, failing: Failing, number: u64) -> MemoryWriter {
+    let (most, writes, flushes) = match (failing, number) {
+        (Failing::Reads, _) => (usize::MAX, None, None),
+        (Failing::Writes, _) => (1, Some(number), None),
+        (Failing::Ends, 0) => (usize::MAX, None, Some(0)),
+        (Failing::Ends, 1) => (1, None, Some(0)),
+        (Failing::Ends, _) => (0, None, None),
+    };
+    MemoryWriter {
+        taken: Vec::new(alloc),
+        most,
+        writes,
+        flushes,
+    }
+}
+
+/// Counts how a run ends where the reader fails at each of its reads, or the writer at each of its writes, and then at none; or at its end.
+fn count_run<R: Threads + Wait + Sync>(
     rt: &R,
     alloc: Global,
+    failing: Failing,
     log: &[u8],
     run: &Run,
     counts: &mut Counts,
 ) -> Result<(), TrialFault> {
     let wanted = run.text(rt, alloc, log)?;
-    for (most, flushes) in [(4096, Some(0)), (1, Some(0)), (0, None)] {
-        let writer = MemoryWriter {
-            taken: Vec::new(alloc),
-            most,
-            writes: None,
-            flushes,
-        };
-        let trial = with_writer(rt, alloc, log, run, writer);
-        counts.add_failed(&trial, wanted.as_slice(), TrialFault::Write);
+    let tries = match failing {
+        Failing::Reads => (log.len() as u64).saturating_add(TRIES),
+        Failing::Writes => (wanted.len() as u64).saturating_add(TRIES),
+        Failing::Ends => 3,
+    };
+    for number in 0..tries {
+        let mut reader = Counted::new(reader_of(failing, log, number));
+        let mut writer = Counted::new(writer_of(alloc, failing, number));
+        let ended = run.execute(rt, alloc, &mut reader, &mut writer);
+        let written = writer.inner.taken.as_slice();
+        counts.add(
+            ended,
+            (reader.errors, writer.errors),
+            written,
+            wanted.as_slice(),
+        );
     }
     Ok(())
 }
@@ -191,14 +154,9 @@ pub fn failing_runs<R: Files + Threads + Wait + Sync>(
     case: &Runs<'_>,
 ) -> Result<String, TrialFault> {
     let log = case.log.bytes(rt, alloc)?;
-    let log = log.as_slice();
     let mut counts = Counts::default();
     for run in case.runs.as_slice() {
-        match failing {
-            Failing::Reads => count_reads(rt, alloc, log, run, &mut counts)?,
-            Failing::Writes => count_writes(rt, alloc, log, run, &mut counts)?,
-            Failing::Ends => count_ends(rt, alloc, log, run, &mut counts)?,
-        }
+        count_run(rt, alloc, failing, log.as_slice(), run, &mut counts)?;
     }
     Ok(counts.outcome(alloc)?)
 }

@@ -1,13 +1,8 @@
 //! The logs of cases: those in files, and those that are too long for one.
 
-use crate::fault::TrialFault;
 use std::alloc::{AllocError, Global};
-use std::fs;
-use std::io::Read;
 use std::rt::Files;
-
-/// How many bytes a file may have.
-const MOST_FILE_BYTES: u64 = 1 << 20;
+use trials_base::{TrialFault, read_file};
 
 /// A log.
 #[derive(Clone, Copy, Debug, PartialEq, Eq)]
@@ -26,42 +21,18 @@ pub enum Log<'a> {
     Rows(u32, u32),
 }
 
-/// The bytes of a file.
-pub fn read_file<R: Files>(rt: &R, alloc: Global, path: &str) -> Result<Vec<u8>, TrialFault> {
-    let mut text = Vec::new(alloc);
-    let file = fs::open(rt, path).map_err(|_| TrialFault::Open)?;
-    file.take(MOST_FILE_BYTES + 1).read_to_end(&mut text)?;
-    if text.len() as u64 > MOST_FILE_BYTES {
-        return Err(TrialFault::TooLong);
-    }
-    Ok(text)
-}
-
-/// Bytes as text.
-pub fn text_of(bytes: &[u8]) -> Result<&str, TrialFault> {
-    str::from_utf8(bytes).map_err(|_| TrialFault::NotText)
-}
-
-/// Appends this many letters.
-fn put_letters(log: &mut Vec<u8>, count: u32) -> Result<(), AllocError> {
+/// This many letters between two texts.
+fn log_of_letters(
+    alloc: Global,
+    before: &[u8],
+    count: u32,
+    after: &[u8],
+) -> Result<Vec<u8>, AllocError> {
+    let mut log = Vec::from_slice(alloc, before)?;
     for _ in 0..count {
         log.push(b'a')?;
     }
-    Ok(())
-}
-
-/// A line of this many letters, and then a good one.
-fn log_of_letters(alloc: Global, count: u32) -> Result<Vec<u8>, AllocError> {
-    let mut log = Vec::new(alloc);
-    put_letters(&mut log, count)?;
-    log.extend_from_slice(b"\nalice CREATE t 1\n")?;
-    Ok(log)
-}
-
-/// A good line, and then this many letters without a line feed.
-fn unended_log(alloc: Global, count: u32) -> Result<Vec<u8>, AllocError> {
-    let mut log = Vec::from_slice(alloc, b"alice CREATE t 1\n")?;
-    put_letters(&mut log, count)?;
+    log.extend_from_slice(after)?;
     Ok(log)
 }
 
@@ -117,8 +88,8 @@ impl Log<'_> {
                 let path = format!(in alloc; "{name}.log")?;
                 read_file(rt, alloc, path.as_str())
             }
-            Log::Letters(count) => Ok(log_of_letters(alloc, count)?),
-            Log::Unended(count) => Ok(unended_log(alloc, count)?),
+            Log::Letters(count) => Ok(log_of_letters(alloc, b"", count, b"\nalice CREATE t 1\n")?),
+            Log::Unended(count) => Ok(log_of_letters(alloc, b"alice CREATE t 1\n", count, b"")?),
             Log::Users(count) => Ok(log_of_users(alloc, count)?),
             Log::Tables(count) => Ok(log_of_tables(alloc, count)?),
             Log::Rows(lines, rows) => Ok(log_of_rows(alloc, lines, rows)?),
@@ -128,7 +99,7 @@ impl Log<'_> {
     /// The report that was worked out for the log: the file NAME.report.
     pub fn report<R: Files>(self, rt: &R, alloc: Global) -> Result<Vec<u8>, TrialFault> {
         let Log::Worked(name) = self else {
-            return Err(TrialFault::NoReport);
+            return Err(TrialFault::NoSuchLog);
         };
         let path = format!(in alloc; "{name}.report")?;
         read_file(rt, alloc, path.as_str())

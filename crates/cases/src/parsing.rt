@@ -1,59 +1,28 @@
-//! A line of a file of cases, read as a case.
+//! Words of a case, read as logs and runs.
 
-use crate::case::{Case, Change, Changed, Drawn, Runs};
-use crate::failing::Failing;
-use crate::fault::TrialFault;
 use crate::logs::Log;
-use crate::run::{Run, Seeded};
-use crate::tail::Bits;
+use crate::run::Run;
 use audit_text::Question;
 use batched_text::{ReadingAhead, Settings};
 use model_base::Place;
 use std::alloc::Global;
-use trials_base::Drawing;
+use std::rt::Files;
+use trials_base::{TrialFault, read_file, text_of};
 
-/// Workers, partitions, and places of a batch: three of each, and so 27 settings.
-struct Choices {
-    workers: [u64; 3],
-    partitions: [u64; 3],
-    batch: [u64; 3],
+/// A log, and the runs of it.
+#[derive(Drop)]
+pub struct Runs<'a> {
+    pub log: Log<'a>,
+    pub runs: Vec<Run>,
 }
 
-/// The settings of `cuts`.
-const CUTS: Choices = Choices {
-    workers: [1, 2, 4],
-    partitions: [1, 2, 4],
-    batch: [1, 3, 1024],
-};
-
-/// The settings of `wide`, up to the limits.
-const WIDE: Choices = Choices {
-    workers: [1, 2, 64],
-    partitions: [1, 7, 64],
-    batch: [1, 3, 65536],
-};
-
-/// The ways of `aheads` to read lines ahead: how many threads, and the bytes of a stretch.
-const AHEADS: [(usize, usize); 7] = [
-    (1, 16),
-    (1, 100),
-    (1, 4096),
-    (3, 16),
-    (3, 100),
-    (3, 4096),
-    (63, 4096),
-];
-
-/// What the sources of the seeds of `seeds` repeat.
-const SEEDS: [u8; 3] = [0, 1, 197];
-
 /// A number.
-fn parse_number(word: &str) -> Result<u64, TrialFault> {
+pub fn parse_number(word: &str) -> Result<u64, TrialFault> {
     word.parse::<u64>().map_err(|_| TrialFault::NotANumber)
 }
 
 /// A number of 32 bits.
-fn parse_count(word: &str) -> Result<u32, TrialFault> {
+pub fn parse_count(word: &str) -> Result<u32, TrialFault> {
     word.parse::<u32>().map_err(|_| TrialFault::NotANumber)
 }
 
@@ -107,6 +76,19 @@ fn parse_ahead(words: &[&str]) -> Result<ReadingAhead, TrialFault> {
     })
 }
 
+/// A run under the seed of a source that repeats a byte: in order, by the definitions, or in batches by these settings.
+fn parse_seeded(words: &[&str]) -> Result<Run, TrialFault> {
+    let [byte, name, words @ ..] = words else {
+        return Err(TrialFault::Words);
+    };
+    let byte = byte.parse::<u8>().map_err(|_| TrialFault::NotANumber)?;
+    match *name {
+        "plain" => Ok(Run::SeededInOrder(byte)),
+        "slow" => Ok(Run::SeededSlow(byte)),
+        _ => Ok(Run::SeededBatches(byte, parse_settings(words)?)),
+    }
+}
+
 /// A run: its name, and its numbers after colons.
 fn parse_run(alloc: Global, word: &str) -> Result<Run, TrialFault> {
     let parts = word.split(':').collect::<Vec<&str>>(alloc)?;
@@ -119,99 +101,52 @@ fn parse_run(alloc: Global, word: &str) -> Result<Run, TrialFault> {
         "slow" if words.is_empty() => Ok(Run::Slow),
         "batches" => Ok(Run::Batches(parse_settings(words)?)),
         "kept" => Ok(Run::Kept(parse_settings(words)?)),
+        "seeded" => parse_seeded(words),
         "explain" => Ok(Run::Explain(parse_question(words)?)),
         "picture" => Ok(Run::Picture(parse_limit(words)?)),
         _ => Err(TrialFault::NoSuchRun),
     }
 }
 
-/// One of three numbers, by turns.
-fn one_of(choices: &[u64; 3], number: u64) -> u64 {
-    match number % 3 {
-        0 => choices[0],
-        1 => choices[1],
-        _ => choices[2],
-    }
-}
-
-/// One of the 27 settings, by its number.
-fn chosen(choices: &Choices, number: u64, keep: u64) -> Settings {
-    Settings {
-        workers: one_of(&choices.workers, number) as usize,
-        partitions: one_of(&choices.partitions, number / 3) as usize,
-        batch: one_of(&choices.batch, number / 9),
-        keep,
-    }
-}
-
-/// Appends the runs in order in all ways of `aheads`.
-fn push_aheads(runs: &mut Vec<Run>) -> Result<(), TrialFault> {
-    for (threads, stretch) in AHEADS {
-        runs.push(Run::InOrder(ReadingAhead {
-            threads,
-            least: 1,
-            stretch,
-            piece: stretch / 4,
-        }))?;
-    }
-    Ok(())
-}
-
-/// Appends the runs in all 27 settings, in batches that are kept and in batches that aren't.
-fn push_chosen(runs: &mut Vec<Run>, choices: &Choices, keep: u64) -> Result<(), TrialFault> {
-    for number in 0..27 {
-        runs.push(Run::Batches(chosen(choices, number, keep)))?;
-        runs.push(Run::Kept(chosen(choices, number, keep)))?;
-    }
-    Ok(())
-}
-
-/// Appends, under each of three seeds, the run in order, a run by two workers, and the slow run.
-fn push_seeds(runs: &mut Vec<Run>) -> Result<(), TrialFault> {
-    let two = Settings {
-        workers: 2,
-        partitions: 2,
-        batch: 6,
-        keep: 0,
-    };
-    for byte in SEEDS {
-        runs.push(Run::Seeded(byte, Seeded::InOrder))?;
-        runs.push(Run::Seeded(byte, Seeded::Batches(two)))?;
-        runs.push(Run::Seeded(byte, Seeded::Slow))?;
-    }
-    Ok(())
-}
-
-/// Appends the runs that a word names.
-fn push_runs(alloc: Global, runs: &mut Vec<Run>, word: &str) -> Result<(), TrialFault> {
-    let (name, keep) = word.split_once(':').unwrap_or((word, ""));
-    match name {
-        "cuts" => push_chosen(runs, &CUTS, parse_number(keep)?),
-        "wide" => push_chosen(runs, &WIDE, parse_number(keep)?),
-        "aheads" => push_aheads(runs),
-        "seeds" => push_seeds(runs),
-        _ => {
-            runs.push(parse_run(alloc, word)?)?;
-            Ok(())
+/// Appends the runs that a word names: a run, or those after this word in a line of `named`.
+fn push_runs(
+    alloc: Global,
+    runs: &mut Vec<Run>,
+    word: &str,
+    named: &str,
+) -> Result<(), TrialFault> {
+    for line in named.split('\n') {
+        let (name, words) = line.split_once(' ').unwrap_or((line, ""));
+        if name == word {
+            for word in words.split(' ') {
+                runs.push(parse_run(alloc, word)?)?;
+            }
+            return Ok(());
         }
     }
+    runs.push(parse_run(alloc, word)?)?;
+    Ok(())
 }
 
-/// The runs that words name, one at least, each a run, `cuts:KEEP` or `wide:KEEP`, which are 27 settings each, `aheads`, which is all
-/// ways of `aheads`, or `seeds`, which is three runs under each of three seeds.
-fn parse_run_list(alloc: Global, words: &[&str]) -> Result<Vec<Run>, TrialFault> {
+/// The runs that words name, one at least, each a run or a list of runs of the file `named.runs`.
+pub fn parse_run_list<R: Files>(
+    rt: &R,
+    alloc: Global,
+    words: &[&str],
+) -> Result<Vec<Run>, TrialFault> {
     if words.is_empty() {
         return Err(TrialFault::Words);
     }
+    let named = read_file(rt, alloc, "named.runs")?;
     let mut runs = Vec::new(alloc);
     for word in words {
-        push_runs(alloc, &mut runs, word)?;
+        push_runs(alloc, &mut runs, word, text_of(named.as_slice())?)?;
     }
     Ok(runs)
 }
 
 /// A log: the name of a file without `.log`, or one that is made of a number.
-fn parse_log(word: &str) -> Result<Log<'_>, TrialFault> {
+pub fn parse_log(word: &str) -> Result<Log<'_>, TrialFault> {
     if word.is_empty() {
         return Err(TrialFault::NoSuchLog);
     }
@@ -232,127 +167,15 @@ fn parse_log(word: &str) -> Result<Log<'_>, TrialFault> {
 }
 
 /// A log and its runs.
-fn parse_runs<'a>(alloc: Global, words: &[&'a str]) -> Result<Runs<'a>, TrialFault> {
+pub fn parse_runs<'a, R: Files>(
+    rt: &R,
+    alloc: Global,
+    words: &[&'a str],
+) -> Result<Runs<'a>, TrialFault> {
     let [log, runs @ ..] = words else {
         return Err(TrialFault::Words);
     };
     let log = parse_log(log)?;
-    let runs = parse_run_list(alloc, runs)?;
+    let runs = parse_run_list(rt, alloc, runs)?;
     Ok(Runs { log, runs })
-}
-
-/// How much a read gives of a log, and then the log and its runs.
-fn parse_tail<'a>(alloc: Global, words: &[&'a str]) -> Result<Case<'a>, TrialFault> {
-    let [bits, rest @ ..] = words else {
-        return Err(TrialFault::Words);
-    };
-    let bits = match *bits {
-        "lines" => Bits::Lines,
-        "halves" => Bits::Halves,
-        "pieces" => Bits::Pieces,
-        _ => return Err(TrialFault::Words),
-    };
-    Ok(Case::Tail(bits, parse_runs(alloc, rest)?))
-}
-
-/// What fails, and then the log and its runs.
-fn parse_fail<'a>(alloc: Global, words: &[&'a str]) -> Result<Case<'a>, TrialFault> {
-    let [failing, rest @ ..] = words else {
-        return Err(TrialFault::Words);
-    };
-    let failing = match *failing {
-        "reads" => Failing::Reads,
-        "writes" => Failing::Writes,
-        "ends" => Failing::Ends,
-        _ => return Err(TrialFault::Words),
-    };
-    Ok(Case::Fail(failing, parse_runs(alloc, rest)?))
-}
-
-/// How many changes there are for each that is tried, and then the log and its runs.
-fn parse_changes<'a>(alloc: Global, words: &[&'a str]) -> Result<Case<'a>, TrialFault> {
-    let [every, rest @ ..] = words else {
-        return Err(TrialFault::Words);
-    };
-    let every = parse_number(every)? as usize;
-    let runs = parse_runs(alloc, rest)?;
-    Ok(Case::Changes(Changed { every, runs }))
-}
-
-/// A row, and then the log and its runs.
-fn parse_rows<'a>(alloc: Global, words: &[&'a str]) -> Result<Case<'a>, TrialFault> {
-    let [row, rest @ ..] = words else {
-        return Err(TrialFault::Words);
-    };
-    let row = parse_count(row)?;
-    Ok(Case::Rows(row, parse_runs(alloc, rest)?))
-}
-
-/// How logs are drawn, what is changed of their lines then, and their runs.
-fn parse_drawn<'a>(
-    alloc: Global,
-    words: &[&'a str],
-    change: Change,
-) -> Result<Case<'a>, TrialFault> {
-    let [seed, logs, lines, users, deeds, last, runs @ ..] = words else {
-        return Err(TrialFault::Words);
-    };
-    let last = match *last {
-        "-" => None,
-        log => Some(parse_log(log)?),
-    };
-    let drawing = Drawing {
-        lines: parse_count(lines)?,
-        users: parse_count(users)?,
-        deeds: parse_count(deeds)?,
-    };
-    let (seed, logs) = (parse_number(seed)?, parse_count(logs)?);
-    let runs = parse_run_list(alloc, runs)?;
-    Ok(Case::Drawn(Drawn {
-        seed,
-        logs,
-        drawing,
-        change,
-        last,
-        runs,
-    }))
-}
-
-/// A case of a log and its runs.
-fn parse_case_of_runs<'a>(
-    alloc: Global,
-    verb: &str,
-    words: &[&'a str],
-) -> Result<Case<'a>, TrialFault> {
-    match verb {
-        "report" => Ok(Case::Report(parse_runs(alloc, words)?)),
-        "same" => Ok(Case::Same(parse_runs(alloc, words)?)),
-        "beginnings" => Ok(Case::Beginnings(parse_runs(alloc, words)?)),
-        "print" => Ok(Case::Print(parse_runs(alloc, words)?)),
-        "ends" => Ok(Case::Ends(parse_runs(alloc, words)?)),
-        "changes" => parse_changes(alloc, words),
-        "rows" => parse_rows(alloc, words),
-        "fail" => parse_fail(alloc, words),
-        "tail" => parse_tail(alloc, words),
-        "drawn" => parse_drawn(alloc, words, Change::Nothing),
-        "spoilt" => parse_drawn(alloc, words, Change::Byte),
-        "reworded" => parse_drawn(alloc, words, Change::Word),
-        _ => Err(TrialFault::NoSuchVerb),
-    }
-}
-
-/// The case that a line asks for: a verb, and words after single spaces.
-pub fn parse_case(alloc: Global, line: &str) -> Result<Case<'_>, TrialFault> {
-    let (verb, rest) = line.split_once(' ').unwrap_or((line, ""));
-    match verb {
-        "words" => Ok(Case::Words(rest)),
-        "endings" => Ok(Case::Endings),
-        "spellings" => Ok(Case::Spellings(rest)),
-        "parts" => Ok(Case::Parts(rest)),
-        "guide" => Ok(Case::Guide(rest)),
-        _ => {
-            let words = rest.split(' ').collect::<Vec<&str>>(alloc)?;
-            parse_case_of_runs(alloc, verb, words.as_slice())
-        }
-    }
 }

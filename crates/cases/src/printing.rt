@@ -1,14 +1,12 @@
 //! The texts that runs write, and how runs end.
 
-use crate::case::Runs;
-use crate::fault::TrialFault;
-use crate::logs::text_of;
-use crate::run::Run;
+use crate::parsing::Runs;
 use line_io::Counted;
 use std::alloc::{AllocError, Global};
 use std::rt::Files;
 use std::sync::Wait;
 use std::thread::Threads;
+use trials_base::{TrialFault, text_of};
 
 /// Appends a part of an outcome, after a semicolon if it isn't the first.
 pub fn put_part(outcome: &mut String, part: &str) -> Result<(), AllocError> {
@@ -18,24 +16,7 @@ pub fn put_part(outcome: &mut String, part: &str) -> Result<(), AllocError> {
     outcome.push_str(part)
 }
 
-/// Appends the text that a run writes of a log, without its last line feed, after a line of how long it is.
-fn put_text<R: Threads + Wait + Sync>(
-    rt: &R,
-    alloc: Global,
-    outcome: &mut String,
-    log: &[u8],
-    run: &Run,
-) -> Result<(), TrialFault> {
-    let text = run.text(rt, alloc, log)?;
-    let bytes = text.len();
-    let text = text_of(text.as_slice())?;
-    let text = text.strip_suffix("\n").unwrap_or(text);
-    let part = format!(in alloc; "{bytes} bytes\n{text}")?;
-    put_part(outcome, part.as_str())?;
-    Ok(())
-}
-
-/// The texts that the runs write of a log.
+/// The texts that the runs write of a log, without their last line feed, each after a line of how long it is.
 pub fn printed_texts<R: Files + Threads + Wait + Sync>(
     rt: &R,
     alloc: Global,
@@ -44,26 +25,15 @@ pub fn printed_texts<R: Files + Threads + Wait + Sync>(
     let log = case.log.bytes(rt, alloc)?;
     let mut outcome = String::new(alloc);
     for run in case.runs.as_slice() {
-        put_text(rt, alloc, &mut outcome, log.as_slice(), run)?;
+        let text = run.text(rt, alloc, log.as_slice())?;
+        let (bytes, text) = (text.len(), text_of(text.as_slice())?);
+        let text = text.strip_suffix("\n").unwrap_or(text);
+        put_part(
+            &mut outcome,
+            format!(in alloc; "{bytes} bytes\n{text}")?.as_str(),
+        )?;
     }
     Ok(outcome)
-}
-
-/// How a run of a log ends, and how much it reads and writes.
-fn ended_run<R: Threads + Wait + Sync>(
-    rt: &R,
-    alloc: Global,
-    log: &[u8],
-    run: &Run,
-) -> Result<String, AllocError> {
-    let mut log = Counted::new(log);
-    let mut text = Counted::new(Vec::new(alloc));
-    let ended = run.execute(rt, alloc, &mut log, &mut text);
-    let (read, written) = (log.given, text.inner.len());
-    match ended {
-        Ok(()) => format!(in alloc; "whole, {read} bytes read, {written} written"),
-        Err(fault) => format!(in alloc; "{fault}, {read} bytes read, {written} written"),
-    }
 }
 
 /// How the runs of a log end, and how much they read and write.
@@ -75,7 +45,14 @@ pub fn ended_runs<R: Files + Threads + Wait + Sync>(
     let log = case.log.bytes(rt, alloc)?;
     let mut outcome = String::new(alloc);
     for run in case.runs.as_slice() {
-        let part = ended_run(rt, alloc, log.as_slice(), run)?;
+        let mut log = Counted::new(log.as_slice());
+        let mut text = Counted::new(Vec::new(alloc));
+        let ended = match run.execute(rt, alloc, &mut log, &mut text) {
+            Ok(()) => String::from_str(alloc, "whole")?,
+            Err(fault) => format!(in alloc; "{fault}")?,
+        };
+        let (read, written) = (log.given, text.inner.len());
+        let part = format!(in alloc; "{ended}, {read} bytes read, {written} written")?;
         put_part(&mut outcome, part.as_str())?;
     }
     Ok(outcome)

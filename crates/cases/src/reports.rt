@@ -1,12 +1,12 @@
 //! Reports of logs: beside those that were worked out, beside one another, and of each beginning of a log.
 
-use crate::case::Runs;
-use crate::fault::TrialFault;
+use crate::parsing::Runs;
 use crate::run::{Run, right_runs};
 use std::alloc::Global;
 use std::rt::Files;
 use std::sync::Wait;
 use std::thread::Threads;
+use trials_base::TrialFault;
 
 /// By how many of the runs a log has the report that was worked out.
 pub fn worked_reports<R: Files + Threads + Wait + Sync>(
@@ -39,15 +39,6 @@ fn last_line(text: &[u8]) -> &[u8] {
     }
 }
 
-/// A sum of a text's bytes that depends on their order.
-fn sum_of(text: &[u8]) -> u64 {
-    let mut sum: u64 = 0;
-    for byte in text {
-        sum = sum.wrapping_mul(31).wrapping_add(u64::from(*byte));
-    }
-    sum
-}
-
 /// How long the report of the run in order is, how it ends, and how many of the runs write the same.
 pub fn same_reports<R: Files + Threads + Wait + Sync>(
     rt: &R,
@@ -59,10 +50,10 @@ pub fn same_reports<R: Files + Threads + Wait + Sync>(
     let report = report.as_slice();
     let same = right_runs(rt, alloc, log.as_slice(), case.runs.as_slice(), report)?;
     let count = case.runs.len();
-    let (lines, bytes, sum) = (line_count(report), report.len(), sum_of(report));
+    let (lines, bytes) = (line_count(report), report.len());
     let last = str::from_utf8(last_line(report)).unwrap_or("no text");
     Ok(format!(in alloc;
-        "{lines} lines, {bytes} bytes, sum {sum}, the last '{last}'; the same by {same} of {count} runs"
+        "{lines} lines, {bytes} bytes, the last '{last}'; the same by {same} of {count} runs"
     )?)
 }
 

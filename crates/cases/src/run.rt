@@ -1,6 +1,5 @@
 //! The runs of a log.
 
-use crate::fault::TrialFault;
 use audit_text::{Question, explain_text, grants_text};
 use batched_text::{
     ReadingAhead, Settings, report_in_order, report_in_order_seeded, report_text,
@@ -15,6 +14,7 @@ use std::io::{Read, Write};
 use std::random::RandomSource;
 use std::sync::Wait;
 use std::thread::Threads;
+use trials_base::TrialFault;
 
 /// A source of which each byte is the same, so that the seed that is drawn from it is the same at each run.
 #[derive(Clone, Copy)]
@@ -27,38 +27,9 @@ impl RandomSource for Repeating {
     }
 }
 
-/// A run whose maps find their keys under a seed that is given.
-#[derive(Clone, Copy)]
-pub enum Seeded {
-    /// In order, with each line read in its turn.
-    InOrder,
-    /// In batches, of which nothing is kept.
-    Batches(Settings),
-    /// By the definitions.
-    Slow,
-}
-
-impl Seeded {
-    /// Runs a log from its reader to its writer.
-    fn execute<T: Threads + Wait + Sync, R: Read, W: Write>(
-        self,
-        rt: &T,
-        alloc: Global,
-        seed: HashSeed,
-        log: &mut Counted<R>,
-        text: &mut Counted<W>,
-    ) -> Result<(), TrialFault> {
-        match self {
-            Seeded::InOrder => {
-                report_in_order_seeded(rt, alloc, log, text, ReadingAhead::by(0), seed)?
-            }
-            Seeded::Batches(settings) => {
-                report_text_seeded(rt, alloc, log, text, &settings, seed)?
-            }
-            Seeded::Slow => serial_text_seeded(alloc, log, text, seed)?,
-        }
-        Ok(())
-    }
+/// The seed that is drawn from a source which repeats this byte.
+fn seed_of(byte: u8) -> Result<HashSeed, TrialFault> {
+    Ok(HashSeed::drawn(&Repeating(byte))?)
 }
 
 /// What makes a text of a log: its report by one of the runs, or the answer to a question about it.
@@ -72,8 +43,12 @@ pub enum Run {
     Batches(Settings),
     /// The report in batches, all of which are kept.
     Kept(Settings),
-    /// The report by a run under the seed that is drawn from a source which repeats this byte.
-    Seeded(u8, Seeded),
+    /// The report, one statement after another, by maps under the seed of a source that repeats this byte.
+    SeededInOrder(u8),
+    /// The report by the definitions, under such a seed.
+    SeededSlow(u8),
+    /// The report in batches, of which nothing is kept, under such a seed.
+    SeededBatches(u8, Settings),
     /// Why a place was admitted or denied.
     Explain(Question),
     /// The picture of the grants before a place, or at the end.
@@ -99,9 +74,13 @@ impl Run {
             Run::Slow => serial_text(alloc, log, text)?,
             Run::Batches(settings) => report_text(rt, alloc, log, text, &settings)?,
             Run::Kept(settings) => run_kept(rt, alloc, log, text, &settings)?,
-            Run::Seeded(byte, seeded) => {
-                let seed = HashSeed::drawn(&Repeating(byte))?;
-                seeded.execute(rt, alloc, seed, log, text)?
+            Run::SeededInOrder(byte) => {
+                let (ahead, seed) = (ReadingAhead::by(0), seed_of(byte)?);
+                report_in_order_seeded(rt, alloc, log, text, ahead, seed)?
+            }
+            Run::SeededSlow(byte) => serial_text_seeded(alloc, log, text, seed_of(byte)?)?,
+            Run::SeededBatches(byte, settings) => {
+                report_text_seeded(rt, alloc, log, text, &settings, seed_of(byte)?)?
             }
             Run::Explain(question) => explain_text(rt, alloc, log, text, question)?,
             Run::Picture(limit) => grants_text(rt, alloc, log, text, limit)?,

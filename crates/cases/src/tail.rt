@@ -2,8 +2,7 @@
 
 ghost use Rattle.std.specs.Prelude.{None};
 
-use crate::case::Runs;
-use crate::fault::TrialFault;
+use crate::parsing::Runs;
 use crate::printing::put_part;
 use crate::run::Run;
 use line_io::Counted;
@@ -14,6 +13,7 @@ use std::io::{Read, Write};
 use std::rt::Files;
 use std::sync::Wait;
 use std::thread::Threads;
+use trials_base::TrialFault;
 
 /// How much a read gives.
 #[derive(Clone, Copy, Debug, PartialEq, Eq)]
@@ -111,8 +111,7 @@ impl Write for Report<'_> {
     }
 }
 
-/// Runs a log that comes so, and says how many reads and writes that took, how many reads were late, and whether the report is the wanted
-/// one.
+/// Runs a log that comes so, and says how many reads and writes that took, how many reads were late, and whether the report is right.
 fn tailed_run<R: Threads + Wait + Sync>(
     rt: &R,
     alloc: Global,

@@ -1,15 +1,15 @@
 //! Gates: who waits for whom, and what workers say.
 
-use crate::fault::TrialFault;
-use crate::stepping::{crew_of, push_lines, run_up_to};
-use engine::Engine;
+use crate::stepping::{crew_of, push_line};
+use engine::{Crew, Engine};
 use model_base::Place;
 use std::alloc::Global;
 use std::sync::Wait;
 use std::sync::atomic::{AtomicBool, AtomicUsize, Ordering};
 use std::thread;
 use std::thread::Threads;
-use workers::Gate;
+use trials_base::TrialFault;
+use workers::{Gate, NoGate};
 
 /// How often a gate looks whether a place is done, before it gives up.
 const LOOKS: u32 = 100_000_000;
@@ -106,82 +106,52 @@ fn begin<R: Threads + Wait + Sync>(
         "alice RUN a:1:R",
         "bob RUN b:1:R",
     ];
-    push_lines(alloc, engine, &lines)?;
-    run_up_to(rt, alloc, engine, 2, crew_of(1, 1))
+    for line in lines {
+        push_line(alloc, engine, line)?;
+    }
+    Ok(engine.run_batch(rt, alloc, 0..2, crew_of(1, 1), &NoGate)?)
 }
 
-/// Prints the outcome of the two statements by two workers, where one is held back.
-fn print_held<R: Threads + Wait + Print + Sync>(
+/// Prints what comes of the two statements, how often a place was waited for in vain, and how often the workers say that each is done, and
+/// speak of others.
+fn print_gated<R: Threads + Wait + Print + Sync>(
     rt: &R,
     alloc: Global,
-    engine: &mut Engine,
     who: &str,
     held: Held,
     awaited: Place,
+    crew: Crew,
 ) -> Result<(), TrialFault> {
-    begin(rt, alloc, engine)?;
+    let mut engine = Engine::new(alloc);
+    begin(rt, alloc, &mut engine)?;
     let gate = Watch::new(held, awaited);
-    let answer = engine.run_batch(rt, alloc, 2..4, crew_of(2, 2), &gate);
+    let ended = engine.run_batch(rt, alloc, 2..4, crew, &gate);
     let (vain, finished) = (gate.vain.load(Ordering::SeqCst), engine.finished());
-    let _ = println!(rt;
-        "{who} waits for place {awaited}: {answer:?}, {vain} in vain, {finished} finished"
-    );
-    Ok(())
-}
-
-/// Reports what this many workers say a gate.
-fn print_counted<R: Threads + Wait + Print + Sync>(
-    rt: &R,
-    alloc: Global,
-    engine: &mut Engine,
-    workers: usize,
-) -> Result<(), TrialFault> {
-    begin(rt, alloc, engine)?;
-    let gate = Watch::new(Held::Nobody, 2);
-    let answer = engine.run_batch(rt, alloc, 2..4, crew_of(workers, 1), &gate);
     let second = gate.second.load(Ordering::SeqCst);
     let third = gate.third.load(Ordering::SeqCst);
     let others = gate.others.load(Ordering::SeqCst);
-    let all = second == workers && third == workers;
-    let _ = println!(rt;
-        "{workers} workers: {answer:?}, each told of both places: {all}, of others: {others}"
-    );
+    println!(rt;
+        "{who}: {ended:?}, {finished} finished, {vain} in vain; {second} told of 2, {third} of 3, {others} of others"
+    )?;
     Ok(())
 }
 
-/// Tells of a new engine's batch in which one is held back.
-fn print_waiting<R: Threads + Wait + Print + Sync>(
-    rt: &R,
-    alloc: Global,
-    who: &str,
-    held: Held,
-    awaited: Place,
-) -> Result<(), TrialFault> {
-    let mut engine = Engine::new(alloc);
-    print_held(rt, alloc, &mut engine, who, held, awaited)
-}
-
-/// Tells of a new engine's batch that is run by this many workers.
-fn print_counting<R: Threads + Wait + Print + Sync>(
-    rt: &R,
-    alloc: Global,
-    workers: usize,
-) -> Result<(), TrialFault> {
-    let mut engine = Engine::new(alloc);
-    print_counted(rt, alloc, &mut engine, workers)
-}
-
-/// Tells of gates that hold one back, and of one that doesn't.
+/// Tells of gates that hold one of two workers back, and of one that doesn't.
 pub fn print_gates<R: Threads + Wait + Print + Sync>(
     rt: &R,
     alloc: Global,
 ) -> Result<(), TrialFault> {
-    print_waiting(rt, alloc, "place 2", Held::Asker(2), 3)?;
-    print_waiting(rt, alloc, "place 3", Held::Asker(3), 2)?;
-    print_waiting(rt, alloc, "the placer of partition 0", Held::Placer(0), 2)?;
-    print_waiting(rt, alloc, "the placer of partition 1", Held::Placer(1), 2)?;
+    for (who, held, awaited) in [
+        ("2 waits for 3", Held::Asker(2), 3),
+        ("3 waits for 2", Held::Asker(3), 2),
+        ("the placer of 0 waits for 2", Held::Placer(0), 2),
+        ("the placer of 1 waits for 2", Held::Placer(1), 2),
+    ] {
+        print_gated(rt, alloc, who, held, awaited, crew_of(2, 2))?;
+    }
     for workers in [1, 2, 4, 64] {
-        print_counting(rt, alloc, workers)?;
+        let crew = crew_of(workers, 1);
+        print_gated(rt, alloc, "nobody waits", Held::Nobody, 2, crew)?;
     }
     Ok(())
 }

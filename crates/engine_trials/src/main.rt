@@ -1,36 +1,55 @@
-//! Trials of engines driven by hand, and of explanations.
+//! Trials of engines driven by hand.
 //!
-//! Rows and outcomes between batches and marks, rows that come and go, gates that hold a worker back, limits of ranges;
-//! places of a worked log explained, and explanations handed in. What is printed is compared with `stdout`.
+//! The cases of a file: rows and outcomes between batches and marks, rows that come and go, limits of ranges, places
+//! explained and explanations handed in, each printed with what it results in; and gates that hold a worker back. What is
+//! printed is compared with `stdout`.
 #![tactic(auto)]
 
-mod explained;
-mod fault;
+mod driving;
 mod gates;
 mod handed_in;
-mod ranges;
-mod rows;
 mod stepping;
-mod turns;
 
-use explained::print_explained_log;
-use fault::TrialFault;
+use driving::outcome;
+use engine::Engine;
 use gates::print_gates;
-use ranges::print_ranges;
-use rows::print_trimmed;
 use std::alloc::Global;
 use std::process::ExitCode;
+use std::rt::Files;
 use std::sync::Wait;
 use std::thread::Threads;
-use turns::print_turns;
+use trials_base::{TrialFault, read_file, text_of, words_of};
+
+/// Prints the cases of a text, each with what it results in.
+fn print_cases<R: Threads + Wait + Print + Sync>(
+    rt: &R,
+    alloc: Global,
+    engine: &mut Engine,
+    text: &str,
+) -> Result<(), TrialFault> {
+    for line in text.split('\n') {
+        let words = words_of(alloc, line)?;
+        if words.is_empty() {
+            continue;
+        }
+        match outcome(rt, alloc, engine, line, words.as_slice()) {
+            Ok(outcome) => println!(rt; "{line}: {outcome}")?,
+            Err(fault) => println!(rt; "{line}: {fault}")?,
+        }
+    }
+    Ok(())
+}
 
 /// Makes the trials in turn.
-fn tell<R: Threads + Wait + Print + Sync>(rt: &R, alloc: Global) -> Result<(), TrialFault> {
-    print_trimmed(rt, alloc)?;
-    print_turns(rt, alloc)?;
-    print_gates(rt, alloc)?;
-    print_ranges(rt, alloc)?;
-    print_explained_log(rt, alloc)
+fn tell<R: Files + Threads + Wait + Print + Sync>(rt: &R, alloc: Global) -> Result<(), TrialFault> {
+    let cases = read_file(rt, alloc, "engine.cases")?;
+    print_cases(
+        rt,
+        alloc,
+        &mut Engine::new(alloc),
+        text_of(cases.as_slice())?,
+    )?;
+    print_gates(rt, alloc)
 }
 
 fn main(rt: HostRuntime) -> ExitCode {

@@ -1,13 +1,12 @@
 //! Lines that are read as statements, printed as lines again and taken into the log of an engine, and the slow run of that log.
 
-use crate::fault::TrialFault;
 use crate::refusal::print_refused;
 use engine::Engine;
 use log_text::{RawStatement, parse_line, print_statement};
 use model::serial;
 use model_base::{Key, Table};
-use sequencer::LogTail;
 use std::alloc::{AllocError, Global};
+use trials_base::TrialFault;
 
 /// The lines of a log, in which a grant falls with another, and a row is deleted and inserted again.
 pub const LINES: [&str; 10] = [
@@ -43,47 +42,8 @@ pub fn picture(alloc: Global, engine: &Engine) -> Result<String, AllocError> {
     format!(in alloc; "{users} users, {tables} tables, {statements:?} {finished}")
 }
 
-/// Takes a statement into the log of an engine.
-fn try_push(
-    rt: &impl Print,
-    alloc: Global,
-    engine: &mut Engine,
-    statement: &RawStatement<'_>,
-) -> Result<(), TrialFault> {
-    let before = picture(alloc, engine)?;
-    let place = match engine.push(statement) {
-        Ok(place) => place,
-        Err(refused) => {
-            let same = before == picture(alloc, engine)?;
-            print_refused(rt, "Engine::push", TrialFault::from(refused), same)?;
-            engine.push(statement)?
-        }
-    };
-    println!(rt; "Engine::push: {place}")?;
-    Ok(())
-}
-
-/// Prints a statement as the line that it was read from.
-fn try_print(
-    rt: &impl Print,
-    alloc: Global,
-    statement: &RawStatement<'_>,
-    line: &str,
-) -> Result<(), TrialFault> {
-    let text = match print_statement(alloc, statement) {
-        Ok(text) => text,
-        Err(error) => {
-            print_refused(rt, "print_statement", TrialFault::from(error), true)?;
-            print_statement(alloc, statement)?
-        }
-    };
-    let same = text.as_slice() == line.as_bytes();
-    println!(rt; "print_statement: the line that was read: {same}")?;
-    Ok(())
-}
-
-/// Prints a statement and takes it into the log.
-fn try_read(
+/// Prints a statement as the line that it was read from, and takes it into the log of an engine.
+fn try_statement(
     rt: &impl Print,
     alloc: Global,
     engine: &mut Engine,
@@ -91,38 +51,22 @@ fn try_read(
     line: &str,
 ) -> Result<(), TrialFault> {
     println!(rt; "parse_line: {line}")?;
-    try_print(rt, alloc, statement, line)?;
-    try_push(rt, alloc, engine, statement)
-}
-
-/// Reads a line, prints its statement, and takes it into the log.
-fn try_line(
-    rt: &impl Print,
-    alloc: Global,
-    engine: &mut Engine,
-    line: &str,
-) -> Result<(), TrialFault> {
-    match parse_line(alloc, line.as_bytes()) {
-        Ok(statement) => try_read(rt, alloc, engine, &statement, line),
-        Err(fault) => {
-            print_refused(rt, "parse_line", TrialFault::from(fault), true)?;
-            let statement = parse_line(alloc, line.as_bytes())?;
-            try_read(rt, alloc, engine, &statement, line)
-        }
-    }
-}
-
-/// Runs a log by the slow run.
-fn try_serial(rt: &impl Print, alloc: Global, log: &LogTail) -> Result<(), TrialFault> {
-    let _dropped = log.dropped();
-    let outcomes = match serial(alloc, log.kept_statements()) {
-        Ok(outcomes) => outcomes,
-        Err(error) => {
-            print_refused(rt, "serial", TrialFault::from(error), true)?;
-            serial(alloc, log.kept_statements())?
-        }
-    };
-    println!(rt; "serial: {outcomes:?}")?;
+    let text = again!(
+        rt,
+        "print_statement",
+        print_statement(alloc, statement),
+        true
+    );
+    let same = text.as_slice() == line.as_bytes();
+    println!(rt; "print_statement: the line that was read: {same}")?;
+    let before = picture(alloc, engine)?;
+    let place = again!(
+        rt,
+        "Engine::push",
+        engine.push(statement),
+        before == picture(alloc, engine)?
+    );
+    println!(rt; "Engine::push: {place}")?;
     Ok(())
 }
 
@@ -130,7 +74,12 @@ fn try_serial(rt: &impl Print, alloc: Global, log: &LogTail) -> Result<(), Trial
 pub fn try_statements(rt: &impl Print, alloc: Global) -> Result<(), TrialFault> {
     let mut engine = Engine::new(alloc);
     for line in LINES {
-        try_line(rt, alloc, &mut engine, line)?;
+        let statement = again!(rt, "parse_line", parse_line(alloc, line.as_bytes()), true);
+        try_statement(rt, alloc, &mut engine, &statement, line)?;
     }
-    try_serial(rt, alloc, engine.log())
+    let log = engine.log();
+    let _dropped = log.dropped();
+    let outcomes = again!(rt, "serial", serial(alloc, log.kept_statements()), true);
+    println!(rt; "serial: {outcomes:?}")?;
+    Ok(())
 }

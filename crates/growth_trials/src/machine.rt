@@ -1,23 +1,20 @@
-//! The machine of a batch, event by event and by a list of events; the shared words of a batch, and a batch that is finished after words
-//! of which nothing is stored.
+//! The machine of a batch, event by event and by a list of events, and a batch that is finished after words of which nothing is stored.
 
-ghost use Rattle.std.specs.Prelude.{◌≡◌, ◌<◌, IfOk, length, true};
+ghost use Rattle.std.specs.Prelude.{◌≡◌, ◌<◌, ◌≤◌, IfOk, length, true};
+ghost use Rattle.model_base.specs.declared.limits.TheConstants.{MOST_PARTITIONS};
 ghost use Rattle.words.specs.Passes.{first_pass};
-ghost use Rattle.growth_trials.specs.Before.{HasNothing};
+ghost use Rattle.engine.specs.RunState.{IsRunState};
 
-use crate::fault::TrialFault;
-use crate::ranges::{Before, batch_of, log_of, nothing, open_batch};
-use crate::refusal::{print_begun, print_refused};
+use crate::refusal::print_refused;
 use bohm_core::{Machine, State};
 use bohm_core_base::Event;
+use engine::RunState;
 use filling::{CompletedBatch, Finished, RangeKey, finish};
+use log_batch::{LogBatch, StateBefore};
 use log_machine::OfLog;
-use sequencer::LogTail;
 use std::alloc::{AllocError, Global};
+use trials_base::{TrialFault, WholeLog, before_place, log_of, new_batch};
 use words::{BatchWords, Pass};
-
-/// By how many partitions the machine places.
-const PARTITIONS: usize = 2;
 
 /// A log whose last place ends the grant of the one before.
 const LINES: [&str; 4] = [
@@ -27,48 +24,29 @@ const LINES: [&str; 4] = [
     "alice REVOKE READ t bob",
 ];
 
-/// Both partitions place it, and four actors make its places.
-const EVENTS: [Event; 35] = [
-    Event::Place { partition: 0 },
-    Event::Place { partition: 1 },
-    Event::Place { partition: 0 },
-    Event::Place { partition: 1 },
-    Event::Place { partition: 0 },
-    Event::Place { partition: 1 },
-    Event::Place { partition: 0 },
-    Event::Place { partition: 1 },
-    Event::Claim { actor: 1, index: 0 },
-    Event::Fill { actor: 1, index: 0 },
-    Event::Fill { actor: 1, index: 0 },
-    Event::Fill { actor: 1, index: 0 },
-    Event::Fill { actor: 1, index: 0 },
-    Event::Finish { actor: 1, index: 0 },
-    Event::Claim { actor: 2, index: 1 },
-    Event::Fill { actor: 2, index: 1 },
-    Event::Fill { actor: 2, index: 1 },
-    Event::Fill { actor: 2, index: 1 },
-    Event::Fill { actor: 2, index: 1 },
-    Event::Fill { actor: 2, index: 1 },
-    Event::Fill { actor: 2, index: 1 },
-    Event::Finish { actor: 2, index: 1 },
-    Event::Claim { actor: 3, index: 2 },
-    Event::Fill { actor: 3, index: 2 },
-    Event::Fill { actor: 3, index: 2 },
-    Event::Fill { actor: 3, index: 2 },
-    Event::Fill { actor: 3, index: 2 },
-    Event::Finish { actor: 3, index: 2 },
-    Event::Claim { actor: 4, index: 3 },
-    Event::Fill { actor: 4, index: 3 },
-    Event::Fill { actor: 4, index: 3 },
-    Event::Fill { actor: 4, index: 3 },
-    Event::Fill { actor: 4, index: 3 },
-    Event::End {
-        actor: 4,
-        index: 3,
-        slot: 0,
-    },
-    Event::Finish { actor: 4, index: 3 },
-];
+/// How many words each of its places has.
+const WORDS: [usize; 4] = [4, 6, 4, 4];
+
+/// The events by which two partitions place it, and an actor for each place makes that, of which the last ends a grant.
+fn events_of(alloc: Global) -> Result<Vec<Event>, AllocError> {
+    let mut events = Vec::new(alloc);
+    for number in 0..8_usize {
+        let partition = number % 2;
+        events.push(Event::Place { partition })?;
+    }
+    for (index, words) in WORDS.iter().enumerate() {
+        let (actor, slot) = (index as u64, 0);
+        events.push(Event::Claim { actor, index })?;
+        for _ in 0..*words {
+            events.push(Event::Fill { actor, index })?;
+        }
+        if index == 3 {
+            events.push(Event::End { actor, index, slot })?;
+        }
+        events.push(Event::Finish { actor, index })?;
+    }
+    Ok(events)
+}
 
 /// What is stored of each place.
 fn picture(alloc: Global, state: &State) -> Result<String, AllocError> {
@@ -81,35 +59,40 @@ fn picture(alloc: Global, state: &State) -> Result<String, AllocError> {
     Ok(text)
 }
 
+/// All places of the log as a batch that this many partitions place.
+pub fn batch_of<'a>(
+    rt: &impl Print,
+    alloc: Global,
+    log: &'a WholeLog,
+    before: &'a RunState,
+    partitions: usize,
+) -> Result<LogBatch<'a>, TrialFault>
+    requires some { 0 < partitions }
+    requires few { partitions ≤ MOST_PARTITIONS }
+    requires before { IsRunState log.now.statements 0 before.now.chains before.now.book }
+    ensures placed { IfOk result (λ batch. batch.placed ≡ true) }
+    ensures size { IfOk result (λ batch. batch.size ≡ length log.now.statements) }
+{
+    let end = log.len();
+    Ok(again!(
+        rt,
+        "place, merge, LogBatch::new",
+        new_batch(alloc, log, before, 0..end, partitions),
+        true
+    ))
+}
+
 /// The machine over a log, before any event.
 fn machine_of<'a>(
     rt: &impl Print,
     alloc: Global,
-    log: &'a LogTail,
-    before: &'a Before,
+    log: &'a WholeLog,
+    before: &'a RunState,
 ) -> Result<Machine<OfLog<'a>>, TrialFault>
-    requires kept { log.now.dropped ≡ 0 }
-    requires before { HasNothing before.now log.now.log.statements }
+    requires { IsRunState log.now.statements 0 before.now.chains before.now.book }
 {
-    let batch = batch_of(rt, alloc, log, before, PARTITIONS)?;
+    let batch = batch_of(rt, alloc, log, before, 2)?;
     Ok(Machine::new(alloc, OfLog::new(batch))?)
-}
-
-/// Makes an event.
-fn try_event(
-    rt: &impl Print,
-    alloc: Global,
-    machine: &mut Machine<OfLog<'_>>,
-    event: &Event,
-) -> Result<(), TrialFault> {
-    let before = picture(alloc, machine.state())?;
-    if let Err(error) = machine.apply(event) {
-        let same = before == picture(alloc, machine.state())?;
-        print_refused(rt, "Machine::apply", TrialFault::from(error), same)?;
-        machine.apply(event)?;
-    }
-    println!(rt; "Machine::apply: {event:?}")?;
-    Ok(())
 }
 
 /// Makes the events one by one, and prints what is stored then.
@@ -117,9 +100,16 @@ fn try_events(
     rt: &impl Print,
     alloc: Global,
     machine: &mut Machine<OfLog<'_>>,
+    events: &[Event],
 ) -> Result<(), TrialFault> {
-    for event in EVENTS {
-        try_event(rt, alloc, machine, &event)?;
+    for event in events {
+        let before = picture(alloc, machine.state())?;
+        again!(
+            rt,
+            "Machine::apply",
+            machine.apply(event),
+            before == picture(alloc, machine.state())?
+        );
     }
     let stored = picture(alloc, machine.state())?;
     println!(rt; "Machine::apply: {stored}")?;
@@ -131,13 +121,14 @@ fn is_part_way(
     alloc: Global,
     machine: &Machine<OfLog<'_>>,
     other: &mut Machine<OfLog<'_>>,
+    events: &[Event],
 ) -> Result<bool, TrialFault> {
     let found = picture(alloc, machine.state())?;
-    for event in EVENTS {
+    for event in events {
         if found == picture(alloc, other.state())? {
             return Ok(true);
         }
-        other.apply(&event)?;
+        other.apply(event)?;
     }
     Ok(false)
 }
@@ -149,14 +140,22 @@ fn try_list(
     alloc: Global,
     machine: &mut Machine<OfLog<'_>>,
     other: &mut Machine<OfLog<'_>>,
+    events: &[Event],
 ) -> Result<(), TrialFault> {
-    if let Err(error) = machine.run_events(&EVENTS) {
-        let begun = is_part_way(alloc, machine, other)?;
-        print_begun(rt, "Machine::run_events", TrialFault::from(error), begun)?;
-        machine.run_events(&EVENTS)?;
+    let call = "Machine::run_events";
+    if let Err(error) = machine.run_events(events) {
+        let begun = is_part_way(alloc, machine, other, events)?;
+        print_refused(
+            rt,
+            call,
+            TrialFault::from(error),
+            "after a beginning",
+            begun,
+        )?;
+        machine.run_events(events)?;
     }
     let stored = picture(alloc, machine.state())?;
-    println!(rt; "Machine::run_events: {stored}")?;
+    println!(rt; "{call}: {stored}")?;
     Ok(())
 }
 
@@ -164,17 +163,17 @@ fn try_list(
 fn try_machines(
     rt: &impl Print,
     alloc: Global,
-    log: &LogTail,
-    before: &Before,
+    log: &WholeLog,
+    before: &RunState,
 ) -> Result<(), TrialFault>
-    requires kept { log.now.dropped ≡ 0 }
-    requires before { HasNothing before.now log.now.log.statements }
+    requires { IsRunState log.now.statements 0 before.now.chains before.now.book }
 {
+    let events = events_of(alloc)?;
     let mut machine = machine_of(rt, alloc, log, before)?;
-    try_events(rt, alloc, &mut machine)?;
+    try_events(rt, alloc, &mut machine, events.as_slice())?;
     let mut machine = machine_of(rt, alloc, log, before)?;
     let mut other = machine_of(rt, alloc, log, before)?;
-    try_list(rt, alloc, &mut machine, &mut other)
+    try_list(rt, alloc, &mut machine, &mut other, events.as_slice())
 }
 
 /// The shared words of a batch, and their first pass.
@@ -189,7 +188,8 @@ fn words_of<'a>(
     match BatchWords::new(alloc, key) {
         Ok(made) => Ok(made),
         Err(error) => {
-            print_refused(rt, "BatchWords::new", TrialFault::from(error), true)?;
+            let fault = TrialFault::from(error);
+            print_refused(rt, "BatchWords::new", fault, "as before", true)?;
             Ok(BatchWords::new(alloc, key)?)
         }
     }
@@ -213,23 +213,29 @@ fn finish_unstored<'a>(
 fn finish_log<'a>(
     rt: &impl Print,
     alloc: Global,
-    log: &'a LogTail,
-    before: &'a Before,
+    log: &'a WholeLog,
+    before: &'a RunState,
 ) -> Result<Result<Finished<'a>, AllocError>, TrialFault>
-    requires kept { log.now.dropped ≡ 0 }
-    requires before { HasNothing before.now log.now.log.statements }
-    requires some { 0 < length log.now.log.statements }
-    ensures { IfOk result (λ found. IfOk found (λ done. done.size ≡ length log.now.log.statements)) }
+    requires before { IsRunState log.now.statements 0 before.now.chains before.now.book }
+    requires some { 0 < length log.now.statements }
+    ensures { IfOk result (λ found. IfOk found (λ done. done.size ≡ length log.now.statements)) }
 {
     let batch = batch_of(rt, alloc, log, before, 1)?;
     let key = RangeKey::of(alloc, batch)?;
     finish_unstored(rt, alloc, key)
 }
 
-/// Prints the own words of each place of a log that is finished, and the grants that it ended.
-fn print_finished(rt: &impl Print, log: &LogTail, done: &Finished<'_>) -> Result<(), TrialFault>
-    requires { done.now.size ≡ length log.now.log.statements }
+/// Finishes all of a log, and prints the own words of each place, and the grants that it ended.
+fn try_finish(
+    rt: &impl Print,
+    alloc: Global,
+    log: &WholeLog,
+    before: &RunState,
+) -> Result<(), TrialFault>
+    requires before { IsRunState log.now.statements 0 before.now.chains before.now.book }
+    requires some { 0 < length log.now.statements }
 {
+    let done = again!(rt, "finish", finish_log(rt, alloc, log, before)?, true);
     for index in 0..log.len() as usize {
         let (own, ended) = (done.own(index), done.ended(index));
         println!(rt; "finish: {own:?} {ended:?}")?;
@@ -237,45 +243,27 @@ fn print_finished(rt: &impl Print, log: &LogTail, done: &Finished<'_>) -> Result
     Ok(())
 }
 
-/// Finishes all of a log, again where a growth was refused.
-fn try_finish(
-    rt: &impl Print,
-    alloc: Global,
-    log: &LogTail,
-    before: &Before,
-) -> Result<(), TrialFault>
-    requires kept { log.now.dropped ≡ 0 }
-    requires before { HasNothing before.now log.now.log.statements }
-    requires some { 0 < length log.now.log.statements }
+/// The size of all of a log as a batch that isn't placed.
+fn open_size(alloc: Global, log: &WholeLog, before: &RunState) -> Result<usize, AllocError>
+    requires { IsRunState log.now.statements 0 before.now.chains before.now.book }
 {
-    match finish_log(rt, alloc, log, before)? {
-        Ok(done) => print_finished(rt, log, &done),
-        Err(error) => {
-            print_refused(rt, "finish", TrialFault::from(error), true)?;
-            match finish_log(rt, alloc, log, before)? {
-                Ok(done) => print_finished(rt, log, &done),
-                Err(error) => Err(TrialFault::from(error)),
-            }
-        }
-    }
-}
-
-/// Tries the calls on all of a log as a batch.
-fn try_log(rt: &impl Print, alloc: Global, log: &LogTail) -> Result<(), TrialFault>
-    requires { log.now.dropped ≡ 0 }
-{
-    if log.len() == 0 {
-        return Err(TrialFault::Call);
-    }
-    let before = nothing(alloc);
-    let open = open_batch(rt, alloc, log, &before)?;
-    println!(rt; "LogBatch::open: {} places", open.size())?;
-    try_machines(rt, alloc, log, &before)?;
-    try_finish(rt, alloc, log, &before)
+    let state = StateBefore {
+        chains: &before.chains,
+        book: before.book.book(),
+    };
+    let open = LogBatch::open(alloc, log.tail(), state, 0..log.len(), 1)?;
+    Ok(open.size())
 }
 
 /// Tries the calls of a batch and of its machine.
 pub fn try_machine(rt: &impl Print, alloc: Global) -> Result<(), TrialFault> {
     let log = log_of(alloc, &LINES)?;
-    try_log(rt, alloc, &log)
+    if log.len() == 0 {
+        return Err(TrialFault::Call);
+    }
+    let before = before_place(alloc, &log, 0)?;
+    let size = again!(rt, "LogBatch::open", open_size(alloc, &log, &before), true);
+    println!(rt; "LogBatch::open: {size} places")?;
+    try_machines(rt, alloc, &log, &before)?;
+    try_finish(rt, alloc, &log, &before)
 }

@@ -1,24 +1,33 @@
 //! Trials of calls that take memory, each made again where a growth was refused to it.
 //!
-//! Each word makes some of the calls. A line that is printed for a call says what it results in. Where `tools/growths`
-//! refuses a growth or the start of a thread, a line before that says so, and whether all is as it was before the call.
-//! Where nothing is refused, what is printed is compared with `stdout`.
+//! Each word makes some of the calls, and prints what each results in. Where `tools/growths` refuses a growth or the start of a thread, a
+//! line before that says whether all is as it was. Where nothing is refused, what is printed is compared with `stdout`.
 #![tactic(auto)]
 
+/// Makes a call again if it was refused something, of which a line is printed, with whether all is as it was. Any other fault is returned.
+macro_rules! again {
+    ($rt:expr, $name:expr, $call:expr, $same:expr) => {
+        match $call {
+            Ok(found) => found,
+            Err(fault) => {
+                print_refused($rt, $name, TrialFault::from(fault), "as before", $same)?;
+                $call?
+            }
+        }
+    };
+}
+
 mod deeds;
-mod fault;
 mod lines;
 mod machine;
 mod options;
 mod places;
-mod ranges;
 mod refusal;
 mod runs;
 mod texts;
 mod versions;
 
 use deeds::try_book;
-use fault::TrialFault;
 use lines::try_statements;
 use machine::try_machine;
 use options::try_options;
@@ -30,7 +39,8 @@ use std::process::ExitCode;
 use std::rt::Env;
 use std::sync::Wait;
 use std::thread::Threads;
-use texts::{DEED_BY_DATA, TWO_WAYS, try_texts, try_workers};
+use texts::{try_texts, try_workers};
+use trials_base::TrialFault;
 use versions::try_store;
 
 /// Makes the calls that a word names.
@@ -48,10 +58,9 @@ fn try_word<R: Threads + Wait + Print + Sync>(
         "chain" => try_chain(rt, alloc),
         "engine" => try_engine(rt, alloc),
         "texts" => try_texts(rt, alloc),
-        "two-ways" => try_workers(rt, alloc, TWO_WAYS),
-        "deed-by-data" => try_workers(rt, alloc, DEED_BY_DATA),
+        "workers" => try_workers(rt, alloc),
         "words" => try_options(rt, alloc),
-        _ => Err(TrialFault::Words),
+        _ => Err(TrialFault::Call),
     }
 }
 
@@ -68,6 +77,10 @@ fn main(rt: HostRuntime) -> ExitCode {
     let Err(fault) = run(&rt) else {
         return ExitCode::SUCCESS;
     };
-    let _ = eprintln!(rt; "growth_trials: {fault}");
+    let _ = if fault.is_refusal() {
+        eprintln!(rt; "growth_trials: out of memory")
+    } else {
+        eprintln!(rt; "growth_trials: {fault}")
+    };
     ExitCode::FAILURE
 }

@@ -2,21 +2,18 @@
 
 ghost use Rattle.std.specs.Prelude.{◌≡◌, ◌<◌, IfOk, length};
 ghost use Rattle.words.specs.Passes.{IsPassOf};
-ghost use Rattle.growth_trials.specs.Before.{HasNothing};
+ghost use Rattle.engine.specs.RunState.{IsRunState};
 
-use crate::fault::TrialFault;
 use crate::lines::LINES;
-use crate::ranges::{Before, key_of, log_of, nothing};
+use crate::machine::batch_of;
 use crate::refusal::print_refused;
+use engine::RunState;
 use filling::{Ran, RangeKey, outcome, run_place};
 use filling_base::{Batch, Fills, Tried};
 use model_base::Outcome;
-use sequencer::LogTail;
 use std::alloc::{AllocError, Global};
+use trials_base::{TrialFault, WholeLog, adding_log, before_place, log_of};
 use words::{BatchData, Holding, Pass, Seen};
-
-/// How many places the chain has, after the one that creates its table.
-const CHAIN: usize = 100;
 
 const LAST: &str = "a chain of 100, its last place";
 
@@ -26,15 +23,19 @@ const FIRST: &str = "a chain of 100, its first place in a new batch";
 fn words_of<'a>(
     rt: &impl Print,
     alloc: Global,
-    log: &'a LogTail,
-    before: &'a Before,
+    log: &'a WholeLog,
+    before: &'a RunState,
 ) -> Result<(Batch<RangeKey<'a>>, Pass), TrialFault>
-    requires some { 0 < length log.now.log.statements }
-    requires kept { log.now.dropped ≡ 0 }
-    requires before { HasNothing before.now log.now.log.statements }
+    requires some { 0 < length log.now.statements }
+    requires before { IsRunState log.now.statements 0 before.now.chains before.now.book }
     ensures { IfOk result (λ made. IsPassOf made.0 made.1) }
 {
-    let key = key_of(rt, alloc, log, before)?;
+    let key = again!(
+        rt,
+        "RangeKey::of",
+        RangeKey::of(alloc, batch_of(rt, alloc, log, before, 1)?),
+        true
+    );
     Ok(Batch::new(alloc, key)?)
 }
 
@@ -54,75 +55,40 @@ enum Found {
     Ran(Ran),
 }
 
-/// Asks for a place. An error means out of memory.
-fn call_try_run(
-    batch: &Batch<RangeKey<'_>>,
-    pass: Pass,
-    index: usize,
-) -> (Pass, Result<Option<Found>, AllocError>)
-    requires same_table { IsPassOf batch.now pass }
-    requires within { index < batch.now.key.batch.size }
-    ensures { IsPassOf batch.now result.0 }
-{
-    let (pass, tried) = batch.try_run(pass, index);
-    match tried {
-        Tried::NoMemory => (pass, Err(AllocError)),
-        tried => (pass, Ok(Some(Found::Tried(tried)))),
-    }
-}
-
-/// Asks for the outcome of a place. An error means out of memory.
-fn call_outcome(
-    batch: &Batch<RangeKey<'_>>,
-    pass: Pass,
-    index: usize,
-) -> (Pass, Result<Option<Found>, AllocError>)
-    requires same_table { IsPassOf batch.now pass }
-    requires within { index < batch.now.key.batch.size }
-    ensures { IsPassOf batch.now result.0 }
-{
-    let (pass, outcome) = outcome(batch, pass, index);
-    match outcome {
-        Ok(outcome) => (pass, Ok(Some(Found::Outcome(outcome)))),
-        Err(error) => (pass, Err(error)),
-    }
-}
-
-/// Runs a place. An error means out of memory.
-fn call_run_place(
-    batch: &Batch<RangeKey<'_>>,
-    pass: Pass,
-    index: usize,
-) -> (Pass, Result<Option<Found>, AllocError>)
-    requires same_table { IsPassOf batch.now pass }
-    requires within { index < batch.now.key.batch.size }
-    ensures { IsPassOf batch.now result.0 }
-{
-    let place = batch.key().batch().first_place() + index as u64;
-    let (pass, ran) = run_place(batch, pass, place);
-    match ran {
-        Ran::NoMemory => (pass, Err(AllocError)),
-        ran => (pass, Ok(Some(Found::Ran(ran)))),
-    }
-}
-
-/// Calls for a place, if the batch has it. An error means out of memory.
+/// Calls for a place. An error means out of memory.
 fn call_for(
     batch: &Batch<RangeKey<'_>>,
     pass: Pass,
     call: Call,
     index: usize,
-) -> (Pass, Result<Option<Found>, AllocError>)
-    requires { IsPassOf batch.now pass }
+) -> (Pass, Result<Found, AllocError>)
+    requires same_table { IsPassOf batch.now pass }
+    requires within { index < batch.now.key.batch.size }
     ensures { IsPassOf batch.now result.0 }
 {
-    if index >= batch.key().places() {
-        return (pass, Ok(None));
-    }
     match call {
-        Call::TryRun => call_try_run(batch, pass, index),
-        Call::Outcome => call_outcome(batch, pass, index),
-        Call::RunPlace => call_run_place(batch, pass, index),
+        Call::TryRun => {
+            let (pass, tried) = batch.try_run(pass, index);
+            match tried {
+                Tried::NoMemory => (pass, Err(AllocError)),
+                tried => (pass, Ok(Found::Tried(tried))),
+            }
+        }
+        Call::Outcome => {
+            let (pass, found) = outcome(batch, pass, index);
+            match found {
+                Ok(found) => (pass, Ok(Found::Outcome(found))),
+                Err(error) => (pass, Err(error)),
+            }
+        }
+        Call::RunPlace => {
+            let place = batch.key().batch().first_place() + index as u64;
+            let (pass, ran) = run_place(batch, pass, place);
+            match ran {
+                Ran::NoMemory => (pass, Err(AllocError)),
+                ran => (pass, Ok(Found::Ran(ran))),
+            }
+        }
     }
 }
 
@@ -151,15 +117,25 @@ fn try_call(
     requires { IsPassOf batch.now pass }
     ensures { IfOk result (λ pass. IsPassOf batch.now pass) }
 {
+    if index >= batch.key().places() {
+        return Err(TrialFault::Call);
+    }
     let (pass, found) = call_for(batch, pass, call, index);
-    if found.is_ok() {
+    if let Ok(found) = found {
         println!(rt; "{name}: {found:?}")?;
         return Ok(pass);
     }
     let (pass, other) = batch.split(pass);
-    print_refused(rt, name, TrialFault::NoMemory, none_held(batch, other))?;
+    let is_left = none_held(batch, other);
+    print_refused(
+        rt,
+        name,
+        TrialFault::NoMemory(AllocError),
+        "as before",
+        is_left,
+    )?;
     let (pass, found) = call_for(batch, pass, call, index);
-    println!(rt; "{name}: {found:?}")?;
+    println!(rt; "{name}: {:?}", found?)?;
     Ok(pass)
 }
 
@@ -167,78 +143,53 @@ fn try_call(
 fn try_places(
     rt: &impl Print,
     alloc: Global,
-    log: &LogTail,
-    before: &Before,
+    log: &WholeLog,
+    before: &RunState,
 ) -> Result<(), TrialFault>
-    requires some { 0 < length log.now.log.statements }
-    requires kept { log.now.dropped ≡ 0 }
-    requires before { HasNothing before.now log.now.log.statements }
+    requires some { 0 < length log.now.statements }
+    requires before { IsRunState log.now.statements 0 before.now.chains before.now.book }
 {
     let (batch, pass) = words_of(rt, alloc, log, before)?;
     let pass = try_call(rt, "Batch::try_run", &batch, pass, Call::TryRun, 9)?;
     let pass = try_call(rt, "outcome", &batch, pass, Call::Outcome, 9)?;
     let _pass = try_call(rt, "outcome", &batch, pass, Call::Outcome, 5)?;
-    let (batch, pass) = words_of(rt, alloc, log, before)?;
-    let _pass = try_call(rt, "run_place", &batch, pass, Call::RunPlace, 5)?;
-    Ok(())
+    try_alone(rt, alloc, log, before, "run_place", 5)
 }
 
-/// Runs the last place of a chain, and in a new batch the first that has a row.
-fn try_last(
+/// Runs a place of a log in a batch of its own.
+fn try_alone(
     rt: &impl Print,
     alloc: Global,
-    log: &LogTail,
-    before: &Before,
+    log: &WholeLog,
+    before: &RunState,
+    name: &str,
+    index: usize,
 ) -> Result<(), TrialFault>
-    requires some { 0 < length log.now.log.statements }
-    requires kept { log.now.dropped ≡ 0 }
-    requires before { HasNothing before.now log.now.log.statements }
+    requires some { 0 < length log.now.statements }
+    requires before { IsRunState log.now.statements 0 before.now.chains before.now.book }
 {
     let (batch, pass) = words_of(rt, alloc, log, before)?;
-    let _pass = try_call(rt, LAST, &batch, pass, Call::RunPlace, CHAIN)?;
-    let (batch, pass) = words_of(rt, alloc, log, before)?;
-    let _pass = try_call(rt, FIRST, &batch, pass, Call::RunPlace, 1)?;
+    let _pass = try_call(rt, name, &batch, pass, Call::RunPlace, index)?;
     Ok(())
-}
-
-/// The lines of a chain: a row is inserted, and each place after that reads what the one before wrote, and adds 1 to it.
-fn chain_lines(alloc: Global) -> Result<Vec<&'static str>, TrialFault> {
-    let mut lines = vec![in alloc;
-        "ann CREATE t 1",
-        "ann RUN t:1:I | CONST 0 1 | INSERT t 1 0",
-    ]?;
-    for _ in 1..CHAIN {
-        lines.push(
-            "ann RUN t:1:RU | LOAD 0 t 1 0 | CONST 1 1 | ADD 0 0 1 | STORE t 1 0 0 | OUT 0",
-        )?;
-    }
-    Ok(lines)
-}
-
-/// Tries the calls of places of a log, or of a chain.
-fn try_log(rt: &impl Print, alloc: Global, log: &LogTail, is_chain: bool) -> Result<(), TrialFault>
-    requires { log.now.dropped ≡ 0 }
-{
-    if log.len() == 0 {
-        return Err(TrialFault::Call);
-    }
-    let before = nothing(alloc);
-    if is_chain {
-        try_last(rt, alloc, log, &before)
-    } else {
-        try_places(rt, alloc, log, &before)
-    }
 }
 
 /// Tries the calls of places.
 pub fn try_batch(rt: &impl Print, alloc: Global) -> Result<(), TrialFault> {
     let log = log_of(alloc, &LINES)?;
-    try_log(rt, alloc, &log, false)
+    if log.len() == 0 {
+        return Err(TrialFault::Call);
+    }
+    let before = before_place(alloc, &log, 0)?;
+    try_places(rt, alloc, &log, &before)
 }
 
-/// Tries the last place of a chain.
+/// Tries the last place of a chain, each of which adds 1 to what the one before wrote, and in a new batch the first that has a row.
 pub fn try_chain(rt: &impl Print, alloc: Global) -> Result<(), TrialFault> {
-    let lines = chain_lines(alloc)?;
-    let log = log_of(alloc, lines.as_slice())?;
-    try_log(rt, alloc, &log, true)
+    let log = adding_log(alloc, 102, 1)?;
+    if log.len() == 0 {
+        return Err(TrialFault::Call);
+    }
+    let before = before_place(alloc, &log, 0)?;
+    try_alone(rt, alloc, &log, &before, LAST, 101)?;
+    try_alone(rt, alloc, &log, &before, FIRST, 1)
 }

@@ -1,7 +1,6 @@
 //! Reports of logs, and answers to questions about them, from bytes to bytes.
 
-use crate::fault::TrialFault;
-use crate::refusal::print_begun;
+use crate::refusal::print_refused;
 use audit_text::{Question, explain_text, grants_text};
 use batched_text::{Settings, report_text, run_text};
 use bohm_base::serial_text;
@@ -10,13 +9,14 @@ use model_base::Place;
 use std::alloc::Global;
 use std::sync::Wait;
 use std::thread::Threads;
+use trials_base::TrialFault;
 
 /// Who was granted in two ways loses one of them.
-pub const TWO_WAYS: &[u8] =
+const TWO_WAYS: &[u8] =
     b"alice CREATE t 1\nalice GRANT READ t bob OPTION\nalice GRANT READ t dave OPTION\nbob GRANT READ t carol\ndave GRANT READ t bob OPTION\nbob GRANT READ t eve\nalice REVOKE READ t bob\nbob RUN t:1:R\ncarol RUN t:1:R\neve RUN t:1:R\n";
 
 /// Whether a grant is made, and revoked, depends on a row.
-pub const DEED_BY_DATA: &[u8] =
+const DEED_BY_DATA: &[u8] =
     b"alice CREATE t 1\nalice RUN t:1:I | CONST 0 1 | INSERT t 1 0\nalice RUN t:1:R | LOAD 0 t 1 0 | CHECK 0 | OUT 0 | GRANT READ t bob\nbob RUN t:1:R | HAS 0 t 1 | OUT 0\nalice RUN t:1:D | DELETE t 1 | REVOKE READ t bob\nbob RUN t:1:R\nalice RUN t:1:R | LOAD 0 t 1 0\n";
 
 /// For how many bytes a writer has room, so that it doesn't fail.
@@ -71,28 +71,7 @@ impl Text {
     }
 }
 
-/// The text of a log, written again where that failed: what was written before is a beginning of it.
-fn text_of<R: Threads + Wait + Print + Sync>(
-    rt: &R,
-    alloc: Global,
-    call: &str,
-    text: &Text,
-    log: &[u8],
-) -> Result<Counted<Vec<u8>>, TrialFault> {
-    let mut first = Counted::new(Vec::with_capacity(alloc, ROOM)?);
-    let mut other = Counted::new(Vec::with_capacity(alloc, ROOM)?);
-    match text.write(rt, alloc, log, &mut first) {
-        Ok(()) => Ok(first),
-        Err(fault) => {
-            text.write(rt, alloc, log, &mut other)?;
-            let begun = other.inner.starts_with(first.inner.as_slice());
-            print_begun(rt, call, fault, begun)?;
-            Ok(other)
-        }
-    }
-}
-
-/// Writes a text of a log.
+/// Writes a text of a log, again where that failed: what was written before is a beginning of it.
 fn try_text<R: Threads + Wait + Print + Sync>(
     rt: &R,
     alloc: Global,
@@ -100,52 +79,51 @@ fn try_text<R: Threads + Wait + Print + Sync>(
     text: &Text,
     log: &[u8],
 ) -> Result<(), TrialFault> {
-    let text = text_of(rt, alloc, call, text, log)?;
-    let written = str::from_utf8(text.inner.as_slice()).unwrap_or("no text");
+    let mut first = Counted::new(Vec::with_capacity(alloc, ROOM)?);
+    let mut other = Counted::new(Vec::with_capacity(alloc, ROOM)?);
+    if let Err(fault) = text.write(rt, alloc, log, &mut first) {
+        text.write(rt, alloc, log, &mut other)?;
+        let begun = other.inner.starts_with(first.inner.as_slice());
+        print_refused(rt, call, fault, "after a beginning", begun)?;
+        first = other;
+    }
+    let written = str::from_utf8(first.inner.as_slice()).unwrap_or("no text");
     println!(rt; "{call}: {written:?}")?;
     Ok(())
 }
 
-/// Tries the calls from bytes to bytes on a log, of which one place is explained, by one worker.
-fn try_log<R: Threads + Wait + Print + Sync>(
-    rt: &R,
-    alloc: Global,
-    log: &[u8],
-    place: Place,
-) -> Result<(), TrialFault> {
-    for (call, text) in [
-        ("serial_text", Text::Slow),
-        ("report_text", Text::Batches(settings(1, 3))),
-        ("explain_text", Text::Explanation(place)),
-        ("grants_text", Text::Picture),
-        ("run_text, batch 1, 1 worker", Text::Kept(settings(1, 1))),
-        ("run_text, batch 3, 1 worker", Text::Kept(settings(1, 3))),
-    ] {
-        try_text(rt, alloc, call, &text, log)?;
-    }
-    Ok(())
-}
-
-/// Tries the calls from bytes to bytes, by one worker.
+/// Tries the calls from bytes to bytes on two logs, of each of which one place is explained, by one worker.
 pub fn try_texts<R: Threads + Wait + Print + Sync>(
     rt: &R,
     alloc: Global,
 ) -> Result<(), TrialFault> {
-    try_log(rt, alloc, TWO_WAYS, 8)?;
-    try_log(rt, alloc, DEED_BY_DATA, 5)
+    for (log, place) in [(TWO_WAYS, 8), (DEED_BY_DATA, 5)] {
+        for (call, text) in [
+            ("serial_text", Text::Slow),
+            ("report_text", Text::Batches(settings(1, 3))),
+            ("explain_text", Text::Explanation(place)),
+            ("grants_text", Text::Picture),
+            ("run_text, batch 1, 1 worker", Text::Kept(settings(1, 1))),
+            ("run_text, batch 3, 1 worker", Text::Kept(settings(1, 3))),
+        ] {
+            try_text(rt, alloc, call, &text, log)?;
+        }
+    }
+    Ok(())
 }
 
-/// Tries the run of a log by two workers.
+/// Tries the runs of the two logs by two workers.
 pub fn try_workers<R: Threads + Wait + Print + Sync>(
     rt: &R,
     alloc: Global,
-    log: &[u8],
 ) -> Result<(), TrialFault> {
-    for (call, batch) in [
-        ("run_text, batch 1, 2 workers", 1),
-        ("run_text, batch 3, 2 workers", 3),
-    ] {
-        try_text(rt, alloc, call, &Text::Kept(settings(2, batch)), log)?;
+    for log in [TWO_WAYS, DEED_BY_DATA] {
+        for (call, batch) in [
+            ("run_text, batch 1, 2 workers", 1),
+            ("run_text, batch 3, 2 workers", 3),
+        ] {
+            try_text(rt, alloc, call, &Text::Kept(settings(2, batch)), log)?;
+        }
     }
     Ok(())
 }

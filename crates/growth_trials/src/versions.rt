@@ -3,11 +3,11 @@
 ghost use Rattle.std.specs.Prelude.{◌≡◌, ◌+◌, IfOk};
 ghost use Rattle.chains.specs.Store.{AreBetween};
 
-use crate::fault::TrialFault;
 use crate::refusal::print_refused;
 use chains::{Chains, Trimmed, Version};
 use model_base::{Key, Place, Row, Table};
 use std::alloc::{AllocError, Global};
+use trials_base::TrialFault;
 
 /// How many places make versions.
 const PLACES: u32 = 12;
@@ -36,10 +36,9 @@ fn pair(alloc: Global, place: u32) -> Result<Vec<Version>, AllocError>
     Ok(vec![in alloc; version(place, 1), version(place, other)]?)
 }
 
-/// Appends these versions to a store that ends at the place.
-fn append(chains: &mut Chains, versions: Vec<Version>, place: u32) -> Result<(), TrialFault>
-    requires { AreBetween place (place + 1) versions.items }
-{
+/// Appends the versions of a place to a store that ends there.
+fn append(alloc: Global, chains: &mut Chains, place: u32) -> Result<(), TrialFault> {
+    let versions = pair(alloc, place)?;
     if chains.end() != Place::from(place) {
         return Err(TrialFault::Call);
     }
@@ -62,33 +61,18 @@ fn rows_of(
     Ok(rows)
 }
 
-/// The versions of a place are appended.
-fn try_append(
-    rt: &impl Print,
-    alloc: Global,
-    chains: &mut Chains,
-    place: u32,
-) -> Result<(), TrialFault> {
-    let before = rows_of(alloc, chains)?;
-    let (versions, again) = (pair(alloc, place)?, pair(alloc, place)?);
-    if let Err(fault) = append(chains, versions, place) {
-        print_refused(
-            rt,
-            "Chains::append",
-            fault,
-            before == rows_of(alloc, chains)?,
-        )?;
-        append(chains, again, place)?;
-    }
-    println!(rt; "Chains::append: the store ends at {}", chains.end())?;
-    Ok(())
-}
-
 /// Tries the call of a store of versions.
 pub fn try_store(rt: &impl Print, alloc: Global) -> Result<(), TrialFault> {
     let mut chains = Chains::new(alloc);
     for place in 0..PLACES {
-        try_append(rt, alloc, &mut chains, place)?;
+        let before = rows_of(alloc, &chains)?;
+        again!(
+            rt,
+            "Chains::append",
+            append(alloc, &mut chains, place),
+            before == rows_of(alloc, &chains)?
+        );
+        println!(rt; "Chains::append: the store ends at {}", chains.end())?;
     }
     let rows = rows_of(alloc, &chains)?;
     println!(rt; "Chains::append: {rows:?}")?;

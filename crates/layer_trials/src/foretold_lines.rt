@@ -1,11 +1,9 @@
 //! Lines that are read, and statements that are numbered, before their turn.
 
-use crate::fault::TrialFault;
-use crate::many_users::admit_line;
-use crate::telling::tell;
 use read_ahead::{Ahead, Found, Piece, foretell_lines, piece_cuts};
 use sequencer::Catalog;
 use std::alloc::{AllocError, Global};
+use trials_base::{TrialFault, log_of};
 
 /// Lines whose names are known from the second on: what they ask for is foretold, but for a new user, a new table, a new grantee and a column
 /// that isn't there.
@@ -31,54 +29,35 @@ fn found_text(alloc: Global, line: &Ahead) -> Result<String, AllocError> {
 }
 
 /// Prints what is found of the lines of a piece.
-fn print_piece(
-    rt: &impl Print,
-    alloc: Global,
-    what: &str,
-    piece: &Piece,
-) -> Result<(), AllocError> {
+fn print_piece(rt: &impl Print, alloc: Global, piece: &Piece) -> Result<(), TrialFault> {
     for line in piece.lines() {
-        tell(rt, what, &found_text(alloc, line)?);
+        println!(rt; "a line read ahead: {}", found_text(alloc, line)?)?;
     }
     Ok(())
 }
 
-/// Prints what is found of lines, and once more of the first with the lists of the first time.
-fn print_read(rt: &impl Print, alloc: Global, catalog: &Catalog) -> Result<(), AllocError> {
+/// Prints what is found of lines by these names, once more of the first with the lists of the first time, where pieces of them begin,
+/// and what other names catch up.
+fn print_by(rt: &impl Print, alloc: Global, catalog: &Catalog) -> Result<(), TrialFault> {
     let bytes = LINES.as_bytes();
     let piece = foretell_lines(alloc, catalog, bytes, 0, bytes.len(), Piece::new(alloc));
-    print_piece(rt, alloc, "a line read ahead", &piece)?;
+    print_piece(rt, alloc, &piece)?;
     let again = foretell_lines(alloc, catalog, bytes, 0, 60, piece);
-    print_piece(rt, alloc, "and once more", &again)
-}
-
-/// Prints where pieces of the lines begin.
-fn print_cuts(rt: &impl Print, alloc: Global) -> Result<(), AllocError> {
-    let bytes = LINES.as_bytes();
+    print_piece(rt, alloc, &again)?;
     let cuts = piece_cuts(alloc, bytes, 0, bytes.len(), 3)?;
-    tell(rt, "pieces", &cuts.as_slice());
-    Ok(())
-}
-
-/// Prints how many users and places names have that catch up.
-fn print_names(rt: &impl Print, alloc: Global, later: &Catalog) -> Result<(), AllocError> {
+    println!(rt; "pieces: {cuts:?}")?;
     let mut names = Catalog::new(alloc);
-    names.catch_up(later)?;
-    tell(rt, "users caught up", &names.users().len());
-    tell(rt, "places caught up", &names.places());
+    names.catch_up(catalog)?;
+    let (users, places) = (names.users().len(), names.places());
+    println!(rt; "caught up: {users} users, {places} places")?;
     Ok(())
 }
 
-/// Takes two lines, and says what is found of later ones by their names.
-fn print_in(rt: &impl Print, alloc: Global, catalog: &mut Catalog) -> Result<(), TrialFault> {
-    admit_line(alloc, catalog, "alice CREATE t 2")?;
-    admit_line(alloc, catalog, "alice GRANT READ t bob OPTION")?;
-    print_read(rt, alloc, catalog)?;
-    print_cuts(rt, alloc)?;
-    Ok(print_names(rt, alloc, catalog)?)
-}
-
-/// Prints what is found of lines by the names of two earlier ones, and what other names catch up.
+/// Prints what is found of lines by the names of two earlier ones.
 pub fn print_foretold_lines(rt: &impl Print, alloc: Global) -> Result<(), TrialFault> {
-    print_in(rt, alloc, &mut Catalog::new(alloc))
+    let log = log_of(
+        alloc,
+        &["alice CREATE t 2", "alice GRANT READ t bob OPTION"],
+    )?;
+    print_by(rt, alloc, log.tail().catalog())
 }

@@ -1,52 +1,59 @@
 //! Trials of single layers.
 //!
-//! Readers and writers whose bytes are known, and lines and pieces over them; to what each place of six refers, by partitions
-//! of several numbers; versions of rows, and marks; each call of a book of grants, and how many of its records a question and a revocation look at; names and
-//! users, as many as there may be; and which lines are read ahead. What is printed, a line for each finding, is compared with
-//! `stdout`.
+//! To what each place of six refers, by partitions of several numbers; which lines are read ahead; versions of rows, and
+//! marks; a book of grants, and how many of its records a question and a revocation look at. Stores and books are driven
+//! by the cases of files, each of which is printed with what it results in, and compared with `stdout`.
 #![tactic(auto)]
 
 mod batch_references;
-mod counted_bytes;
+mod book;
+mod both;
 mod counting;
-mod deeds;
-mod fault;
 mod foretold_lines;
-mod grant_calls;
-mod many_users;
-mod read_lines;
-mod stored_versions;
-mod telling;
-mod version_marks;
-mod worked_versions;
-mod written_pieces;
+mod versions;
 
 use batch_references::print_batch_references;
-use counted_bytes::print_counted_bytes;
-use counting::print_counts;
-use fault::TrialFault;
+use both::Both;
+use chains::Chains;
 use foretold_lines::print_foretold_lines;
-use grant_calls::print_grant_calls;
-use many_users::print_many_users;
-use read_lines::print_read_lines;
 use std::alloc::Global;
 use std::process::ExitCode;
-use version_marks::print_marks;
-use worked_versions::print_worked;
-use written_pieces::print_written_pieces;
+use std::rt::Files;
+use trials_base::{TrialFault, read_file, text_of, words_of};
+
+/// Prints the cases of a file, each with what it results in on a store of versions, or on books of grants.
+fn print_cases<R: Files + Print>(
+    rt: &R,
+    alloc: Global,
+    path: &str,
+    of_books: bool,
+) -> Result<(), TrialFault> {
+    let bytes = read_file(rt, alloc, path)?;
+    let (mut chains, mut both) = (Chains::new(alloc), Both::new(alloc));
+    for line in text_of(bytes.as_slice())?.split('\n') {
+        let words = words_of(alloc, line)?;
+        if words.is_empty() {
+            continue;
+        }
+        let outcome = if of_books {
+            book::outcome(alloc, &mut both, words.as_slice())
+        } else {
+            versions::outcome(alloc, &mut chains, words.as_slice())
+        };
+        match outcome {
+            Ok(outcome) => println!(rt; "{line}: {outcome}")?,
+            Err(fault) => println!(rt; "{line}: {fault}")?,
+        }
+    }
+    Ok(())
+}
 
 /// Prints the trials one after another.
-fn run(rt: &impl Print, alloc: Global) -> Result<(), TrialFault> {
-    print_counted_bytes(rt, alloc);
-    print_read_lines(rt, alloc)?;
-    print_written_pieces(rt, alloc)?;
+fn run<R: Files + Print>(rt: &R, alloc: Global) -> Result<(), TrialFault> {
     print_batch_references(rt, alloc)?;
-    print_worked(rt, alloc)?;
-    print_marks(rt, alloc)?;
-    print_many_users(rt, alloc)?;
     print_foretold_lines(rt, alloc)?;
-    print_grant_calls(rt, alloc)?;
-    print_counts(rt, alloc)
+    print_cases(rt, alloc, "versions.cases", false)?;
+    print_cases(rt, alloc, "book.cases", true)
 }
 
 fn main(rt: HostRuntime) -> ExitCode {

@@ -1,22 +1,25 @@
 //! Trials of the machine over logs.
 //!
-//! Events on a whole log and on a batch in the middle of it, each with what it changed, and the calls of a batch; a place of
-//! which two words are stored by a pass that is dropped, and its batch finished; which grants a batch may end, and a log
-//! finished after words of which nothing is stored. What is printed is compared with `stdout`.
+//! The events of files, on a whole log and on a batch in the middle of it, each with what it changed, and what places and
+//! records resulted in; a place of which two words are stored by a pass that is dropped, and its batch finished. What is
+//! printed is compared with `stdout`.
 #![tactic(auto)]
 
-mod batches;
-mod calls;
-mod rows;
+ghost use Rattle.std.specs.Prelude.{◌<◌, ◌≤◌};
+ghost use Rattle.model_base.specs.declared.limits.TheConstants.{MOST_PARTITIONS};
+
+mod events;
 mod telling;
-mod trials;
 mod two_words;
 
-use log_trials_base::TrialFault;
-use rows::{ONE, THREE};
+use bohm_core::Machine;
+use log_machine::OfLog;
+use model_base::Place;
 use std::alloc::Global;
 use std::process::ExitCode;
-use trials::{RangeTrial, Trial, try_lines};
+use std::rt::Files;
+use telling::{print_events, print_found};
+use trials_base::{TrialFault, WholeLog, before_place, log_of, new_batch, read_file, text_of};
 use two_words::print_two_words;
 
 /// The worked log: a reader, and after it the revocation of the grant by which it reads.
@@ -28,56 +31,37 @@ const WORKED: [&str; 5] = [
     "alice REVOKE READ t bob",
 ];
 
-/// A log whose reader grants further what it reads by.
-const GRANTING: [&str; 4] = [
-    "alice CREATE t 1",
-    "alice RUN t:1:I | CONST 0 9 | INSERT t 1 0",
-    "alice GRANT READ t bob OPTION",
-    "bob RUN t:1:R | LOAD 1 t 1 0 | OUT 1 | GRANT READ t eve",
-];
-
-/// A log in which a revocation reaches what it names, what that bore, and what that bears after it; others grant what it leaves.
-const REACHED: [&str; 8] = [
-    "alice CREATE t 1",
-    "alice GRANT READ t bob OPTION",
-    "bob GRANT READ t carol OPTION",
-    "alice GRANT READ t dave OPTION",
-    "dave GRANT READ t bob",
-    "alice GRANT INSERT t bob OPTION",
-    "alice REVOKE READ t bob",
-    "carol GRANT READ t eve",
-];
-
-/// A log whose last but one place ends what it names and what that bore, though an earlier reader read by it; who reads after
-/// it is denied.
-const BORNE: [&str; 9] = [
-    "alice CREATE t 1",
-    "alice RUN t:1:I | CONST 0 9 | INSERT t 1 0",
-    "alice GRANT READ t bob OPTION",
-    "bob GRANT READ t carol OPTION",
-    "alice GRANT READ t dave",
-    "carol RUN t:1:R | LOAD 1 t 1 0 | OUT 1 | GRANT READ t eve",
-    "eve RUN t:1:R | LOAD 1 t 1 0 | OUT 1",
-    "alice REVOKE READ t bob",
-    "eve RUN t:1:R | LOAD 1 t 1 0 | OUT 1",
-];
+/// Prints the events of a file on the places of the log from one on, which this many partitions place.
+fn try_range<R: Files + Print>(
+    rt: &R,
+    alloc: Global,
+    log: &WholeLog,
+    path: &str,
+    first: Place,
+    partitions: usize,
+) -> Result<(), TrialFault>
+    requires some { 0 < partitions }
+    requires few { partitions ≤ MOST_PARTITIONS }
+{
+    if first > log.len() {
+        return Err(TrialFault::Call);
+    }
+    println!(rt; "{path}")?;
+    let events = read_file(rt, alloc, path)?;
+    let before = before_place(alloc, log, first)?;
+    let batch = new_batch(alloc, log, &before, first..log.len(), partitions)?;
+    let mut machine = Machine::new(alloc, OfLog::new(batch))?;
+    print_events(rt, alloc, &mut machine, text_of(events.as_slice())?)?;
+    print_found(rt, alloc, &machine)
+}
 
 /// Prints the trials one after another.
-fn run(rt: &impl Print, alloc: Global) -> Result<(), TrialFault> {
-    let one = RangeTrial::new(0, 1, Trial::Whole(&ONE));
-    try_lines(rt, alloc, "the whole log, partitions: 1\n", &WORKED, one)?;
-    let three = RangeTrial::new(0, 3, Trial::Whole(&THREE));
-    try_lines(rt, alloc, "the whole log, partitions: 3\n", &WORKED, three)?;
-    let middle = RangeTrial::new(3, 1, Trial::Middle);
-    try_lines(rt, alloc, "the middle of the log\n", &WORKED, middle)?;
-    let calls = RangeTrial::new(0, 3, Trial::Calls);
-    try_lines(rt, alloc, "the calls of a batch\n", &GRANTING, calls)?;
-    print_two_words(rt, alloc, &WORKED)?;
-    let ended = RangeTrial::new(0, 1, Trial::Ended);
-    try_lines(rt, alloc, "", &REACHED, ended)?;
-    let finished = RangeTrial::new(0, 1, Trial::Finished);
-    let heading = "finished behind words of which nothing is stored\n";
-    try_lines(rt, alloc, heading, &BORNE, finished)
+fn run<R: Files + Print>(rt: &R, alloc: Global) -> Result<(), TrialFault> {
+    let log = log_of(alloc, &WORKED)?;
+    try_range(rt, alloc, &log, "whole.events", 0, 1)?;
+    try_range(rt, alloc, &log, "parted.events", 0, 3)?;
+    try_range(rt, alloc, &log, "middle.events", 3, 1)?;
+    print_two_words(rt, alloc, &log)
 }
 
 fn main(rt: HostRuntime) -> ExitCode {

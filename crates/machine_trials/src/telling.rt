@@ -1,11 +1,11 @@
 //! Events as they are made, and what places and records resulted in, a line for each.
 
+use crate::events::event_of;
 use bohm_core::{Machine, State};
 use bohm_core_base::Event;
 use log_machine::{OfLog, done_outcome, done_words};
-use log_trials_base::TrialFault;
-use model_base::{DeedDone, Outcome};
 use std::alloc::{AllocError, Global};
+use trials_base::{TrialFault, words_of};
 
 /// What the event is about, as it is stored now.
 fn concerned(alloc: Global, state: &State, event: Event) -> Result<String, AllocError> {
@@ -30,53 +30,37 @@ fn concerned(alloc: Global, state: &State, event: Event) -> Result<String, Alloc
     }
 }
 
-/// Makes the event, and says what it asked for, and what is stored of that now if it is something else.
+/// Makes the event of a line, and says what is stored now of what it asked for, if that is something else.
 fn print_event(
     rt: &impl Print,
     alloc: Global,
     machine: &mut Machine<OfLog<'_>>,
+    line: &str,
     event: Event,
 ) -> Result<(), TrialFault> {
     let before = concerned(alloc, machine.state(), event)?;
     machine.apply(&event)?;
     let now = concerned(alloc, machine.state(), event)?;
     if before == now {
-        println!(rt; "{event:?}: nothing changes")?;
+        println!(rt; "{line}: nothing changes")?;
     } else {
-        println!(rt; "{event:?}: {now}")?;
+        println!(rt; "{line}: {now}")?;
     }
     Ok(())
 }
 
-/// Makes the events, and says each.
+/// Makes the events of a text, a line each, and says each.
 pub fn print_events(
     rt: &impl Print,
     alloc: Global,
     machine: &mut Machine<OfLog<'_>>,
-    events: &[Event],
+    text: &str,
 ) -> Result<(), TrialFault> {
-    for event in events {
-        print_event(rt, alloc, machine, *event)?;
-    }
-    Ok(())
-}
-
-/// Prints an outcome.
-fn print_outcome(rt: &impl Print, outcome: &Outcome) -> Result<(), TrialFault> {
-    match outcome {
-        Outcome::Created => println!(rt; "created")?,
-        Outcome::Done { outputs, deed } => {
-            let outputs = outputs.as_slice();
-            match deed {
-                DeedDone::None => println!(rt; "done {outputs:?}")?,
-                DeedDone::Granted => println!(rt; "done {outputs:?} granted")?,
-                DeedDone::Revoked(names) => {
-                    let names = names.as_slice();
-                    println!(rt; "done {outputs:?} revoked {names:?}")?;
-                }
-            }
+    for line in text.split('\n') {
+        let words = words_of(alloc, line)?;
+        if !words.is_empty() {
+            print_event(rt, alloc, machine, line, event_of(words.as_slice())?)?;
         }
-        other => println!(rt; "{other:?}")?,
     }
     Ok(())
 }
@@ -93,8 +77,8 @@ fn print_place(
     };
     let references = machine.state().references(index);
     let own = done_words(machine, index).unwrap_or(&[]);
-    print!(rt; "index {index} refers to {references:?} and has {own:?}: ")?;
-    print_outcome(rt, &outcome)
+    println!(rt; "index {index} refers to {references:?} and has {own:?}: {outcome:?}")?;
+    Ok(())
 }
 
 /// Prints where the record of each slot ended.

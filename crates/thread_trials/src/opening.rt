@@ -7,12 +7,12 @@ ghost use Rattle.engine.specs.RunState.{IsRunState};
 
 use engine::RunState;
 use filling::{Placer, RangeKey, open};
-use filling_base::{Advanced, Batch, BatchPlacer, Fills};
+use filling_base::Batch;
 use log_batch::{LogBatch, StateBefore};
-use log_trials_base::{TrialFault, WholeLog};
 use model_base::{MOST_PARTITIONS, Place};
 use std::alloc::Global;
-use words::Pass;
+use trials_base::{TrialFault, WholeLog};
+use words::{BatchData, Pass};
 
 /// The words of the places of a log from one on, of which nothing is placed, with their first pass and their placers.
 pub fn opened<'a>(
@@ -38,26 +38,21 @@ pub fn opened<'a>(
     Ok(open(alloc, batch)?)
 }
 
-/// Places this many places for a partition, or all that there are, one after another, and drops the placer.
-pub fn place_some<K: Fills, P: BatchPlacer<K>>(batch: &Batch<K>, mut placer: P, steps: usize)
-    requires { P.is_of batch.now placer }
+/// Places all places for a partition, and drops the placer.
+fn place_all(batch: &Batch<RangeKey<'_>>, mut placer: Placer)
+    requires { IsPlacerIn batch.now placer }
 {
-    for _ in 0..steps {
-        match placer.advance(batch) {
-            Advanced::Next(_) => {}
-            Advanced::End | Advanced::NoMemory => return,
-        }
+    for _ in 0..batch.key().places() {
+        let _advanced = placer.place_next(batch);
     }
 }
 
-/// Places this many places of a batch for its last partition, and all for each other.
-pub fn place_each(batch: &Batch<RangeKey<'_>>, mut placers: Vec<Placer>, last: usize)
+/// Places all places for each partition.
+fn place_each(batch: &Batch<RangeKey<'_>>, mut placers: Vec<Placer>)
     requires { All (IsPlacerIn batch.now) placers.items }
 {
-    let mut steps = last;
     while let Some(placer) = placers.pop() {
-        place_some(batch, placer, steps);
-        steps = usize::MAX;
+        place_all(batch, placer);
     }
 }
 
@@ -71,11 +66,11 @@ pub fn placed(
     requires placers { All (IsPlacerIn batch.now) placers.items }
     ensures { IfOk result (λ pass. IsPassOf batch.now pass) }
 {
-    place_each(batch, placers, usize::MAX);
+    place_each(batch, placers);
     let (pass, is_placed) = batch.all_placed(pass);
     if is_placed {
         Ok(pass)
     } else {
-        Err(TrialFault::Unplaced)
+        Err(TrialFault::Call)
     }
 }

@@ -1,4 +1,4 @@
-//! Rows of calls on a batch, as data: each step is a call, and is printed with what it returns.
+//! Rows of calls on a batch: each step is a line of words, and is printed with what it returns.
 
 ghost use Rattle.std.specs.Prelude.{◌≡◌, ◌<◌, ◌≤◌, ◌+◌, All, IfOk};
 ghost use Rattle.words.specs.Passes.{IsPassOf};
@@ -6,37 +6,10 @@ ghost use Rattle.filling.specs.Placers.{IsPlacerIn};
 
 use filling::{Placer, RangeKey, run_place};
 use filling_base::Batch;
-use log_trials_base::TrialFault;
 use model_base::Place;
-use words::{BatchData, Claimed, Holding, Pass};
-
-/// A step of a row.
-#[derive(Clone, Copy)]
-pub enum Step {
-    /// Prints this.
-    Put(&'static str),
-    /// Asks for the place of an index.
-    Ask(usize),
-    /// Runs a place of the log.
-    Run(Place),
-    /// Claims the place of an index by another pass, which gives it back.
-    Claim(usize),
-    /// Whether all is placed.
-    AllPlaced,
-    /// How many bodies the pass has run.
-    Bodies,
-}
-
-/// A row of calls.
-pub struct Row {
-    pub before: &'static [Step],
-    /// The place that another pass holds while the next steps are made, by its index.
-    pub held: Option<usize>,
-    pub during: &'static [Step],
-    pub after: &'static [Step],
-    /// Whether the outcomes of all places are compared with the serial run in the end.
-    pub is_compared: bool,
-}
+use std::alloc::Global;
+use trials_base::{TrialFault, number_of, words_of};
+use words::{BatchData, Claimed, Holding, Pass, Seen, passes_keep_what_they_know};
 
 /// Asks for the place of an index, and says what it is.
 fn print_asked(
@@ -49,7 +22,7 @@ fn print_asked(
     ensures { IfOk result (λ pass. IsPassOf batch.now pass) }
 {
     if index >= batch.key().places() {
-        return Err(TrialFault::Short);
+        return Err(TrialFault::Call);
     }
     let (pass, tried) = batch.try_run(pass, index);
     println!(rt; "asked for {index}: {tried:?}")?;
@@ -69,28 +42,29 @@ fn print_run(
     let range = batch.key().batch();
     let first = range.first_place();
     if place < first || place - first >= range.size() as u64 {
-        return Err(TrialFault::Short);
+        return Err(TrialFault::Call);
     }
     let (pass, ran) = run_place(batch, pass, place);
     println!(rt; "asked for {place}: {ran:?}")?;
     Ok(pass)
 }
 
-/// Claims the place of an index, and says what the pass finds. What it wins it gives back.
+/// Claims the place of an index, and says what the pass finds. What it wins it gives back, if it isn't dropped before.
 fn print_claim(
     rt: &impl Print,
     batch: &Batch<RangeKey<'_>>,
     pass: Pass,
     index: usize,
+    is_dropped: bool,
 ) -> Result<(), TrialFault>
     requires { IsPassOf batch.now pass }
 {
     let mut holding = Holding::begin(pass);
     if index >= batch.key().places() || !holding.knows_placed() {
-        return Err(TrialFault::Unplaced);
+        return Err(TrialFault::Call);
     }
     match batch.words().claim(&mut holding, index) {
-        Claimed::Won => {
+        Claimed::Won if !is_dropped => {
             batch.words().give_back(&mut holding, index);
             println!(rt; "  another pass claims {index}: Won, and gives it back")?;
         }
@@ -99,35 +73,82 @@ fn print_claim(
     Ok(())
 }
 
-/// Makes a step, and says what it returns.
+/// Looks at the place of an index, and says what the pass finds: of a place that is done its first word, and the first listed end.
+fn print_look(
+    rt: &impl Print,
+    batch: &Batch<RangeKey<'_>>,
+    pass: Pass,
+    index: usize,
+) -> Result<(), TrialFault>
+    requires { IsPassOf batch.now pass }
+{
+    passes_keep_what_they_know();
+    let key = batch.key();
+    if index >= key.places() {
+        return Err(TrialFault::Call);
+    }
+    let mut holding = Holding::begin(pass);
+    let (count, ends) = (key.words_length(index), key.ends());
+    match batch.words().look(&mut holding, index) {
+        Seen::Done if count > 0 && ends > 0 => {
+            let word = batch.words().own(&mut holding, index, 0);
+            let end = batch.words().end(&mut holding, 0);
+            println!(rt;
+                "  another pass looks at {index}: Done, with {word}, and the end {end:?}"
+            )?;
+        }
+        found => println!(rt; "  another pass looks at {index}: {found:?}")?,
+    }
+    Ok(())
+}
+
+/// Makes a step by another pass.
+fn print_other(
+    rt: &impl Print,
+    batch: &Batch<RangeKey<'_>>,
+    other: Pass,
+    verb: &str,
+    index: usize,
+) -> Result<(), TrialFault>
+    requires { IsPassOf batch.now other }
+{
+    match verb {
+        "look" => print_look(rt, batch, other, index),
+        "claim" => print_claim(rt, batch, other, index, false),
+        "drop" => print_claim(rt, batch, other, index, true),
+        _ => Err(TrialFault::NotText),
+    }
+}
+
+/// Makes a step, and says what it returns: `ask INDEX`, `run PLACE`; by another pass `look INDEX`, `claim INDEX`, which gives the place back,
+/// or `drop INDEX`, where it is dropped while it holds the place; `all`, whether all is placed; `bodies`, how many bodies the pass has run.
 fn print_step(
     rt: &impl Print,
     batch: &Batch<RangeKey<'_>>,
     pass: Pass,
-    step: Step,
+    words: &[&str],
 ) -> Result<Pass, TrialFault>
     requires { IsPassOf batch.now pass }
     ensures { IfOk result (λ pass. IsPassOf batch.now pass) }
 {
-    match step {
-        Step::Put(text) => {
-            print!(rt; "{text}")?;
-            Ok(pass)
-        }
-        Step::Ask(index) => print_asked(rt, batch, pass, index),
-        Step::Run(place) => print_run(rt, batch, pass, place),
-        Step::Claim(index) => {
-            let (pass, other) = batch.split(pass);
-            print_claim(rt, batch, other, index)?;
-            Ok(pass)
-        }
-        Step::AllPlaced => {
+    let [verb, words @ ..] = words else {
+        return Ok(pass);
+    };
+    match *verb {
+        "ask" => print_asked(rt, batch, pass, number_of(words, 0)? as usize),
+        "run" => print_run(rt, batch, pass, number_of(words, 0)?),
+        "all" => {
             let (pass, all) = batch.all_placed(pass);
             println!(rt; "all is placed: {all}")?;
             Ok(pass)
         }
-        Step::Bodies => {
-            println!(rt; "  {} bodies were run", pass.bodies())?;
+        "bodies" => {
+            println!(rt; "{} bodies were run", pass.bodies())?;
+            Ok(pass)
+        }
+        verb => {
+            let (pass, other) = batch.split(pass);
+            print_other(rt, batch, other, verb, number_of(words, 0)? as usize)?;
             Ok(pass)
         }
     }
@@ -136,16 +157,18 @@ fn print_step(
 /// Makes the steps one after another.
 fn print_steps(
     rt: &impl Print,
+    alloc: Global,
     batch: &Batch<RangeKey<'_>>,
     pass: Pass,
-    steps: &[Step],
+    steps: &str,
 ) -> Result<Pass, TrialFault>
     requires { IsPassOf batch.now pass }
     ensures { IfOk result (λ pass. IsPassOf batch.now pass) }
 {
     let mut last = pass;
-    for step in steps {
-        last = print_step(rt, batch, last, *step)?;
+    for step in steps.split('\n') {
+        let words = words_of(alloc, step)?;
+        last = print_step(rt, batch, last, words.as_slice())?;
     }
     Ok(last)
 }
@@ -153,10 +176,11 @@ fn print_steps(
 /// Makes the steps while another pass holds the place of an index, with nothing stored, and gives it back then.
 fn print_held(
     rt: &impl Print,
+    alloc: Global,
     batch: &Batch<RangeKey<'_>>,
     pass: Pass,
     index: usize,
-    steps: &[Step],
+    steps: &str,
 ) -> Result<Pass, TrialFault>
     requires { IsPassOf batch.now pass }
     ensures { IfOk result (λ pass. IsPassOf batch.now pass) }
@@ -164,80 +188,82 @@ fn print_held(
     let (pass, holder) = batch.split(pass);
     let mut holding = Holding::begin(holder);
     if index >= batch.key().places() || !holding.knows_placed() {
-        return Err(TrialFault::Unplaced);
+        return Err(TrialFault::Call);
     }
     match batch.words().claim(&mut holding, index) {
         Claimed::Won => {
-            let pass = print_steps(rt, batch, pass, steps)?;
+            println!(rt; "hold {index}")?;
+            let pass = print_steps(rt, alloc, batch, pass, steps)?;
             batch.words().give_back(&mut holding, index);
+            println!(rt; "back")?;
             Ok(pass)
         }
-        Claimed::Held | Claimed::Done => Err(TrialFault::Taken),
+        Claimed::Held | Claimed::Done => Err(TrialFault::Call),
     }
 }
 
-/// Makes the steps of a row on a batch that is placed.
+/// Makes the steps of a row on a batch that is placed, some of them between the lines `hold INDEX` and `back`.
 pub fn print_row(
     rt: &impl Print,
+    alloc: Global,
     batch: &Batch<RangeKey<'_>>,
     pass: Pass,
-    row: &Row,
+    steps: &str,
 ) -> Result<Pass, TrialFault>
     requires { IsPassOf batch.now pass }
     ensures { IfOk result (λ pass. IsPassOf batch.now pass) }
 {
-    let pass = print_steps(rt, batch, pass, row.before)?;
-    let pass = match row.held {
-        Some(index) => print_held(rt, batch, pass, index, row.during)?,
-        None => pass,
+    let Some((before, rest)) = steps.split_once("hold ") else {
+        return print_steps(rt, alloc, batch, pass, steps);
     };
-    print_steps(rt, batch, pass, row.after)
+    let (held, after) = rest.split_once("back\n").ok_or(TrialFault::NotText)?;
+    let (index, during) = held.split_once('\n').ok_or(TrialFault::NotText)?;
+    let index = number_of(&[index], 0)? as usize;
+    let pass = print_steps(rt, alloc, batch, pass, before)?;
+    let pass = print_held(rt, alloc, batch, pass, index, during)?;
+    print_steps(rt, alloc, batch, pass, after)
 }
 
-/// Reports this many steps of a placer.
+/// Reports a step of a placer.
 fn print_placing(
     rt: &impl Print,
     batch: &Batch<RangeKey<'_>>,
     placer: &mut Placer,
-    steps: usize,
 ) -> Result<(), TrialFault>
     requires { IsPlacerIn batch.now placer.old }
     ensures { IsPlacerIn batch.now placer.new }
 {
-    for _ in 0..steps {
-        let advanced = placer.place_next(batch);
-        println!(rt; "  partition {}: {advanced:?}", placer.partition())?;
-    }
+    let advanced = placer.place_next(batch);
+    println!(rt; "partition {}: {advanced:?}", placer.partition())?;
     Ok(())
 }
 
-/// Steps while a batch is placed, and after them how many places the first partition and the second place.
-pub type Turn = (&'static [Step], usize, usize);
-
-/// Makes steps in turn with placing by the last two partitions of a batch.
+/// Makes steps in turn with placing by the last two partitions of a batch, a place of the log for each line `first` or `second`.
 #[tactic(auto, using(crate::proofs::Opened::last_in, crate::proofs::Opened::rest_in))]
 pub fn print_turns(
     rt: &impl Print,
+    alloc: Global,
     batch: &Batch<RangeKey<'_>>,
     pass: Pass,
     mut placers: Vec<Placer>,
-    turns: &[Turn],
+    steps: &str,
 ) -> Result<(), TrialFault>
     requires pass { IsPassOf batch.now pass }
     requires placers { All (IsPlacerIn batch.now) placers.items }
 {
     let Some(mut second) = placers.pop() else {
-        return Err(TrialFault::Short);
+        return Err(TrialFault::Call);
     };
     let Some(mut first) = placers.pop() else {
-        return Err(TrialFault::Short);
+        return Err(TrialFault::Call);
     };
     let mut last = pass;
-    for turn in turns {
-        let (steps, one, other) = *turn;
-        last = print_steps(rt, batch, last, steps)?;
-        print_placing(rt, batch, &mut first, one)?;
-        print_placing(rt, batch, &mut second, other)?;
+    for step in steps.split('\n') {
+        match step {
+            "first" => print_placing(rt, batch, &mut first)?,
+            "second" => print_placing(rt, batch, &mut second)?,
+            _ => last = print_steps(rt, alloc, batch, last, step)?,
+        }
     }
     Ok(())
 }

@@ -1,4 +1,4 @@
-//! Workers on a chain of places, each of which adds 1 to what the one before it wrote.
+//! Workers on places that add 1 to a row, or to some rows in turn.
 
 ghost use Rattle.std.specs.Prelude.{◌≡◌, All};
 ghost use Rattle.words.specs.Passes.{IsPassOf};
@@ -7,12 +7,12 @@ ghost use Rattle.filling.specs.Placers.{IsPlacerIn};
 use crate::adding::count_right;
 use filling::{Placer, RangeKey};
 use filling_base::Batch;
-use log_trials_base::TrialFault;
 use model_base::Place;
 use std::alloc::Global;
 use std::sync::Wait;
 use std::sync::atomic::{AtomicUsize, Ordering};
 use std::thread::Threads;
+use trials_base::TrialFault;
 use words::{BatchData, Pass};
 use workers::{Gate, Worked, Workers, run_workers};
 
@@ -58,28 +58,8 @@ fn run_by<R: Threads + Wait + Sync>(
     (pass, worked, gate.done.load(Ordering::SeqCst) == wanted)
 }
 
-/// Tells what came of workers on a chain, whether each was told each place, and what the places are then.
-fn print_worked(
-    rt: &impl Print,
-    batch: &Batch<RangeKey<'_>>,
-    pass: Pass,
-    worked: Worked,
-    told: bool,
-) -> Result<(), TrialFault>
-    requires { IsPassOf batch.now pass }
-{
-    let places = batch.key().places();
-    let bodies = pass.bodies();
-    let (pass, right) = count_right(batch, pass, places, 1);
-    let (_pass, is_placed) = batch.all_placed(pass);
-    println!(rt; " on a chain of {places} places: {worked:?}, each was told all: {told}")?;
-    println!(rt;
-        "  {right} have their output, {bodies} bodies were run, all is placed: {is_placed}"
-    )?;
-    Ok(())
-}
-
-/// Tells what comes of a chain that this many workers place and run.
+/// Tells what comes of a chain that this many workers place and run, or only run where there are no placers: what came of them, whether each
+/// was told each place, and what the places are then.
 pub fn print_workers<R: Threads + Wait + Print + Sync>(
     rt: &R,
     alloc: Global,
@@ -91,23 +71,37 @@ pub fn print_workers<R: Threads + Wait + Print + Sync>(
     requires pass { IsPassOf batch.now pass }
     requires placers { All (IsPlacerIn batch.now) placers.items }
 {
-    let crew = placers.len();
+    let (crew, places) = (placers.len(), batch.key().places());
     let (pass, worked, told) = run_by(rt, alloc, batch, pass, placers, workers);
-    print!(rt; "{workers} workers and {crew} placers")?;
-    print_worked(rt, batch, pass, worked, told)
+    let bodies = pass.bodies();
+    let (pass, right) = count_right(batch, pass, places, 1);
+    let (_pass, is_placed) = batch.all_placed(pass);
+    println!(rt;
+        "{workers} workers and {crew} placers on a chain of {places} places: {worked:?}, each was told all: {told}"
+    )?;
+    println!(rt;
+        "  {right} have their output, {bodies} bodies were run, all is placed: {is_placed}"
+    )?;
+    Ok(())
 }
 
-/// Tells what comes of a chain that is placed and that this many workers run.
-pub fn print_workers_once_placed<R: Threads + Wait + Print + Sync>(
+/// Places and runs places that add to as many rows as there are workers. Returns how many come out right: none if a body wasn't run once.
+pub fn count_round<R: Threads + Wait + Sync>(
     rt: &R,
     alloc: Global,
     batch: &Batch<RangeKey<'_>>,
     pass: Pass,
+    placers: Vec<Placer>,
     workers: usize,
-) -> Result<(), TrialFault>
-    requires { IsPassOf batch.now pass }
+) -> usize
+    requires pass { IsPassOf batch.now pass }
+    requires placers { All (IsPlacerIn batch.now) placers.items }
 {
-    let (pass, worked, told) = run_by(rt, alloc, batch, pass, Vec::new(alloc), workers);
-    print!(rt; "{workers} workers once all is placed")?;
-    print_worked(rt, batch, pass, worked, told)
+    let places = batch.key().places();
+    let (pass, worked, told) = run_by(rt, alloc, batch, pass, placers, workers);
+    let bodies = pass.bodies();
+    let (pass, right) = count_right(batch, pass, places, workers);
+    let (_pass, is_placed) = batch.all_placed(pass);
+    let is_whole = worked == Worked::Done && told && bodies == places as u64 && is_placed;
+    if is_whole { right } else { 0 }
 }

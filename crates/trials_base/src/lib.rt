@@ -1,15 +1,25 @@
 //! What the programs that CI runs share.
 //!
-//! `Generator` gives numbers that its seed determines, below any bound, by the constants of D. E. Knuth's MMIX.
-//! `drawn_log` writes the log of a `Drawing`, which says how many lines it has, of how many users, and how many of
-//! twenty are deeds. On `Err`, out of memory. `PlainBook` has the contracts of `grants::Book` and goes through its lists,
-//! so each call costs all records.
+//! `log_of` reads the lines of a `WholeLog`, of which nothing is dropped; `before_place` runs the places before one in
+//! order, and gives the rows and the book then, and `new_batch` is a range of the log as a batch of which all is placed.
+//! `enter`, `give` and `take` make deeds on one table in a book, and `PlainBook` is one without indexes, to compare it
+//! with. `read_file` reads a file of cases. On `Err`, what the fault says.
 #![tactic(auto)]
 
-mod drawing;
-mod generator;
+mod batches;
+mod before;
+mod deeds;
+mod fault;
+mod files;
+mod logs;
 mod plain_book;
+mod rows;
 
-pub use drawing::{Drawing, FIRST_LINES, drawn_log, put_drawn_line};
-pub use generator::Generator;
+pub use batches::{new_batch, references_of};
+pub use before::before_place;
+pub use deeds::{TABLE, enter, give, grant_of, revocation_of, take};
+pub use fault::TrialFault;
+pub use files::{count_of, number_of, read_file, text_of, words_of};
+pub use logs::{WholeLog, adding_log, log_of};
 pub use plain_book::{PlainBook, PlainView};
+pub use rows::row_text;

@@ -1,29 +1,23 @@
-//! The book of grants as two plain lists, through which each call goes: to compare the book with.
+//! The book of grants as two plain lists, without indexes: to compare the book with.
 
-ghost use Rattle.std.specs.Prelude.{◌==◌, Decides, filter, nat_lt, vec_capacity, vec_len, ◌+◌, ◌≤◌, ◌≡◌, ◌<◌, ◌++◌, ◌∷◌, [], ℕ, List, All, IfOk, IsTrue, OnErr, OnOk, length, map, take, slice_get, Some};
+ghost use Rattle.std.specs.Prelude.{◌==◌, Decides, filter, nat_lt, ◌≤◌, ◌≡◌, ◌<◌, [], ℕ, List, All, IfOk, IsTrue, OnErr, OnOk, length, map};
 ghost use Rattle.std.specs.List.{list_any};
-ghost use Rattle.model_base.specs.declared.deed.Deed.TheVariants.{Granting, Revoking};
 ghost use Rattle.model_base.specs.declared.deed.Deed.{Deed};
-ghost use Rattle.model_base.specs.Privileges.{ended_by, option_of, place_of};
-ghost use Rattle.model_base.specs.Records.{deeds_below, ended_at, recorded};
+ghost use Rattle.model_base.specs.Privileges.{deeds_below, ended_by, option_of, place_of};
+ghost use Rattle.model_base.specs.Records.{ended_at, recorded};
 ghost use Rattle.grants_base.specs.Index.{IsNext, is_by, is_to};
-ghost use Rattle.grants_base.specs.Book.{end_slots, lies_below, reopened, unended};
-ghost use Rattle.grants_base.specs.declared.entries.End.{End};
+ghost use Rattle.grants_base.specs.Book.{reopened};
 ghost use Rattle.grants_base.specs.declared.entries.Creation.{Creation};
 ghost use Rattle.model_base.specs.declared.deed.Record.{Record};
 
-use grants::to_end;
-use grants_base::{
-    Creation, End, Records, append_tables, is_by, is_to, lies_below, reopened, set_ends,
-};
-use model_base::{
-    Grant, Grantee, Kind, MOST_NAMES, Place, Record, RecordName, Revocation, Table, User,
-};
+use crate::fault::TrialFault;
+use grants::{holds_option, to_end};
+use grants_base::{Creation, Records, is_by, is_to, lies_below, reopened};
+use model_base::{Grant, Grantee, Kind, Place, Record, RecordName, Revocation, Table, User};
 use std::alloc::{AllocError, Global};
 use std::marker::Model;
 
-/// What a `Book` has, as two plain lists, with the same contracts. Its calls go through the lists, so it is slow, and there to
-/// be compared with.
+/// What a `Book` has, as two plain lists. Its calls go through the lists, and refuse a deed that a `Book` may not be given.
 #[derive(Drop)]
 pub struct PlainBook {
     tables: Vec<Creation>,
@@ -41,10 +35,10 @@ impl Model for PlainBook {
 }
 
 impl PlainBook {
-    ghost use Rattle.grants_base.specs.Book.{Continues, IsLater, IsSoundBook, ShowsBook, cut_book, extended, owners_of, table_of_deed, view_of, with_ends, with_grant, with_table};
+    ghost use Rattle.grants_base.specs.Book.{IsLater, IsSoundBook, ShowsBook, cut_book, view_of, with_ends, with_grant, with_table};
     ghost use Rattle.grants_base.specs.View.{ShowsDeeds, holds_in};
 
-    /// A book without tables and grants. It doesn't allocate.
+    /// A book without tables and grants.
     #[tactic(auto, using(grants::proofs::BookLaws::sound_empty))]
     pub fn new(alloc: Global) -> Self
         ensures tables { result.tables ≡ [] }
@@ -66,48 +60,12 @@ impl PlainBook {
 
     /// The records of the grants that were made, each with its end, in order.
     pub fn records(&self) -> &[Record]
-        ensures records { result.now ≡ self.now.records }
-        ensures sound { IsSoundBook self.now }
+        ensures { result.now ≡ self.now.records }
     {
         &self.records
     }
 
-    /// Adds a table last, which its creator owns, and returns its number. The place has to lie above all of the book. On `Err` memory was
-    /// refused, and the book is as it was.
-    #[tactic(auto, using(grants::proofs::BookLaws::sound_table, grants::proofs::LaterLaws::later_table))]
-    pub fn add_table(&mut self, owner: User, place: Place) -> Result<Table, AllocError>
-        requires room { length self.old.tables < MOST_NAMES }
-        requires later { IsLater self.old place }
-        ensures number { IfOk result (λ table. table ≡ length self.old.tables) }
-        ensures ok { OnOk result (self.new ≡ with_table self.old (record { owner = owner; place = place })) }
-        ensures after { OnOk result ((owners more : List ℕ) (deeds : List Deed) → ShowsBook self.old owners deeds
-            → owners ≡ owners_of self.new.tables ++ more → ShowsBook self.new owners deeds) }
-        ensures later { OnOk result ((next : ℕ) → place < next → IsLater self.new next) }
-        ensures err { OnErr result (self.new ≡ self.old) }
-    {
-        let number = self.tables.len();
-        self.tables.push(Creation { owner, place })?;
-        Ok(Table(number as u32))
-    }
-
-    /// Adds a grant last. The place has to lie above all of the book, the table to be one of its tables, and the grantor to hold the kind
-    /// with the option, as `holds_option` says by the book's view. On `Err`, out of memory, the book is as it was.
-    #[tactic(auto, using(grants::proofs::GrantLaws::sound_grant, grants::proofs::GrantLaws::shows_grant, grants::proofs::LaterLaws::later_grant))]
-    pub fn grant(&mut self, grant: Grant) -> Result<(), AllocError>
-        requires later { IsLater self.old grant.place }
-        requires table { grant.table < length self.old.tables }
-        requires held { IsTrue (holds_in (view_of self.old grant.place) grant.grantor (option_of grant)) }
-        ensures ok { OnOk result (self.new ≡ with_grant self.old grant) }
-        ensures after { OnOk result ((owners : List ℕ) (deeds : List Deed) → ShowsBook self.old owners deeds
-            → All (λ deed. place_of deed < grant.place) deeds → ShowsBook self.new owners (deeds ++ Granting grant ∷ [])) }
-        ensures later { OnOk result ((next : ℕ) → grant.place < next → IsLater self.new next) }
-        ensures err { OnErr result (self.new ≡ self.old) }
-    {
-        self.records.push(Record { grant, end: None })?;
-        Ok(())
-    }
-
-    /// The book at a place: the grants made below it, with the ends that lie below it, on all tables of the book. It doesn't allocate.
+    /// The book at a place: the grants made below it, with the ends that lie below it, on all tables of the book.
     #[tactic(auto, using(grants::proofs::SeenLaws::shows_view))]
     pub fn at(&self, place: Place) -> PlainView<'_>
         ensures book { result.book.now ≡ self.now }
@@ -118,7 +76,56 @@ impl PlainBook {
         PlainView { book: self, place }
     }
 
-    /// The records of the grants that the revocation takes out of force.
+    /// Whether the place lies above those of all tables, grants and ends of the book.
+    #[tactic(auto, using(grants::proofs::LaterLaws::decides_later))]
+    fn is_later(&self, place: Place) -> bool
+        ensures { Decides result (IsLater self.now place) }
+    {
+        self.tables().iter().all(|creation| creation.place < place)
+            && self
+                .records()
+                .iter()
+                .all(|record| lies_below(record, place))
+    }
+
+    /// Whether a grant may come last: its grantor holds the option.
+    fn may_come(&self, grant: &Grant) -> bool
+        ensures later { IsTrue result → IsLater self.now grant.now.place }
+        ensures table { IsTrue result → grant.now.table < length self.now.tables }
+        ensures held { IsTrue result → IsTrue (holds_in (view_of self.now grant.now.place) grant.now.grantor (option_of grant.now)) }
+    {
+        let mut view = self.at(grant.place);
+        self.is_later(grant.place)
+            && view.covers(grant.table)
+            && holds_option(&mut view, grant.grantor, grant.kind, grant.table)
+    }
+
+    /// Adds a table last, which its creator owns.
+    #[tactic(auto, using(grants::proofs::BookLaws::sound_table))]
+    pub fn add_table(&mut self, owner: User, place: Place) -> Result<(), TrialFault>
+        ensures ok { OnOk result (self.new ≡ with_table self.old (record { owner = owner; place = place })) }
+        ensures err { OnErr result (self.new ≡ self.old) }
+    {
+        if !self.is_later(place) || self.tables.len() >= 65_536 {
+            return Err(TrialFault::Call);
+        }
+        self.tables.push(Creation { owner, place })?;
+        Ok(())
+    }
+
+    /// Adds a grant last, whose grantor holds the option.
+    pub fn grant(&mut self, grant: Grant) -> Result<(), TrialFault>
+        ensures ok { OnOk result (self.new ≡ with_grant self.old grant) }
+        ensures err { OnErr result (self.new ≡ self.old) }
+    {
+        if !self.may_come(&grant) {
+            return Err(TrialFault::Call);
+        }
+        self.records.push(Record { grant, end: None })?;
+        Ok(())
+    }
+
+    /// The names of the records that the revocation takes out of force.
     fn to_end(&self, alloc: Global, revocation: &Revocation) -> Result<Vec<RecordName>, AllocError>
         requires table { revocation.now.table < length self.now.tables }
         ensures { IfOk result (λ ends. (owners : List ℕ) (deeds : List Deed) → ShowsBook self.now owners deeds
@@ -129,89 +136,32 @@ impl PlainBook {
         Ok(ended)
     }
 
-    /// Ends the grants that the revocation takes out of force, at its place, and returns the names of their records in order. The place has
-    /// to lie above all of the book, and the table to be one of its tables. It costs what `to_end` does on the book's view, and a look at
-    /// each ended grant for each grant of the book. On `Err`, out of memory, the book is as it was.
+    /// Ends the grants that the revocation takes out of force, at its place, and returns the names of their records in order.
     pub fn revoke(
         &mut self,
         alloc: Global,
         revocation: &Revocation,
-    ) -> Result<Vec<RecordName>, AllocError>
-        requires later { IsLater self.old revocation.now.place }
-        requires table { revocation.now.table < length self.old.tables }
+    ) -> Result<Vec<RecordName>, TrialFault>
         ensures ended { IfOk result (λ ends. (owners : List ℕ) (deeds : List Deed) → ShowsBook self.old owners deeds
             → All (λ deed. place_of deed < revocation.now.place) deeds → ends.items ≡ ended_by owners deeds revocation.now) }
         ensures ok { IfOk result (λ ends. self.new ≡ with_ends self.old revocation.now.place ends.items) }
-        ensures after { OnOk result ((owners : List ℕ) (deeds : List Deed) → ShowsBook self.old owners deeds
-            → All (λ deed. place_of deed < revocation.now.place) deeds
-            → ShowsBook self.new owners (deeds ++ Revoking revocation.now ∷ [])) }
-        ensures later { OnOk result ((next : ℕ) → revocation.now.place < next → IsLater self.new next) }
         ensures err { OnErr result (self.new ≡ self.old) }
     {
+        if !self.is_later(revocation.place) || self.tables.len() <= revocation.table.0 as usize {
+            return Err(TrialFault::Call);
+        }
         let ended = self.to_end(alloc, revocation)?;
         close(&mut self.records, revocation.place, &ended);
         Ok(ended)
     }
 
-    /// Whether the place lies above those of all tables, grants and ends of the book. It looks once at each.
-    #[tactic(auto, using(grants::proofs::LaterLaws::decides_later))]
-    pub fn is_later(&self, place: Place) -> bool
-        ensures { Decides result (IsLater self.now place) }
-    {
-        self.tables().iter().all(|creation| creation.place < place)
-            && self
-                .records()
-                .iter()
-                .all(|record| lies_below(record, place))
-    }
-
-    /// Adds tables and grants after the others, the grants without an end, and then ends records by their slots. What is so put together
-    /// has to be a book. Where the book showed some deeds, and the grants and ends are what more deeds make of their records, it then shows
-    /// them all. On `Err`, out of memory, the book is as it was.
-    pub fn extend(
-        &mut self,
-        tables: &[Creation],
-        grants: &[Grant],
-        ends: &[End],
-    ) -> Result<(), AllocError>
-        requires slots { All (λ (end : End). end.slot < length self.old.records + length grants.now) ends.now }
-        requires sound { IsSoundBook (extended self.old tables.now grants.now ends.now) }
-        ensures ok { OnOk result (self.new ≡ extended self.old tables.now grants.now ends.now) }
-        ensures shows { OnOk result ((owners others : List ℕ) (deeds more : List Deed) → ShowsBook self.old owners deeds
-            → Continues others deeds more (self.old.tables ++ tables.now) grants.now ends.now → ShowsBook self.new others (deeds ++ more)) }
-        ensures err { OnErr result (self.new ≡ self.old) }
-    {
-        self.tables.reserve(tables.len())?;
-        self.records.reserve(grants.len())?;
-        append_tables(&mut self.tables, tables);
-        append_grants(&mut self.records, grants);
-        set_ends(&mut self.records, ends);
-        Ok(())
-    }
-
-    /// Forgets the tables, grants and ends of the place and of later ones. It doesn't allocate, and looks once at each.
+    /// Forgets the tables, grants and ends of the place and of later ones.
     pub fn cut(&mut self, place: Place)
-        ensures cut { self.new ≡ cut_book place self.old }
-        ensures after { (owners others more : List ℕ) (deeds : List Deed) → ShowsBook self.old owners deeds
-            → All (λ deed. table_of_deed deed < length self.new.tables) (deeds_below place deeds)
-            → others ≡ owners_of self.new.tables ++ more → ShowsBook self.new others (deeds_below place deeds) }
+        ensures { self.new ≡ cut_book place self.old }
     {
         retain_tables(&mut self.tables, place);
         retain_records(&mut self.records, place);
         reopen(&mut self.records, place);
-    }
-}
-
-/// Adds the grants without an end after the others, for which there is room.
-fn append_grants(records: &mut Vec<Record>, grants: &[Grant])
-    requires { vec_len records.old + length grants.now ≤ vec_capacity records.old }
-    ensures { records.new.items ≡ records.old.items ++ map unended grants.now }
-{
-    for grant in grants {
-        records.push_reserved(Record {
-            grant: *grant,
-            end: None,
-        });
     }
 }
 

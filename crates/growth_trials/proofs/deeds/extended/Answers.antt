@@ -4,8 +4,8 @@ use Rattle.std.specs.Prelude.{IfSome, slice_get}
 use Rattle.std.proofs.lemmas.List.Elements.{All-push, All-weaker}
 use Rattle.model_base.specs.declared.deed.Grant.{Grant}
 use Rattle.model_base.specs.declared.deed.Record.{Record}
-use Rattle.model_base.specs.Ranks.{rank}
 use Rattle.model_base.specs.Privileges.{option_of}
+use Rattle.model_base.specs.Ranks.{rank}
 use Rattle.grants_base.specs.View.{has_by, holds_in}
 use Rattle.model_base.specs.Records.{ended_at}
 use Rattle.grants_base.specs.Book.{Entries, IsLater, IsSoundBook, end_slot, owners_of, unended, view_of, with_grant, with_table}
@@ -14,7 +14,7 @@ use Rattle.grants_base.specs.declared.entries.End.{End}
 use Rattle.grants.proofs.BookLaws.{sound_table}
 use Rattle.grants.proofs.EndedLaws.{IsOpen, ends_open}
 use Rattle.grants.proofs.GrantLaws.{sound_grant}
-use Rattle.grants.proofs.LaterLaws.{later_grant}
+use Rattle.grants.proofs.LaterLaws.{later_grant, next_later}
 use Rattle.grants_base.proofs.Lookups.{ended_none}
 use Rattle.grants_base.proofs.RevokeLaws.{sound_revoke}
 use Rattle.growth_trials.proofs.deeds.extended.Goals as goal
@@ -51,7 +51,7 @@ later_still book creation place later less = record {
 sound_more : (book : Entries) (creation : Creation) (grant : Grant) → IsSoundBook book → IsLater book creation.place → length book.tables < 65536
     → grant.table ≡ length book.tables → grant.grantor ≡ creation.owner → creation.place < grant.place → IsSoundBook (with_grant (with_table book creation) grant)
 sound_more book creation grant sound later room table grantor less =
-    sound_grant (with_table book creation) grant (sound_table book creation sound later room) (later_still book creation grant.place later less)
+    sound_grant (with_table book creation) grant (sound_table book creation sound later room) (next_later (with_table book creation) grant (later_still book creation grant.place later less))
     (omega (arith, length-append book.tables (creation ∷ []), table)) (owner_holds book creation grant table grantor)
 
 last_is : (entries : List Record) (entry : Record) → slice_get (entries ++ entry ∷ []) (length entries) ≡ Some entry
@@ -77,4 +77,4 @@ extend-requires-clause-sound c =
     let grant = c.args.grant.now in
     let here = sound_more book creation grant c.tables-tables.ensures.sound c.requires.later c.requires.room c.requires.table c.requires.grantor c.requires.place in
     let later = later_still book creation grant.place c.requires.later c.requires.place in
-    last_ended (with_table book creation) grant (length c.records-slot.result.now) c.args.place here (later_grant (with_table book creation) grant later c.args.place c.requires.end) (ap length c.records-slot.ensures.records)
+    last_ended (with_table book creation) grant (length c.records-slot.result.now) c.args.place here (later_grant (with_table book creation) grant (next_later (with_table book creation) grant later) c.args.place c.requires.end) (ap length c.records-slot.ensures.records)

@@ -1,14 +1,13 @@
-use Rattle.std.proofs.Common.{◌≡◌, sym, ap, ◌∙◌, subst}
-use Rattle.bohm_core_base.specs.declared.hold.Hold.TheVariants.{Done}
-use Rattle.bohm_core_base.specs.Machine.{State, hold_of, own_of}
-use Rattle.bohm_core_base.specs.Serial.{serial_words}
-use Rattle.log_batch.specs.Supplied.{batch_of}
+use Rattle.std.proofs.Common.{◌≡◌, ◌+◌, sym, ◌∙◌, subst}
+use Rattle.own_words.specs.Places.{words_at}
+use Rattle.sequencer.specs.Whole.{columns_by}
+use Rattle.log_batch.specs.Supplied.{range_of}
+use Rattle.log_batch.proofs.SerialRuns.{serial_words_are}
+use Rattle.filling.specs.FinishedRange.{FinishedRange}
 use Rattle.machine_trials.proofs.two_words.serial_own.Goals as goal
 
 pub returns : goal.returns
 returns c =
-    let b = batch_of c.args.machine.now.statements in
-    let here = c.state.ensures.reached in
-    let P : State → Type 0 = λ s. hold_of s c.args.index ≡ Done → own_of s c.args.index ≡ serial_words b c.args.index in
-    c.own.ensures ∙ ap (λ (s : State). own_of s c.args.index) c.state.ensures.value
-    ∙ subst P (sym here.reached) (λ done. (c.done_places_are_serial.ensures.done b here.events c.args.index here.sound done).words) c.requires
+    let Own : FinishedRange → Type 0 = λ span. c.own.result.now ≡ words_at (columns_by span.log.names) span.log.statements (span.first + 0) in
+    let here = subst Own c.requires.same c.own.ensures in
+    here ∙ sym (serial_words_are (range_of c.args.batch.now) c.statement-statement.ensures.of_log 0 c.statement-statement.result.now c.statement-statement.ensures.at)

@@ -1,0 +1,28 @@
+//! Events as words.
+
+use bohm_core_base::Event;
+use trials_base::{TrialFault, number_of};
+
+/// The event that words ask for: `place PARTITION`, `claim`, `fill`, `back` or `finish ACTOR INDEX`, `end ACTOR INDEX SLOT`.
+pub fn event_of(words: &[&str]) -> Result<Event, TrialFault> {
+    let [verb, words @ ..] = words else {
+        return Err(TrialFault::NotText);
+    };
+    let actor = number_of(words, 0)?;
+    if *verb == "place" {
+        let partition = actor as usize;
+        return Ok(Event::Place { partition });
+    }
+    let index = number_of(words, 1)? as usize;
+    match *verb {
+        "claim" => Ok(Event::Claim { actor, index }),
+        "fill" => Ok(Event::Fill { actor, index }),
+        "back" => Ok(Event::GiveBack { actor, index }),
+        "finish" => Ok(Event::Finish { actor, index }),
+        "end" => {
+            let slot = number_of(words, 2)? as usize;
+            Ok(Event::End { actor, index, slot })
+        }
+        _ => Err(TrialFault::NotText),
+    }
+}

@@ -1,5 +1,0 @@
-use Rattle.words.specs.Passes.{IsPassOf}
-use Rattle.thread_trials.proofs.dropped.hold_each.Given as goal
-
-abbrev pub invariant-loop-index : goal.invariant-loop-index
-invariant-loop-index g l = IsPassOf l.batch l.last

@@ -1,0 +1,3 @@
+pub mod Pushing
+pub mod Placed
+pub mod Standing

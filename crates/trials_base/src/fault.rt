@@ -1,0 +1,101 @@
+//! Why a trial ends without success.
+
+use audit_text::AuditFault;
+use bohm_base::ArgumentFault;
+use engine::EngineFault;
+use explain::ExplainFault;
+use log_text::LineFault;
+use sequencer::Refused;
+use std::alloc::AllocError;
+use std::io;
+use thiserror::Error;
+
+/// Why a trial ends without success.
+#[derive(Clone, Copy, Debug, PartialEq, Eq, Error)]
+pub enum TrialFault {
+    /// A line is no statement.
+    #[error("a line is not taken")]
+    Line(#[from] LineFault),
+    /// A log doesn't take a statement.
+    #[error("a statement is not taken")]
+    Statement(#[from] Refused),
+    /// A call can't be made here, or fails where memory is ample.
+    #[error("a call failed")]
+    Call,
+    /// The plain book says something else than the book.
+    #[error("the plain book differs")]
+    Differs,
+    /// A growth was refused.
+    #[error("out of memory")]
+    NoMemory(#[from(alloc)] AllocError),
+    /// A batch or a run failed.
+    #[error(transparent)]
+    Run(#[from] EngineFault),
+    /// A run failed.
+    #[error(transparent)]
+    Text(#[from] bohm_base::EngineFault),
+    /// A question has no answer.
+    #[error(transparent)]
+    Question(#[from] AuditFault),
+    /// A place isn't explained.
+    #[error(transparent)]
+    Place(#[from] ExplainFault),
+    /// A file can't be opened.
+    #[error("cannot open file")]
+    Open,
+    /// A file is longer than 2^20 bytes.
+    #[error("the file is too long")]
+    TooLong,
+    /// A file isn't text, or not as it has to be.
+    #[error("not text")]
+    NotText,
+    /// The words of the command line can't be had.
+    #[error("cannot read the arguments")]
+    Arguments(#[from] ArgumentFault),
+    /// A line of a file of cases begins with no verb.
+    #[error("no such verb")]
+    NoSuchVerb,
+    /// A word names no run.
+    #[error("no such run")]
+    NoSuchRun,
+    /// A word names no log.
+    #[error("no such log")]
+    NoSuchLog,
+    /// A verb, a run or a log has too few words after it, or too many.
+    #[error("too few words, or too many")]
+    Words,
+    /// A word is no number, or a number that is too large.
+    #[error("not a number")]
+    NotANumber,
+    /// A file can't be read, or what is said can't be printed.
+    #[error("cannot read or print")]
+    Io,
+}
+
+impl TrialFault {
+    /// Whether a growth or the start of a thread was refused.
+    pub fn is_refusal(self) -> bool {
+        match self {
+            TrialFault::NoMemory(_) => true,
+            TrialFault::Line(fault) => fault == LineFault::NoMemory,
+            TrialFault::Statement(fault) => fault == Refused::NoMemory,
+            TrialFault::Run(fault) => {
+                fault == EngineFault::NoMemory || fault == EngineFault::Spawn
+            }
+            TrialFault::Text(fault) => fault == bohm_base::EngineFault::NoMemory,
+            TrialFault::Question(fault) => fault == AuditFault::NoMemory,
+            TrialFault::Place(fault) => fault == ExplainFault::NoMemory,
+            _ => false,
+        }
+    }
+}
+
+impl From<io::Error> for TrialFault {
+    fn from(error: io::Error) -> TrialFault {
+        if error.kind() == io::ErrorKind::OutOfMemory {
+            TrialFault::NoMemory(AllocError)
+        } else {
+            TrialFault::Io
+        }
+    }
+}
