@@ -1,48 +1,27 @@
 -- Tables that are created later explain nothing: with their owners after the others the same lines explain some needs.
-use Rattle.std.proofs.Common.{◌≡◌, ◌<◌, ◌++◌, ◌∷◌, [], ℕ, List, length, refl, sym, ◌∙◌, ap, subst}
-use Rattle.std.specs.Prelude.{◌||◌, All, nat_lt, reverse}
+use Rattle.std.proofs.Common.{◌≡◌, ◌<◌, ◌++◌, ◌∷◌, [], ℕ, List, length, refl, sym, ◌∙◌, ap}
+use Rattle.std.specs.Prelude.{◌||◌, All, reverse}
 use Rattle.std.specs.List.{list_any}
-use Rattle.std.proofs.lemmas.List.Elements.{All-cons, All-head, All-push, All-tail}
+use Rattle.std.proofs.lemmas.List.Elements.{All-head, All-tail}
 use Rattle.model_base.specs.declared.deed.Cause.{Cause}
 use Rattle.model_base.specs.declared.deed.Cause.TheVariants.{Never, Taken}
 use Rattle.model_base.specs.declared.deed.Deed.{Deed}
-use Rattle.model_base.specs.declared.deed.Deed.TheVariants.{Granting, Revoking}
 use Rattle.model_base.specs.declared.deed.Grant.{Grant}
 use Rattle.model_base.specs.declared.deed.Need.{Need}
 use Rattle.model_base.specs.Paths.{path, path_back}
-use Rattle.model_base.specs.Privileges.{IsProper, gives, has, kept, option_of, owns}
-use Rattle.model_base.specs.Records.{deeds_below, grants_of}
+use Rattle.model_base.specs.Privileges.{IsProper, deeds_below, gives, has, kept, option_of, owns}
+use Rattle.model_base.specs.Records.{grants_of}
 use Rattle.model_base.proofs.MoreOwners.{IsOnTable, all_same-more, same-more, tables-proper}
 use Rattle.model_base.proofs.Owners.{AreSameOwners, cause-owners, holds-owners, kept-owners}
 use Rattle.model_base.proofs.Parts.{part-all}
-use Rattle.model_base.proofs.Paths.{reverse-cons}
-use Rattle.model_base.proofs.Recorded.{part-kept_grants}
+use Rattle.model_base.proofs.Recorded.{part-grants_below, part-kept_grants}
 use Rattle.model_base.proofs.Replay.{by_cases}
 use Rattle.explain.specs.declared.line.Line.{Line}
 use Rattle.explain.specs.declared.line.Shown.{Shown}
 use Rattle.explain.specs.Lines.{cause_before, holds_before, ranks_of, path_before, shown_lost, shown_of}
 use Rattle.explain.specs.ExplainedNeeds.{explaining_lines, line_of}
 use Rattle.explain.proofs.Asked.{lines-held, lines-missing}
-
-all-reverse : (P : Grant → Type 0) (grants : List Grant) → All P grants → All P (reverse grants)
-all-reverse P [] all = all
-all-reverse P (grant ∷ grants) all =
-    subst (All P) (sym (reverse-cons grant grants))
-    (All-push P (reverse grants) grant (all-reverse P grants (All-tail P grant grants all)) (All-head P grant grants all))
-
--- what holds of the grants of some deeds holds of those of the deeds below a place
-grants-below : (P : Grant → Type 0) (place : ℕ) (deeds : List Deed) → All P (grants_of deeds) → All P (grants_of (deeds_below place deeds))
-grants-below P place [] all = all
-grants-below P place (Granting grant ∷ deeds) all =
-    let rest = grants-below P place deeds (All-tail P grant (grants_of deeds) all) in
-    by_cases (nat_lt grant.place place)
-    (λ low. rw low (All-cons P grant (grants_of (deeds_below place deeds)) (All-head P grant (grants_of deeds) all) rest))
-    (λ high. rw high rest)
-grants-below P place (Revoking revocation ∷ deeds) all =
-    let rest = grants-below P place deeds all in
-    by_cases (nat_lt revocation.place place)
-    (λ low. rw low rest)
-    (λ high. rw high rest)
+use Rattle.explain.proofs.RisingPlaces.{all-reverse}
 
 module _ (own more : List ℕ) where
   -- who has what of the tables that there are
@@ -70,7 +49,7 @@ module _ (own more : List ℕ) where
 
   module _ (deeds : List Deed) (proper : IsProper own deeds) (user : ℕ) (need : Need) (low : need.table < length own) where
     on-below : (place : ℕ) → All (IsOnTable own) (grants_of (deeds_below place deeds))
-    on-below place = grants-below (IsOnTable own) place deeds (tables-proper own deeds proper)
+    on-below place = part-all (IsOnTable own) (part-grants_below place deeds) (tables-proper own deeds proper)
 
     same-below : (place : ℕ) → AreSameOwners (own ++ more) own (grants_of (deeds_below place deeds))
     same-below place = all_same-more own more (grants_of (deeds_below place deeds)) (on-below place)

@@ -4,8 +4,8 @@ ghost use Rattle.std.specs.Prelude.{◌≡◌, ◌≢◌, ℕ, List, [], Contain
 ghost use Rattle.model_base.specs.declared.deed.Deed.{Deed};
 ghost use Rattle.model_base.specs.declared.deed.Deed.TheVariants.{Revoking};
 ghost use Rattle.model_base.specs.declared.deed.Revocation.{Revocation};
-ghost use Rattle.model_base.specs.Privileges.{ended_by, kept};
-ghost use Rattle.model_base.specs.Records.{deeds_below, recorded};
+ghost use Rattle.model_base.specs.Privileges.{deeds_below, ended_by, kept};
+ghost use Rattle.model_base.specs.Records.{recorded};
 ghost use Rattle.grants_base.specs.Book.{Entries, ShowsBook};
 ghost use Rattle.audit_text.specs.Drawn.{drawn, fallen};
 

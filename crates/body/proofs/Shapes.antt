@@ -13,7 +13,7 @@ use Rattle.model_base.specs.declared.statement.Form.{Form}
 use Rattle.model_base.specs.declared.statement.Statement.{Statement}
 use Rattle.model_base.specs.declared.statement.Step.{Step}
 use Rattle.model_base.specs.declared.statement.Step.TheVariants.{Const, Compute, Has, Load, Store, Insert as InsertStep, Delete as DeleteStep, Check, Skip, Out}
-use Rattle.model_base.specs.Outcomes.{World, at_place, body, changed, deed_of, empty_world, judged, missing, owners, step_form, world_after}
+use Rattle.model_base.specs.Outcomes.{World, at_place, body, changed, deeds_of, empty_world, judged, missing, owners, step_form, world_after}
 use Rattle.model_base.specs.Rows.{Rows, with_row}
 use Rattle.model_base.specs.Body.{Machine, Effect, goes_on, aborts, is_undeclared, Ending, completed, aborted, undeclared, declared, is_zero, computed, fits_64_bits, put, flag, read_register, touch_declared, load_column, store_column, insert_row, delete_row, perform, after_step, run_steps, row_number}
 use Rattle.body.specs.Room.{same_key}
@@ -153,14 +153,14 @@ module _ (P : ℤ → Type 0) (zero-such : P (pos 0)) (one-such : P (pos 1)) (su
 
     -- a place leaves rows of the right shape
     module _ (own : List ℕ) (place : ℕ) (world : World) (statement : Statement) (fit : FormFits columns statement.form) (shaped : Shaped columns world.rows) where
-      changed_shaped : (deed : Option Deed) (ending : Ending) → body world.rows statement.form ≡ ending → Shaped columns (changed world deed ending).rows
-      changed_shaped deed (completed rows outputs) ends = (subst (ShapedEnding columns) ends (body_shaped statement.form world.rows fit shaped)).0
-      changed_shaped deed (aborted step reason) ends = shaped
-      changed_shaped deed (undeclared step) ends = shaped
+      changed_shaped : (deeds : List Deed) (ending : Ending) → body world.rows statement.form ≡ ending → Shaped columns (changed world deeds ending).rows
+      changed_shaped deeds (completed rows outputs) ends = (subst (ShapedEnding columns) ends (body_shaped statement.form world.rows fit shaped)).0
+      changed_shaped deeds (aborted step reason) ends = shaped
+      changed_shaped deeds (undeclared step) ends = shaped
 
       judged_shaped : (lack : Option Need) → Shaped columns (judged own place world statement lack).1.rows
       judged_shaped (Some need) = shaped
-      judged_shaped None = changed_shaped (deed_of place statement.user statement.form) (body world.rows statement.form) refl
+      judged_shaped None = changed_shaped (deeds_of place statement.user statement.form) (body world.rows statement.form) refl
 
       form_shaped : (form : Form) → Shaped columns (step_form own place world statement form).1.rows
       form_shaped (Form.Create table width) = shaped

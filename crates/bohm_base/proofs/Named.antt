@@ -39,10 +39,10 @@ got P (x ∷ xs) zero all = All-head P x xs all
 got P (x ∷ xs) (suc i) all = got P xs i (All-tail P x xs all)
 
 module _ (tables : ℕ) (own : List ℕ) (place : ℕ) (world : World) where
-  ended-named : (deed : Option Deed) (end : Ending) → IsNamed tables (ended own world deed end)
-  ended-named deed (completed rows outputs) = tt
-  ended-named deed (aborted step reason) = tt
-  ended-named deed (undeclared step) = tt
+  ended-named : (deeds : List Deed) (end : Ending) → IsNamed tables (ended own world deeds end)
+  ended-named deeds (completed rows outputs) = tt
+  ended-named deeds (aborted step reason) = tt
+  ended-named deeds (undeclared step) = tt
 
   judged-named : (statement : Statement) (need : Option Need) → IfSome need (λ n. n.table < tables) → IsNamed tables (judged own place world statement need).0
   judged-named statement (Some need) low = low

@@ -39,7 +39,7 @@ pub trait Statements {
         requires { slot < length (batch_slots (batch self.now)) }
         ensures { result ≡ end_of (start (batch self.now)) slot };
 
-    /// How many references a place has: one for each access, and one for each table of its needs and its deed.
+    /// How many references a place has: one for each access, and one for each table of its needs and deeds.
     fn references_length(&self, index: usize) -> usize
         requires { index < (batch self.now).size }
         ensures { result ≡ length (reference_words (batch self.now) index) };

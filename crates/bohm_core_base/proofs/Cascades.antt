@@ -23,7 +23,7 @@ use Rattle.model_base.proofs.Records.{all_among, grants-append}
 use Rattle.model_base.proofs.Recorded.{All-both, part-kept_grants, rising-grants}
 use Rattle.model_base.proofs.Ends.{is_ended}
 use Rattle.bohm_core_base.specs.Deeds.{is_made, made_before, named_before}
-use Rattle.bohm_core_base.specs.Batch.{Batch, IsSoundBatch, deeds_of, rank_at, batch_slots, was_done}
+use Rattle.bohm_core_base.specs.Batch.{Batch, IsSoundBatch, batch_deeds, rank_at, batch_slots, was_done}
 use Rattle.bohm_core_base.specs.Cascades.{EndsByCascade, FallsWith}
 use Rattle.bohm_core_base.specs.Serial.{serial_ends, serial_words, batch_world_before}
 use Rattle.bohm_core_base.proofs.Concerned.{Same, grant_here, kept-same}
@@ -239,7 +239,7 @@ later-slot (first ∷ grants) (suc k) (suc j) grant other rising at at' less =
 module _ (b : Batch) (sound : IsSoundBatch b) (k : ℕ) (slot : k < length (batch_slots b)) where
   slots-rising : IsRising (batch_slots b)
   unfolding batch_slots
-  slots-rising = slots-rise (deeds_of b (λ _. false)) sound.placed (rising-grants b.owners b.before sound.proper) b.size
+  slots-rising = slots-rise (batch_deeds b (λ _. false)) sound.placed (rising-grants b.owners b.before sound.proper) b.size
 
   -- the grants in force are those of slots
   kept-slots : (P : Grant → Type 0) → All P (batch_slots b) → (n : ℕ) → n ≤ b.size → All P (kept b.owners (batch_world_before b n).deeds)
@@ -255,7 +255,7 @@ module _ (b : Batch) (sound : IsSoundBatch b) (k : ℕ) (slot : k < length (batc
       part-all P (part-kept_grants b.owners (batch_world_before b n).deeds) here
 
   -- a grant that falls with another does so at the same place
-  falls-with : (n : ℕ) (revocation : Revocation) → n < b.size → was_done (serial_words b n) ≡ true → b.deed n ≡ Some (Revoking revocation)
+  falls-with : (n : ℕ) (revocation : Revocation) → n < b.size → was_done (serial_words b n) ≡ true → b.deeds n ≡ Revoking revocation ∷ []
       → (grant : Grant) → slice_get (batch_slots b) k ≡ Some grant → (giver : Grant)
       → ((j : ℕ) × (j < length (batch_slots b)) × (slice_get (batch_slots b) j ≡ Some giver)) × (is_among (rank giver) (kept b.owners (batch_world_before b n).deeds) ≡ true)
       → is_among (rank giver) (kept b.owners ((batch_world_before b n).deeds ++ Revoking revocation ∷ [])) ≡ false

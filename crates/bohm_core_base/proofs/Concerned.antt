@@ -22,7 +22,7 @@ use Rattle.model_base.proofs.Covered.{contrary}
 use Rattle.model_base.proofs.Ended.{kept-stays_other}
 use Rattle.model_base.proofs.Ends.{is_ended}
 use Rattle.bohm_core_base.specs.Deeds.{is_made, made_before, named_before}
-use Rattle.bohm_core_base.specs.Batch.{Batch, IsSoundBatch, deeds_of, rank_at, batch_slots}
+use Rattle.bohm_core_base.specs.Batch.{Batch, IsSoundBatch, batch_deeds, rank_at, batch_slots}
 use Rattle.bohm_core_base.specs.Laws.{EndsByRevocation}
 use Rattle.bohm_core_base.specs.Serial.{serial_ends, batch_world_before}
 use Rattle.bohm_core_base.proofs.Slots.{made-named, made-split, slots-rise}
@@ -67,7 +67,7 @@ module _ (b : Batch) (sound : IsSoundBatch b) (k : ℕ) (slot : k < length (batc
       let grants = batch_slots b in
       let Alone : Grant → Grant → Type 0 = λ grant g. rank g ≡ rank grant → g ≡ grant in
       let rise : IsRising grants
-      = slots-rise (deeds_of b (λ _. false)) sound.placed (rising-grants b.owners b.before sound.proper) b.size in
+      = slots-rise (batch_deeds b (λ _. false)) sound.placed (rising-grants b.owners b.before sound.proper) b.size in
       let here : rank_at b k ≡ rank grant_here = get_or-map rank grants k no_grant 0 slot in
       All-weaker (Alone grant_here) Same (λ g alone at. alone (at ∙ here)) grants
       (All-get_or (λ grant. All (Alone grant) grants) grants k no_grant slot (rising-unique grants rise))

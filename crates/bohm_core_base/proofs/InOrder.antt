@@ -6,7 +6,7 @@ use Rattle.model_base.specs.declared.deed.Grant.{Grant}
 use Rattle.model_base.specs.Ranks.{rank}
 use Rattle.model_base.specs.Laws.{IsRising}
 use Rattle.model_base.proofs.Recorded.{rising-grants}
-use Rattle.bohm_core_base.specs.Batch.{Batch, IsSoundBatch, deeds_of, batch_slots}
+use Rattle.bohm_core_base.specs.Batch.{Batch, IsSoundBatch, batch_deeds, batch_slots}
 use Rattle.bohm_core_base.proofs.Slots.{slots-rise}
 
 -- what holds of all holds of one that is there
@@ -32,4 +32,4 @@ pub slots-order : (b : Batch) → IsSoundBatch b → (k j : ℕ) (grant later : 
 unfolding batch_slots
 slots-order b sound k j grant later less at behind =
     in-order (batch_slots b) k j grant later
-    (slots-rise (deeds_of b (λ _. false)) sound.placed (rising-grants b.owners b.before sound.proper) b.size) less at behind
+    (slots-rise (batch_deeds b (λ _. false)) sound.placed (rising-grants b.owners b.before sound.proper) b.size) less at behind

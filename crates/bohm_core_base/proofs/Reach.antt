@@ -19,7 +19,7 @@ use Rattle.bohm_core_base.specs.declared.event.Event.TheVariants.{Place, Claim, 
 use Rattle.bohm_core_base.specs.declared.hold.Hold.TheVariants.{Free, Held, Done}
 use Rattle.bohm_core_base.specs.declared.hold.Hold.{Hold}
 use Rattle.bohm_core_base.specs.Deeds.{made_before}
-use Rattle.bohm_core_base.specs.Batch.{Batch, place_has_deed_on, is_listed, table_at, changes_key, reference_words, writer_reference, was_done, batch_slots, rank_at, deeds_of, IsSoundBatch}
+use Rattle.bohm_core_base.specs.Batch.{Batch, place_has_deed_on, is_listed, table_at, changes_key, reference_words, writer_reference, was_done, batch_slots, rank_at, batch_deeds, IsSoundBatch}
 use Rattle.bohm_core_base.specs.Serial.{serial_words, serial_ends, whole_end}
 use Rattle.bohm_core_base.specs.Machine.{State, front_of, stored_references_of, placed_references, hold_of, own_of, end_of, is_free, is_held_by, is_done, is_ready, all_ready, words_seen, must_end, all_filled, all_past, guard, with_hold, change, effect, run_from, empty_references, start, reach}
 use Rattle.bohm_core_base.specs.Laws.{HasSizes, actor_of, HasReferences, IsSerialPlace, IsWholeBelow, ShowsSerial, KeepsStored, SameTask, NoneBy}
@@ -90,7 +90,7 @@ module _ (b : Batch) (sound : IsSoundBatch b) where
       × All (λ deed. b.first + 0 ≤ place_of deed) later
   unfolding whole_end
   whole-start k =
-      let d = deeds_of b (λ i. was_done (serial_words b i)) in
+      let d = batch_deeds b (λ i. was_done (serial_words b i)) in
       let split = made-split d (serial-placed b sound) b.size 0 (omega arith) in
       (split.0, rw (deeds-made b sound b.size, split.1) (end-append b.owners [] b.before split.0 (rank_at b k)), split.2)
 
@@ -506,7 +506,7 @@ module _ (b : Batch) (sound : IsSoundBatch b) where
 
   -- the same deeds are made where the same places are done
   made-same : (first second : ℕ → Bool) (n : ℕ) → ((i : ℕ) → i < n → first i ≡ second i)
-      → made_before (deeds_of b first) n ≡ made_before (deeds_of b second) n
+      → made_before (batch_deeds b first) n ≡ made_before (batch_deeds b second) n
   made-same first second zero same = refl
   made-same first second (suc n) same =
       rw (same n (omega arith), made-same first second n (λ i less. same i (omega arith))) refl

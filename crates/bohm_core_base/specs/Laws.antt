@@ -13,7 +13,7 @@ use Rattle.bohm_core_base.specs.declared.event.Event.{Event}
 use Rattle.bohm_core_base.specs.declared.event.Event.TheVariants.{Place, Claim, Fill, End, Finish, GiveBack}
 use Rattle.bohm_core_base.specs.declared.hold.Hold.TheVariants.{Done}
 use Rattle.bohm_core_base.specs.Deeds.{made_before}
-use Rattle.bohm_core_base.specs.Batch.{Batch, deeds_of, place_has_deed_on, is_listed, reference_words, batch_slots, table_at, was_done, writer_reference}
+use Rattle.bohm_core_base.specs.Batch.{Batch, batch_deeds, place_has_deed_on, is_listed, reference_words, batch_slots, table_at, was_done, writer_reference}
 use Rattle.bohm_core_base.specs.Serial.{records_in, rows_at, serial_ends, serial_words, whole_end, batch_world_before}
 use Rattle.bohm_core_base.specs.Machine.{State, all_past, all_ready, end_of, hold_of, must_end, own_of, records_seen, stored_references_of, row_by, rows_seen, words_seen}
 
@@ -101,11 +101,11 @@ pub record IsWholeBelow (batch : Batch) (state : State) (count : ℕ) : Type 0 w
   -- the row of each key by the own words of its last writer below the count, or else before the batch
   pub rows : (key : Key) → row_by batch state key (writer_reference batch count key) ≡ (batch_world_before batch count).rows key
   -- the deeds before the batch, then in order those of the places below the count whose own words say that they were done
-  pub deeds : made_before (deeds_of batch (λ index. was_done (own_of state index))) count ≡ (batch_world_before batch count).deeds
+  pub deeds : made_before (batch_deeds batch (λ index. was_done (own_of state index))) count ≡ (batch_world_before batch count).deeds
 
--- the deed of the place is a revocation of the kind and on the table of the slot's grant
+-- the deed of the place is one revocation, of the kind and on the table of the slot's grant
 pub record EndsByRevocation (batch : Batch) (index slot : ℕ) : Type 0 where
   pub within : index < batch.size
   pub revocation : Revocation
-  pub deed : batch.deed index ≡ Some (Revoking revocation)
+  pub deed : batch.deeds index ≡ Revoking revocation ∷ []
   pub concerned : (grant : Grant) → slice_get (batch_slots batch) slot ≡ Some grant → concerns revocation grant ≡ true

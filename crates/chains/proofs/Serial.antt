@@ -9,22 +9,22 @@ use Rattle.model_base.specs.declared.deed.Need.{Need}
 use Rattle.model_base.specs.declared.statement.Form.{Form}
 use Rattle.model_base.specs.declared.statement.Statement.{Statement}
 use Rattle.model_base.specs.Body.{Ending, completed, aborted, undeclared}
-use Rattle.model_base.specs.Outcomes.{World, at_place, body, changed, deed_of, empty_world, judged, missing, owners, rows_before, step_form, world_after, world_before}
+use Rattle.model_base.specs.Outcomes.{World, at_place, body, changed, deeds_of, empty_world, judged, missing, owners, rows_before, step_form, world_after, world_before}
 use Rattle.model_base.specs.References.{declares_write}
 use Rattle.model_base.proofs.Growth.{world_after-snoc}
 use Rattle.body.proofs.Frame.{leaves_unwritten}
 
 module _ (own : List ℕ) (place : ℕ) (world : World) (statement : Statement) (table row : ℕ)
     (unwritten : declares_write table row statement ≡ false) where
-  kept-changed : (deed : Option Deed) (ending : Ending) → body world.rows statement.form ≡ ending
-      → (changed world deed ending).rows table row ≡ world.rows table row
-  kept-changed deed (completed rows outputs) ends = leaves_unwritten statement world.rows rows outputs table row ends unwritten
-  kept-changed deed (aborted step reason) ends = refl
-  kept-changed deed (undeclared step) ends = refl
+  kept-changed : (deeds : List Deed) (ending : Ending) → body world.rows statement.form ≡ ending
+      → (changed world deeds ending).rows table row ≡ world.rows table row
+  kept-changed deeds (completed rows outputs) ends = leaves_unwritten statement world.rows rows outputs table row ends unwritten
+  kept-changed deeds (aborted step reason) ends = refl
+  kept-changed deeds (undeclared step) ends = refl
 
   kept-judged : (lack : Option Need) → (judged own place world statement lack).1.rows table row ≡ world.rows table row
   kept-judged (Some need) = refl
-  kept-judged None = kept-changed (deed_of place statement.user statement.form) (body world.rows statement.form) refl
+  kept-judged None = kept-changed (deeds_of place statement.user statement.form) (body world.rows statement.form) refl
 
   kept-form : (form : Form) → (step_form own place world statement form).1.rows table row ≡ world.rows table row
   kept-form (Form.Create name columns) = refl

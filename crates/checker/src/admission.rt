@@ -27,7 +27,7 @@ pub enum Admission {
 }
 
 /// Whether the statement's user holds each privilege that it needs, at the view's place: the kinds of each access in order, and for a grant
-/// its kind with the option. The first that isn't held denies, with its cause. A need that is listed twice is looked up as it is. It
+/// its kinds with the option. The first that isn't held denies, with its cause. A need that is listed twice is looked up as it is. It
 /// doesn't allocate. Where the view doesn't know what is in force, each need costs one look at each slot that asks for a grant of its kind
 /// on its table to the user, up to one in force that gives it.
 pub fn admit<V: Records>(statement: &Statement, view: &mut V) -> Admission

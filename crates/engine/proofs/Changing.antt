@@ -2,31 +2,32 @@
 use Rattle.std.proofs.Common.{◌≡◌, ◌<◌, ◌≤◌, ◌+◌, ◌-◌, ◌++◌, ◌||◌, ◌∷◌, [], ℕ, zero, suc, Bool, true, false, List, Option, Some, None, is_none, filter, length, map, take, refl, ap, sym, ◌∙◌, subst, arith, append_assoc, length-append, inl, inr, eq-eqb}
 use Rattle.std.specs.Prelude.{◌==◌, All, nat_lt, slice_get}
 use Rattle.std.specs.List.{flat_map, range_with_len}
-use Rattle.std.specs.Option.{option_map, option_map_or, option_to_list}
+use Rattle.std.specs.Option.{option_map, option_map_or}
 use Rattle.std.proofs.lemmas.Bool.{eqb-true, le-ltb, or_cases, or_right, true≢false}
 use Rattle.std.proofs.lemmas.Grind.{flat_map-append}
 use Rattle.std.proofs.lemmas.List.{append-nil, length-map, map-append}
 use Rattle.std.proofs.lemmas.List.Elements.{All-cons, All-head, All-nil, All-tail, All-weaker, filter-append}
 use Rattle.std.proofs.lemmas.Option.{slice_get_within}
 use Rattle.model_base.specs.declared.deed.Deed.{Deed}
-use Rattle.model_base.specs.declared.deed.Deed.TheVariants.{Granting, Revoking}
+use Rattle.model_base.specs.declared.deed.Deed.TheVariants.{Revoking}
 use Rattle.model_base.specs.declared.deed.Grant.{Grant}
 use Rattle.model_base.specs.declared.deed.Need.{Need}
 use Rattle.model_base.specs.declared.deed.Record.{Record}
 use Rattle.model_base.specs.declared.deed.Revocation.{Revocation}
 use Rattle.model_base.specs.declared.outcome.Outcome.{Outcome}
-use Rattle.model_base.specs.declared.statement.DeedForm.{DeedForm}
 use Rattle.model_base.specs.declared.statement.Form.{Form}
 use Rattle.model_base.specs.declared.statement.Statement.{Statement}
 use Rattle.model_base.specs.Body.{Ending, completed}
+use Rattle.model_base.specs.DeedsLeft.{revocation_of}
 use Rattle.model_base.specs.Laws.{IsRising}
-use Rattle.model_base.specs.Outcomes.{World, at_place, body, creator, deed_at, deed_done, deed_of, deeds_before, ended, judged, missing, outcome, owners, step_form, world_before}
+use Rattle.model_base.specs.Outcomes.{World, at_place, body, creator, deed_done, deeds_before, deeds_of, ended, judged, missing, outcome, owners, step_form, world_before}
 use Rattle.model_base.specs.Privileges.{ended_by, is_among, kept, lost, place_of}
 use Rattle.model_base.specs.Ranks.{rank}
-use Rattle.model_base.specs.Records.{ended_at, in_force, recorded}
+use Rattle.model_base.specs.Records.{ended_at, grants_of, in_force, recorded}
+use Rattle.model_base.proofs.Made.{deeds_of-one, deeds_of-placed}
 use Rattle.model_base.proofs.Records.{in_force-records}
 use Rattle.model_base.proofs.Replay.{by_cases}
-use Rattle.grants_base.specs.Book.{Entries, IsLater, IsSoundBook, ShowsBook, cut_book, end_slot, end_slots, extended, owners_of, table_of_deed, unended, with_ends, with_grant, with_table}
+use Rattle.grants_base.specs.Book.{Entries, IsLater, IsSoundBook, ShowsBook, cut_book, end_slot, end_slots, extended, owners_of, table_of_deed, unended, with_ends, with_table}
 use Rattle.grants_base.specs.declared.entries.Creation.{Creation}
 use Rattle.grants_base.specs.declared.entries.End.{End}
 use Rattle.grants_base.proofs.Indexing.{recorded-end_slots}
@@ -34,18 +35,18 @@ use Rattle.grants_base.proofs.RevokeLaws.{shows_revoke, sound_revoke}
 use Rattle.grants_base.proofs.SlotEnds.{length-end_slot}
 use Rattle.grants_base.proofs.Walks.{length-recorded}
 use Rattle.grants.proofs.BookLaws.{sound_table}
-use Rattle.grants.proofs.GrantLaws.{shows_grant, sound_grant}
-use Rattle.grants.proofs.LaterLaws.{later_ends, later_grant, later_table}
+use Rattle.grants.proofs.LaterLaws.{later_ends, later_table}
 use Rattle.grants.proofs.EndedLaws.{IsOpen, ends_open}
+use Rattle.evaluation.proofs.OnlyRevocation.{all_grants, only_revocation}
 use Rattle.own_words.specs.Words.{creates, ended_in, ranks_ended_by}
 use Rattle.filling.proofs.Ranges.{range_more}
 use Rattle.engine.specs.Changes.{AreChanges, creation_at, creations_at}
 use Rattle.engine.specs.Known.{AreKnown}
-use Rattle.engine.specs.RunState.{IsBookState, is_completed, made_of}
-use Rattle.engine.proofs.Cutting.{cut_ended, cut_granted}
-use Rattle.engine.proofs.Making.{granted_held, made-after, made_none, made_one, only, past-below}
+use Rattle.engine.specs.RunState.{IsBookState, is_completed}
+use Rattle.engine.proofs.Cutting.{cut_ended}
+use Rattle.engine.proofs.Making.{below_here, made_none, made_revoked, making_all, making_starts, with_grants}
 use Rattle.engine.proofs.Lying.{recorded_at}
-use Rattle.engine.proofs.Stepping.{create_room, created, make_next, make_owners, make_table, made_here, no-creator}
+use Rattle.engine.proofs.Stepping.{create_room, created, make_next, make_owners, make_table, made_here, made_of, no-creator}
 
 -- the grants of records with later ones after them
 recorded-unended : (grants : List Grant) → recorded (map unended grants) ≡ grants
@@ -161,39 +162,20 @@ lost-among (grant ∷ before) after =
 -- the ranks that an outcome tells are those of the grants that its place's revocation ended
 module _ (own : List ℕ) (place : ℕ) (world : World) (statement : Statement) where
   abbrev TellsEnds : Outcome → Type 0
-  TellsEnds came = (revocation : Revocation)
-      → made_of (is_completed came) (deed_of place statement.user statement.form) ≡ Some (Revoking revocation)
+  TellsEnds came = is_completed came ≡ true → (revocation : Revocation) → deeds_of place statement.user statement.form ≡ Revoking revocation ∷ []
       → ended_in came ≡ ended_by own world.deeds revocation
 
-  ends-ended : (ending : Ending) → TellsEnds (ended own world (deed_of place statement.user statement.form) ending)
-  ends-ended (completed rows outputs) revocation is = ap (λ (d : Option Deed). ranks_ended_by (deed_done own world d)) is
-  ends-ended ending revocation is = absurd (cc)
+  ends-ended : (ending : Ending) → TellsEnds (ended own world (deeds_of place statement.user statement.form) ending)
+  ends-ended (completed rows outputs) done revocation is = ap (λ (made : List Deed). ranks_ended_by (deed_done own world made)) is
+  ends-ended ending done revocation is = absurd (cc)
 
   ends-judged : (lack : Option Need) → TellsEnds (judged own place world statement lack).0
-  ends-judged (Some need) revocation is = absurd (cc)
-  ends-judged None revocation is = ends-ended (body world.rows statement.form) revocation is
+  ends-judged (Some need) done revocation is = absurd (cc)
+  ends-judged None done revocation is = ends-ended (body world.rows statement.form) done revocation is
 
   ends-form : (form : Form) → TellsEnds (step_form own place world statement form).0
-  ends-form (Form.Create table columns) revocation is = absurd (cc)
-  ends-form form revocation is = ends-judged (missing own world statement.user form) revocation is
-
--- a deed is of its place
-module _ (place user : ℕ) where
-  deed-placed : (deed : DeedForm) → place_of (deed_at place user deed) ≡ place
-  deed-placed (DeedForm.Grant kind table grantee option) = refl
-  deed-placed (DeedForm.Revoke kinds table grantees) = refl
-
-  placed-of : (form : Form) (one : Deed) → deed_of place user form ≡ Some one → place_of one ≡ place
-  placed-of (Form.Create table columns) one is = absurd (cc)
-  placed-of (Form.Run accesses steps None) one is = absurd (cc)
-  placed-of (Form.Run accesses steps (Some deed)) one is =
-      let same : deed_at place user deed ≡ one = cc in sym (ap place_of same) ∙ deed-placed deed
-  placed-of (Form.Deed deed) one is =
-      let same : deed_at place user deed ≡ one = cc in sym (ap place_of same) ∙ deed-placed deed
-
-  placed : (done : Bool) (form : Form) (one : Deed) → made_of done (deed_of place user form) ≡ Some one → place_of one ≡ place
-  placed true form one is = placed-of form one is
-  placed false form one is = absurd (cc)
+  ends-form (Form.Create table columns) done revocation is = absurd (cc)
+  ends-form form done revocation is = ends-judged (missing own world statement.user form) done revocation is
 
 abbrev book_of : List Creation → List Record → Entries
 book_of tables entries = record { tables = tables; records = entries }
@@ -276,102 +258,91 @@ module _ (log : List Statement) (first index : ℕ) (book : Entries) (tables : L
         (sound_table so_far one are.sound are.stands.later (create_room log place statement at so_far are.stands known creating))
         (cut_tabled first so_far one least)
 
-    module _ (other : creates statement.form ≡ false) (came : Outcome) (came_is : outcome log place ≡ Some came)
-        (deed : Option Deed) (made : deed ≡ made_of (is_completed came) (deed_of place statement.user statement.form)) where
-      next-deeds : deeds_before log (place + 1) ≡ past ++ option_to_list deed
-      next-deeds = make_next log place statement at came deed came_is made
+    module _ (other : creates statement.form ≡ false) (came : Outcome) (came_is : outcome log place ≡ Some came) where
+      abbrev made : List Deed
+      made = deeds_of place statement.user statement.form
 
       next-owners : owners (take (place + 1) log) ≡ owners (take place log)
       next-owners = make_owners log place statement at so_far are.stands known other
-
-      on-tables : All (λ one. table_of_deed one < length so_far.tables) (option_to_list deed)
-      on-tables = make_table log place statement at so_far are.stands known (is_completed came) deed made
 
       same-tables : tables ≡ tables ++ creations_at log place
       same-tables =
           sym (append-nil tables) ∙ ap (λ (cs : List Creation). tables ++ cs) (sym (created-here [] (no-creator statement.user statement.form other)))
 
-      pub with_none : deed ≡ None → AreChanges log first (index + 1) book tables grants ends
+      next-deeds : (done : Bool) → is_completed came ≡ done → deeds_before log (place + 1) ≡ past ++ made_of done made
+      next-deeds done is = make_next log place statement at came came_is ∙ ap (λ (b : Bool). past ++ made_of b made) is
+
+      pub with_none : is_completed came ≡ false → AreChanges log first (index + 1) book tables grants ends
       with_none is =
           moved so_far tables grants ends refl same-tables are.slots
-          (made_none log place so_far are.stands next-owners deed is next-deeds) are.sound refl
+          (made_none log place so_far are.stands next-owners (next-deeds false is ∙ append-nil past)) are.sound refl
 
-      module _ (one : Deed) (is : deed ≡ Some one) where
-        here : place_of one ≡ place
-        here = placed place statement.user (is_completed came) statement.form one (sym made ∙ is)
+      module _ (done : is_completed came ≡ true) where
+        on-tables : All (λ one. table_of_deed one < length so_far.tables) made
+        on-tables = make_table log place statement at so_far are.stands known
 
-        all-here : All (λ made. place_of made ≡ place) (option_to_list deed)
-        all-here = subst (λ (d : Option Deed). All (λ made. place_of made ≡ place) (option_to_list d)) (sym is)
-            (All-cons (λ made. place_of made ≡ place) one [] here (All-nil (λ made. place_of made ≡ place)))
+        all-here : All (λ one. place_of one ≡ place) made
+        all-here = deeds_of-placed place statement.user statement.form
 
-        pub later_here : IsLater so_far (place_of one)
-        later_here = subst (IsLater so_far) (sym here) are.stands.later
+        pub with_granted : revocation_of made ≡ None → AreChanges log first (index + 1) book tables (grants ++ grants_of made) ends
+        with_granted none =
+            let base : List Record = book.records ++ map unended grants in
+            let more : List Grant = grants_of made in
+            let all = all_grants made (deeds_of-one place statement.user statement.form) none in
+            let grown = making_all log place so_far made
+            (making_starts log place so_far are.stands next-owners made (next-deeds true done) all all-here on-tables) are.sound in
+            let within : All (λ (end : End). end.slot < length base) ends =
+            All-weaker (Fitting grants) (λ (end : End). end.slot < length base)
+            (λ end less. omega (arith, less, length-append book.records (map unended grants), length-map grants unended)) ends are.slots in
+            let fit : All (Fitting (grants ++ more)) ends =
+            All-weaker (Fitting grants) (Fitting (grants ++ more)) (λ end less. omega (arith, less, length-append grants more)) ends are.slots in
+            let least : first ≤ place = omega arith in
+            moved (with_grants so_far more) tables (grants ++ more) ends
+            (ap (book_of so_far.tables)
+            (ap (λ (es : List Record). end_slots es ends)
+            (ap (λ (es : List Record). book.records ++ es) (map-append unended grants more) ∙ sym (append_assoc book.records (map unended grants) (map unended more)))
+            ∙ end_slots-append ends base (map unended more) within))
+            same-tables fit grown.stands grown.sound (grown.cut first least)
 
-        on-table : table_of_deed one < length so_far.tables
-        on-table = only (λ made. table_of_deed made < length so_far.tables) deed one is on-tables
+        module _ (revocation : Revocation) (is : revocation_of made ≡ Some revocation) where
+          alone : made ≡ Revoking revocation ∷ []
+          alone = only_revocation made revocation (deeds_of-one place statement.user statement.form) is
 
-      pub with_granted : (grant : Grant) → deed ≡ Some (Granting grant) → AreChanges log first (index + 1) book tables (grants ++ grant ∷ []) ends
-      with_granted grant is =
-          let base : List Record = book.records ++ map unended grants in
-          let at_place : grant.place ≡ place = here (Granting grant) is in
-          let later = later_here (Granting grant) is in
-          let table = on-table (Granting grant) is in
-          let held = granted_held log place so_far are.stands deed grant is next-deeds (all-here (Granting grant) is) on-tables in
-          let within : All (λ (end : End). end.slot < length base) ends =
-          All-weaker (Fitting grants) (λ (end : End). end.slot < length base)
-          (λ end less. omega (arith, less, length-append book.records (map unended grants), length-map grants unended)) ends are.slots in
-          let fit : All (λ (end : End). end.slot < length book.records + length (grants ++ grant ∷ [])) ends =
-          All-weaker (Fitting grants) (Fitting (grants ++ grant ∷ []))
-          (λ end less. omega (arith, less, length-append grants (grant ∷ []))) ends are.slots in
-          let least : first ≤ grant.place = omega (arith, at_place) in
-          moved (with_grant so_far grant) tables (grants ++ grant ∷ []) ends
-          (ap (book_of so_far.tables)
-          (ap (λ (es : List Record). end_slots es ends)
-          (ap (λ (es : List Record). book.records ++ es) (map-append unended grants (grant ∷ [])) ∙ sym (append_assoc book.records (map unended grants) (unended grant ∷ [])))
-          ∙ end_slots-append ends base (unended grant ∷ []) within))
-          same-tables fit
-          (made_one log place so_far are.stands next-owners deed (Granting grant) (with_grant so_far grant) is next-deeds (all-here (Granting grant) is) refl
-          (λ owned deeds shows below. shows_grant so_far owned deeds grant later table held shows below)
-          (λ next less. later_grant so_far grant later next less))
-          (sound_grant so_far grant are.sound later table held)
-          (cut_granted first so_far grant least)
+          here : revocation.place ≡ place
+          here = All-head (λ one. place_of one ≡ place) (Revoking revocation) [] (subst (All (λ one. place_of one ≡ place)) alone all-here)
 
-      module _ (revocation : Revocation) (is : deed ≡ Some (Revoking revocation)) where
-        ended-told : ended_in came ≡ ended_by (owners log) past revocation
-        ended-told =
-            let found : Outcome = (at_place (owners log) place (world_before log place) statement).0 in
-            let both : Some found ≡ Some came = sym (ap (option_map (λ s. (at_place (owners log) place (world_before log place) s).0)) at) ∙ came_is in
-            let same : found ≡ came = cc in
-            subst (λ (o : Outcome). made_of (is_completed o) (deed_of place statement.user statement.form) ≡ Some (Revoking revocation)
-            → ended_in o ≡ ended_by (owners log) past revocation) same
-            (ends-form (owners log) place (world_before log place) statement statement.form revocation) (sym made ∙ is)
+          ended-told : ended_in came ≡ ended_by (owners log) past revocation
+          ended-told =
+              let found : Outcome = (at_place (owners log) place (world_before log place) statement).0 in
+              let both : Some found ≡ Some came = sym (ap (option_map (λ s. (at_place (owners log) place (world_before log place) s).0)) at) ∙ came_is in
+              let same : found ≡ came = cc in
+              subst (λ (o : Outcome). is_completed o ≡ true → ended_in o ≡ ended_by (owners log) past revocation) same
+              (λ completes. ends-form (owners log) place (world_before log place) statement statement.form completes revocation alone) done
 
-        pub ended-open : All (λ one. is_among one (in_force (extended book [] grants ends).records) ≡ true) (ended_in came)
-        ended-open =
-            let grants_now : in_force so_far.records ≡ kept (owners log) past = ap in_force are.stands.shown.same ∙ in_force-records (owners log) past are.stands.shown.proper in
-            subst (λ (gs : List Grant). All (λ one. is_among one gs ≡ true) (ended_in came)) (sym grants_now)
-            (subst (All (λ one. is_among one (kept (owners log) past) ≡ true)) (sym ended-told)
-            (lost-among (kept (owners log) past) (kept (owners log) (past ++ Revoking revocation ∷ []))))
+          pub ended-open : All (λ one. is_among one (in_force (extended book [] grants ends).records) ≡ true) (ended_in came)
+          ended-open =
+              let grants_now : in_force so_far.records ≡ kept (owners log) past = ap in_force are.stands.shown.same ∙ in_force-records (owners log) past are.stands.shown.proper in
+              subst (λ (gs : List Grant). All (λ one. is_among one gs ≡ true) (ended_in came)) (sym grants_now)
+              (subst (All (λ one. is_among one (kept (owners log) past) ≡ true)) (sym ended-told)
+              (lost-among (kept (owners log) past) (kept (owners log) (past ++ Revoking revocation ∷ []))))
 
-        pub with_revoked : (after : List End) → (extended book [] grants after).records ≡ map (ended_at revocation.place (ended_in came)) (extended book [] grants ends).records
-            → All (λ (end : End). end.slot < length book.records + length grants) after → AreChanges log first (index + 1) book tables grants after
-        with_revoked after records_are slots =
-            let at_place : revocation.place ≡ place = here (Revoking revocation) is in
-            let later = later_here (Revoking revocation) is in
-            let table = on-table (Revoking revocation) is in
-            let below : All (λ d. place_of d < revocation.place) past = subst (λ (p : ℕ). All (λ d. place_of d < p) past) (sym at_place) (past-below log place so_far are.stands) in
-            let least : first ≤ revocation.place = omega (arith, at_place) in
-            let behind : revocation.place < place + 1 = omega (arith, at_place) in
-            moved (with_ends so_far revocation.place (ended_in came)) tables grants after
-            (ap (book_of so_far.tables) records_are)
-            same-tables slots
-            (made-after log place so_far are.stands next-owners (past ++ Revoking revocation ∷ []) (with_ends so_far revocation.place (ended_in came))
-            (next-deeds ∙ ap (λ (d : Option Deed). past ++ option_to_list d) is)
-            (subst (λ (ranks : List ℕ). ShowsBook (with_ends so_far revocation.place ranks) (owners log) (past ++ Revoking revocation ∷ [])) (sym ended-told)
-            (shows_revoke so_far (owners log) past revocation table are.stands.shown below))
-            (later_ends so_far revocation.place (ended_in came) later (place + 1) behind) refl)
-            (sound_revoke so_far revocation.place (ended_in came) are.sound later)
-            (cut_ended first so_far revocation.place (ended_in came) least)
+          pub with_revoked : (after : List End) → (extended book [] grants after).records ≡ map (ended_at revocation.place (ended_in came)) (extended book [] grants ends).records
+              → All (λ (end : End). end.slot < length book.records + length grants) after → AreChanges log first (index + 1) book tables grants after
+          with_revoked after records_are slots =
+              let later : IsLater so_far revocation.place = subst (IsLater so_far) (sym here) are.stands.later in
+              let table = All-head (λ one. table_of_deed one < length so_far.tables) (Revoking revocation) []
+              (subst (All (λ one. table_of_deed one < length so_far.tables)) alone on-tables) in
+              let least : first ≤ revocation.place = omega (arith, here) in
+              moved (with_ends so_far revocation.place (ended_in came)) tables grants after
+              (ap (book_of so_far.tables) records_are)
+              same-tables slots
+              (made_revoked log place so_far are.stands next-owners revocation (next-deeds true done ∙ ap (λ (ds : List Deed). past ++ ds) alone)
+              (with_ends so_far revocation.place (ended_in came)) refl
+              (subst (λ (ranks : List ℕ). ShowsBook (with_ends so_far revocation.place ranks) (owners log) (past ++ Revoking revocation ∷ [])) (sym ended-told)
+              (shows_revoke so_far (owners log) past revocation table are.stands.shown (below_here log place so_far are.stands revocation.place here)))
+              (later_ends so_far revocation.place (ended_in came) later (place + 1) (omega (arith, here))))
+              (sound_revoke so_far revocation.place (ended_in came) are.sound later)
+              (cut_ended first so_far revocation.place (ended_in came) least)
 
 -- after all places the book is that after them
 pub all_changed : (log : List Statement) (first last : ℕ) (book now : Entries) (tables : List Creation) (grants : List Grant) (ends : List End)

@@ -1,13 +1,12 @@
 -- The placers of an opened batch, and what came of its workers.
-use Rattle.std.proofs.Common.{◌≡◌, ◌≤◌, ℕ, List, arith, refl}
-use Rattle.std.specs.Prelude.{Result, Ok}
+use Rattle.std.proofs.Common.{◌≡◌, ℕ, List, arith, refl}
+use Rattle.std.specs.Prelude.{Ok}
 use Rattle.words.specs.Passes.{Words}
 use Rattle.filling.specs.Keys.{Key}
 use Rattle.filling.specs.declared.placer.Placer.{Placer}
 use Rattle.filling.specs.Placers.{AreNewPlacers, IsPlacerIn, placer_front}
 use Rattle.workers.specs.declared.work.Worked.{Worked}
 use Rattle.workers.specs.declared.work.Worked.TheVariants.{Done, NoMemory, NotStarted}
-use Rattle.workers.specs.declared.fault.RunFault.{RunFault}
 use Rattle.workers.specs.Placing.{HavePlaced}
 use Rattle.workers.specs.Working.{came_of}
 

@@ -1,8 +1,7 @@
 -- What a place of a log results in, run over what is before it.
 use Rattle.std.proofs.Common.{◌≡◌, ◌≤◌, ◌+◌, ◌++◌, ℕ, ℤ, false, List, [], ◌∷◌, Option, Some, None, filter, length, map, take, refl, ap, sym, ◌∙◌, subst, arith}
 use Rattle.std.specs.Prelude.{slice_get}
-use Rattle.std.specs.Option.{option_map_or, option_to_list}
-use Rattle.std.proofs.lemmas.List.{append-nil}
+use Rattle.std.specs.Option.{option_map_or}
 use mathlib.Core.Path.{fun_ext}
 use Rattle.model_base.specs.declared.deed.Cause.{Cause}
 use Rattle.model_base.specs.declared.deed.Deed.{Deed}
@@ -13,7 +12,7 @@ use Rattle.model_base.specs.declared.statement.Form.{Form}
 use Rattle.model_base.specs.declared.statement.Statement.{Statement}
 use Rattle.model_base.specs.Body.{Ending, completed}
 use Rattle.model_base.specs.Growing.{NeedsWithin}
-use Rattle.model_base.specs.Outcomes.{World, body, changed, deed_of, deeds_before, ended, judged, missing, needs, owners, rows_before, step_form, world_before}
+use Rattle.model_base.specs.Outcomes.{World, body, changed, deeds_before, deeds_of, ended, judged, missing, needs, owners, rows_before, step_form, world_before}
 use Rattle.model_base.specs.Rows.{Rows}
 use Rattle.model_base.specs.Versions.{accesses_of, is_writing, writes_of}
 use Rattle.model_base.proofs.Replay.{by_cases}
@@ -34,7 +33,7 @@ use Rattle.engine.specs.declared.state.RunState.{RunState}
 use Rattle.engine.specs.RunState.{IsBookState, IsRunState}
 use Rattle.engine.specs.Running.{AddsFrom}
 use Rattle.engine.proofs.Making.{made_none, owned}
-use Rattle.engine.proofs.Stepping.{Leads, at_tables, counted, leads, listed, make_owners}
+use Rattle.engine.proofs.Stepping.{Leads, at_tables, counted, leads, make_owners}
 
 -- a right store that ends at a place tells the rows before it
 pub rows-are : (log : List Statement) (store : Store) (place : ℕ) → store.mark ≤ store.end → store.end ≡ place → IsRight log store → rows_at_end store ≡ rows_before log place
@@ -65,8 +64,8 @@ module _ (log : List Statement) (place : ℕ) (statement : Statement) (at : slic
   abbrev world : World
   world = world_before log place
 
-  abbrev deed : Option Deed
-  deed = deed_of place statement.user statement.form
+  abbrev deeds : List Deed
+  deeds = deeds_of place statement.user statement.form
 
   judged-form : (form : Form) → creates form ≡ false → step_form own place world statement form ≡ judged own place world statement (missing own world statement.user form)
   judged-form (Form.Create table columns) other = absurd (cc)
@@ -92,26 +91,25 @@ module _ (log : List Statement) (place : ℕ) (statement : Statement) (at : slic
       → (book : Entries) → IsRunState log place store book → (window ran : Window) → WindowShows (accesses_of statement.form) window (rows_at_end store)
       → (found end : BodyEnd) → found ≡ end → ((rows : Rows) → WindowShows (accesses_of statement.form) window rows
       → body rows statement.form ≡ ending_of found (with_rows (accesses_of statement.form) ran.rows rows) ran.outputs)
-      → Leads log place statement at (ended own world deed (Left ran end), changed world deed (Left ran end))
+      → Leads log place statement at (ended own world deeds (Left ran end), changed world deeds (Left ran end))
   ended-leads other none store within book stands window ran shows found end is ends =
       let same = subst (WindowShows (accesses_of statement.form) window) (rows-are log store place within stands.ends stands.right) shows in
-      leads log place statement at (ended own world deed (Left ran end), changed world deed (Left ran end))
+      leads log place statement at (ended own world deeds (Left ran end), changed world deeds (Left ran end))
       (judged-form statement.form other
       ∙ ap (judged own place world statement) none
-      ∙ ap (λ (e : Ending). (ended own world deed e, changed world deed e)) (ends world.rows same ∙ ap (Left ran) is))
+      ∙ ap (λ (e : Ending). (ended own world deeds e, changed world deeds e)) (ends world.rows same ∙ ap (Left ran) is))
 
   -- the deeds after a body that completes
-  pub completed-deeds : (rows : Rows) (outputs : List ℤ) (made : Option Deed) → world_before log (place + 1) ≡ changed world deed (completed rows outputs) → made ≡ deed
-      → deeds_before log (place + 1) ≡ deeds_before log place ++ option_to_list made
-  completed-deeds rows outputs made is same = ap (λ (w : World). w.deeds) is ∙ ap (λ ds. world.deeds ++ ds) (listed deed ∙ ap option_to_list (sym same))
+  pub completed-deeds : (rows : Rows) (outputs : List ℤ) (made : List Deed) → world_before log (place + 1) ≡ changed world deeds (completed rows outputs) → made ≡ deeds
+      → deeds_before log (place + 1) ≡ deeds_before log place ++ made
+  completed-deeds rows outputs made is same = ap (λ (w : World). w.deeds) is ∙ ap (λ ds. world.deeds ++ ds) (sym same)
 
   -- where a place makes no deed either, the book is after it too
   pub same-stands : (old new : Store) (book : Entries) → IsRunState log place old book → AreKnown log → creates statement.form ≡ false → new ≡ record { versions = old.versions; mark = old.mark; end = old.end + 1 }
       → PassesRight old new → world_before log (place + 1) ≡ world → IsRunState log (place + 1) new book
   same-stands old new book stands known other is right same =
       pass-stands log place old new book book stands is right same
-      (made_none log place book stands.booked (make_owners log place statement at book stands.booked known other) None refl
-      (ap (λ (w : World). w.deeds) same ∙ sym (append-nil world.deeds)))
+      (made_none log place book stands.booked (make_owners log place statement at book stands.booked known other) (ap (λ (w : World). w.deeds) same))
 
   -- the versions of a place whose accesses have these rows after it
   abbrev version_of : Rows → Access → Version

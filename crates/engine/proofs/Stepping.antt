@@ -1,41 +1,44 @@
 -- The book moved on over one place.
-use Rattle.std.proofs.Common.{◌≡◌, ◌<◌, ◌+◌, ◌++◌, ℕ, zero, suc, Bool, true, false, List, [], ◌∷◌, Option, Some, None, drop, length, take, refl, ap, sym, ◌∙◌, subst, arith}
-use Rattle.std.specs.Prelude.{All, slice_get}
-use Rattle.std.specs.Option.{option_map, option_map_or, option_to_list}
+use Rattle.std.proofs.Common.{◌≡◌, ◌<◌, ◌+◌, ◌++◌, ℕ, zero, suc, Bool, true, false, List, [], ◌∷◌, Option, Some, None, drop, length, map, take, refl, ap, sym, ◌∙◌, subst, arith}
+use Rattle.std.specs.Prelude.{All, if◌then◌else◌, slice_get}
+use Rattle.std.specs.Option.{option_map}
 use Rattle.std.proofs.lemmas.List.{append-nil, length-append, length-map, map-append, take-append-drop}
-use Rattle.std.proofs.lemmas.List.Elements.{All-cons, All-head, All-nil}
+use Rattle.std.proofs.lemmas.List.Elements.{All-append, All-cons, All-head, All-nil}
 use Rattle.model_base.specs.declared.deed.Deed.{Deed}
+use Rattle.model_base.specs.declared.deed.Deed.TheVariants.{Granting}
+use Rattle.model_base.specs.declared.deed.Grantee.{Grantee}
+use Rattle.model_base.specs.declared.deed.Kind.{Kind}
 use Rattle.model_base.specs.declared.deed.Need.{Need}
+use Rattle.model_base.specs.declared.deed.Position.{Position}
 use Rattle.model_base.specs.declared.outcome.Outcome.{Outcome}
 use Rattle.model_base.specs.declared.statement.DeedForm.{DeedForm}
 use Rattle.model_base.specs.declared.statement.Form.{Form}
 use Rattle.model_base.specs.declared.statement.Statement.{Statement}
 use Rattle.model_base.specs.Body.{Ending, completed}
-use Rattle.model_base.specs.Outcomes.{World, at_place, body, changed, creator, deed_at, deed_of, deeds_before, ended, judged, missing, outcome, owners, step_form, world_before}
+use Rattle.model_base.specs.Outcomes.{World, at_place, body, changed, creator, deeds_at, deeds_before, deeds_of, ended, grant_to, grants_at, grants_of_kind, judged, kinds_in, missing, outcome, owners, positions, step_form, world_before}
 use Rattle.model_base.specs.References.{deed_tables}
 use Rattle.grants_base.specs.Book.{Entries, IsLater, ShowsBook, owners_of, table_of_deed, with_table}
 use Rattle.grants_base.specs.declared.entries.Creation.{Creation}
 use Rattle.own_words.specs.Words.{creates}
 use Rattle.filling.proofs.CellsTold.{took, world-next}
 use Rattle.engine.specs.Known.{AreKnown, AreKnownFrom, IsKnown}
-use Rattle.engine.specs.RunState.{IsBookState, is_completed, made_of}
+use Rattle.engine.specs.RunState.{IsBookState, is_completed}
 use Rattle.model_base.proofs.Growing.{owners-append}
 
--- a deed or none, as a list
-pub listed : (deed : Option Deed) → option_map_or (λ made. made ∷ []) deed [] ≡ option_to_list deed
-listed None = refl
-listed (Some deed) = refl
+-- the deeds, if they were made
+abbrev pub made_of : Bool → List Deed → List Deed
+made_of done deeds = if done then deeds else []
 
 module _ (own : List ℕ) (place : ℕ) (world : World) (statement : Statement) where
-  abbrev deed_here : Option Deed
-  deed_here = deed_of place statement.user statement.form
+  abbrev deeds_here : List Deed
+  deeds_here = deeds_of place statement.user statement.form
 
   -- the deeds after a step: those before it, and its own if its body completed
   abbrev Makes : Outcome × World → Type 0
-  Makes step = step.1.deeds ≡ world.deeds ++ option_to_list (made_of (is_completed step.0) deed_here)
+  Makes step = step.1.deeds ≡ world.deeds ++ made_of (is_completed step.0) deeds_here
 
-  deeds-changed : (ending : Ending) → Makes (ended own world deed_here ending, changed world deed_here ending)
-  deeds-changed (completed rows outputs) = ap (λ ds. world.deeds ++ ds) (listed deed_here)
+  deeds-changed : (ending : Ending) → Makes (ended own world deeds_here ending, changed world deeds_here ending)
+  deeds-changed (completed rows outputs) = refl
   deeds-changed ending = sym (append-nil world.deeds)
 
   deeds-judged : (lack : Option Need) → Makes (judged own place world statement lack)
@@ -63,24 +66,37 @@ at_tables P Are each tables count (first ∷ log) (suc place) statement are at i
 pub counted : (log : List Statement) (place : ℕ) (book : Entries) → IsBookState log place book → length book.tables ≡ 0 + length (owners (take place log))
 counted log place book stands = omega (arith, ap length stands.owned, length-map book.tables (λ (c : Creation). c.owner))
 
--- the deeds of a form, on known tables
-deed-table : (tables place user : ℕ) (deed : DeedForm) → All (λ table. table < tables) (deed_tables (Form.Deed deed))
-    → All (λ made. table_of_deed made < tables) (deed_at place user deed ∷ [])
-deed-table tables place user deed known = All-cons (λ made. table_of_deed made < tables) (deed_at place user deed) [] (low deed known) (All-nil _)
+-- what a deed form makes is on its table
+form-table : (place user : ℕ) (form : DeedForm) (P : ℕ → Type 0) → All P (deed_tables (Form.Deed form)) → All (λ made. P (table_of_deed made)) (deeds_at place user form)
+form-table place user (DeedForm.Grant kinds table grantees option) P on =
+    each_kind (kinds_in kinds)
   where
-    low : (one : DeedForm) → All (λ table. table < tables) (deed_tables (Form.Deed one)) → table_of_deed (deed_at place user one) < tables
-    low (DeedForm.Grant kind table grantee option) on = All-head (λ t. t < tables) table [] on
-    low (DeedForm.Revoke kinds table grantees) on = All-head (λ t. t < tables) table [] on
+    here : P table
+    here = All-head P table [] on
 
-deed-known : (tables place user : ℕ) (form : Form) → IsKnown tables form → All (λ made. table_of_deed made < tables) (option_to_list (deed_of place user form))
-deed-known tables place user (Form.Run accesses steps (Some deed)) known = deed-table tables place user deed known
-deed-known tables place user (Form.Deed deed) known = deed-table tables place user deed known
-deed-known tables place user form known = All-nil (λ made. table_of_deed made < tables)
+    each_grantee : (kind : Kind) (order : List Position) (to : List Grantee)
+        → All (λ made. P (table_of_deed made)) (map Granting (grants_of_kind place user kind table option order to))
+    each_grantee kind [] to = All-nil (λ made. P (table_of_deed made))
+    each_grantee kind (position ∷ order) [] = All-nil (λ made. P (table_of_deed made))
+    each_grantee kind (position ∷ order) (grantee ∷ to) =
+        All-cons (λ made. P (table_of_deed made)) (Granting (grant_to place user kind table option position grantee))
+        (map Granting (grants_of_kind place user kind table option order to)) here (each_grantee kind order to)
 
--- what holds of a deed holds of it if it was made
-made-all : (P : Deed → Type 0) (done : Bool) (deed : Option Deed) → All P (option_to_list deed) → All P (option_to_list (made_of done deed))
-made-all P true deed all = all
-made-all P false deed all = All-nil P
+    each_kind : (kinds : List Kind) → All (λ made. P (table_of_deed made)) (map Granting (grants_at place user table option grantees kinds))
+    each_kind [] = All-nil (λ made. P (table_of_deed made))
+    each_kind (kind ∷ kinds) =
+        let first = grants_of_kind place user kind table option positions grantees in
+        let rest = grants_at place user table option grantees kinds in
+        subst (All (λ made. P (table_of_deed made))) (sym (map-append Granting first rest))
+        (All-append (λ made. P (table_of_deed made)) (map Granting first) (map Granting rest) (each_grantee kind positions grantees) (each_kind kinds))
+form-table place user (DeedForm.Revoke kinds table grantees) P on =
+    All-cons (λ made. P (table_of_deed made)) _ [] (All-head P table [] on) (All-nil (λ made. P (table_of_deed made)))
+
+-- so the deeds of a form are on known tables
+deeds-known : (tables place user : ℕ) (form : Form) → IsKnown tables form → All (λ made. table_of_deed made < tables) (deeds_of place user form)
+deeds-known tables place user (Form.Run accesses steps (Some deed)) known = form-table place user deed (λ table. table < tables) known
+deeds-known tables place user (Form.Deed deed) known = form-table place user deed (λ table. table < tables) known
+deeds-known tables place user form known = All-nil (λ made. table_of_deed made < tables)
 
 -- a form that creates a table has its user as the creator, and room for the table; another has no creator
 pub no-creator : (user : ℕ) (form : Form) → creates form ≡ false → creator user form ≡ []
@@ -118,16 +134,15 @@ module _ (log : List Statement) (place : ℕ) (statement : Statement) (at : slic
   created-leads creating = leads (Outcome.Created, world_before log place) (created-form statement.form creating)
 
   -- the deeds after the place
-  pub make_next : (came : Outcome) (deed : Option Deed) → outcome log place ≡ Some came → deed ≡ made_of (is_completed came) (deed_of place statement.user statement.form)
-      → deeds_before log (place + 1) ≡ deeds_before log place ++ option_to_list deed
-  make_next came deed is made =
+  pub make_next : (came : Outcome) → outcome log place ≡ Some came
+      → deeds_before log (place + 1) ≡ deeds_before log place ++ made_of (is_completed came) (deeds_of place statement.user statement.form)
+  make_next came is =
       let here = (at_place (owners log) place (world_before log place) statement).0 in
       let both : Some here ≡ Some came = sym (ap (option_map (λ s. (at_place (owners log) place (world_before log place) s).0)) at) ∙ is in
       let same : here ≡ came = cc in
       ap (λ (w : World). w.deeds) (world-next log place statement at)
       ∙ deeds-form (owners log) place (world_before log place) statement statement.form
-      ∙ ap (λ (d : Option Deed). deeds_before log place ++ option_to_list d)
-      (ap (λ (o : Outcome). made_of (is_completed o) (deed_of place statement.user statement.form)) same ∙ sym made)
+      ∙ ap (λ (o : Outcome). deeds_before log place ++ made_of (is_completed o) (deeds_of place statement.user statement.form)) same
 
   module _ (book : Entries) (stands : IsBookState log place book) (known : AreKnown log) where
     known-here : IsKnown (length book.tables) statement.form
@@ -137,11 +152,8 @@ module _ (log : List Statement) (place : ℕ) (statement : Statement) (at : slic
     make_owners other =
         owners-more ∙ ap (λ os. owners (take place log) ++ os) (no-creator statement.user statement.form other) ∙ append-nil (owners (take place log))
 
-    pub make_table : (done : Bool) (deed : Option Deed) → deed ≡ made_of done (deed_of place statement.user statement.form) → All (λ made. table_of_deed made < length book.tables) (option_to_list deed)
-    make_table done deed made =
-        subst (λ (d : Option Deed). All (λ one. table_of_deed one < length book.tables) (option_to_list d)) (sym made)
-        (made-all (λ one. table_of_deed one < length book.tables) done (deed_of place statement.user statement.form)
-        (deed-known (length book.tables) place statement.user statement.form known-here))
+    pub make_table : All (λ made. table_of_deed made < length book.tables) (deeds_of place statement.user statement.form)
+    make_table = deeds-known (length book.tables) place statement.user statement.form known-here
 
     module _ (creating : creates statement.form ≡ true) where
       pub made_here : (creator statement.user statement.form ≡ statement.user ∷ []) × (length book.tables < 65536)

@@ -1,23 +1,23 @@
 //! What the places of a finished batch change in a book of grants.
 
 ghost use Rattle.std.specs.Prelude.{◌≡◌, ◌<◌, ◌≤◌, ◌+◌, ◌-◌, ◌++◌, [], true, All, IfOk, OnOk, Some, length, map};
-ghost use Rattle.model_base.specs.Outcomes.{deed_of, outcome};
+ghost use Rattle.model_base.specs.Outcomes.{outcome};
 ghost use Rattle.model_base.specs.Privileges.{is_among};
-ghost use Rattle.model_base.specs.Records.{ended_at, in_force, recorded};
-ghost use Rattle.model_base.specs.Laws.{IsRising};
+ghost use Rattle.model_base.specs.Laws.{IsGranting, IsRising};
+ghost use Rattle.model_base.specs.Records.{ended_at, grants_of, in_force, recorded};
 ghost use Rattle.grants_base.specs.Book.{IsSoundBook, extended};
 ghost use Rattle.grants_base.specs.declared.entries.End.{End};
 ghost use Rattle.own_words.specs.Words.{ended_in, ranks_ended_by};
 ghost use Rattle.engine.specs.Changes.{AreChanges};
 ghost use Rattle.engine.specs.Known.{AreKnown};
-ghost use Rattle.engine.specs.RunState.{IsBookState, is_completed, made_of};
+ghost use Rattle.engine.specs.RunState.{IsBookState, is_completed};
 ghost use Rattle.filling.specs.FinishedRange.{AreOutcomes};
 
 use crate::booking::creates;
 use crate::slots::slot_of;
 use grants::Book;
 use grants_base::{Creation, End};
-use model_base::{Deed, DeedDone, Grant, Outcome, Place, RecordName, Statement};
+use model_base::{Deed, DeedDone, Deeds, Grant, Outcome, Place, RecordName};
 use sequencer::LogTail;
 use std::alloc::{AllocError, Global};
 use std::ops::Range;
@@ -39,18 +39,7 @@ fn is_done(outcome: &Outcome) -> bool
     matches!(outcome, Outcome::Done { .. })
 }
 
-/// The deed that a place made: its statement's, if its outcome is that of a completed transaction.
-fn deed_made(statement: &Statement, outcome: &Outcome, place: Place) -> Option<Deed>
-    ensures { result ≡ made_of (is_completed outcome.now) (deed_of place statement.now.user statement.now.form) }
-{
-    if is_done(outcome) {
-        statement.deed_at(place)
-    } else {
-        None
-    }
-}
-
-/// The records of the grants that a deed ended.
+/// The records of the grants that deeds ended.
 fn ended_by(deed: &DeedDone) -> &[RecordName]
     ensures { result.now ≡ ranks_ended_by deed.now }
 {
@@ -92,6 +81,17 @@ fn push_ends(
     Ok(())
 }
 
+/// Appends the grants that are left, in order.
+fn push_grants(grants: &mut Vec<Grant>, rest: &mut Deeds) -> Result<(), AllocError>
+    requires { All IsGranting rest.old }
+    ensures { OnOk result (grants.new.items ≡ grants.old.items ++ grants_of rest.old) }
+{
+    'grants: while let Some(Deed::Granting(grant)) = rest.next() {
+        grants.push(grant)?;
+    }
+    Ok(())
+}
+
 /// Appends what a place of the batch changes, after the changes of the places before it. On `Err`, out of memory.
 fn push_place(
     changes: &mut BookChanges,
@@ -118,14 +118,15 @@ fn push_place(
         changes.tables.push(Creation { owner, place })?;
         return Ok(());
     }
-    let deed = deed_made(statement, came, place);
-    match deed {
-        None => Ok(()),
-        Some(Deed::Granting(grant)) => {
-            changes.grants.push(grant)?;
-            Ok(())
-        }
-        Some(Deed::Revoking(revocation)) => {
+    if !is_done(came) {
+        return Ok(());
+    }
+    if statement.deed_table().is_none() {
+        return Ok(());
+    }
+    match statement.revocation_at(place) {
+        None => push_grants(&mut changes.grants, &mut statement.deeds_at(place)),
+        Some(revocation) => {
             let ended = ended_in(came);
             push_ends(
                 &mut changes.ends,

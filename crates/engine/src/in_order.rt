@@ -13,7 +13,7 @@ ghost use Rattle.engine.specs.RunState.{IsRunState};
 ghost use Rattle.engine.specs.Running.{AddsFrom, HasRun, IsNextRange};
 ghost use Rattle.filling.specs.FinishedRange.{AreOutcomes};
 
-use crate::booking::{create, creates, make};
+use crate::booking::{create, creates, make_deeds};
 use crate::state::RunState;
 use body::{BodyEnd, Window, run, shows_rows};
 use checker::Admission;
@@ -23,7 +23,7 @@ use std::alloc::{AllocError, Global};
 use std::ops::Range;
 use workers::Gate;
 
-/// Runs the body of a statement whose needs are all held, and makes its deed if the body completes. On `Err`, out of memory.
+/// Runs the body of a statement whose needs are all held, and makes its deeds if the body completes. On `Err`, out of memory.
 #[inline(always)]
 fn run_admitted(
     alloc: Global,
@@ -53,7 +53,7 @@ fn run_admitted(
             // A window has a row for each access, which the contract of reading one gives.
             let _row = window.row(0);
             state.chains.put_place(statement.accesses(), window)?;
-            let deed = make(alloc, &mut state.book, log, place, statement.deed_at(place))?;
+            let deed = make_deeds(alloc, &mut state.book, log, place, statement)?;
             let outputs = window.outputs();
             Ok(Outcome::Done { outputs, deed })
         }

@@ -3,8 +3,10 @@
 ghost use Rattle.std.specs.Prelude.{◌≡◌, ◌<◌, ◌++◌, ◌∷◌, [], ℕ, List, All, IfOk, IsTrue, OnErr, OnOk, length, ◌+◌};
 ghost use Rattle.model_base.specs.declared.deed.Deed.TheVariants.{Granting, Revoking};
 ghost use Rattle.model_base.specs.declared.deed.Deed.{Deed};
+ghost use Rattle.model_base.specs.declared.deed.Grant.{Grant};
 ghost use Rattle.model_base.specs.Outcomes.{needs};
 ghost use Rattle.model_base.specs.Privileges.{ended_by, option_of, place_of};
+ghost use Rattle.model_base.specs.Ranks.{deed_number, rank};
 ghost use Rattle.grants_base.specs.declared.entries.End.{End};
 ghost use Rattle.checker.specs.Admission.{admission};
 ghost use Rattle.checker.specs.Missing.{Covers};
@@ -38,7 +40,7 @@ impl Model for RememberingBook {
 }
 
 impl RememberingBook {
-    ghost use Rattle.grants_base.specs.Book.{IsLater, IsSoundBook, ShowsBook, cut_book, extended, owners_of, view_of, with_ends, with_grant, with_table};
+    ghost use Rattle.grants_base.specs.Book.{IsLater, IsNextRecord, IsSoundBook, ShowsBook, cut_book, extended, owners_of, view_of, with_ends, with_grant, with_table};
     ghost use Rattle.grants_base.specs.View.{ShowsDeeds, holds_in};
 
     /// A book without tables and grants, of which nothing is remembered. It doesn't allocate.
@@ -102,12 +104,13 @@ impl RememberingBook {
 
     /// Adds a grant last, as `Book::grant`. What is remembered stays held.
     pub(crate) fn grant(&mut self, grant: Grant) -> Result<(), AllocError>
-        requires later { IsLater self.old grant.place }
+        requires later { IsNextRecord self.old grant }
         requires table { grant.table < length self.old.tables }
         requires held { IsTrue (holds_in (view_of self.old grant.place) grant.grantor (option_of grant)) }
         ensures ok { OnOk result (self.new ≡ with_grant self.old grant) }
         ensures after { OnOk result ((owners : List ℕ) (deeds : List Deed) → ShowsBook self.old owners deeds
-            → All (λ deed. place_of deed < grant.place) deeds → ShowsBook self.new owners (deeds ++ Granting grant ∷ [])) }
+            → All (λ deed. deed_number deed < rank grant) deeds → ShowsBook self.new owners (deeds ++ Granting grant ∷ [])) }
+        ensures next { OnOk result ((next : Grant) → rank grant < rank next → IsNextRecord self.new next) }
         ensures later { OnOk result ((next : ℕ) → grant.place < next → IsLater self.new next) }
         ensures err { OnErr result (self.new ≡ self.old) }
     {

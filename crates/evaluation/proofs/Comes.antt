@@ -1,30 +1,33 @@
 -- What a place results in, by what it is shown: its words, and the records that it ends.
-use Rattle.std.proofs.Common.{length, ◌≡◌, ◌≢◌, ◌<◌, ◌+◌, ◌==◌, ℕ, ℤ, Bool, true, false, List, [], ◌∷◌, ◌++◌, Option, Some, None, map, refl, sym, ap, ◌∙◌}
+use Rattle.std.proofs.Common.{length, ◌≡◌, ◌<◌, ◌+◌, ◌==◌, ℕ, ℤ, Bool, true, false, List, [], ◌∷◌, ◌++◌, Option, Some, None, map, refl, sym, ap, ◌∙◌}
 use Rattle.std.specs.Prelude.{All, IsSome, IsTrue, is_some, slice_get}
 use Rattle.std.specs.List.{list_any}
+use Rattle.std.specs.Option.{option_map_or}
 use Rattle.std.proofs.lemmas.Bool.{eq-eqb}
 use Rattle.std.proofs.lemmas.List.Folds.{list_any-append}
 use Rattle.std.proofs.lemmas.List.Elements.{All-cons, All-nil}
 use Rattle.std.proofs.lemmas.Option.{slice_get_within}
 use Rattle.std.proofs.lemmas.Bool.{or_left, or_right}
 use Rattle.model_base.specs.declared.deed.Deed.{Deed}
-use Rattle.model_base.specs.declared.deed.Deed.TheVariants.{Granting, Revoking}
+use Rattle.model_base.specs.declared.deed.Deed.TheVariants.{Revoking}
 use Rattle.model_base.specs.declared.deed.Grant.{Grant}
 use Rattle.model_base.specs.declared.deed.Need.{Need}
 use Rattle.model_base.specs.declared.deed.Revocation.{Revocation}
 use Rattle.model_base.specs.declared.statement.Form.{Form}
 use Rattle.model_base.specs.declared.statement.Statement.{Statement}
+use Rattle.model_base.specs.DeedsLeft.{revocation_of}
+use Rattle.model_base.specs.Privileges.{ended_by}
 use Rattle.model_base.specs.Ranks.{rank}
-use Rattle.model_base.specs.Outcomes.{at_place, deed_of, deeds_before, needs, owners, rows_before}
+use Rattle.model_base.specs.Outcomes.{at_place, deeds_before, deeds_of, needs, owners, rows_before}
 use Rattle.model_base.specs.References.{deed_tables, tables_of}
 use Rattle.model_base.proofs.Covered.{contrary}
 use Rattle.model_base.proofs.Ended.{ended_by-covered_records}
 use Rattle.model_base.proofs.Ends.{is_ended}
+use Rattle.model_base.proofs.Made.{deeds_of-one}
 use Rattle.model_base.proofs.Replay.{by_cases}
 use Rattle.body.specs.Shape.{HasColumns, HaveColumns, IsNumber, IsRowOf}
 use Rattle.body.proofs.Shapes.{logs_have_shape}
 use Rattle.own_words.specs.Places.{own_words, words_at}
-use Rattle.evaluation.specs.Answering.{ended_by_deed}
 use Rattle.sequencer.specs.Whole.{columns_by}
 use Rattle.bohm_core_base.specs.Batch.{Batch, is_listed, rank_at, batch_slots, was_done}
 use Rattle.bohm_core_base.specs.Serial.{serial_ends, serial_words, batch_world_before}
@@ -36,7 +39,9 @@ use Rattle.log_batch.proofs.SerialNeeds.{AreOn, needs-listed}
 use Rattle.log_batch.proofs.SerialRuns.{serial_runs_agree}
 use Rattle.log_batch.proofs.Sound.{batches_are_sound}
 use Rattle.log_batch.proofs.SoundTables.{listed_once}
+use Rattle.evaluation.specs.Answering.{ended_by_deeds}
 use Rattle.evaluation.proofs.Listed.{listed-holds}
+use Rattle.evaluation.proofs.OnlyRevocation.{no_revocation, only_revocation}
 use Rattle.evaluation.proofs.Slots.{slot-rank}
 
 -- the words of a place of a log
@@ -90,11 +95,11 @@ module _ (ranged : LogRange) (of_log : IsOfLog (range_of ranged)) (index : ℕ) 
   abbrev log : List Statement
   log = ranged.log.statements
 
-  deed-is : batch.deed index ≡ deed_of place statement.user statement.form
-  deed-is = rw at refl
+  deeds-are : batch.deeds index ≡ deeds_of place statement.user statement.form
+  deeds-are = rw at refl
 
   -- the grants that a revocation takes out of force are those whose records it ends
-  revoked : (revocation : Revocation) (slot : ℕ) → slot < length (batch_slots batch) → batch.deed index ≡ Some (Revoking revocation)
+  revoked : (revocation : Revocation) (slot : ℕ) → slot < length (batch_slots batch) → batch.deeds index ≡ Revoking revocation ∷ []
       → is_ended (owners log) (batch_world_before batch index).deeds (Revoking revocation) (rank_at batch slot) ≡ serial_ends batch index slot
   revoked revocation slot low is =
       let sound = batches_are_sound (range_of ranged) of_log in
@@ -103,41 +108,43 @@ module _ (ranged : LogRange) (of_log : IsOfLog (range_of ranged)) (index : ℕ) 
       (λ left. by_cases (serial_ends batch index slot)
       (λ ends.
       let only = serial-only batch sound index slot low ends in
-      let both : Some (Revoking revocation) ≡ Some (Revoking only.revocation) = sym is ∙ only.deed in
+      let both : Some revocation ≡ Some only.revocation = ap revocation_of (sym is ∙ only.deed) in
       let same : revocation ≡ only.revocation = cc in
       contrary (is_ended (owners log) (batch_world_before batch index).deeds (Revoking revocation) (rank_at batch slot))
       (ap (λ one. is_ended (owners log) (batch_world_before batch index).deeds (Revoking one) (rank_at batch slot)) same ∙ only.ended) left)
       (λ none. rw (left, none) refl))
 
-  -- any other deed ends none
-  unrevoked : (deed : Option Deed) (slot : ℕ) → slot < length (batch_slots batch) → batch.deed index ≡ deed → ((revocation : Revocation) → deed ≢ Some (Revoking revocation))
+  -- where there is none, none ends
+  unrevoked : (slot : ℕ) → slot < length (batch_slots batch) → revocation_of (deeds_of place statement.user statement.form) ≡ None
       → false ≡ serial_ends batch index slot
-  unrevoked deed slot low is other =
+  unrevoked slot low none =
       let sound = batches_are_sound (range_of ranged) of_log in
       by_cases (serial_ends batch index slot)
-      (λ ends. let only = serial-only batch sound index slot low ends in absurd (other only.revocation (sym is ∙ only.deed)))
+      (λ ends.
+      let only = serial-only batch sound index slot low ends in
+      absurd (no_revocation (deeds_of place statement.user statement.form) only.revocation none (sym deeds-are ∙ only.deed)))
       (λ none. sym none)
 
-  -- so the ranks that its deed ends are those of the slots that the serial run ends there
+  -- so the ranks that its deeds end are those of the slots that the serial run ends there
   pub ends-told : (slot : ℕ) (grant : Grant) → slice_get (batch_slots batch) slot ≡ Some grant
-      → list_any (λ ended. ended == rank grant) (ended_by_deed (owners log) (deeds_before log place) (deed_of place statement.user statement.form)) ≡ serial_ends batch index slot
-  ends-told slot grant found = by_deed (deed_of place statement.user statement.form) refl
+      → list_any (λ ended. ended == rank grant) (ended_by_deeds (owners log) (deeds_before log place) (deeds_of place statement.user statement.form)) ≡ serial_ends batch index slot
+  ends-told slot grant found = by_revocation (revocation_of (deeds_of place statement.user statement.form)) refl
     where
       low : slot < length (batch_slots batch)
       low = slice_get_within (batch_slots batch) slot grant found
 
-      by_deed : (deed : Option Deed) → deed_of place statement.user statement.form ≡ deed
-          → list_any (λ ended. ended == rank grant) (ended_by_deed (owners log) (deeds_before log place) deed) ≡ serial_ends batch index slot
-      by_deed None made = unrevoked None slot low (deed-is ∙ made) (λ revocation is. cc)
-      by_deed (Some (Granting given)) made = unrevoked (Some (Granting given)) slot low (deed-is ∙ made) (λ revocation is. cc)
-      by_deed (Some (Revoking revocation)) made =
+      by_revocation : (made : Option Revocation) → revocation_of (deeds_of place statement.user statement.form) ≡ made
+          → list_any (λ ended. ended == rank grant) (option_map_or (ended_by (owners log) (deeds_before log place)) made []) ≡ serial_ends batch index slot
+      by_revocation None is = unrevoked slot low is
+      by_revocation (Some revocation) is =
           let sound = batches_are_sound (range_of ranged) of_log in
           let all : ℕ → Bool = λ table. true in
           let before : List Deed = (batch_world_before batch index).deeds in
           let proper = deeds-proper batch sound index in
           let same : before ≡ deeds_before log place = (serial_runs_agree (range_of ranged) of_log index).deeds in
-          ap (λ deeds. list_any (λ ended. ended == rank grant) (ended_by_deed (owners log) deeds (Some (Revoking revocation)))) (sym same)
-          ∙ ap (λ at. list_any (λ ended. ended == at) (ended_by_deed (owners log) before (Some (Revoking revocation)))) (sym (slot-rank ranged of_log index slot grant found))
+          let alone = only_revocation (deeds_of place statement.user statement.form) revocation (deeds_of-one place statement.user statement.form) is in
+          ap (λ deeds. list_any (λ ended. ended == rank grant) (ended_by (owners log) deeds revocation)) (sym same)
+          ∙ ap (λ at. list_any (λ ended. ended == at) (ended_by (owners log) before revocation)) (sym (slot-rank ranged of_log index slot grant found))
           ∙ sym (ap (λ ended. list_any (λ one. one == rank_at batch slot) ended) (ended_by-covered_records (owners log) all before revocation proper refl))
           ∙ ends-by (owners log) all before revocation (rank_at batch slot) proper refl
-          ∙ revoked revocation slot low (deed-is ∙ made)
+          ∙ revoked revocation slot low (deeds-are ∙ alone)

@@ -1,5 +1,5 @@
 -- The outcome of a place of a log fits its statement's form, so that its words tell it.
-use Rattle.std.proofs.Common.{◌≡◌, ◌<◌, ◌≤◌, ◌++◌, ◌^◌, ℕ, ℤ, pos, negsuc, Bool, false, not, List, [], ◌∷◌, Option, Some, None, length, refl, ap, sym, ◌∙◌, subst, arith}
+use Rattle.std.proofs.Common.{◌≡◌, ◌<◌, ◌≤◌, ◌++◌, ◌^◌, ℕ, ℤ, pos, negsuc, Bool, false, not, List, [], ◌∷◌, Option, Some, None, length, map, refl, ap, sym, ◌∙◌, subst, arith}
 use Rattle.std.specs.Prelude.{All, Contains, slice_get}
 use Rattle.std.specs.Int.{w64}
 use Rattle.std.specs.Int.RustNames.{FitsSigned}
@@ -11,14 +11,16 @@ use Rattle.std.proofs.lemmas.Option.{get_or_from_slice_get, slice_get_within}
 use Rattle.model_base.specs.declared.deed.Cause.{Cause}
 use Rattle.model_base.specs.declared.deed.Cause.TheVariants.{Never, Taken}
 use Rattle.model_base.specs.declared.deed.Deed.{Deed}
-use Rattle.model_base.specs.declared.deed.Deed.TheVariants.{Revoking}
+use Rattle.model_base.specs.declared.deed.Deed.TheVariants.{Granting, Revoking}
+use Rattle.model_base.specs.declared.deed.Grantee.{Grantee}
+use Rattle.model_base.specs.declared.deed.Kind.{Kind}
 use Rattle.model_base.specs.declared.deed.Need.{Need}
 use Rattle.model_base.specs.declared.outcome.Outcome.{Outcome}
 use Rattle.model_base.specs.declared.statement.DeedForm.{DeedForm}
 use Rattle.model_base.specs.declared.statement.Form.{Form}
 use Rattle.model_base.specs.declared.statement.Statement.{Statement}
 use Rattle.model_base.specs.Body.{Ending, aborted, completed, undeclared}
-use Rattle.model_base.specs.Outcomes.{World, at_place, body, cause, deed_at, deed_done, deed_of, ended, judged, missing, needs, outcome, owners, step_form, world_before}
+use Rattle.model_base.specs.Outcomes.{World, at_place, body, cause, deed_done, deeds_at, deeds_of, ended, grants_at, judged, kinds_in, missing, needs, outcome, owners, step_form, world_before}
 use Rattle.model_base.specs.Privileges.{holds, place_of}
 use Rattle.model_base.proofs.Causes.{cause-revocation}
 use Rattle.model_base.proofs.Growth.{deeds_before-stands}
@@ -29,7 +31,7 @@ use Rattle.body.specs.Steps.{EndsWithin, steps_of}
 use Rattle.body.proofs.Shapes.{keeps_shape, logs_have_shape}
 use Rattle.body.proofs.Within.{ends_within}
 use Rattle.own_words.specs.Places.{cells, own_words, words_at}
-use Rattle.own_words.specs.Words.{FitsDetails, FitsForm, cause_word, creates, deed_form, deed_told, ranks_ended_by, ended_in, header, is_created, outcome_from, outputs_of}
+use Rattle.own_words.specs.Words.{FitsDetails, FitsForm, cause_word, creates, deed_form, deed_told, deeds_told, ranks_ended_by, ended_in, header, is_created, outcome_from, outputs_of}
 use Rattle.own_words.proofs.Undoing.{details_told}
 use Rattle.evaluation.specs.Keeping.{KeepsToSteps}
 use Rattle.evaluation.proofs.Room.{few_outputs, outputs_counted}
@@ -42,14 +44,14 @@ outputs_room (Form.Deed deed) = omega arith
 
 module _ (own : List ℕ) (place : ℕ) (world : World) (statement : Statement) where
   -- a place keeps to the steps of its statement
-  ended_keeps : (deed : Option Deed) (ending : Ending) → EndsWithin (steps_of statement.form) ending → KeepsToSteps statement.form (ended own world deed ending)
-  ended_keeps deed (completed rows outputs) within = omega (arith, within, outputs_room statement.form)
-  ended_keeps deed (aborted step reason) within = within
-  ended_keeps deed (undeclared step) within = within
+  ended_keeps : (deeds : List Deed) (ending : Ending) → EndsWithin (steps_of statement.form) ending → KeepsToSteps statement.form (ended own world deeds ending)
+  ended_keeps deeds (completed rows outputs) within = omega (arith, within, outputs_room statement.form)
+  ended_keeps deeds (aborted step reason) within = within
+  ended_keeps deeds (undeclared step) within = within
 
   judged_keeps : (lack : Option Need) → KeepsToSteps statement.form (judged own place world statement lack).0
   judged_keeps (Some need) = tt
-  judged_keeps None = ended_keeps (deed_of place statement.user statement.form) (body world.rows statement.form) (ends_within statement.form world.rows)
+  judged_keeps None = ended_keeps (deeds_of place statement.user statement.form) (body world.rows statement.form) (ends_within statement.form world.rows)
 
   form_keeps : (form : Form) → KeepsToSteps statement.form (step_form own place world statement form).0
   form_keeps (Form.Create table columns) = tt
@@ -57,26 +59,37 @@ module _ (own : List ℕ) (place : ℕ) (world : World) (statement : Statement) 
   form_keeps (Form.Deed deed) = judged_keeps (missing own world statement.user (Form.Deed deed))
 
   -- only a CREATE is created
-  ended_plain : (deed : Option Deed) (ending : Ending) → is_created (ended own world deed ending) ≡ false
-  ended_plain deed (completed rows outputs) = refl
-  ended_plain deed (aborted step reason) = refl
-  ended_plain deed (undeclared step) = refl
+  ended_plain : (deeds : List Deed) (ending : Ending) → is_created (ended own world deeds ending) ≡ false
+  ended_plain deeds (completed rows outputs) = refl
+  ended_plain deeds (aborted step reason) = refl
+  ended_plain deeds (undeclared step) = refl
 
   judged_plain : (lack : Option Need) → is_created (judged own place world statement lack).0 ≡ false
   judged_plain (Some need) = refl
-  judged_plain None = ended_plain (deed_of place statement.user statement.form) (body world.rows statement.form)
+  judged_plain None = ended_plain (deeds_of place statement.user statement.form) (body world.rows statement.form)
 
   created_fits : (form : Form) → is_created (step_form own place world statement form).0 ≡ creates form
   created_fits (Form.Create table width) = refl
   created_fits (Form.Run accesses steps deed) = judged_plain (missing own world statement.user (Form.Run accesses steps deed))
   created_fits (Form.Deed deed) = judged_plain (missing own world statement.user (Form.Deed deed))
 
+  -- there are grants at one place by one user exactly if there are at another by another
+  grants_told : (table : ℕ) (option : Bool) (grantees : List Grantee) (kinds : List Kind) (ranks : List ℕ)
+      → deed_done own world (map Granting (grants_at place statement.user table option grantees kinds))
+      ≡ deeds_told ranks (map Granting (grants_at 0 0 table option grantees kinds))
+  grants_told table option grantees [] ranks = refl
+  grants_told table option [] (kind ∷ kinds) ranks = grants_told table option [] kinds ranks
+  grants_told table option (grantee ∷ grantees) (kind ∷ kinds) ranks = refl
+
   -- what a deed results in is of its kind
-  deed_kind : (deed : DeedForm) → deed_done own world (Some (deed_at place statement.user deed)) ≡ deed_told (ranks_ended_by (deed_done own world (Some (deed_at place statement.user deed)))) (Some deed)
-  deed_kind (DeedForm.Grant kind table grantee option) = refl
+  deed_kind : (deed : DeedForm) → deed_done own world (deeds_at place statement.user deed)
+      ≡ deed_told (ranks_ended_by (deed_done own world (deeds_at place statement.user deed))) (Some deed)
+  deed_kind (DeedForm.Grant kinds table grantees option) =
+      grants_told table option grantees (kinds_in kinds)
+      (ranks_ended_by (deed_done own world (deeds_at place statement.user (DeedForm.Grant kinds table grantees option))))
   deed_kind (DeedForm.Revoke kinds table grantees) = refl
 
-  form_kind : (form : Form) → deed_done own world (deed_of place statement.user form) ≡ deed_told (ranks_ended_by (deed_done own world (deed_of place statement.user form))) (deed_form form)
+  form_kind : (form : Form) → deed_done own world (deeds_of place statement.user form) ≡ deed_told (ranks_ended_by (deed_done own world (deeds_of place statement.user form))) (deed_form form)
   form_kind (Form.Create table columns) = refl
   form_kind (Form.Run accesses steps None) = refl
   form_kind (Form.Run accesses steps (Some deed)) = deed_kind deed
@@ -98,8 +111,8 @@ found_there P test (x ∷ xs) y all is =
 module _ (columns : ℕ → ℕ) (own : List ℕ) (place : ℕ) (world : World) (statement : Statement)
     (fits : FormFits columns statement.form) (runnable : HasFittingBody statement.form) (short : length (steps_of statement.form) < 2 ^ 64) (low : place < 2 ^ 64)
     (shaped : HaveShape columns world.rows) (below : All (λ deed. place_of deed < place) world.deeds) where
-  ended_fits : (ending : Ending) → body world.rows statement.form ≡ ending → KeepsToSteps statement.form (ended own world (deed_of place statement.user statement.form) ending)
-      → FitsDetails statement.form (ended own world (deed_of place statement.user statement.form) ending)
+  ended_fits : (ending : Ending) → body world.rows statement.form ≡ ending → KeepsToSteps statement.form (ended own world (deeds_of place statement.user statement.form) ending)
+      → FitsDetails statement.form (ended own world (deeds_of place statement.user statement.form) ending)
   ended_fits (completed rows outputs) is keeps = record {
     room = keeps;
     few = omega (arith, keeps, few_outputs statement.form runnable);

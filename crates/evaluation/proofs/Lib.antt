@@ -4,6 +4,7 @@ pub mod Cells
 pub mod Room
 pub mod Fitting
 pub mod ShownCells
+pub mod OnlyRevocation
 pub mod Comes
 pub mod Listed
 pub mod Shown

@@ -1,5 +1,5 @@
--- The ranks of the records that a deed ends rise.
-use Rattle.std.proofs.Common.{◌≡◌, ◌<◌, ◌+◌, ◌++◌, ℕ, zero, suc, Option, Some, None, List, [], ◌∷◌, subst, arith}
+-- The ranks of the records that the deeds of a place end rise.
+use Rattle.std.proofs.Common.{◌≡◌, ◌<◌, ◌+◌, ◌++◌, ℕ, zero, suc, List, [], ◌∷◌, subst, arith}
 use Rattle.std.specs.Prelude.{All, slice_index}
 use Rattle.std.specs.List.Sorted.{IsStrictlyIncreasing}
 use Rattle.std.proofs.lemmas.List.Elements.{All-cons, All-head, All-tail}
@@ -12,7 +12,7 @@ use Rattle.model_base.specs.Privileges.{IsProper, is_among, kept, lost}
 use Rattle.model_base.proofs.Places.{rising-part}
 use Rattle.model_base.proofs.Recorded.{part-kept_grants, rising-grants}
 use Rattle.model_base.proofs.Replay.{by_cases}
-use Rattle.evaluation.specs.Answering.{ended_by_deed}
+use Rattle.evaluation.specs.Answering.{ended_by_deeds}
 
 -- each lies above, and each above those before it
 lost-above : (p : ℕ) (before after : List Grant) → All (λ (grant : Grant). p < rank grant) before → All (λ q. p < q) (lost before after)
@@ -41,9 +41,9 @@ lost-rises (grant ∷ before) after rise =
     (λ stays. rw stays rest)
     (λ gone. rw gone (rising-cons (rank grant) (lost before after) (lost-above (rank grant) before after rise.0) rest))
 
-pub ended-rises : (owners : List ℕ) (deeds : List Deed) (deed : Option Deed) → IsProper owners deeds → IsStrictlyIncreasing (ended_by_deed owners deeds deed)
-ended-rises owners deeds None proper = none-rises
-ended-rises owners deeds (Some (Granting grant)) proper = none-rises
-ended-rises owners deeds (Some (Revoking revocation)) proper =
+pub ended-rises : (owners : List ℕ) (deeds made : List Deed) → IsProper owners deeds → IsStrictlyIncreasing (ended_by_deeds owners deeds made)
+ended-rises owners deeds [] proper = none-rises
+ended-rises owners deeds (Granting grant ∷ made) proper = none-rises
+ended-rises owners deeds (Revoking revocation ∷ made) proper =
     lost-rises (kept owners deeds) (kept owners (deeds ++ Revoking revocation ∷ []))
     (rising-part (part-kept_grants owners deeds) (rising-grants owners deeds proper))

@@ -1,8 +1,8 @@
 -- How the slots of grants that are looked for are passed, one after another.
-use Rattle.std.proofs.Common.{◌≡◌, ℕ, ◌+◌, ◌-◌, ◌&&◌, ◌||◌, ◌<◌, ◌≤◌, not, Bool, true, false, List, Option, Some, None, eqb, is_none, length, refl, sym, ◌∙◌, ap, subst, arith, inl, inr}
-use Rattle.std.specs.Prelude.{◌⊎◌, is_some, max, nat_lt, slice_get}
+use Rattle.std.proofs.Common.{◌≡◌, ℕ, ◌+◌, ◌&&◌, ◌||◌, ◌<◌, ◌≤◌, not, Bool, true, false, Option, Some, None, eqb, is_none, length, refl, sym, ◌∙◌, ap, subst, arith, inl, inr}
+use Rattle.std.specs.Prelude.{is_some, max, nat_lt, slice_get}
 use Rattle.std.specs.Option.{option_map_or}
-use Rattle.std.proofs.lemmas.Bool.{and_from, and_parts, cases_lt, eqb-true, le-ltb, lt-ltb, ltb-true, or_cases, or_left, or_right, true≢false}
+use Rattle.std.proofs.lemmas.Bool.{and_parts, cases_lt, eqb-true, le-ltb, lt-ltb, ltb-true, or_cases, or_right, true≢false}
 use Rattle.std.proofs.lemmas.Option.{slice_get_past}
 use Rattle.model_base.specs.declared.deed.Grant.{Grant}
 use Rattle.model_base.specs.declared.deed.Record.{Record}
@@ -10,7 +10,7 @@ use Rattle.model_base.specs.Privileges.{same_grantee, same_kind}
 use Rattle.model_base.proofs.Replay.{by_cases}
 use Rattle.grants_base.specs.Force.{greatest_end, is_in_force, later_of}
 use Rattle.grants_base.specs.Index.{IsFirst, IsNext, is_about, is_to, passes_at}
-use Rattle.grants_base.specs.View.{View, end_in, flatten, grant_in, slot_at}
+use Rattle.grants_base.specs.View.{View, end_in, grant_in, slot_at}
 use Rattle.bohm_core_base.specs.Batch.{Batch, batch_slots, is_listed}
 use Rattle.log_batch.specs.Earlier.{earlier_count, records_before}
 use Rattle.log_batch.specs.Laws.{IsOfLog}
@@ -21,8 +21,7 @@ use Rattle.evaluation.specs.Sought.{IsLastEnd, is_sought, is_up_to, is_wanted, o
 use Rattle.evaluation.specs.declared.in_force.Sought.{Sought}
 use Rattle.evaluation.proofs.Asked.{asked_seen}
 use Rattle.evaluation.proofs.InForce.{ended-at, in-force-low, out-at, shown-at}
-use Rattle.evaluation.proofs.LastEnds.{last-greatest, last-more, records-latest, records-there}
-use Rattle.evaluation.proofs.Slots.{slots-all}
+use Rattle.evaluation.proofs.LastEnds.{last-more, records-latest, records-there}
 
 -- what a slot shows, by its grant and its end
 pub open-parts : (passes : Grant → Bool) (slot : Option Record) → open_grant passes (grant_in slot) (end_in slot) ≡ is_in_force passes slot

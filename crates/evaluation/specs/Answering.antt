@@ -1,10 +1,11 @@
 -- What a place answers, by the rows and the records of grants that it is shown. BOHM executes a transaction once the versions that it reads
 -- are there, and it fills the versions that were placed for it (J. M. Faleiro and D. J. Abadi, "Rethinking Serializable Multiversion
 -- Concurrency Control", PVLDB 8, 2015, section 3). That a place gives its outcome in the same way is this project's own.
-use Rattle.std.specs.Prelude.{ℕ, Option, Some, None, List, [], slice_index_or}
+use Rattle.std.specs.Prelude.{ℕ, List, [], slice_index_or}
+use Rattle.std.specs.Option.{option_map_or}
 use Rattle.model_base.specs.declared.deed.Deed.{Deed}
-use Rattle.model_base.specs.declared.deed.Deed.TheVariants.{Granting, Revoking}
 use Rattle.model_base.specs.declared.statement.Access.{Access}
+use Rattle.model_base.specs.DeedsLeft.{revocation_of}
 use Rattle.model_base.specs.Privileges.{ended_by}
 use Rattle.model_base.specs.Rows.{Rows}
 use Rattle.body.specs.declared.window.Window.{Window}
@@ -21,8 +22,7 @@ pub record IsShaped (columns : ℕ → ℕ) (accesses : List Access) (window : W
   pub shows : WindowShows accesses window rows
   pub shape : HaveColumns columns rows
 
--- the ranks of the records of the grants that a deed takes out of force
-abbrev pub ended_by_deed : List ℕ → List Deed → Option Deed → List ℕ
-ended_by_deed owners deeds None = []
-ended_by_deed owners deeds (Some (Granting grant)) = []
-ended_by_deed owners deeds (Some (Revoking revocation)) = ended_by owners deeds revocation
+-- the ranks of the records of the grants that the deeds of a place take out of force, after those of the past: a revocation ends some,
+-- grants none
+abbrev pub ended_by_deeds : List ℕ → List Deed → List Deed → List ℕ
+ended_by_deeds owners past made = option_map_or (ended_by owners past) (revocation_of made) []

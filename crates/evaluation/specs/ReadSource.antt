@@ -9,7 +9,7 @@ use Rattle.model_base.specs.declared.row.Key.{Key}
 use Rattle.model_base.specs.Ranks.{rank}
 use Rattle.model_base.specs.Records.{end_after}
 use Rattle.bohm_core_base.specs.declared.event.Event.{Event}
-use Rattle.bohm_core_base.specs.Batch.{Batch, Row, cell, deeds_of, place_has_deed_on, is_listed, reference_words, batch_slots, was_done}
+use Rattle.bohm_core_base.specs.Batch.{Batch, Row, batch_deeds, cell, place_has_deed_on, is_listed, reference_words, batch_slots, was_done}
 use Rattle.bohm_core_base.specs.Deeds.{is_made}
 use Rattle.bohm_core_base.specs.Serial.{serial_words, batch_world_before}
 use Rattle.log_batch.specs.Supplied.{LogRange, batch_of}
@@ -79,9 +79,9 @@ abbrev pub row_referred : Batch → Key → ℕ → Row
 row_referred batch key zero = batch.base key
 row_referred batch key (suc index) = cell batch index (serial_words batch index) key
 
--- whether the serial run makes the deed of a place of the log
+-- whether the serial run makes the deeds of a place of the log
 abbrev pub made_whole : Batch → ℕ → Bool
-made_whole batch = is_made (deeds_of batch (λ index. was_done (serial_words batch index)))
+made_whole batch = is_made (batch_deeds batch (λ index. was_done (serial_words batch index)))
 
 -- the end that the record of a rank has after the serial run of the batch
 abbrev pub end_whole : Batch → ℕ → Option ℕ

@@ -1,8 +1,6 @@
 -- The grants that are looked for, and the last end of one of them.
 use Rattle.std.specs.Prelude.{◌≡◌, ◌==◌, ◌&&◌, ◌||◌, not, nat_le, ℕ, Bool, true, false, Option, Some, None, is_none, if◌then◌else◌}
 use Rattle.model_base.specs.declared.deed.Grant.{Grant}
-use Rattle.model_base.specs.declared.deed.Grantee.{Grantee}
-use Rattle.model_base.specs.declared.deed.Kind.{Kind}
 use Rattle.model_base.specs.declared.deed.Record.{Record}
 use Rattle.grants_base.specs.Force.{end_if}
 use Rattle.grants_base.specs.Index.{is_to}

@@ -5,10 +5,10 @@ ghost use Rattle.std.specs.List.{list_any};
 ghost use Rattle.std.specs.List.Sorted.{IsStrictlyIncreasing};
 ghost use Rattle.model_base.specs.declared.deed.Grant.{Grant};
 ghost use Rattle.model_base.specs.declared.statement.Statement.{Statement};
-ghost use Rattle.model_base.specs.Outcomes.{deed_of, deeds_before, owners};
+ghost use Rattle.model_base.specs.Outcomes.{deeds_before, deeds_of, owners};
 ghost use Rattle.model_base.specs.Ranks.{rank};
 ghost use Rattle.own_words.specs.Places.{words_at};
-ghost use Rattle.evaluation.specs.Answering.{ended_by_deed};
+ghost use Rattle.evaluation.specs.Answering.{ended_by_deeds};
 ghost use Rattle.sequencer.specs.Whole.{columns_by};
 ghost use Rattle.bohm_core_base.specs.Batch.{batch_slots, was_done};
 ghost use Rattle.bohm_core_base.specs.Serial.{serial_ends, serial_words};
@@ -76,7 +76,7 @@ pub fn words_by_source<T: ReadSource>(batch: &LogBatch<'_>, source: T, words: &m
     judge::<T, Brand>(batch, source, words)
 }
 
-/// The reader again, and the names of the records of the grants that its deed takes out of force.
+/// The reader again, and the names of the records of the grants that its revocation takes out of force.
 fn judge_ends<T: ReadSource, P: Pinned>(
     alloc: Global,
     batch: &LogBatch<'_>,
@@ -88,9 +88,9 @@ fn judge_ends<T: ReadSource, P: Pinned>(
     ensures value { (statement : Statement)
         → slice_get batch.now.log.statements (batch.now.first + (T.as_reader source).index) ≡ Some statement
         → IfOk result.1 (λ names. names.items
-        ≡ ended_by_deed (owners batch.now.log.statements)
+        ≡ ended_by_deeds (owners batch.now.log.statements)
         (deeds_before batch.now.log.statements (batch.now.first + (T.as_reader source).index))
-        (deed_of (batch.now.first + (T.as_reader source).index) statement.user statement.form)) }
+        (deeds_of (batch.now.first + (T.as_reader source).index) statement.user statement.form)) }
     ensures place { Some (T.as_reader result.0) ≡ P.as_reader }
     ensures kept { Some (T.work result.0) ≡ P.work }
 {

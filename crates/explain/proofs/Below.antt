@@ -11,8 +11,7 @@ use Rattle.model_base.specs.declared.deed.Grant.{Grant}
 use Rattle.model_base.specs.declared.deed.Deed.TheVariants.{Revoking}
 use Rattle.model_base.specs.Outcomes.{cause}
 use Rattle.model_base.specs.Paths.{path}
-use Rattle.model_base.specs.Privileges.{holds, kept, owns, place_of}
-use Rattle.model_base.specs.Records.{deeds_below}
+use Rattle.model_base.specs.Privileges.{deeds_below, holds, kept, owns, place_of}
 use Rattle.model_base.proofs.Causes.{cause-revocation}
 use Rattle.model_base.proofs.Cuts.{deeds_below-all, deeds_below-whole}
 use Rattle.model_base.proofs.Replay.{by_cases}

@@ -8,3 +8,4 @@ pub mod Showing
 pub mod Asked
 pub mod Passing
 pub mod Below
+pub mod RisingPlaces

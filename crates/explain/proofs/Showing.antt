@@ -14,8 +14,8 @@ use Rattle.model_base.specs.declared.deed.Need.{Need}
 use Rattle.model_base.specs.declared.deed.Record.{Record}
 use Rattle.model_base.specs.Laws.{IsRising}
 use Rattle.model_base.specs.Paths.{LeadsTo, path}
-use Rattle.model_base.specs.Privileges.{IsProper, kept, owns}
-use Rattle.model_base.specs.Records.{cut, deeds_below, holds_by, in_force, last_loss_by, records}
+use Rattle.model_base.specs.Privileges.{IsProper, deeds_below, kept, owns}
+use Rattle.model_base.specs.Records.{cut, holds_by, in_force, last_loss_by, records}
 use Rattle.model_base.proofs.Cuts.{deeds_below-proper, records-below}
 use Rattle.model_base.proofs.Losses.{cause-records, holds_by-cut}
 use Rattle.model_base.proofs.Parts.{part-all}

@@ -2,7 +2,7 @@
 -- rests on a chain of grants, each by who held the option through earlier ones, down to one by the table's owner, is from
 -- P. P. Griffiths and B. W. Wade, "An Authorization Mechanism for a Relational Database System", ACM Transactions on Database
 -- Systems 1 (1976), with R. Fagin's correction, "On an Authorization Mechanism", in the same journal, 3 (1978).
-use Rattle.std.specs.Prelude.{◌≡◌, ◌<◌, ℕ, Bool, false, List, All, Contains, length, map, IsTrue, if◌then◌else◌}
+use Rattle.std.specs.Prelude.{◌≡◌, ◌<◌, ℕ, Bool, false, List, [], ◌∷◌, All, Contains, length, map, IsTrue, if◌then◌else◌}
 use Rattle.model_base.specs.declared.deed.Cause.{Cause}
 use Rattle.model_base.specs.declared.deed.Cause.TheVariants.{Never, Taken}
 use Rattle.model_base.specs.declared.deed.Deed.{Deed}
@@ -11,9 +11,8 @@ use Rattle.model_base.specs.declared.deed.Need.{Need}
 use Rattle.model_base.specs.Laws.{IsRising}
 use Rattle.model_base.specs.Outcomes.{cause}
 use Rattle.model_base.specs.Paths.{LeadsTo, path}
-use Rattle.model_base.specs.Privileges.{holds, kept, owns}
+use Rattle.model_base.specs.Privileges.{deeds_below, holds, kept, owns}
 use Rattle.model_base.specs.Ranks.{rank}
-use Rattle.model_base.specs.Records.{deeds_below}
 use Rattle.explain.specs.declared.line.Shown.{Shown}
 
 -- the ranks of the records of the grants
@@ -36,6 +35,11 @@ cause_before owners deeds place user need = cause owners (deeds_below place deed
 -- path of its grantor's option
 abbrev pub path_before : List ℕ → List Deed → ℕ → ℕ → Need → List ℕ
 path_before owners deeds place user need = ranks_of (path owners (kept_before owners deeds place) user need)
+
+-- each of the grants has a lower place than those after it
+abbrev pub PlacesRise : List Grant → Type 0
+PlacesRise [] = Unit {0}
+PlacesRise (grant ∷ grants) = All (λ (later : Grant). grant.place < later.place) grants × PlacesRise grants
 
 -- the ranks are those of a chain of some of the grants that bears the need: it isn't empty, its ranks rise, the owner of the
 -- table made the first, each gives the grantor of the next the option, and the last gives the user what is needed

@@ -34,6 +34,6 @@ pub use grant_chains::is_chain;
 pub use laws::{accepted_needs_are_held, explanations_are_sound};
 pub use line::{Line, Shown};
 pub use line_laws::{explained_needs_are_sound, later_deeds_explain_nothing};
-pub use path_laws::shown_needs_are_sound;
+pub use path_laws::{places_rise_along_paths, shown_needs_are_sound};
 pub use paths::path_at;
 pub use shown::{explain_need, is_sound};

@@ -1,8 +1,7 @@
 //! What holds of all lines that explain needs.
 
 ghost use Rattle.std.specs.Prelude.{◌≡◌, ◌↔◌, ℕ, List};
-ghost use Rattle.model_base.specs.Privileges.{IsProper};
-ghost use Rattle.model_base.specs.Records.{deeds_below};
+ghost use Rattle.model_base.specs.Privileges.{IsProper, deeds_below};
 ghost use Rattle.model_base.specs.declared.deed.Deed.{Deed};
 ghost use Rattle.model_base.specs.declared.deed.Need.{Need};
 ghost use Rattle.explain.specs.declared.line.Line.{Line};

@@ -65,17 +65,20 @@ fn need_of_accesses(accesses: &[Access], index: usize) -> Result<Need, usize>
     Err(left)
 }
 
-/// The need of an index among those of a deed: a grant needs its kind with the option, a revocation nothing.
+/// The need of an index among those of a deed: a grant needs each of its kinds with the option, a revocation nothing.
 fn need_of_deed(deed: &DeedForm, index: usize) -> Option<Need>
     ensures { result ≡ slice_get (needs_of_deed deed.now) index }
 {
     match *deed {
-        DeedForm::Grant { kind, table, .. } if index == 0 => Some(Need {
-            table,
-            kind,
-            option: true,
-        }),
-        _ => None,
+        DeedForm::Grant { kinds, table, .. } => match kind_at(&kinds, index) {
+            Ok(kind) => Some(Need {
+                table,
+                kind,
+                option: true,
+            }),
+            Err(_) => None,
+        },
+        DeedForm::Revoke { .. } => None,
     }
 }
 

@@ -153,6 +153,7 @@ impl FedRun {
         ensures counted { result ≡ Err FeedFault.Full → 2 ^ 64 ≤ self.new.lines + length self.new.order.waiting + 1 }
         ensures begun { self.new.begun.items ≡ self.old.begun.items }
         ensures ended { self.new.is_ended ≡ self.old.is_ended }
+        ensures keep { self.new.order.keep ≡ self.old.order.keep }
     {
         let count = self.order.waiting();
         if count == 0 {
@@ -186,6 +187,7 @@ impl FedRun {
         ensures open { result ≡ Err FeedFault.Ended → ⊥ }
         ensures counted { result ≡ Err FeedFault.Full → 2 ^ 64 ≤ self.new.lines + length self.new.order.waiting + 1 }
         ensures begun { self.new.begun.items ≡ self.old.begun.items }
+        ensures keep { self.new.order.keep ≡ self.old.order.keep }
     {
         self.settle(alloc)?;
         Ok(self.give(out, made))
@@ -200,6 +202,7 @@ impl FedRun {
         ensures open { result ≡ Err FeedFault.Ended → ⊥ }
         ensures counted { result ≡ Err FeedFault.Full → 2 ^ 64 ≤ self.new.lines + length self.new.order.waiting + 1 }
         ensures begun { self.new.begun.items ≡ self.old.begun.items }
+        ensures keep { self.new.order.keep ≡ self.old.order.keep }
     {
         step.made = self.give(out, 0);
         if self.waiting() > 0 {
@@ -229,6 +232,7 @@ impl FedRun {
         ensures lines { self.new.lines ≡ self.old.lines }
         ensures unsent { unsent self.new ≡ unsent self.old }
         ensures ended { self.new.is_ended ≡ self.old.is_ended }
+        ensures keep { self.new.order.keep ≡ self.old.order.keep }
     {
         if self.begun.is_empty() {
             self.order.take(end, raw)?;
@@ -265,6 +269,7 @@ impl FedRun {
         ensures counted { result ≡ Err FeedFault.Full → ⊥ }
         ensures unsent { unsent self.new ≡ unsent self.old }
         ensures ended { self.new.is_ended ≡ self.old.is_ended }
+        ensures keep { self.new.order.keep ≡ self.old.order.keep }
     {
         match cut_line(bytes) {
             None => {
@@ -295,6 +300,7 @@ impl FedRun {
         ensures counted { result ≡ Err FeedFault.Full → ⊥ }
         ensures unsent { unsent self.new ≡ unsent self.old }
         ensures ended { self.new.is_ended ≡ self.old.is_ended }
+        ensures keep { self.new.order.keep ≡ self.old.order.keep }
     {
         'lines: while step.used < input.len() && !self.order.is_full() {
             step.used += self.take(alloc, &input[step.used..], raw)?;
@@ -319,6 +325,7 @@ impl FedRun {
         ensures nothing { OnErr result (unsent self.new ≡ []) }
         ensures open { result ≡ Err FeedFault.Ended → ⊥ }
         ensures counted { result ≡ Err FeedFault.Full → 2 ^ 64 ≤ self.new.lines + length self.new.order.waiting + 1 }
+        ensures keep { self.new.order.keep ≡ self.old.order.keep }
     {
         self.start(alloc, out, step)?;
         let mut raw = LineBuffers::new(alloc);
@@ -357,6 +364,8 @@ impl FedRun {
         ensures open { self.new.is_ended ≡ self.old.is_ended }
         // Full comes only where one line more couldn't be counted.
         ensures counted { result.1 ≡ Err FeedFault.Full → 2 ^ 64 ≤ self.new.lines + length self.new.order.waiting + 1 }
+        // As many of the last places are to be kept as before.
+        ensures keep { self.new.order.keep ≡ self.old.order.keep }
     {
         let mut step = Step { used: 0, made: 0 };
         if self.is_ended {
@@ -377,6 +386,7 @@ impl FedRun {
         ensures nothing { OnErr result (unsent self.new ≡ []) }
         ensures open { result ≡ Err FeedFault.Ended → ⊥ }
         ensures counted { result ≡ Err FeedFault.Full → 2 ^ 64 ≤ self.new.lines + length self.new.order.waiting + 1 }
+        ensures keep { self.new.order.keep ≡ self.old.order.keep }
     {
         self.feed(alloc, &[], out, step)?;
         if self.waiting() > 0 {
@@ -404,6 +414,7 @@ impl FedRun {
         ensures open { result.1 ≡ Err FeedFault.Ended → ⊥ }
         ensures counted { result.1 ≡ Err FeedFault.Full → 2 ^ 64 ≤ self.new.lines + length self.new.order.waiting + 1 }
         ensures ended { self.new.is_ended ≡ true }
+        ensures keep { self.new.order.keep ≡ self.old.order.keep }
     {
         self.is_ended = true;
         let mut step = Step { used: 0, made: 0 };

@@ -122,6 +122,7 @@ impl InOrder {
         ensures ok { OnOk result ((reading : ParsedLine) × (ReadsAs line.now reading × TakesLine reading self.old self.new)) }
         ensures whole { IsWhole self.new.run.log }
         ensures err { OnErr result (self.new ≡ self.old) }
+        ensures keep { self.new.keep ≡ self.old.keep }
     {
         let _before = self.engine.log().dropped();
         self.waiting.reserve(1)?;
@@ -137,6 +138,7 @@ impl InOrder {
         ensures ok { OnOk result ((reading : ParsedLine) × (ReadsAs line.now reading × TakesLine reading self.old self.new)) }
         ensures whole { IsWhole self.new.run.log }
         ensures err { OnErr result (self.new ≡ self.old) }
+        ensures keep { self.new.keep ≡ self.old.keep }
     {
         let mut raw = LineBuffers::new(alloc);
         self.take(line, &mut raw)
@@ -158,6 +160,7 @@ impl InOrder {
         ensures waiting { OnOk result (self.new.waiting ≡ []) }
         ensures log { self.new.run.log ≡ self.old.run.log }
         ensures still { OnErr result ((self.new.waiting ≡ self.old.waiting) × (self.new.reported ≡ self.old.reported)) }
+        ensures keep { self.new.keep ≡ self.old.keep }
     {
         let _finished = self.engine.finished();
         let end = self.engine.log().len();

@@ -1,21 +1,22 @@
 -- The outcome that own words tell.
-use Rattle.std.proofs.Common.{◌≡◌, ◌<◌, ◌+◌, ◌^◌, ◌==◌, ℕ, Some, None, List, length, get_or, min, refl, sym, ap, ◌∙◌, arith}
+use Rattle.std.proofs.Common.{◌≡◌, ◌<◌, ◌+◌, ◌^◌, ◌==◌, ℕ, Some, None, List, [], ◌∷◌, length, get_or, map, min, refl, sym, ap, ◌∙◌, arith}
 use Rattle.std.specs.Prelude.{All, slice_get, slice_index}
 use Rattle.std.proofs.lemmas.Bool.{eq-eqb, eqb-true}
-use Rattle.model_base.specs.declared.deed.Deed.TheVariants.{Revoking}
+use Rattle.model_base.specs.declared.deed.Deed.TheVariants.{Granting, Revoking}
+use Rattle.model_base.specs.declared.deed.Grant.{Grant}
 use Rattle.model_base.specs.declared.deed.Revocation.{Revocation}
 use Rattle.model_base.specs.declared.outcome.DeedDone.{DeedDone}
 use Rattle.model_base.specs.declared.outcome.Outcome.{Outcome}
 use Rattle.model_base.specs.declared.statement.DeedForm.{DeedForm}
 use Rattle.model_base.specs.declared.statement.Form.{Form}
 use Rattle.model_base.specs.declared.statement.Statement.{Statement}
-use Rattle.model_base.specs.Outcomes.{deed_of, outcome}
+use Rattle.model_base.specs.Outcomes.{deeds_of, grants_at, kinds_in, outcome}
 use Rattle.model_base.proofs.Replay.{by_cases}
 use Rattle.body.specs.Premises.{IsRunnable}
 use Rattle.body.specs.Shape.{FormFits}
 use Rattle.body.specs.Steps.{steps_of}
 use Rattle.own_words.specs.Places.{words_at}
-use Rattle.own_words.specs.Words.{done_from, ended_in, numbers_from, outcome_from}
+use Rattle.own_words.specs.Words.{deeds_told, done_from, ended_in, numbers_from, outcome_from}
 use Rattle.sequencer.specs.Whole.{IsAccepted, columns_by}
 use Rattle.bohm_core_base.specs.Batch.{was_done}
 use Rattle.bohm_core_base.specs.Serial.{serial_words}
@@ -25,20 +26,27 @@ use Rattle.log_batch.proofs.SerialRuns.{serial_words_are}
 use Rattle.filling.specs.Outcomes.{IsEndedList, outcome_in}
 use Rattle.filling.proofs.Endings.{comes, outcome-there}
 
+-- nothing ended by grants
+granted-any : (ended other : List ℕ) (grants : List Grant) → deeds_told ended (map Granting grants) ≡ deeds_told other (map Granting grants)
+granted-any ended other [] = refl
+granted-any ended other (grant ∷ grants) = refl
+
 -- what a revocation ended counts only where the words say that it was done
-done-any : (place user : ℕ) (form : Form) (words ended other : List ℕ) → ((revocation : Revocation) → deed_of place user form ≡ Some (Revoking revocation) → ended ≡ other)
+done-any : (place user : ℕ) (form : Form) (words ended other : List ℕ) → ((revocation : Revocation) → deeds_of place user form ≡ Revoking revocation ∷ [] → ended ≡ other)
     → done_from form words ended ≡ done_from form words other
 done-any place user (Form.Create table columns) words ended other same = refl
 done-any place user (Form.Run accesses steps None) words ended other same = refl
-done-any place user (Form.Run accesses steps (Some (DeedForm.Grant kind table grantee option))) words ended other same = refl
+done-any place user (Form.Run accesses steps (Some (DeedForm.Grant kinds table grantees option))) words ended other same =
+    ap (Outcome.Done (numbers_from 4 (min (slice_index words 3) 8) words)) (granted-any ended other (grants_at 0 0 table option grantees (kinds_in kinds)))
 done-any place user (Form.Run accesses steps (Some (DeedForm.Revoke kinds table grantees))) words ended other same =
     ap (λ list. Outcome.Done (numbers_from 4 (min (slice_index words 3) 8) words) (DeedDone.Revoked list)) (same _ refl)
-done-any place user (Form.Deed (DeedForm.Grant kind table grantee option)) words ended other same = refl
+done-any place user (Form.Deed (DeedForm.Grant kinds table grantees option)) words ended other same =
+    ap (Outcome.Done (numbers_from 4 (min (slice_index words 3) 8) words)) (granted-any ended other (grants_at 0 0 table option grantees (kinds_in kinds)))
 done-any place user (Form.Deed (DeedForm.Revoke kinds table grantees)) words ended other same =
     ap (λ list. Outcome.Done (numbers_from 4 (min (slice_index words 3) 8) words) (DeedDone.Revoked list)) (same _ refl)
 
 told-any : (place user : ℕ) (form : Form) (words ended other : List ℕ)
-    → (slice_index words 0 ≡ 1 → (revocation : Revocation) → deed_of place user form ≡ Some (Revoking revocation) → ended ≡ other)
+    → (slice_index words 0 ≡ 1 → (revocation : Revocation) → deeds_of place user form ≡ Revoking revocation ∷ [] → ended ≡ other)
     → outcome_from form words ended ≡ outcome_from form words other
 told-any place user form words ended other same =
     by_cases (slice_index words 0 == 1)

@@ -15,7 +15,7 @@ use Rattle.model_base.specs.declared.statement.Statement.{Statement}
 use Rattle.model_base.specs.Body.{Ending, aborted, completed, undeclared}
 use Rattle.model_base.specs.Ranks.{rank}
 use Rattle.model_base.specs.Laws.{IsPart, left_out, none, stays}
-use Rattle.model_base.specs.Outcomes.{World, at_place, body, deed_of, deeds_before, ended, judged, missing, owners, step_form, world_before}
+use Rattle.model_base.specs.Outcomes.{World, at_place, body, deeds_before, deeds_of, ended, judged, missing, owners, step_form, world_before}
 use Rattle.model_base.specs.Privileges.{is_among, kept, lost, place_of}
 use Rattle.model_base.specs.Records.{grants_of}
 use Rattle.model_base.proofs.Growth.{deeds_before-stands}
@@ -25,7 +25,7 @@ use Rattle.model_base.proofs.Records.{grants-append}
 use Rattle.model_base.proofs.Replay.{by_cases}
 use Rattle.own_words.specs.Places.{own_words}
 use Rattle.own_words.specs.Words.{ended_in, outcome_word}
-use Rattle.evaluation.specs.Answering.{ended_by_deed}
+use Rattle.evaluation.specs.Answering.{ended_by_deeds}
 use Rattle.bohm_core_base.specs.Batch.{Batch, IsSoundBatch, rank_at, batch_slots, was_done}
 use Rattle.bohm_core_base.specs.Deeds.{is_made, made_before, named_before}
 use Rattle.bohm_core_base.specs.Serial.{serial_ends, serial_words, batch_world_before}
@@ -133,23 +133,23 @@ granted-slots b sound n within =
     rw (made-named d placed b.size) (part-grants_filter test (named_before d b.size)) in
     rw (deeds-made b sound n) (part-part beginning all)
 
--- what a done place ended is what its deed ends
-ended-body : (owned : List ℕ) (world : World) (deed : Option Deed) (ending : Ending) → outcome_word (ended owned world deed ending) ≡ 1
-    → ended_in (ended owned world deed ending) ≡ ended_by_deed owned world.deeds deed
-ended-body owned world None (completed rows outputs) done = refl
-ended-body owned world (Some (Granting grant)) (completed rows outputs) done = refl
-ended-body owned world (Some (Revoking revocation)) (completed rows outputs) done = refl
-ended-body owned world deed (aborted step reason) done = absurd (omega arith)
-ended-body owned world deed (undeclared step) done = absurd (omega arith)
+-- what a done place ended is what its deeds end
+ended-body : (owned : List ℕ) (world : World) (made : List Deed) (ending : Ending) → outcome_word (ended owned world made ending) ≡ 1
+    → ended_in (ended owned world made ending) ≡ ended_by_deeds owned world.deeds made
+ended-body owned world [] (completed rows outputs) done = refl
+ended-body owned world (Granting grant ∷ made) (completed rows outputs) done = refl
+ended-body owned world (Revoking revocation ∷ made) (completed rows outputs) done = refl
+ended-body owned world made (aborted step reason) done = absurd (omega arith)
+ended-body owned world made (undeclared step) done = absurd (omega arith)
 
 ended-judged : (owned : List ℕ) (place : ℕ) (world : World) (statement : Statement) (lack : Option Need) → outcome_word (judged owned place world statement lack).0 ≡ 1
-    → ended_in (judged owned place world statement lack).0 ≡ ended_by_deed owned world.deeds (deed_of place statement.user statement.form)
+    → ended_in (judged owned place world statement lack).0 ≡ ended_by_deeds owned world.deeds (deeds_of place statement.user statement.form)
 ended-judged owned place world statement None done =
-    ended-body owned world (deed_of place statement.user statement.form) (body world.rows statement.form) done
+    ended-body owned world (deeds_of place statement.user statement.form) (body world.rows statement.form) done
 ended-judged owned place world statement (Some need) done = absurd (omega arith)
 
 ended-form : (owned : List ℕ) (place : ℕ) (world : World) (statement : Statement) (form : Form) → outcome_word (step_form owned place world statement form).0 ≡ 1
-    → ended_in (step_form owned place world statement form).0 ≡ ended_by_deed owned world.deeds (deed_of place statement.user statement.form)
+    → ended_in (step_form owned place world statement form).0 ≡ ended_by_deeds owned world.deeds (deeds_of place statement.user statement.form)
 ended-form owned place world statement (Form.Create table columns) done = absurd (omega arith)
 ended-form owned place world statement (Form.Run accesses steps deed) done =
     ended-judged owned place world statement (missing owned world statement.user (Form.Run accesses steps deed)) done
@@ -179,11 +179,11 @@ module _ (ranged : LogRange) (is : IsOfLog (range_of ranged)) (index : ℕ) (wit
       λ one. option_map_or (λ (s : Statement). own_words (range_of ranged).columns s.form (at_place (owners log) place (world_before log place) s)) one [] in
       ap was_done (serial_words_are (range_of ranged) is index statement at) ∙ ap (λ (one : Option Statement). was_done (words one)) at
 
-  -- what a deed ends was granted
-  ended-granted : (deed : Option Deed) (x : ℕ) → In x (ended_by_deed (owners log) (deeds_before log place) deed) → In x (map rank (batch_slots (batch_of ranged)))
-  ended-granted None x has = absurd has
-  ended-granted (Some (Granting grant)) x has = absurd has
-  ended-granted (Some (Revoking revocation)) x has =
+  -- what the deeds end was granted
+  ended-granted : (made : List Deed) (x : ℕ) → In x (ended_by_deeds (owners log) (deeds_before log place) made) → In x (map rank (batch_slots (batch_of ranged)))
+  ended-granted [] x has = absurd has
+  ended-granted (Granting grant ∷ made) x has = absurd has
+  ended-granted (Revoking revocation ∷ made) x has =
       let b = batch_of ranged in
       let before = deeds_before log place in
       let same : (batch_world_before b index).deeds ≡ before = (serial_runs_agree (range_of ranged) is index).deeds in
@@ -199,8 +199,8 @@ module _ (ranged : LogRange) (is : IsOfLog (range_of ranged)) (index : ℕ) (wit
       → ended_ranks_at (batch_of ranged) listed index ≡ ended_in found
   endings-told listed rise right order done found told =
       let b = batch_of ranged in
-      let deed = deed_of place statement.user statement.form in
-      let ends = ended_by_deed (owners log) (deeds_before log place) deed in
+      let made = deeds_of place statement.user statement.form in
+      let ends = ended_by_deeds (owners log) (deeds_before log place) made in
       let one : outcome_word comes ≡ 1 = eqb-true (outcome_word comes) 1 (sym done-told ∙ done) in
       let both : Some found ≡ Some comes = sym told ∙ outcome-there in
       let same : found ≡ comes = cc in
@@ -215,7 +215,7 @@ module _ (ranged : LogRange) (is : IsOfLog (range_of ranged)) (index : ℕ) (wit
       subst (λ p. In p ends) (sym grant.2 ∙ ender.3) listed-there) in
       let back : (x : ℕ) → In x ends → In x (ended_ranks_at b listed index) =
       λ x has.
-      (let slot = in-at x (map rank (batch_slots b)) (ended-granted deed x has) in
+      (let slot = in-at x (map rank (batch_slots b)) (ended-granted made x has) in
       let count = length-map (batch_slots b) rank in
       let low : slot.0 < length (batch_slots b) = (let below = slot.1 in omega arith) in
       let grant = grant-there b slot.0 low in
@@ -236,6 +236,6 @@ module _ (ranged : LogRange) (is : IsOfLog (range_of ranged)) (index : ℕ) (wit
       let mine-is = mine.2 in
       let theirs-is = theirs.2 in
       omega arith) in
-      same-members (ended_ranks_at b listed index) ends up (rises-by ends (ended-rises (owners log) (deeds_before log place) deed proper)) there back
+      same-members (ended_ranks_at b listed index) ends up (rises-by ends (ended-rises (owners log) (deeds_before log place) made proper)) there back
       ∙ sym (ended-form (owners log) place (world_before log place) statement statement.form one)
       ∙ ap ended_in (sym same)

@@ -17,3 +17,4 @@ pub mod Steps
 pub mod Told
 pub mod CellsTold
 pub mod Ranges
+pub mod Revokes

@@ -17,7 +17,7 @@ use Rattle.placing.specs.Parts.{Referral, access_referral, key_partition, referr
 use Rattle.placing.proofs.Going.{own-prior-is, own-writer-is, up-to-next}
 use Rattle.bohm_core_base.specs.declared.event.Event.TheVariants.{Place}
 use Rattle.bohm_core_base.specs.Batch.{Batch, reference_words}
-use Rattle.log_batch.specs.Laws.{word_of}
+use Rattle.log_batch.specs.Laws.{IsOfLog, word_of}
 use Rattle.log_batch.specs.Supplied.{LogRange, batch_of, range_of}
 use Rattle.log_batch.proofs.SoundReferences.{references_same}
 use Rattle.filling.specs.Keys.{Key}
@@ -29,7 +29,7 @@ use Rattle.words.specs.Views.{In, front_in, with_cut, with_placing, with_stored}
 use Rattle.filling.specs.declared.placer.Placer.{Placer}
 use Rattle.filling.specs.Placers.{AreNewPlacers, IsAt, IsNewPlacer, IsPlacerIn, OnlyStores, StoredBelow, placer_front, storing, with_all_cut}
 
-module _ (ranged : LogRange) (index : ℕ) (statement : Statement) (at : slice_get ranged.log.statements (ranged.first + index) ≡ Some statement) where
+module _ (ranged : LogRange) (of_log : IsOfLog (range_of ranged)) (index : ℕ) (statement : Statement) (at : slice_get ranged.log.statements (ranged.first + index) ≡ Some statement) where
   abbrev log : List Statement
   log = ranged.log.statements
 
@@ -45,7 +45,7 @@ module _ (ranged : LogRange) (index : ℕ) (statement : Statement) (at : slice_g
   -- the place has a reference for each access, and then one for each of its tables
   references-are : reference_words (batch_of ranged) index ≡ map (word_of ranged.first) (rows ++ deeds)
   references-are =
-      references_same (range_of ranged) index
+      references_same (range_of ranged) of_log index
       ∙ ap (λ found. map (word_of ranged.first) (option_map_or (references_of log ranged.first place) found [])) at
 
   -- each into the partition of its row, or of the deeds on its table
@@ -137,6 +137,7 @@ pub at-stays : (words : Words Key) (token after : PlacerState) (latest : Latest)
 at-stays words token after latest statement only is =
     subst (λ (t : PlacerState). IsAt words t latest statement) (sym only) record {
       same_table = is.same_table;
+      of_log = is.of_log;
       within = is.within;
       at = is.at;
       partition = is.partition;
@@ -196,7 +197,7 @@ found-row words token latest statement is number access within here mine =
     ap (λ n. key_partition n access.key.table access.key.row) is.partitions ∙ mine ∙ sym is.partition in
     let own : is_own_row latest access.key.table access.key.row ≡ true = eq-eqb _ _ same in
     ap (word_of ranged.first) (own-writer-is latest ranged.log.statements ranged.first (ranged.first + front_in token.view) access is.latest own)
-    ∙ sym (row-word ranged (front_in token.view) statement is.at number access within here)
+    ∙ sym (row-word ranged is.of_log (front_in token.view) statement is.at number access within here)
 
 -- and so is that of what it found for a table
 pub found-table : (words : Words Key) (token : PlacerState) (latest : Latest) (statement : Statement) → IsAt words token latest statement
@@ -210,14 +211,14 @@ found-table words token latest statement is number table within here mine =
     ap (λ n. table_partition n table) is.partitions ∙ mine ∙ sym is.partition in
     let own : is_own_table latest table ≡ true = eq-eqb _ _ same in
     ap (word_of ranged.first) (own-prior-is latest ranged.log.statements ranged.first (ranged.first + front_in token.view) table is.latest own)
-    ∙ sym (table-word ranged (front_in token.view) statement is.at number table within here)
+    ∙ sym (table-word ranged is.of_log (front_in token.view) statement is.at number table within here)
 
 -- this many references are all of the place
 pub stored-all : (words : Words Key) (token : PlacerState) (latest : Latest) (statement : Statement) → IsAt words token latest statement
     → StoredBelow (batch_of words.key.batch) token.view (length (accesses_of statement.form) + length (tables_of statement.form))
     → StoredAll (batch_of words.key.batch) token.view
 stored-all words token latest statement is below number within mine =
-    below number (let count = references-count words.key.batch (front_in token.view) statement is.at in omega arith) within mine
+    below number (let count = references-count words.key.batch is.of_log (front_in token.view) statement is.at in omega arith) within mine
 
 -- who stores and then goes on has only placed a place
 pub stores-advance : (token middle after : PlacerState) → OnlyStores token middle → after ≡ placed_on middle (with_placing middle.view)

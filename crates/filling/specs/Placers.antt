@@ -7,7 +7,8 @@ use Rattle.model_base.specs.declared.statement.Statement.{Statement}
 use Rattle.placing.specs.declared.latest.Latest.{Latest}
 use Rattle.placing.specs.Latest.{IsLatest, IsUpTo}
 use Rattle.bohm_core_base.specs.Batch.{Batch, reference_words}
-use Rattle.log_batch.specs.Supplied.{LogRange}
+use Rattle.log_batch.specs.Laws.{IsOfLog}
+use Rattle.log_batch.specs.Supplied.{LogRange, range_of}
 use Rattle.filling.specs.Keys.{Key}
 use Rattle.words.specs.declared.knowledge.Knowledge.{Knowledge}
 use Rattle.words.specs.Layout.{partition_at}
@@ -52,9 +53,10 @@ AdvancedMeans ranged placer (Next place) after =
 AdvancedMeans ranged placer End after = (placer_front placer ≡ ranged.size) × (after ≡ placer)
 AdvancedMeans ranged placer NoMemory after = (placer_front placer < ranged.size) × (after.token ≡ placer.token)
 
--- the place at the front is one of the batch and has this statement, and the placer keeps all places below it
+-- the place at the front is one of the batch, which is of a log, and has this statement, and the placer keeps all places below it
 pub record IsAt (words : Words Key) (token : PlacerState) (kept : Latest) (statement : Statement) : Type 0 where
   pub same_table : IsPlacerOf words token
+  pub of_log : IsOfLog (range_of words.key.batch)
   pub within : front_in token.view < words.key.batch.size
   pub at : slice_get words.key.batch.log.statements (words.key.batch.first + front_in token.view) ≡ Some statement
   pub partition : kept.partition ≡ token.view.partition

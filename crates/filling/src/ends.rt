@@ -24,19 +24,10 @@ use bohm_core_base::{
 };
 use evaluation::{ends_by_source, was_done};
 use log_batch::LogBatch;
-use model_base::{Deed, RecordName};
+use model_base::RecordName;
 use std::alloc::AllocError;
 use std::marker::{Brand, PhantomData};
 use words::{BatchData, BatchWords, Holding};
-
-// The deed that the place may make.
-fn deed_at(batch: &LogBatch, index: usize) -> Option<Deed>
-    requires { index < batch.now.size }
-    ensures { result ≡ (batch_of batch.now).deed index }
-{
-    let place = batch.first_place() + index as u64;
-    batch.statement(index).deed_at(place)
-}
 
 // Whether the place has a revocation.
 pub(crate) fn has_revocation(batch: &LogBatch, index: usize) -> bool
@@ -44,11 +35,8 @@ pub(crate) fn has_revocation(batch: &LogBatch, index: usize) -> bool
     ensures yes { IsTrue result → IsRevocation (batch_of batch.now) index }
     ensures no { IsRevocation (batch_of batch.now) index → IsTrue result }
 {
-    match deed_at(batch, index) {
-        Some(Deed::Revoking(_)) => true,
-        Some(Deed::Granting(_)) => false,
-        None => false,
-    }
+    let place = batch.first_place() + index as u64;
+    batch.statement(index).revocation_at(place).is_some()
 }
 
 // Whether a place that has these own words was done and has a revocation.

@@ -130,7 +130,7 @@ impl BatchData for RangeKey<'_> {
     }
 
     fn ends(&self) -> usize {
-        // The grant of each slot is of another place, below the end of the batch.
+        // The grants of the slots are of places below the end of the batch, and a place makes few.
         let _first = self.batch.first_place();
         self.slots.len()
     }

@@ -3,8 +3,10 @@
 ghost use Rattle.std.specs.Prelude.{Decides, ◌+◌, ◌≡◌, ◌<◌, ◌++◌, ◌∷◌, [], true, ℕ, List, All, IfOk, IfSome, IsTrue, OnErr, OnOk, Some, length, map, slice_get};
 ghost use Rattle.model_base.specs.declared.deed.Deed.TheVariants.{Granting, Revoking};
 ghost use Rattle.model_base.specs.declared.deed.Deed.{Deed};
-ghost use Rattle.model_base.specs.Privileges.{ended_by, option_of, place_of};
-ghost use Rattle.model_base.specs.Records.{deeds_below, ended_at, recorded};
+ghost use Rattle.model_base.specs.declared.deed.Grant.{Grant};
+ghost use Rattle.model_base.specs.Privileges.{deeds_below, ended_by, option_of, place_of};
+ghost use Rattle.model_base.specs.Ranks.{deed_number, rank};
+ghost use Rattle.model_base.specs.Records.{ended_at, recorded};
 ghost use Rattle.model_base.specs.declared.deed.Record.{Record};
 ghost use Rattle.grants_base.specs.Force.{gives_by, gives_to, is_in_force};
 ghost use Rattle.grants_base.specs.InForce.{IsNextInForce};
@@ -44,7 +46,7 @@ impl Model for Book {
 }
 
 impl Book {
-    ghost use Rattle.grants_base.specs.Book.{Continues, IsLater, IsSoundBook, ShowsBook, cut_book, end_slots, extended, lies_below, owners_of, table_of_deed, view_of, with_ends, with_grant, with_table};
+    ghost use Rattle.grants_base.specs.Book.{Continues, IsLater, IsNextRecord, IsSoundBook, ShowsBook, cut_book, end_slots, extended, lies_below, owners_of, table_of_deed, view_of, with_ends, with_grant, with_table};
     ghost use Rattle.grants_base.specs.View.{ShowsDeeds, holds_in};
 
     /// A book without tables and grants. It doesn't allocate.
@@ -101,17 +103,19 @@ impl Book {
         Ok(Table(number as u32))
     }
 
-    /// Adds a grant last. The place has to lie above all of the book, the table to be one of its tables, and the grantor to hold the kind
-    /// with the option, as `holds_option` says by the book's view. It takes a time that grows with the logarithm of the number of grants in
-    /// force of its kind on its table to its grantee, on average. On `Err`, out of memory, the book is as it was.
-    #[tactic(auto, using(crate::proofs::GrantLaws::sound_grant, crate::proofs::GrantLaws::shows_grant, crate::proofs::LaterLaws::later_grant))]
+    /// Adds a grant last. The rank has to lie above those of all grants of the book, which may have its place, and the place above all tables
+    /// and ends; the table has to be one of the book's, and the grantor to hold the kind with the option by what was made below the place, as
+    /// `holds_option` says by the book's view. It takes a time that grows with the logarithm of the number of grants in force of its kind on
+    /// its table to its grantee, on average. On `Err`, out of memory, the book is as it was.
+    #[tactic(auto, using(crate::proofs::GrantLaws::shows_grant))]
     pub fn grant(&mut self, grant: Grant) -> Result<(), AllocError>
-        requires later { IsLater self.old grant.place }
+        requires later { IsNextRecord self.old grant }
         requires table { grant.table < length self.old.tables }
         requires held { IsTrue (holds_in (view_of self.old grant.place) grant.grantor (option_of grant)) }
         ensures ok { OnOk result (self.new ≡ with_grant self.old grant) }
         ensures after { OnOk result ((owners : List ℕ) (deeds : List Deed) → ShowsBook self.old owners deeds
-            → All (λ deed. place_of deed < grant.place) deeds → ShowsBook self.new owners (deeds ++ Granting grant ∷ [])) }
+            → All (λ deed. deed_number deed < rank grant) deeds → ShowsBook self.new owners (deeds ++ Granting grant ∷ [])) }
+        ensures next { OnOk result ((next : Grant) → rank grant < rank next → IsNextRecord self.new next) }
         ensures later { OnOk result ((next : ℕ) → grant.place < next → IsLater self.new next) }
         ensures err { OnErr result (self.new ≡ self.old) }
     {

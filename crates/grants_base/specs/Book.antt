@@ -7,6 +7,7 @@ use Rattle.model_base.specs.declared.deed.Record.{Record}
 use Rattle.model_base.specs.declared.deed.Deed.{Deed}
 use Rattle.model_base.specs.declared.deed.Deed.TheVariants.{Granting, Revoking}
 use Rattle.model_base.specs.Privileges.{IsProper}
+use Rattle.model_base.specs.Ranks.{rank}
 use Rattle.model_base.specs.Laws.{IsRising}
 use Rattle.model_base.specs.Records.{cut, end_below, ended_at, recorded, records}
 use Rattle.grants_base.specs.View.{View, AreAuthorised}
@@ -46,6 +47,13 @@ pub record IsLater (book : Entries) (place : ℕ) : Type 0 where
   pub tables : All (λ (creation : Creation). creation.place < place) book.tables
   pub grants : All (λ (entry : Record). entry.grant.place < place) book.records
   pub ends : All (λ (entry : Record). IfSome entry.end (λ end. end < place)) book.records
+
+-- the grant may be the next record of the book: its rank lies above those of all grants, so these may have its place, and its place above
+-- those of all tables and ends
+pub record IsNextRecord (book : Entries) (grant : Grant) : Type 0 where
+  pub tables : All (λ (creation : Creation). creation.place < grant.place) book.tables
+  pub grants : All (λ (entry : Record). rank entry.grant < rank grant) book.records
+  pub ends : All (λ (entry : Record). IfSome entry.end (λ end. end < grant.place)) book.records
 
 -- the record of a grant that has no end
 abbrev pub unended : Grant → Record

@@ -1,14 +1,13 @@
 -- What is in force before a batch, as the book's view at its first place tells it.
-use Rattle.std.proofs.Common.{◌≡◌, ◌<◌, ◌≤◌, ℕ, zero, suc, Bool, true, false, List, [], ◌∷◌, Option, Some, None, get_or, length, map, refl, sym, ◌∙◌, ap, subst, arith}
-use Rattle.std.specs.Prelude.{All, IfSome, nat_lt, slice_get}
+use Rattle.std.proofs.Common.{◌≡◌, ◌<◌, ℕ, zero, suc, Bool, List, [], ◌∷◌, Option, Some, None, get_or, length, map, refl, sym, ◌∙◌, ap, subst, arith}
+use Rattle.std.specs.Prelude.{All, IfSome, slice_get}
 use Rattle.std.specs.List.{flat_map}
-use Rattle.std.specs.Option.{option_map_or, option_to_list}
+use Rattle.std.specs.Option.{option_to_list}
 use Rattle.std.proofs.lemmas.Bool.{lt-ltb}
 use Rattle.std.proofs.lemmas.List.{length-map}
 use Rattle.std.proofs.lemmas.Option.{get_or_from_slice_get, slice_get-get_or, slice_get_within}
-use Rattle.std.proofs.lemmas.List.Elements.{All-cons, All-head, All-map, All-nil, All-tail, All-weaker}
+use Rattle.std.proofs.lemmas.List.Elements.{All-head, All-map, All-tail, All-weaker}
 use Rattle.model_base.specs.declared.deed.Deed.{Deed}
-use Rattle.model_base.specs.declared.deed.Deed.TheVariants.{Granting, Revoking}
 use Rattle.model_base.specs.declared.deed.Grant.{Grant}
 use Rattle.model_base.specs.declared.deed.Record.{Record}
 use Rattle.model_base.specs.Outcomes.{deeds_before, owners}
@@ -18,6 +17,7 @@ use Rattle.model_base.specs.Privileges.{place_of}
 use Rattle.model_base.specs.Records.{end_after, end_below, grants_of, record_of, records}
 use Rattle.model_base.proofs.Ends.{end-within}
 use Rattle.model_base.proofs.Growth.{deeds_before-stands}
+use Rattle.model_base.proofs.Recorded.{All-grants}
 use Rattle.grants_base.specs.Book.{Entries, slot_below, view_of}
 use Rattle.grants_base.specs.Force.{greatest_end, is_in_force}
 use Rattle.grants_base.specs.InForce.{IsNextInForce, ShowsNextInForce}
@@ -89,19 +89,11 @@ module _ (book : Entries) (place : ℕ) (below : All (LiesBelow place) book.reco
   by-same passes from (Some next) is = first-same passes from next.slot is
 
 -- the records of deeds below a place lie below it
-grants-below : (place : ℕ) (deeds : List Deed) → All (λ deed. place_of deed < place) deeds → All (λ (grant : Grant). grant.place < place) (grants_of deeds)
-grants-below place [] all = All-nil (λ (grant : Grant). grant.place < place)
-grants-below place (Granting grant ∷ deeds) all =
-    All-cons (λ (grant : Grant). grant.place < place) grant (grants_of deeds) (All-head (λ deed. place_of deed < place) (Granting grant) deeds all)
-    (grants-below place deeds (All-tail (λ deed. place_of deed < place) (Granting grant) deeds all))
-grants-below place (Revoking revocation ∷ deeds) all =
-    grants-below place deeds (All-tail (λ deed. place_of deed < place) (Revoking revocation) deeds all)
-
 records-below : (users : List ℕ) (place : ℕ) (deeds : List Deed) → All (λ deed. place_of deed < place) deeds → All (LiesBelow place) (records users deeds)
 records-below users place deeds all =
     All-map (LiesBelow place) (record_of users deeds) (grants_of deeds)
     (All-weaker (λ (grant : Grant). grant.place < place) (λ (grant : Grant). LiesBelow place (record_of users deeds grant))
-    (λ grant low. (low, λ end is. end-within users (λ p. p < place) [] deeds (rank grant) end all is)) (grants_of deeds) (grants-below place deeds all))
+    (λ grant low. (low, λ end is. end-within users (λ p. p < place) [] deeds (rank grant) end all is)) (grants_of deeds) (All-grants (λ deed. place_of deed < place) deeds all))
 
 -- a book of the deeds before a place shows there the records of these deeds
 module _ (book : Entries) (log : List Statement) (place : ℕ) (same : book.records ≡ records (owners log) (deeds_before log place)) where

@@ -1,24 +1,22 @@
 -- The slots whose records the batch may reach are listed rightly, and are all that it ends.
 use Rattle.std.proofs.Common.{◌≡◌, ℕ, zero, suc, ◌+◌, ◌<◌, ◌||◌, not, Bool, true, false, List, [], ◌∷◌, ◌++◌, length, get_or, replicate, refl, sym, ◌∙◌, ap, arith, inl, inr}
 use Rattle.std.specs.Prelude.{◌==◌, is_none, is_some, Option, Some, None, slice_get}
+use Rattle.std.specs.List.{list_any}
 use Rattle.std.specs.Option.{option_map_or}
-use Rattle.std.proofs.lemmas.Bool.{and_from, and_parts, cases_lt, eq-eqb, eqb-true, or_right, true≢false}
+use Rattle.std.proofs.lemmas.Bool.{and_from, and_parts, cases_lt, eq-eqb, eqb-true, or_left, or_right, true≢false}
 use Rattle.std.proofs.lemmas.List.{get_or_append_left, get_or_push, length-append, length_push}
-use Rattle.model_base.specs.declared.deed.Deed.{Deed}
-use Rattle.model_base.specs.declared.statement.Statement.{Statement}
+use Rattle.model_base.specs.declared.deed.Deed.TheVariants.{Revoking}
 use Rattle.model_base.specs.declared.deed.Grant.{Grant}
-use Rattle.model_base.specs.Outcomes.{deed_of}
-use Rattle.model_base.specs.Privileges.{gives, lends_to, option_of, reaches, same_kind}
+use Rattle.model_base.specs.Privileges.{gives, lends_to, option_of, reaches, revokes, same_kind}
 use Rattle.grants_base.specs.Index.{is_by}
 use Rattle.bohm_core_base.specs.declared.event.Event.{Event}
 use Rattle.bohm_core_base.specs.Batch.{Batch, IsSoundBatch, batch_slots, words_by}
 use Rattle.bohm_core_base.specs.Cascades.{EndsByCascade}
 use Rattle.bohm_core_base.specs.Machine.{end_of, own_of, reach, start}
 use Rattle.bohm_core_base.specs.Serial.{records_in, rows_at, serial_ends, serial_words, whole_end, batch_world_before}
-use Rattle.log_batch.specs.Supplied.{LogRange, batch_of}
 use Rattle.words.specs.Layout.{IsListed, listed_slot_at}
 use Rattle.words.specs.Views.{In}
-use Rattle.log_batch.specs.Listing.{is_against, is_lent, is_open, is_reached, is_revoked, lends, listed_below, listed_slots}
+use Rattle.log_batch.specs.Listing.{is_lent, is_open, is_reached, is_revoked, lends, listed_below, listed_slots}
 use Rattle.model_base.proofs.Covered.{same_kind-true}
 use Rattle.model_base.proofs.Reaching.{gives_option, lends_is}
 use Rattle.model_base.proofs.Replay.{by_cases}
@@ -39,12 +37,6 @@ is-none (Some q) none = absurd (true≢false (sym none))
 end-place : (b : Batch) (index slot q : ℕ) → serial_ends b index slot ≡ true → whole_end b slot ≡ Some q → q ≡ b.first + index
 unfolding serial_ends
 end-place b index slot q ends whole = let is : (q == b.first + index) ≡ true = rw whole at ends in eqb-true q (b.first + index) is
-
--- the deed of a place, by its statement
-pub noted : (ranged : LogRange) (index : ℕ) (statement : Statement) (deed : Option Deed)
-    → slice_get ranged.log.statements (ranged.first + index) ≡ Some statement
-    → deed ≡ deed_of (ranged.first + index) statement.user statement.form → deed ≡ (batch_of ranged).deed index
-noted ranged index statement deed at is = rw at is
 
 -- whether there is no end
 pub none-told : (end : Option ℕ) (none : Bool) → is_some end ≡ not none → is_none end ≡ none
@@ -124,12 +116,12 @@ module _ (b : Batch) where
             rw (rw same at may) (in_back slot (listed_below b n) (n ∷ []) (inl same)))
       ]
 
-  revokes-below : (n index : ℕ) (grant : Grant) → index < n → is_against (b.deed index) grant ≡ true → is_revoked b n grant ≡ true
-  revokes-below zero index grant below revokes = absurd (omega arith)
-  revokes-below (suc n) index grant below revokes =
+  revokes-below : (n index : ℕ) (grant : Grant) → index < n → list_any (λ deed. revokes deed grant) (b.deeds index) ≡ true → is_revoked b n grant ≡ true
+  revokes-below zero index grant below named = absurd (omega arith)
+  revokes-below (suc n) index grant below named =
       elim (cases_lt index n) [
-        | inl less ↦ by_cases (is_against (b.deed n) grant) (λ here. rw here refl) (λ fails. rw fails (revokes-below n index grant less revokes))
-        | inr more ↦ (let same : index ≡ n = omega arith in rw (rw same at revokes) refl)
+        | inl less ↦ by_cases (list_any (λ deed. revokes deed grant) (b.deeds n)) (λ here. rw here refl) (λ fails. rw fails (revokes-below n index grant less named))
+        | inr more ↦ (let same : index ≡ n = omega arith in rw (rw same at named) refl)
       ]
 
   -- a listed slot lends what its grant gives
@@ -192,7 +184,7 @@ module _ (b : Batch) where
         let passes : test grant ≡ true
         = elim by.cause [
           | inl named ↦
-              let against : is_against (b.deed index) grant ≡ true = rw by.deed named in
+              let against : list_any (λ deed. revokes deed grant) (b.deeds index) ≡ true = rw by.deed (or_left (revokes (Revoking by.revocation) grant) false named) in
               rw (revokes-below b.size index grant by.within against) refl
           | inr falls ↦
               let earlier = falls.earlier in

@@ -1,5 +1,5 @@
 -- How many own words a statement of the batch has.
-use Rattle.std.proofs.Common.{◌≡◌, ◌<◌, ◌+◌, ℕ, ◌∷◌, Some, map, refl, ◌∙◌}
+use Rattle.std.proofs.Common.{◌≡◌, ◌+◌, ℕ, Some, map, refl}
 use Rattle.std.specs.Prelude.{slice_get}
 use Rattle.model_base.specs.declared.statement.Statement.{Statement}
 use Rattle.model_base.specs.Versions.{accesses_of}

@@ -10,21 +10,25 @@ use Rattle.std.proofs.lemmas.Bool.{and_from, and_parts, cases_lt, eq-eqb, eqb-tr
 use Rattle.std.proofs.lemmas.Bool.Decides.{nat_tests}
 use Rattle.std.proofs.lemmas.List.Elements.{All-head, All-tail}
 use Rattle.std.proofs.lemmas.List.Folds.{list_any-append}
+use Rattle.model_base.specs.declared.deed.Deed.{Deed}
+use Rattle.model_base.specs.declared.deed.Deed.TheVariants.{Granting, Revoking}
 use Rattle.model_base.specs.declared.deed.Grant.{Grant}
 use Rattle.model_base.specs.declared.deed.Grantee.{Grantee}
 use Rattle.model_base.specs.declared.deed.Grantee.TheVariants.{User}
 use Rattle.model_base.specs.declared.deed.Kind.{Kind}
 use Rattle.model_base.specs.declared.deed.Kind.TheVariants.{Read, Insert, Update, Delete}
 use Rattle.model_base.specs.declared.deed.Revocation.{Revocation}
+use Rattle.model_base.specs.DeedsLeft.{revocation_of}
+use Rattle.model_base.specs.Laws.{AreGrantsOrRevocation, IsGranting}
 use Rattle.grants_base.specs.Index.{IsNext, is_by, passes_at}
-use Rattle.model_base.specs.Privileges.{has_kind, names, option_holder}
+use Rattle.model_base.specs.Privileges.{has_kind, names, option_holder, revokes}
 use Rattle.bohm_core_base.specs.Batch.{Batch, batch_slots}
 use Rattle.log_batch.specs.Earlier.{earlier_count, earlier_grants}
 use Rattle.log_batch.specs.declared.holders.Holders.{Holders}
 use Rattle.log_batch.specs.declared.reach.Reach.{Reach}
 use Rattle.log_batch.specs.declared.revoked.Revoked.{Revoked}
 use Rattle.log_batch.specs.Holders.{grantor_of, has_holder, holder_of, new_holder}
-use Rattle.log_batch.specs.Listing.{is_against, is_lent, is_open, is_reached, is_revoked, lends, listed_below}
+use Rattle.log_batch.specs.Listing.{is_lent, is_open, is_reached, is_revoked, lends, listed_below}
 use Rattle.log_batch.specs.Reach.{Adds, AddsGrantees, AddsKind, AreSeeds, IsDue, IsNextOpen, IsReach}
 use Rattle.log_batch.specs.Revoked.{has_named, is_between, is_named_by, named_by, named_with, names_of_kind, names_to}
 use Rattle.grants_base.specs.Index.{is_one_of}
@@ -107,6 +111,29 @@ holder-found lent grant (Some other) user is =
     by_cases (has_holder lent (holder_of (User other) grant.kind grant.table))
     (λ has. let none : None ≡ Some user = rw has at is in absurd (cc))
     (λ new. rw new at is)
+
+-- where the deeds are grants, none revokes a grant
+none-revoked : (deeds : List Deed) → All IsGranting deeds → (grant : Grant) → list_any (λ deed. revokes deed grant) deeds ≡ false
+none-revoked [] all grant = refl
+none-revoked (Granting made ∷ deeds) all grant = none-revoked deeds (All-tail IsGranting (Granting made) deeds all) grant
+none-revoked (Revoking revocation ∷ deeds) all grant = absurd (All-head IsGranting (Revoking revocation) deeds all)
+
+-- whether one of the deeds of a place revokes a grant, by the revocation among them
+pub revoked-told : (deeds : List Deed) → AreGrantsOrRevocation deeds → (made : Option Revocation) → made ≡ revocation_of deeds → (grant : Grant)
+    → list_any (λ deed. revokes deed grant) deeds ≡ option_map_or (λ (revocation : Revocation). names revocation grant) made false
+revoked-told deeds one made is grant = by_one one ∙ sym (ap told is)
+  where
+    told : Option Revocation → Bool
+    told found = option_map_or (λ (revocation : Revocation). names revocation grant) found false
+
+    none : (deeds : List Deed) → All IsGranting deeds → revocation_of deeds ≡ None
+    none [] all = refl
+    none (Granting first ∷ deeds) all = refl
+    none (Revoking revocation ∷ deeds) all = absurd (All-head IsGranting (Revoking revocation) deeds all)
+
+    by_one : AreGrantsOrRevocation deeds → list_any (λ deed. revokes deed grant) deeds ≡ told (revocation_of deeds)
+    by_one (inl all) = none-revoked deeds all grant ∙ sym (ap told (none deeds all))
+    by_one (inr (revocation, alone)) = rw alone (or_none (names revocation grant))
 
 module _ (b : Batch) where
   pub passes-earlier : (passes : Grant → Bool) (j : ℕ) → j < earlier_count b → passes_at passes (earlier_grants b) j ≡ passes_at passes (batch_slots b) j
@@ -215,13 +242,13 @@ module _ (b : Batch) where
       at (Some grant) = same grant
 
   -- a place without a revocation
-  pub seeds-same : (index : ℕ) (revoked : Revoked) (due : List ℕ) → ((grant : Grant) → is_against (b.deed index) grant ≡ false)
+  pub seeds-same : (index : ℕ) (revoked : Revoked) (due : List ℕ) → ((grant : Grant) → list_any (λ deed. revokes deed grant) (b.deeds index) ≡ false)
       → AreSeeds b (is_revoked b index) revoked due → AreSeeds b (is_revoked b (suc index)) revoked due
   seeds-same index revoked due none =
       seeds-as (is_revoked b index) (is_revoked b (suc index)) revoked due (λ grant. rw (none grant) refl)
 
   -- what a revocation names to all its grantees is what it names
-  pub seeds-whole : (index : ℕ) (revocation : Revocation) (revoked : Revoked) (due : List ℕ) → ((grant : Grant) → is_against (b.deed index) grant ≡ names revocation grant)
+  pub seeds-whole : (index : ℕ) (revocation : Revocation) (revoked : Revoked) (due : List ℕ) → ((grant : Grant) → list_any (λ deed. revokes deed grant) (b.deeds index) ≡ names revocation grant)
       → AreSeeds b (λ grant. names_to revocation revocation.grantees grant || is_revoked b index grant) revoked due
       → AreSeeds b (is_revoked b (suc index)) revoked due
   seeds-whole index revocation revoked due against =

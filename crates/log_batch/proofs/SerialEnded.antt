@@ -10,9 +10,12 @@ use Rattle.model_base.specs.declared.deed.Grant.{Grant}
 use Rattle.model_base.specs.declared.deed.Revocation.{Revocation}
 use Rattle.model_base.specs.declared.outcome.Outcome.{Outcome}
 use Rattle.model_base.specs.declared.statement.Statement.{Statement}
-use Rattle.model_base.specs.Outcomes.{at_place, deed_of, outcome, owners, world_before}
+use Rattle.model_base.specs.Outcomes.{at_place, deeds_of, outcome, owners, world_before}
 use Rattle.model_base.specs.Ranks.{rank}
+use Rattle.model_base.specs.DeedsLeft.{revocation_of}
+use Rattle.model_base.specs.Laws.{AreGrantsOrRevocation}
 use Rattle.model_base.specs.Privileges.{ended_by}
+use Rattle.model_base.proofs.Made.{deeds_of-one}
 use Rattle.model_base.proofs.Ends.{is_ended}
 use Rattle.model_base.proofs.Replay.{by_cases}
 use Rattle.own_words.specs.Places.{own_words}
@@ -22,7 +25,7 @@ use Rattle.bohm_core_base.specs.Serial.{serial_ends, serial_words, batch_world_b
 use Rattle.bohm_core_base.proofs.Whole.{IsEnder, no_grant, serial-at, serial-only}
 use Rattle.log_batch.specs.Laws.{IsOfLog, ranks_that}
 use Rattle.log_batch.specs.LogBatch.{StatementRange, batch_of_statements}
-use Rattle.log_batch.proofs.LogsEnded.{ended-form, ended_of}
+use Rattle.log_batch.proofs.LogsEnded.{ended-form, ended_of, revoked-alone}
 use Rattle.log_batch.proofs.SerialRuns.{serial_runs_agree, serial_words_are}
 use Rattle.log_batch.proofs.SlotsEnded.{same_test, slots-lost}
 use Rattle.log_batch.proofs.Sound.{batches_are_sound}
@@ -63,7 +66,7 @@ module _ (b : Batch) (sound : IsSoundBatch b) (n : ℕ) where
       (λ stays. stays))
 
   -- at a place that makes its revocation those end that the revocation takes out of force
-  revoked-ended : (revocation : Revocation) → n < b.size → was_done (serial_words b n) ≡ true → b.deed n ≡ Some (Revoking revocation)
+  revoked-ended : (revocation : Revocation) → n < b.size → was_done (serial_words b n) ≡ true → b.deeds n ≡ Revoking revocation ∷ []
       → ranks_that (serial_ends b n) 0 (batch_slots b) ≡ ended_by b.owners (batch_world_before b n).deeds revocation
   revoked-ended revocation within made is =
       that-filter (serial_ends b n) (λ grant. is_ended b.owners (batch_world_before b n).deeds (Revoking revocation) (rank grant)) 0 (batch_slots b) each
@@ -85,8 +88,8 @@ module _ (b : Batch) (sound : IsSoundBatch b) (n : ℕ) where
           serial-at b sound n k revocation within made is
           (subst (λ p. is_ended b.owners deeds (Revoking revocation) p ≡ true) (sym at) ended))
         where
-          revoking-same : (other : Revocation) → Some (Revoking other) ≡ Some (Revoking revocation) → other ≡ revocation
-          revoking-same other same = cc
+          revoking-same : (other : Revocation) → Revoking other ∷ [] ≡ Revoking revocation ∷ [] → other ≡ revocation
+          revoking-same other same = let found : Some other ≡ Some revocation = ap revocation_of same in cc
 
 module _ (range : StatementRange) (is : IsOfLog range) (index : ℕ) (within : index < range.size) where
   abbrev place : ℕ
@@ -99,8 +102,8 @@ module _ (range : StatementRange) (is : IsOfLog range) (index : ℕ) (within : i
     abbrev found : Outcome
     found = (at_place (owners range.log) place (world_before range.log place) statement).0
 
-    abbrev made : Option Deed
-    made = deed_of place statement.user statement.form
+    abbrev made : List Deed
+    made = deeds_of place statement.user statement.form
 
     -- the serial run says that the place is done if its outcome does
     done-told : was_done (serial_words (batch_of_statements range) index) ≡ (outcome_word found == 1)
@@ -110,28 +113,30 @@ module _ (range : StatementRange) (is : IsOfLog range) (index : ℕ) (within : i
         λ one. option_map_or (λ (s : Statement). own_words range.columns s.form (at_place (owners range.log) place (world_before range.log place) s)) one [] in
         ap was_done (serial_words_are range is index statement at) ∙ ap (λ (one : Option Statement). was_done (words one)) at
 
-    -- its deed is the statement's
-    deed-told : (batch_of_statements range).deed index ≡ made
-    deed-told = ap (λ (one : Option Statement). option_map_or (λ (s : Statement). deed_of place s.user s.form) one None) at
+    -- its deeds are the statement's
+    deeds-told : (batch_of_statements range).deeds index ≡ made
+    deeds-told = ap (λ (one : Option Statement). option_map_or (λ (s : Statement). deeds_of place s.user s.form) one []) at
 
-    -- the ends are those of its deed
-    by_deed : (deed : Option Deed) → made ≡ deed → (outcome_word found == 1) ≡ true
-        → seen ≡ ended_of (owners range.log) (world_before range.log place).deeds deed
-    by_deed None same counts =
+    -- the ends are those of its deeds
+    by_deeds : (deeds : List Deed) → made ≡ deeds → (outcome_word found == 1) ≡ true
+        → seen ≡ ended_of (owners range.log) (world_before range.log place).deeds deeds
+    by_deeds [] same counts =
         none-ended (batch_of_statements range) (batches_are_sound range is) index
-        (λ k ender. let no : None ≡ Some (Revoking ender.revocation) = sym (deed-told ∙ same) ∙ ender.deed in absurd (cc))
-    by_deed (Some (Granting grant)) same counts =
+        (λ k ender. let no : None ≡ Some ender.revocation = ap revocation_of (sym (deeds-told ∙ same) ∙ ender.deed) in absurd (cc))
+    by_deeds (Granting grant ∷ later) same counts =
         none-ended (batch_of_statements range) (batches_are_sound range is) index
-        (λ k ender. let no : Some (Granting grant) ≡ Some (Revoking ender.revocation) = sym (deed-told ∙ same) ∙ ender.deed in absurd (cc))
-    by_deed (Some (Revoking revocation)) same counts =
-        revoked-ended (batch_of_statements range) (batches_are_sound range is) index revocation within (done-told ∙ counts) (deed-told ∙ same)
+        (λ k ender. let no : None ≡ Some ender.revocation = ap revocation_of (sym (deeds-told ∙ same) ∙ ender.deed) in absurd (cc))
+    by_deeds (Revoking revocation ∷ later) same counts =
+        let one = subst AreGrantsOrRevocation same (deeds_of-one place statement.user statement.form) in
+        revoked-ended (batch_of_statements range) (batches_are_sound range is) index revocation within (done-told ∙ counts)
+        (deeds-told ∙ same ∙ revoked-alone revocation later one)
         ∙ ap (λ (deeds : List Deed). ended_by (owners range.log) deeds revocation) (serial_runs_agree range is index).deeds
 
     ends_tell : seen ≡ ended_in found
     ends_tell =
         let told = ended-form (owners range.log) place (world_before range.log place) statement statement.form in
         by_cases (outcome_word found == 1)
-        (λ counts. by_deed made refl counts ∙ sym (told ∙ rw counts refl))
+        (λ counts. by_deeds made refl counts ∙ sym (told ∙ rw counts refl))
         (λ not_done.
         none-ended (batch_of_statements range) (batches_are_sound range is) index
         (λ k ender. true≢false (sym ender.done ∙ done-told ∙ not_done))

@@ -3,27 +3,19 @@
 -- and B. W. Wade, "An Authorization Mechanism for a Relational Database System", ACM TODS 1 (1976). That each such grant has a
 -- place for its end before anything runs is as each version has its placeholder: J. M. Faleiro and D. J. Abadi, "Rethinking
 -- Serializable Multiversion Concurrency Control", PVLDB 8 (2015), section 3.
-use Rattle.std.specs.Prelude.{◌&&◌, ◌||◌, ◌++◌, ℕ, zero, suc, Bool, false, Option, Some, None, is_none, List, [], ◌∷◌, length, slice_get, if◌then◌else◌}
+use Rattle.std.specs.Prelude.{◌&&◌, ◌||◌, ◌++◌, ℕ, zero, suc, Bool, false, is_none, List, [], ◌∷◌, length, slice_get, if◌then◌else◌}
 use Rattle.std.specs.List.{list_any}
 use Rattle.std.specs.Option.{option_map_or}
-use Rattle.model_base.specs.declared.deed.Deed.{Deed}
-use Rattle.model_base.specs.declared.deed.Deed.TheVariants.{Granting, Revoking}
 use Rattle.model_base.specs.declared.deed.Grant.{Grant}
 use Rattle.grants_base.specs.Index.{is_by}
-use Rattle.model_base.specs.Privileges.{names, option_holder}
+use Rattle.model_base.specs.Privileges.{option_holder, revokes}
 use Rattle.bohm_core_base.specs.Batch.{Batch, batch_slots}
 use Rattle.bohm_core_base.specs.Machine.{end_of, start}
 
--- whether there is a deed, and it is a revocation that names the grant
-abbrev pub is_against : Option Deed → Grant → Bool
-is_against None grant = false
-is_against (Some (Granting made)) grant = false
-is_against (Some (Revoking revocation)) grant = names revocation grant
-
--- whether one of this many places may make such a revocation
+-- whether one of this many places may make a revocation that names the grant
 abbrev pub is_revoked : Batch → ℕ → Grant → Bool
 is_revoked batch zero grant = false
-is_revoked batch (suc index) grant = is_against (batch.deed index) grant || is_revoked batch index grant
+is_revoked batch (suc index) grant = list_any (λ deed. revokes deed grant) (batch.deeds index) || is_revoked batch index grant
 
 -- whether the first grant gives the grantor of the second the option, of its kind on its table
 abbrev pub lends : Grant → Grant → Bool

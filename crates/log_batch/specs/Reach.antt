@@ -1,5 +1,5 @@
 -- How far the slots are found that a batch may reach.
-use Rattle.std.specs.Prelude.{◌≡◌, ◌<◌, ◌≤◌, ◌||◌, ◌⊎◌, ℕ, Bool, true, false, Option, Some, None, List, IfSome}
+use Rattle.std.specs.Prelude.{◌≡◌, ◌<◌, ◌≤◌, ◌||◌, ◌⊎◌, ℕ, Bool, true, false, Option, List, IfSome}
 use Rattle.model_base.specs.declared.deed.Grant.{Grant}
 use Rattle.model_base.specs.declared.deed.Grantee.{Grantee}
 use Rattle.model_base.specs.declared.deed.Kind.{Kind}

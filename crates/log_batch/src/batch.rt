@@ -1,7 +1,7 @@
 //! A range of a log as a batch.
 
-ghost use Rattle.std.specs.Prelude.{◌≡◌, ◌<◌, ◌≤◌, ◌+◌, ◌*◌, ◌-◌, ◌++◌, ℕ, List, None, Some, length, slice_get, slice_index_or, ◌^◌, IfOk, IfSome, OnOk, false, true};
-ghost use Rattle.std.specs.Option.{MatchOption, option_to_list};
+ghost use Rattle.std.specs.Prelude.{◌≡◌, ◌<◌, ◌≤◌, ◌+◌, ◌*◌, ◌-◌, ◌++◌, ◌∷◌, [], ℕ, List, None, Some, length, slice_get, slice_index_or, ◌^◌, IfOk, IfSome, OnOk, false, true};
+ghost use Rattle.std.specs.Option.{MatchOption};
 ghost use Rattle.model_base.specs.Records.{grants_of};
 ghost use Rattle.model_base.specs.Outcomes.{rows_before};
 ghost use Rattle.model_base.specs.References.{batch_references, references};
@@ -20,8 +20,8 @@ use crate::referred::{References, reference_counts};
 use crate::state_before::StateBefore;
 use grants::{IndexedGrants, NextBy, NextInForce, Records};
 use model_base::{
-    Deed, Grant, Grantee, Key, Kind, MOST_ACCESSES, MOST_PARTITIONS, MOST_PLACES, Place, Reference,
-    Row, Statement, Table, User,
+    Deed, Deeds, Grant, Grantee, Key, Kind, MOST_ACCESSES, MOST_PARTITIONS, MOST_PLACES, Place,
+    Reference, Row, Statement, Table, User,
 };
 use placing::Refs;
 use sequencer::LogTail;
@@ -69,11 +69,21 @@ impl<'a> Model for LogBatch<'a> {
 }
 
 /// Appends the grant to the others, if the deed is one.
-fn push_grant(grants: &mut IndexedGrants, deed: Option<Deed>) -> Result<(), AllocError>
-    ensures { OnOk result (grants.new ≡ grants.old ++ grants_of (option_to_list deed)) }
+fn push_grant(grants: &mut IndexedGrants, deed: Deed) -> Result<(), AllocError>
+    ensures { OnOk result (grants.new ≡ grants.old ++ grants_of (deed ∷ [])) }
 {
-    if let Some(Deed::Granting(grant)) = deed {
+    if let Deed::Granting(grant) = deed {
         grants.push(grant)?;
+    }
+    Ok(())
+}
+
+/// Appends the grants among the deeds that are left.
+fn push_grants(grants: &mut IndexedGrants, deeds: &mut Deeds) -> Result<(), AllocError>
+    ensures { OnOk result (grants.new ≡ grants.old ++ grants_of deeds.old) }
+{
+    'deeds: while let Some(deed) = deeds.next() {
+        push_grant(grants, deed)?;
     }
     Ok(())
 }
@@ -91,7 +101,8 @@ fn named_grants(
 {
     let mut grants = IndexedGrants::seeded(alloc, log.catalog().seed());
     for place in range.start..range.end {
-        push_grant(&mut grants, log.statement(place).deed_at(place))?;
+        let mut deeds = log.statement(place).deeds_at(place);
+        push_grants(&mut grants, &mut deeds)?;
     }
     Ok(grants)
 }
@@ -296,7 +307,8 @@ impl<'a> LogBatch<'a> {
         }
     }
 
-    /// How many slots there are: one for each grant that was made before the batch, and then for each that it may make.
+    /// How many slots there are: one for each grant that was made before the batch, and then for each that it may make, of each kind to each
+    /// grantee of a statement.
     pub fn slot_count(&self) -> usize
         ensures value { result ≡ length (batch_slots (batch_of self.now)) }
         ensures of_log { IsOfLog (range_of self.now) }

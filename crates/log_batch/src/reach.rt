@@ -4,6 +4,7 @@ ghost use Rattle.std.specs.Prelude.{◌≡◌, ◌<◌, ◌≤◌, ◌+◌, ◌+
 ghost use Rattle.model_base.specs.declared.deed.Grant.{Grant};
 ghost use Rattle.grants_base.specs.Force.{gives_by, is_in_force};
 ghost use Rattle.grants_base.specs.Index.{IsFirst, IsNext, is_by};
+ghost use Rattle.model_base.specs.DeedsLeft.{revocation_of};
 ghost use Rattle.model_base.specs.Privileges.{option_holder};
 ghost use Rattle.bohm_core_base.specs.Batch.{batch_slots};
 ghost use Rattle.log_batch.specs.Earlier.{earlier_count, earlier_grants, records_before};
@@ -18,7 +19,7 @@ use crate::batch::LogBatch;
 use crate::holders::{Holders, holder_of};
 use crate::revoked::Revoked;
 use grants::NextBy;
-use model_base::{Deed, Grant, Grantee, Kind, Revocation, Table, User};
+use model_base::{Grant, Grantee, Kind, Revocation, Table, User};
 use std::alloc::{AllocError, Global};
 use std::collections::BTreeSet;
 
@@ -212,19 +213,19 @@ fn put_revocation(
     Ok(())
 }
 
-/// The deed of a place, if there is one and it is a revocation: the grants from before the batch that it names are due.
+/// The revocation of a place, if it may make one: the grants from before the batch that it names are due.
 fn put_deed(
     batch: &LogBatch<'_>,
     index: usize,
-    deed: Option<Deed>,
+    revocation: Option<Revocation>,
     revoked: &mut Revoked,
     due: &mut BTreeSet<usize>,
 ) -> Result<(), AllocError>
-    requires deed { deed ≡ (batch_of batch.now).deed index }
+    requires deed { revocation ≡ revocation_of ((batch_of batch.now).deeds index) }
     requires seeds { AreSeeds (batch_of batch.now) (is_revoked (batch_of batch.now) index) revoked.old due.old.keys }
     ensures { OnOk result (AreSeeds (batch_of batch.now) (is_revoked (batch_of batch.now) (suc index)) revoked.new due.new.keys) }
 {
-    let Some(Deed::Revoking(revocation)) = deed else {
+    let Some(revocation) = revocation else {
         return Ok(());
     };
     put_revocation(batch, &revocation, revoked, due)?;
@@ -242,8 +243,9 @@ fn put_deeds(
 {
     let first = batch.first_place();
     for index in 0..batch.size() {
-        let deed = batch.statement(index).deed_at(first + index as u64);
-        put_deed(batch, index, deed, revoked, due)?;
+        let statement = batch.statement(index);
+        let revocation = statement.revocation_at(first + index as u64);
+        put_deed(batch, index, revocation, revoked, due)?;
     }
     Ok(())
 }

@@ -1,13 +1,13 @@
-//! What a deed results in.
+//! What the deeds of a statement result in.
 
-ghost use Rattle.std.specs.Prelude.{◌≡◌, ◌++◌, ◌∷◌, [], IfOk, OnOk};
+ghost use Rattle.std.specs.Prelude.{◌≡◌, ◌++◌, ◌∷◌, [], List, IfOk, OnOk};
 ghost use Rattle.model_base.specs.Outcomes.{deed_done};
-ghost use Rattle.std.specs.Option.{option_map_or};
 ghost use Rattle.model_base.specs.Privileges.{is_among, kept, lost};
 ghost use Rattle.model_base.specs.Rows.{Rows};
+ghost use Rattle.model_base.specs.declared.deed.Deed.{Deed};
 
 use crate::replay::kept;
-use model_base::{Deed, DeedDone, Grant, Items, RecordName, User};
+use model_base::{Deed, DeedDone, Deeds, Grant, Items, RecordName, User};
 use std::alloc::{AllocError, Global};
 
 /// Whether the grant of this record is among the grants.
@@ -30,25 +30,22 @@ fn lost(alloc: Global, before: &[Grant], after: &[Grant]) -> Result<Vec<RecordNa
     Ok(names)
 }
 
-/// Appends the deed of a completed statement, if it has one, after those made so far, after which the grants are in force. Says what the
-/// deed resulted in.
-pub(crate) fn make(
+/// Appends the first deed of a completed statement after those made so far, after which the grants are in force. Says what the statement's
+/// deeds result in.
+fn make_first(
     alloc: Global,
     owners: &[User],
     grants: &[Grant],
     deeds: &mut Vec<Deed>,
-    deed: Option<Deed>,
+    first: &Deed,
 ) -> Result<DeedDone, AllocError>
     requires { grants.now ≡ kept owners.now deeds.old.items }
-    ensures done { IfOk result (λ done. (rows : Rows)
-        → done ≡ deed_done owners.now (record { rows = rows; deeds = deeds.old.items }) deed) }
-    ensures deeds { OnOk result (deeds.new.items ≡ deeds.old.items ++ option_map_or (λ made. made ∷ []) deed []) }
+    ensures done { IfOk result (λ done. (rows : Rows) (later : List Deed)
+        → done ≡ deed_done owners.now (record { rows = rows; deeds = deeds.old.items }) (first.now ∷ later)) }
+    ensures deeds { OnOk result (deeds.new.items ≡ deeds.old.items ++ first.now ∷ []) }
 {
-    let Some(deed) = &deed else {
-        return Ok(DeedDone::None);
-    };
-    deeds.push(*deed)?;
-    match deed {
+    deeds.push(*first)?;
+    match first {
         Deed::Granting(_) => Ok(DeedDone::Granted),
         Deed::Revoking(_) => {
             let after = kept(alloc, owners, deeds)?;
@@ -56,4 +53,36 @@ pub(crate) fn make(
             Ok(DeedDone::Revoked(Items::new(names)))
         }
     }
+}
+
+/// Appends the deeds that are left, one after another.
+fn make_rest(deeds: &mut Vec<Deed>, rest: &mut Deeds) -> Result<(), AllocError>
+    ensures { OnOk result (deeds.new.items ≡ deeds.old.items ++ rest.old) }
+{
+    'deeds: while let Some(deed) = rest.next() {
+        deeds.extend_from_slice(&[deed])?;
+    }
+    Ok(())
+}
+
+/// Appends the deeds of a completed statement, one after another, after those made so far, after which the grants are in force. Says what they
+/// resulted in.
+pub(crate) fn make(
+    alloc: Global,
+    owners: &[User],
+    grants: &[Grant],
+    deeds: &mut Vec<Deed>,
+    made: &mut Deeds,
+) -> Result<DeedDone, AllocError>
+    requires { grants.now ≡ kept owners.now deeds.old.items }
+    ensures done { IfOk result (λ done. (rows : Rows)
+        → done ≡ deed_done owners.now (record { rows = rows; deeds = deeds.old.items }) made.old) }
+    ensures deeds { OnOk result (deeds.new.items ≡ deeds.old.items ++ made.old) }
+{
+    let Some(first) = made.next() else {
+        return Ok(DeedDone::None);
+    };
+    let done = make_first(alloc, owners, grants, deeds, &first)?;
+    make_rest(deeds, made)?;
+    Ok(done)
 }

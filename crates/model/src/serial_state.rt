@@ -56,7 +56,7 @@ impl State {
         }
     }
 
-    /// Runs the body of a statement whose needs are all held, and makes its deed if the body completes. The grants are
+    /// Runs the body of a statement whose needs are all held, and makes its deeds if the body completes. The grants are
     /// those in force.
     fn run(
         &mut self,
@@ -73,8 +73,8 @@ impl State {
         let (end, outputs) = run_on(statement, &mut self.rows)?;
         match end {
             BodyEnd::Completed => {
-                let deed = statement.deed_at(place);
-                let deed = make(alloc, owners, grants, &mut self.deeds, deed)?;
+                let mut made = statement.deeds_at(place);
+                let deed = make(alloc, owners, grants, &mut self.deeds, &mut made)?;
                 Ok(Outcome::Done { outputs, deed })
             }
             BodyEnd::Aborted { step, reason } => Ok(Outcome::Aborted { step, reason }),

@@ -21,7 +21,7 @@ use Rattle.model_base.specs.declared.statement.Statement.{Statement}
 use Rattle.model_base.specs.declared.outcome.Outcome.{Outcome}
 use Rattle.model_base.specs.Privileges.{gives, has, holds, kept, owns, place_of, reaches, same_kind}
 use Rattle.model_base.specs.Body.{Ending, completed, aborted, undeclared}
-use Rattle.model_base.specs.Outcomes.{World, body, cause, deed_of, ended, judged, missing, needs, outcome, owners, step_form, world_before}
+use Rattle.model_base.specs.Outcomes.{World, body, cause, deeds_of, ended, judged, missing, needs, outcome, owners, step_form, world_before}
 use Rattle.model_base.specs.Laws.{IsLastLoss}
 use Rattle.model_base.specs.Admitted.{AsksForPrivileges, IsAsked, IsCause, IsDenial, IsFirstMissing, GivesNeed, IsPrivileged, IsTo, WasAdmitted, WasDenied, WasTaken}
 use Rattle.model_base.proofs.Reaching.{kind-same}
@@ -244,10 +244,10 @@ module _ (owners : List ℕ) (deeds : List Deed) (user : ℕ) (need : Need) wher
   is-cause (Taken place) out is = (cause-taken owners user need deeds place out).1 (taken-loss place is)
 
 -- a body that is run has an outcome, whatever it results in
-ran : (owners : List ℕ) (world : World) (deed : Option Deed) (ending : Ending) → WasAdmitted (Some (ended owners world deed ending))
-ran owners world deed (completed rows outputs) = tt
-ran owners world deed (aborted step reason) = tt
-ran owners world deed (undeclared step) = tt
+ran : (owners : List ℕ) (world : World) (deeds : List Deed) (ending : Ending) → WasAdmitted (Some (ended owners world deeds ending))
+ran owners world deeds (completed rows outputs) = tt
+ran owners world deeds (aborted step reason) = tt
+ran owners world deeds (undeclared step) = tt
 
 -- what is admitted isn't denied
 not-both : (outcome : Option Outcome) → WasAdmitted outcome → WasDenied outcome → ⊥
@@ -279,7 +279,7 @@ module _ (log : List Statement) (place : ℕ) (statement : Statement) (asked : I
   none-admitted : lacking ≡ None → WasAdmitted (outcome log place)
   none-admitted none =
       rw (outcome-judged, none)
-      (ran (owners log) world (deed_of place statement.user statement.form) (body world.rows statement.form))
+      (ran (owners log) world (deeds_of place statement.user statement.form) (body world.rows statement.form))
 
   some-denied : (need : Need) → lacking ≡ Some need
       → outcome log place ≡ Some (Outcome.Denied need (cause (owners log) world.deeds statement.user need))

@@ -1,20 +1,23 @@
 -- The records of a beginning of the deeds are those of the whole, as they were where the beginning ends.
-use Rattle.std.proofs.Common.{◌≡◌, ℕ, suc, ◌<◌, ◌≤◌, true, List, [], ◌∷◌, ◌++◌, map, refl, sym, ◌∙◌, ap, arith, inl, inr, Option, Some, None}
+use Rattle.std.proofs.Common.{◌≡◌, ℕ, suc, ◌<◌, ◌≤◌, true, List, [], ◌∷◌, ◌++◌, map, refl, sym, ◌∙◌, ap, arith, inl, inr, subst, Option, Some, None}
 use Rattle.std.specs.Prelude.{All, nat_lt}
 use Rattle.std.specs.Option.{option_or}
-use Rattle.std.proofs.lemmas.Bool.{lt-ltb, le-ltb, ltb-true, cases_lt, cases_eq}
+use Rattle.std.proofs.lemmas.Bool.{lt-ltb, le-ltb, ltb-true, cases_lt}
 use Rattle.std.proofs.lemmas.List.{map-append, append-nil}
-use Rattle.std.proofs.lemmas.List.Elements.{All-nil, All-cons, All-head, All-tail, All-weaker, Contains-push, filter_passes}
+use Rattle.std.proofs.lemmas.List.Elements.{All-nil, All-cons, All-filter, All-head, All-tail, All-weaker, Contains-push, filter_passes}
 use Rattle.model_base.specs.declared.deed.Record.{Record}
+use Rattle.model_base.specs.declared.deed.Revocation.{Revocation}
 use Rattle.model_base.specs.declared.deed.Deed.{Deed}
 use Rattle.model_base.specs.declared.deed.Deed.TheVariants.{Granting, Revoking}
-use Rattle.model_base.specs.Ranks.{rank}
-use Rattle.model_base.specs.Privileges.{place_of, IsProper, IsProperAfter}
-use Rattle.model_base.specs.Laws.{GrowsAt}
-use Rattle.model_base.specs.Records.{grants_of, end_after, end_below, record_of, records, cut, deeds_below}
+use Rattle.model_base.specs.Ranks.{deed_number, rank, rank_of}
+use Rattle.model_base.specs.RecordNames.{few_kinds, few_positions}
+use Rattle.model_base.specs.Privileges.{deeds_below, place_of, IsProper, IsProperAfter}
+use Rattle.model_base.specs.Laws.{AreGrantsOrRevocation, GrowsAt, IsGranting}
+use Rattle.model_base.specs.Records.{grants_of, end_after, end_below, record_of, records, cut}
 use Rattle.model_base.proofs.Replay.{by_cases}
-use Rattle.model_base.proofs.Places.{proper-above}
+use Rattle.model_base.proofs.Places.{AtRevocation, number-above, proper-above, revocations-above}
 use Rattle.model_base.proofs.Records.{grants-append, end-append}
+use Rattle.model_base.proofs.Recorded.{All-both}
 use Rattle.model_base.proofs.Ends.{end-within, proper-front}
 
 module _ (owners : List ℕ) (place : ℕ) (past later : List Deed) (before : All (λ deed. place_of deed < place) past) (after : All (λ deed. place ≤ place_of deed) later) where
@@ -79,6 +82,22 @@ deeds_below-none place (deed ∷ deeds) all =
     rw (le-ltb (place_of deed) place (All-head (λ deed. place ≤ place_of deed) deed deeds all))
     (deeds_below-none place deeds (All-tail (λ deed. place ≤ place_of deed) deed deeds all))
 
+-- what isn't below a place, nor above it, is at it
+between : (at place : ℕ) → place ≤ at → at < suc place → at ≡ place
+between at place more less = omega arith
+
+-- a deed of a place, which would be later if it were a revocation, is a grant
+none_late : (deed : Deed) (place : ℕ) → AtRevocation (λ at. place < at) deed → place_of deed ≡ place → IsGranting deed
+none_late (Granting grant) place late at = tt
+none_late (Revoking revocation) place late at = absurd (omega arith)
+
+-- no deed of a revocation's place has a greater number
+none_after : (revocation : Revocation) (next : Deed) → deed_number (Revoking revocation) < deed_number next → place_of next ≡ revocation.place → ⊥
+unfolding rank_of
+none_after revocation (Granting grant) less at =
+    let kinds = few_kinds grant.kind in let positions = few_positions grant.position in omega arith
+none_after revocation (Revoking other) less at = omega arith
+
 module _ (owners : List ℕ) where
   -- the deeds of a proper list are those below a place, and then the others
   pub deeds_below-split : (place : ℕ) (start deeds : List Deed) → IsProperAfter owners start deeds
@@ -92,7 +111,7 @@ module _ (owners : List ℕ) where
             (split.0, rw (lt-ltb (place_of deed) place less) (ap (λ r. deed ∷ r) split.1), split.2)
         | inr more ↦
             let above =
-            All-weaker (λ d. place_of deed < place_of d) (λ d. place ≤ place_of d) (λ d less. omega arith) deeds
+            All-weaker (λ d. place_of deed ≤ place_of d) (λ d. place ≤ place_of d) (λ d less. omega arith) deeds
             (proper-above owners next deeds deed (Contains-push start deed) proper.1) in
             (deed ∷ deeds, rw (le-ltb (place_of deed) place more, deeds_below-none place deeds above) refl, All-cons (λ d. place ≤ place_of d) deed deeds more above)
       ]
@@ -110,24 +129,50 @@ module _ (owners : List ℕ) where
       sym (ap (λ (ds : List Deed). cut place (records owners ds)) split.1
       ∙ records-cut owners place (deeds_below place deeds) split.0 (deeds_below-all place deeds) split.2)
 
-  -- at the next place they grow by one deed at most
+  -- deeds of one place that may follow are grants, or one revocation
+  one_place : (place : ℕ) (start deeds : List Deed) → IsProperAfter owners start deeds → All (λ deed. place_of deed ≡ place) deeds → AreGrantsOrRevocation deeds
+  one_place place start [] proper here = inl (All-nil IsGranting)
+  one_place place start (Granting grant ∷ deeds) proper here =
+      let At : Deed → Type 0 = λ deed. place_of deed ≡ place in
+      let Late : Deed → Type 0 = AtRevocation (λ at. grant.place < at) in
+      let at : grant.place ≡ place = All-head At (Granting grant) deeds here in
+      let late = revocations-above owners (start ++ Granting grant ∷ []) deeds (Granting grant) (Contains-push start (Granting grant)) proper.1 in
+      inl (All-cons IsGranting (Granting grant) deeds tt
+      (All-weaker (λ deed. Late deed × At deed) IsGranting (λ deed both. none_late deed grant.place both.0 (both.1 ∙ sym at)) deeds
+      (All-both Late At deeds late (All-tail At (Granting grant) deeds here))))
+  one_place place start (Revoking revocation ∷ []) proper here = inr (revocation, refl)
+  one_place place start (Revoking revocation ∷ next ∷ deeds) proper here =
+      let At : Deed → Type 0 = λ deed. place_of deed ≡ place in
+      let at : revocation.place ≡ place = All-head At (Revoking revocation) (next ∷ deeds) here in
+      let at_next : place_of next ≡ place = All-head At next deeds (All-tail At (Revoking revocation) (next ∷ deeds) here) in
+      let less = All-head (λ deed. deed_number (Revoking revocation) < deed_number deed) next deeds
+      (number-above owners (start ++ Revoking revocation ∷ []) (next ∷ deeds) (Revoking revocation) (Contains-push start (Revoking revocation)) proper.1) in
+      absurd (none_after revocation next less (at_next ∙ sym at))
+
+  -- at the next place they grow by what this one makes
   pub deeds_below-grows : (place : ℕ) (start deeds : List Deed) → IsProperAfter owners start deeds
       → GrowsAt place (deeds_below place deeds) (deeds_below (suc place) deeds)
-  deeds_below-grows place start [] proper = inl refl
+  deeds_below-grows place start [] proper = ([], refl, All-nil (λ deed. place_of deed ≡ place), inl (All-nil IsGranting))
   deeds_below-grows place start (deed ∷ deeds) proper =
-      let next = start ++ deed ∷ [] in
-      let later = proper-above owners next deeds deed (Contains-push start deed) proper.1 in
       elim (cases_lt (place_of deed) place) [
         | inl less ↦
-            elim (deeds_below-grows place next deeds proper.1) [
-              | inl same ↦ inl (rw (lt-ltb (place_of deed) place less, lt-ltb (place_of deed) (suc place) (omega arith)) (ap (λ r. deed ∷ r) same))
-              | inr one ↦ inr (one.0, rw (lt-ltb (place_of deed) place less, lt-ltb (place_of deed) (suc place) (omega arith)) (ap (λ r. deed ∷ r) one.1), one.2)
-            ]
-        | inr more ↦
-            let none = deeds_below-none place deeds (All-weaker (λ d. place_of deed < place_of d) (λ d. place ≤ place_of d) (λ d less. omega arith) deeds later) in
-            let next_none = deeds_below-none (suc place) deeds (All-weaker (λ d. place_of deed < place_of d) (λ d. suc place ≤ place_of d) (λ d less. omega arith) deeds later) in
-            elim (cases_eq (place_of deed) place) [
-              | inl here ↦ inr (deed, rw (le-ltb (place_of deed) place more, lt-ltb (place_of deed) (suc place) (omega arith), none, next_none) refl, here)
-              | inr above ↦ inl (rw (le-ltb (place_of deed) place more, le-ltb (place_of deed) (suc place) (omega arith), none, next_none) refl)
-            ]
+            let rest = deeds_below-grows place (start ++ deed ∷ []) deeds proper.1 in
+            (rest.0, rw (lt-ltb (place_of deed) place less, lt-ltb (place_of deed) (suc place) (omega arith)) (ap (λ r. deed ∷ r) rest.1), rest.2, rest.3)
+        | inr more ↦ from_here more
       ]
+    where
+      from_here : place ≤ place_of deed → GrowsAt place (deeds_below place (deed ∷ deeds)) (deeds_below (suc place) (deed ∷ deeds))
+      from_here more =
+          let made : List Deed = deeds_below (suc place) (deed ∷ deeds) in
+          let Above : Deed → Type 0 = λ d. place ≤ place_of d in
+          let Below : Deed → Type 0 = λ d. place_of d < suc place in
+          let above : All Above (deed ∷ deeds) =
+          All-cons Above deed deeds more
+          (All-weaker (λ d. place_of deed ≤ place_of d) Above (λ d less. omega arith) deeds
+          (proper-above owners (start ++ deed ∷ []) deeds deed (Contains-push start deed) proper.1)) in
+          let here : All (λ d. place_of d ≡ place) made =
+          All-weaker (λ d. Above d × Below d) (λ d. place_of d ≡ place) (λ d both. between (place_of d) place both.0 both.1) made
+          (All-both Above Below made (All-filter (λ d. nat_lt (place_of d) (suc place)) Above (deed ∷ deeds) above) (deeds_below-all (suc place) (deed ∷ deeds))) in
+          let split = deeds_below-split (suc place) start (deed ∷ deeds) proper in
+          let front = proper-front owners start made split.0 (subst (IsProperAfter owners start) split.1 proper) in
+          (made, ap (λ none. none ++ made) (sym (deeds_below-none place (deed ∷ deeds) above)), here, one_place place start made front here)

@@ -9,11 +9,11 @@ use Rattle.model_base.specs.declared.deed.Revocation.{Revocation}
 use Rattle.model_base.specs.declared.deed.Deed.{Deed}
 use Rattle.model_base.specs.declared.deed.Deed.TheVariants.{Granting, Revoking}
 use Rattle.model_base.specs.Ranks.{deed_number, rank, rank_of}
-use Rattle.model_base.specs.Privileges.{concerns, kept, is_among, place_of, IsProper, IsProperAfter}
+use Rattle.model_base.specs.Privileges.{concerns, kept, is_among, place_of, MayFollow, IsProper, IsProperAfter}
 use Rattle.model_base.specs.Records.{grants_of, end_after, record_of, records}
 use Rattle.model_base.proofs.Replay.{by_cases}
 use Rattle.model_base.proofs.Parts.{part-all, part-part, part-beginning}
-use Rattle.model_base.proofs.Places.{among_all, among-kept_grant, All-kept, follows, number-above, proper-above, proper-later, stays_out}
+use Rattle.model_base.proofs.Places.{AtRevocation, among_all, among-kept_grant, All-kept, number-above, number-below, proper-later, revocations-above, revocations-below, stays_out}
 use Rattle.model_base.proofs.Records.{grants-append, end-append}
 use Rattle.model_base.proofs.Recorded.{All-both, part-kept_grants, rising-grants, rising-unique}
 use Rattle.model_base.proofs.Covered.{contrary}
@@ -41,6 +41,26 @@ module _ (owners : List ℕ) where
       rw same at (All-head (λ deed. P (place_of deed)) deed later all))
       (λ left. end-within P (past ++ deed ∷ []) later ranked end (All-tail (λ deed. P (place_of deed)) deed later all) (rw left at is))
 
+  -- a deed that ends a grant is a revocation
+  ended-at : (P : ℕ → Type 0) (past : List Deed) (deed : Deed) (ranked : ℕ) → is_ended owners past deed ranked ≡ true → AtRevocation P deed → P (place_of deed)
+  ended-at P past (Granting grant) ranked ends is =
+      let parts = and_parts (is_among ranked (kept owners past)) _ ends in
+      contrary (is_among ranked (kept owners (past ++ Granting grant ∷ []))) (among-kept_grant owners past grant ranked parts.0)
+      (not-true (is_among ranked (kept owners (past ++ Granting grant ∷ []))) parts.1)
+  ended-at P past (Revoking revocation) ranked ends is = is
+
+  -- so the ends that later deeds set are the places of revocations
+  end-revoked : (P : ℕ → Type 0) (past later : List Deed) (ranked end : ℕ) → All (AtRevocation P) later
+      → end_after owners past later ranked ≡ Some end → P end
+  end-revoked P past [] ranked end all is = absurd (cc)
+  end-revoked P past (deed ∷ later) ranked end all is =
+      by_cases (is_ended owners past deed ranked)
+      (λ ends.
+      let here : Some (place_of deed) ≡ Some end = rw ends at is in
+      let same : place_of deed ≡ end = cc in
+      subst P same (ended-at P past deed ranked ends (All-head (AtRevocation P) deed later all)))
+      (λ left. end-revoked P (past ++ deed ∷ []) later ranked end (All-tail (AtRevocation P) deed later all) (rw left at is))
+
   -- a grant in force has a rank below the numbers of all deeds that may follow
   pub above-among : (past later : List Deed) (ranked : ℕ) → IsProperAfter owners past later → is_among ranked (kept owners past) ≡ true
       → All (λ next. ranked < deed_number next) later
@@ -50,13 +70,18 @@ module _ (owners : List ℕ) where
       All-weaker (Contains past) (λ deed. P (deed_number deed)) (λ deed here. number-above owners past later deed here proper) past (All-contains_itself past) in
       among_all P (kept owners past) ranked (All-kept owners P past all) found
 
-  -- a deed that ends a grant is a revocation, whose number lies above the grant's rank
-  ended-below : (past : List Deed) (deed : Deed) (ranked : ℕ) → is_ended owners past deed ranked ≡ true → ranked < deed_number deed → ranked < place_of deed * 32
-  ended-below past (Granting grant) ranked ends below =
+  -- a deed that ends a grant is at a later place
+  ended-below : (past : List Deed) (deed : Deed) (ranked : ℕ) → MayFollow owners past deed → is_ended owners past deed ranked ≡ true → ranked < place_of deed * 32
+  ended-below past (Granting grant) ranked may ends =
       let parts = and_parts (is_among ranked (kept owners past)) _ ends in
       contrary (is_among ranked (kept owners (past ++ Granting grant ∷ []))) (among-kept_grant owners past grant ranked parts.0)
       (not-true (is_among ranked (kept owners (past ++ Granting grant ∷ []))) parts.1)
-  ended-below past (Revoking revocation) ranked ends below = below
+  ended-below past (Revoking revocation) ranked may ends =
+      let Low : ℕ → Type 0 = λ number. number < revocation.place * 32 in
+      let found = (and_parts (is_among ranked (kept owners past)) _ ends).0 in
+      among_all Low (kept owners past) ranked
+      (All-kept owners Low past
+      (All-weaker (λ deed. place_of deed < revocation.place) (λ deed. Low (deed_number deed)) (λ deed less. number-below deed revocation.place less) past may)) found
 
   -- an end lies above the place of the grant
   pub end-above : (past later : List Deed) (ranked end : ℕ) → IsProperAfter owners past later → end_after owners past later ranked ≡ Some end → ranked < end * 32
@@ -66,8 +91,7 @@ module _ (owners : List ℕ) where
       (λ ends.
       let here : Some (place_of deed) ≡ Some end = rw ends at is in
       let same : place_of deed ≡ end = cc in
-      let found = (and_parts (is_among ranked (kept owners past)) _ ends).0 in
-      rw same at (ended-below past deed ranked ends (All-head (λ next. ranked < deed_number next) deed later (above-among past (deed ∷ later) ranked proper found))))
+      rw same at (ended-below past deed ranked proper.0 ends))
       (λ left. end-above (past ++ deed ∷ []) later ranked end proper.1 (rw left at is))
 
   -- a grant with an end isn't in force
@@ -96,7 +120,7 @@ module _ (owners : List ℕ) where
 
   -- and only that one does
   pub end-only : (past : List Deed) (deed : Deed) (later : List Deed) (ranked : ℕ)
-      → All (λ other. place_of other < place_of deed) past → All (λ other. place_of deed < place_of other) later
+      → All (AtRevocation (λ place. place < place_of deed)) past → All (AtRevocation (λ place. place_of deed < place)) later
       → end_after owners [] (past ++ deed ∷ later) ranked ≡ Some (place_of deed) → is_ended owners past deed ranked ≡ true
   end-only past deed later ranked below above ended =
       by_cases (is_ended owners past deed ranked)
@@ -106,9 +130,9 @@ module _ (owners : List ℕ) where
       by_end : (first : Option ℕ) → end_after owners [] past ranked ≡ first
           → option_or first (end_after owners (past ++ deed ∷ []) later ranked) ≡ Some (place_of deed) → ⊥
       by_end None is ended' =
-          let less = end-within (λ p. place_of deed < p) (past ++ deed ∷ []) later ranked (place_of deed) above ended' in omega arith
+          let less = end-revoked (λ p. place_of deed < p) (past ++ deed ∷ []) later ranked (place_of deed) above ended' in omega arith
       by_end (Some end) is ended' =
-          let less = end-within (λ p. p < place_of deed) [] past ranked end below is in
+          let less = end-revoked (λ p. p < place_of deed) [] past ranked end below is in
           let same : end ≡ place_of deed = cc in
           omega arith
 
@@ -128,8 +152,8 @@ module _ (owners : List ℕ) where
         λ ended.
             let parts =
             and_parts before (not after)
-            (end-only past deed later ranked (follows owners past deed rest.0)
-            (proper-above owners (past ++ deed ∷ []) later deed (Contains-push past deed) rest.1) ended) in
+            (end-only past deed later ranked (revocations-below owners past deed rest.0)
+            (revocations-above owners (past ++ deed ∷ []) later deed (Contains-push past deed) rest.1) ended) in
             (parts.0, not-true after parts.1),
         λ parts. end-at past deed later ranked (proper-front [] past (deed ∷ later) proper) (and_from before (not after) parts.0 (not_from_false after parts.1)),
       )

@@ -18,7 +18,7 @@ use Rattle.model_base.specs.declared.statement.Form.{Form}
 use Rattle.model_base.specs.declared.statement.Statement.{Statement}
 use Rattle.model_base.specs.Body.{Ending, aborted, completed, undeclared}
 use Rattle.model_base.specs.Growing.{NeedsOwnTables, NeedsWithin}
-use Rattle.model_base.specs.Outcomes.{World, at_place, body, cause, changed, creator, deed_done, deed_of, empty_world, ended, judged, missing, needs, outcome, owners, step_form, world_after, world_before}
+use Rattle.model_base.specs.Outcomes.{World, at_place, body, cause, changed, creator, deed_done, deeds_of, empty_world, ended, judged, missing, needs, outcome, owners, step_form, world_after, world_before}
 use Rattle.model_base.specs.Privileges.{IsProper, holds}
 use Rattle.model_base.specs.References.{batch_references, last_before, prior, references, references_of, tables_of, writer}
 use Rattle.model_base.specs.Versions.{accesses_of, version_cells, writes_of}
@@ -65,25 +65,25 @@ module _ (own more : List ℕ) (world : World) (proper : IsProper own world.deed
       (λ lacks. rw (here, lacks) refl)
 
   -- what a deed results in, and a body
-  deed-same : (deed : Option Deed) → deed_done (own ++ more) world deed ≡ deed_done own world deed
-  deed-same None = refl
-  deed-same (Some (Granting grant)) = refl
-  deed-same (Some (Revoking revocation)) =
+  deed-same : (deeds : List Deed) → deed_done (own ++ more) world deeds ≡ deed_done own world deeds
+  deed-same [] = refl
+  deed-same (Granting grant ∷ deeds) = refl
+  deed-same (Revoking revocation ∷ deeds) =
       ap DeedDone.Revoked (ended_by-owners (own ++ more) own world.deeds revocation (all_same-more own more _ (tables-proper own world.deeds proper)))
 
-  ended-same : (deed : Option Deed) (ending : Ending) → ended (own ++ more) world deed ending ≡ ended own world deed ending
-  ended-same deed (completed rows outputs) = ap (Outcome.Done outputs) (deed-same deed)
-  ended-same deed (aborted step reason) = refl
-  ended-same deed (undeclared step) = refl
+  ended-same : (deeds : List Deed) (ending : Ending) → ended (own ++ more) world deeds ending ≡ ended own world deeds ending
+  ended-same deeds (completed rows outputs) = ap (Outcome.Done outputs) (deed-same deeds)
+  ended-same deeds (aborted step reason) = refl
+  ended-same deeds (undeclared step) = refl
 
   module _ (place : ℕ) (statement : Statement) where
     judged-same : (lack : Option Need) → IfSome lack (λ (need : Need). need.table < length own)
         → judged (own ++ more) place world statement lack ≡ judged own place world statement lack
     judged-same (Some need) low = ap (λ why. (Outcome.Denied need why, world)) (cause-same statement.user need low)
     judged-same None low =
-        let deed = deed_of place statement.user statement.form in
+        let deeds = deeds_of place statement.user statement.form in
         let ending = body world.rows statement.form in
-        ap (λ (o : Outcome). (o, changed world deed ending)) (ended-same deed ending)
+        ap (λ (o : Outcome). (o, changed world deeds ending)) (ended-same deeds ending)
 
     missing-same : (form : Form) → All (λ (need : Need). need.table < length own) (needs form)
         → judged (own ++ more) place world statement (missing (own ++ more) world statement.user form)

@@ -1,37 +1,20 @@
--- The deeds of a log grow by at most one at each place, and are proper.
-use Rattle.std.proofs.Common.{◌≡◌, ℕ, zero, suc, ◌+◌, ◌<◌, ◌≤◌, not, Bool, true, false, List, [], ◌∷◌, ◌++◌, length, Option, Some, None, refl, sym, ◌∙◌, ap, arith, ◌⊎◌, inl, inr, add-one, subst}
+-- The deeds of a log grow by what each place makes, and are proper.
+use Rattle.std.proofs.Common.{◌≡◌, ℕ, zero, suc, ◌+◌, ◌<◌, ◌≤◌, List, [], ◌∷◌, ◌++◌, length, Option, Some, None, refl, sym, ◌∙◌, ap, arith, ◌⊎◌, inl, inr, add-one, subst}
 use Rattle.std.specs.Prelude.{All, take}
-use Rattle.std.specs.List.{find, flat_map}
 use Rattle.std.proofs.Math.Seq.{take-nil}
-use Rattle.std.proofs.lemmas.Bool.{not-false}
 use Rattle.std.proofs.lemmas.List.{append-nil, length-take}
-use Rattle.std.proofs.lemmas.List.Elements.{All-nil, All-push, All-weaker}
+use Rattle.std.proofs.lemmas.List.Elements.{All-nil, All-append, All-weaker}
 use Rattle.model_base.specs.declared.deed.Need.{Need}
 use Rattle.model_base.specs.declared.deed.Deed.{Deed}
-use Rattle.model_base.specs.declared.statement.DeedForm.{DeedForm}
 use Rattle.model_base.specs.declared.statement.Form.{Form}
 use Rattle.model_base.specs.declared.statement.Statement.{Statement}
-use Rattle.model_base.specs.Privileges.{holds, place_of, MayFollow, IsProper}
+use Rattle.model_base.specs.Privileges.{place_of, IsProper, IsProperAfter}
 use Rattle.model_base.specs.Body.{Ending, completed, aborted, undeclared}
-use Rattle.model_base.specs.Outcomes.{World, at_place, body, changed, deed_at, deed_of, deeds_before, empty_world, judged, missing, needs, needs_of_access, needs_of_deed, owners, step_form, world_after, world_before}
-use Rattle.model_base.specs.Laws.{GrowsAt}
-use Rattle.model_base.proofs.Replay.{by_cases}
-use Rattle.model_base.proofs.Places.{proper-one}
-
--- where none is found, none is found among the last
-find-none_right : {X : Type 0} (test : X → Bool) (first later : List X) → find test (first ++ later) ≡ None → find test later ≡ None
-find-none_right test [] later none = none
-find-none_right test (x ∷ first) later none =
-    by_cases (test x)
-    (λ passes. let found = rw passes at none in absurd (cc))
-    (λ fails. find-none_right test first later (rw fails at none))
-
--- nor is it a list's only item
-find-none_one : {X : Type 0} (test : X → Bool) (x : X) → find test (x ∷ []) ≡ None → test x ≡ false
-find-none_one test x none =
-    by_cases (test x)
-    (λ passes. let found = rw passes at none in absurd (cc))
-    (λ fails. fails)
+use Rattle.model_base.specs.Outcomes.{World, at_place, body, changed, deeds_before, deeds_of, empty_world, judged, missing, owners, step_form, world_after, world_before}
+use Rattle.model_base.specs.Laws.{GrowsAt, IsGranting}
+use Rattle.model_base.proofs.Places.{proper-join}
+use Rattle.model_base.proofs.Cuts.{deeds_below-whole}
+use Rattle.model_base.proofs.Made.{deeds_of-one, deeds_of-placed, deeds_of-proper}
 
 -- the beginning of a log grows by one statement, or is the whole
 pub take-next : {X : Type 0} (n : ℕ) (xs : List X)
@@ -43,22 +26,6 @@ take-next (suc n) (x ∷ xs) =
       | inl whole ↦ inl (ap (λ r. x ∷ r) whole)
       | inr more ↦ inr (more.0, ap (λ r. x ∷ r) more.1, ap suc more.2)
     ]
-
--- the deed of a form has its place
-deed_at-place : (place user : ℕ) (form : DeedForm) → place_of (deed_at place user form) ≡ place
-deed_at-place place user (DeedForm.Grant kind table grantee option) = refl
-deed_at-place place user (DeedForm.Revoke kinds table grantees) = refl
-
--- the deed of a statement has its place
-pub deed_of-place : (place user : ℕ) (form : Form) (deed : Deed) → deed_of place user form ≡ Some deed → place_of deed ≡ place
-deed_of-place place user (Form.Create table columns) deed made = absurd (cc)
-deed_of-place place user (Form.Run accesses steps None) deed made = absurd (cc)
-deed_of-place place user (Form.Run accesses steps (Some form)) deed made =
-    let same : deed_at place user form ≡ deed = cc in
-    sym (ap place_of same) ∙ deed_at-place place user form
-deed_of-place place user (Form.Deed form) deed made =
-    let same : deed_at place user form ≡ deed = cc in
-    sym (ap place_of same) ∙ deed_at-place place user form
 
 -- the deeds are proper, and their places lie below this one
 pub record Stands (owners : List ℕ) (place : ℕ) (deeds : List Deed) : Type 0 where
@@ -72,36 +39,20 @@ stands-later owners place deeds stands = record {
   below = All-weaker (λ deed. place_of deed < place) (λ deed. place_of deed < place + 1) (λ deed less. omega arith) deeds stands.below;
 }
 
--- a deed of the place that may follow stands with them before the next
-pub stands-one : (owners : List ℕ) (place : ℕ) (deeds : List Deed) (deed : Deed)
-    → Stands owners place deeds → place_of deed ≡ place → MayFollow owners deeds deed
-    → Stands owners (place + 1) (deeds ++ deed ∷ [])
-stands-one owners place deeds deed stands at may = record {
-  proper = proper-one owners [] deeds deed stands.proper may;
-  below = All-push (λ deed. place_of deed < place + 1) deeds deed (stands-later owners place deeds stands).below (omega (arith, at));
+-- deeds of the place that may follow stand with them before the next
+pub stands-more : (owners : List ℕ) (place : ℕ) (deeds made : List Deed)
+    → Stands owners place deeds → All (λ deed. place_of deed ≡ place) made → IsProperAfter owners deeds made
+    → Stands owners (place + 1) (deeds ++ made)
+stands-more owners place deeds made stands here more = record {
+  proper = proper-join owners [] deeds made stands.proper more;
+  below = All-append (λ deed. place_of deed < place + 1) deeds made (stands-later owners place deeds stands).below
+      (All-weaker (λ deed. place_of deed ≡ place) (λ deed. place_of deed < place + 1) (λ deed at. omega arith) made here);
 }
 
--- a deed whose statement lacks nothing may follow
-module _ (owners : List ℕ) (place user : ℕ) (deeds : List Deed) (below : All (λ deed. place_of deed < place) deeds) where
-  may_follow-form : (form : DeedForm) → find (λ need. not (holds owners deeds user need)) (needs_of_deed form) ≡ None
-      → MayFollow owners deeds (deed_at place user form)
-  may_follow-form (DeedForm.Grant kind table grantee option) held =
-      let need : Need = record { table = table; kind = kind; option = true } in
-      (below, not-false (holds owners deeds user need) (find-none_one (λ need. not (holds owners deeds user need)) need held))
-  may_follow-form (DeedForm.Revoke kinds table grantees) held = below
-
-  pub may_follow : (form : Form) (deed : Deed) → find (λ need. not (holds owners deeds user need)) (needs form) ≡ None
-      → deed_of place user form ≡ Some deed → MayFollow owners deeds deed
-  may_follow (Form.Create table columns) deed held made = absurd (cc)
-  may_follow (Form.Run accesses steps None) deed held made = absurd (cc)
-  may_follow (Form.Run accesses steps (Some form)) deed held made =
-      let same : deed_at place user form ≡ deed = cc in
-      subst (MayFollow owners deeds) same
-      (may_follow-form form
-      (find-none_right (λ need. not (holds owners deeds user need)) (flat_map needs_of_access accesses) (needs_of_deed form) held))
-  may_follow (Form.Deed form) deed held made =
-      let same : deed_at place user form ≡ deed = cc in
-      subst (MayFollow owners deeds) same (may_follow-form form held)
+-- deeds that stay the same grow by none
+grows-none : (place : ℕ) (before after : List Deed) → after ≡ before → GrowsAt place before after
+grows-none place before after same =
+    ([], same ∙ sym (append-nil before), All-nil (λ deed. place_of deed ≡ place), inl (All-nil IsGranting))
 
 -- what a place makes of the deeds before it
 pub record IsNext (owners : List ℕ) (place : ℕ) (before after : List Deed) : Type 0 where
@@ -111,27 +62,28 @@ pub record IsNext (owners : List ℕ) (place : ℕ) (before after : List Deed) :
 module _ (owners : List ℕ) (place : ℕ) (world : World) (statement : Statement) where
   -- most places make no deed
   next-same : IsNext owners place world.deeds world.deeds
-  next-same = record { grows = inl refl; stands = stands-later owners place world.deeds }
+  next-same = record { grows = grows-none place world.deeds world.deeds refl; stands = stands-later owners place world.deeds }
 
   -- what a body's end makes of them
-  next-changed : (made : Option Deed) (ending : Ending) → deed_of place statement.user statement.form ≡ made
-      → missing owners world statement.user statement.form ≡ None → IsNext owners place world.deeds (changed world made ending).deeds
-  next-changed None (completed rows outputs) is held = rw append-nil next-same
-  next-changed (Some deed) (completed rows outputs) is held = record {
-    grows = inr (deed, refl, deed_of-place place statement.user statement.form deed is);
-    stands = λ stands.
-        stands-one owners place world.deeds deed stands (deed_of-place place statement.user statement.form deed is)
-        (may_follow owners place statement.user world.deeds stands.below statement.form deed held is);
-  }
-  next-changed made (aborted step reason) is held = next-same
-  next-changed made (undeclared step) is held = next-same
+  next-changed : (ending : Ending) → missing owners world statement.user statement.form ≡ None
+      → IsNext owners place world.deeds (changed world (deeds_of place statement.user statement.form) ending).deeds
+  next-changed (completed rows outputs) held =
+      let made = deeds_of place statement.user statement.form in
+      let here = deeds_of-placed place statement.user statement.form in
+      record {
+        grows = (made, refl, here, deeds_of-one place statement.user statement.form);
+        stands = λ stands.
+            stands-more owners place world.deeds made stands here
+            (deeds_of-proper owners place statement.user world.deeds stands.below (deeds_below-whole place world.deeds stands.below) statement.form held);
+      }
+  next-changed (aborted step reason) held = next-same
+  next-changed (undeclared step) held = next-same
 
   -- what the judgment does
   next-judged : (lack : Option Need) → missing owners world statement.user statement.form ≡ lack
       → IsNext owners place world.deeds (judged owners place world statement lack).1.deeds
   next-judged (Some need) is = next-same
-  next-judged None is =
-      next-changed (deed_of place statement.user statement.form) (body world.rows statement.form) refl is
+  next-judged None is = next-changed (body world.rows statement.form) is
 
   -- what a statement of each form does
   next-form : (form : Form) → statement.form ≡ form → IsNext owners place world.deeds (step_form owners place world statement form).1.deeds
@@ -141,7 +93,7 @@ module _ (owners : List ℕ) (place : ℕ) (world : World) (statement : Statemen
   next-form (Form.Deed deed) is =
       next-judged (missing owners world statement.user (Form.Deed deed)) (ap (missing owners world statement.user) is)
 
-  -- a place adds at most one deed, which may follow those before it
+  -- a place adds deeds that may follow those before it
   pub next-at_place : IsNext owners place world.deeds (at_place owners place world statement).1.deeds
   next-at_place = next-form statement.form refl
 
@@ -182,11 +134,12 @@ deeds_before-stands log place =
           (deeds_before log place) stands.below;
     }
 
--- one place more makes at most one deed more
+-- one place more makes grants, or one revocation
 pub deeds_before-grows : (log : List Statement) (place : ℕ) → GrowsAt place (deeds_before log place) (deeds_before log (place + 1))
 deeds_before-grows log place =
     elim (take-next place log) [
-      | inl whole ↦ inl (ap (λ (n : ℕ). (world_after (owners log) 0 empty_world (take n log)).deeds) (add-one place)
+      | inl whole ↦ grows-none place (deeds_before log place) (deeds_before log (place + 1))
+          (ap (λ (n : ℕ). (world_after (owners log) 0 empty_world (take n log)).deeds) (add-one place)
           ∙ ap (λ (xs : List Statement). (world_after (owners log) 0 empty_world xs).deeds) whole)
       | inr more ↦ grown more.0 more.1 more.2
     ]

@@ -4,7 +4,6 @@ pub mod Parts
 pub mod Places
 pub mod Ranked
 pub mod Causes
-pub mod Growth
 pub mod Paths
 pub mod Records
 pub mod Covered
@@ -13,6 +12,8 @@ pub mod ByTables
 pub mod Ended
 pub mod Ends
 pub mod Cuts
+pub mod Made
+pub mod Growth
 pub mod Losses
 pub mod Logs
 pub mod Owners
@@ -22,3 +23,4 @@ pub mod Growing
 pub mod Reaching
 pub mod Admitted
 pub mod NeedsLeft
+pub mod DeedsLeft

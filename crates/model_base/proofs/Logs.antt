@@ -1,19 +1,19 @@
 -- The deeds before a place of a log are those below the place of all that come before a later one.
-use Rattle.std.proofs.Common.{◌≡◌, ℕ, zero, suc, ◌+◌, ◌-◌, ◌≤◌, Bool, true, List, [], ◌∷◌, ◌++◌, sym, ◌∙◌, ap, append_assoc, arith, inl, inr, subst}
+use Rattle.std.proofs.Common.{◌≡◌, ℕ, zero, suc, ◌+◌, ◌-◌, ◌≤◌, Bool, true, List, [], ◌++◌, sym, ◌∙◌, ap, append_assoc, arith, subst}
 use Rattle.std.specs.Prelude.{All, nat_lt}
 use Rattle.std.specs.Option.{option_map_or}
 use Rattle.std.proofs.lemmas.List.{append-nil}
-use Rattle.std.proofs.lemmas.List.Elements.{All-nil, All-cons, All-append, filter-append}
+use Rattle.std.proofs.lemmas.List.Elements.{All-nil, All-append, All-weaker, filter-append}
 use Rattle.model_base.specs.declared.deed.Need.{Need}
 use Rattle.model_base.specs.declared.deed.Record.{Record}
 use Rattle.model_base.specs.declared.deed.Revocation.{Revocation}
 use Rattle.model_base.specs.declared.deed.Cause.TheVariants.{Never, Taken}
 use Rattle.model_base.specs.declared.deed.Deed.{Deed}
 use Rattle.model_base.specs.declared.statement.Statement.{Statement}
-use Rattle.model_base.specs.Privileges.{ended_by, holds, place_of}
+use Rattle.model_base.specs.Privileges.{deeds_below, ended_by, holds, place_of}
 use Rattle.model_base.specs.Outcomes.{cause, deeds_before, owners}
 use Rattle.model_base.specs.Laws.{GrowsAt}
-use Rattle.model_base.specs.Records.{records, covered, cut, deeds_below, ended_by_records, holds_by, last_loss_by}
+use Rattle.model_base.specs.Records.{records, covered, cut, ended_by_records, holds_by, last_loss_by}
 use Rattle.model_base.proofs.Growth.{deeds_before-grows, deeds_before-stands}
 use Rattle.model_base.proofs.Records.{holds_by-records}
 use Rattle.model_base.proofs.ByTables.{cut-covered, holds_by-covered, last_loss-covered}
@@ -27,15 +27,12 @@ GoesOn place first deeds = (later : List Deed) × (deeds ≡ first ++ later) × 
 
 -- what goes on, and grows at a later place, goes on
 goes_on-grows : (place at : ℕ) (first before after : List Deed) → place ≤ at → GoesOn place first before → GrowsAt at before after → GoesOn place first after
-goes_on-grows place at first before after less on (inl same) = (on.0, same ∙ on.1, on.2)
-goes_on-grows place at first before after less on (inr one) =
-    let next : List Deed = one.0 ∷ [] in
-    let above : place ≤ place_of one.0 = omega (arith, one.2) in (
-      on.0 ++ next,
-      one.1 ∙ ap (λ ds. ds ++ next) on.1 ∙ append_assoc first on.0 next,
-      All-append (λ deed. place ≤ place_of deed) on.0 next on.2
-          (All-cons (λ deed. place ≤ place_of deed) one.0 [] above (All-nil (λ deed. place ≤ place_of deed))),
-    )
+goes_on-grows place at first before after less on grown = (
+  on.0 ++ grown.0,
+  grown.1 ∙ ap (λ ds. ds ++ grown.0) on.1 ∙ append_assoc first on.0 grown.0,
+  All-append (λ deed. place ≤ place_of deed) on.0 grown.0 on.2
+      (All-weaker (λ deed. place_of deed ≡ at) (λ deed. place ≤ place_of deed) (λ deed is. omega arith) grown.0 grown.2),
+)
 
 -- the deeds before a later place go on from those before this one
 goes_on-before : (log : List Statement) (place more : ℕ) → GoesOn place (deeds_before log place) (deeds_before log (place + more))

@@ -1,25 +1,23 @@
 -- Each grant was authorised when it was made, and the cause of a denial is the last loss, by the records.
-use Rattle.std.proofs.Common.{◌≡◌, ℕ, zero, suc, ◌<◌, ◌≤◌, ◌&&◌, not, true, List, [], ◌∷◌, ◌++◌, refl, sym, ◌∙◌, ap, append_assoc, arith, inl, inr, Option, Some}
-use Rattle.std.specs.Prelude.{All, if◌then◌else◌}
+use Rattle.std.proofs.Common.{◌≡◌, ℕ, zero, suc, ◌<◌, ◌≤◌, ◌&&◌, not, Bool, true, false, List, [], ◌∷◌, ◌++◌, refl, sym, ◌∙◌, ap, append_assoc, arith, inl, inr, subst, Option, Some}
+use Rattle.std.specs.Prelude.{All, nat_lt, if◌then◌else◌}
 use Rattle.std.specs.Option.{option_map_or}
-use Rattle.std.proofs.lemmas.Bool.{lt-ltb}
 use Rattle.std.proofs.lemmas.List.{append-nil}
-use Rattle.std.proofs.lemmas.List.Elements.{All-nil, All-cons, All-map, All-weaker, Contains-push}
+use Rattle.std.proofs.lemmas.List.Elements.{All-nil, All-cons, All-head, All-map, All-tail, All-weaker, Contains-push, filter-append}
 use Rattle.model_base.specs.declared.deed.Grant.{Grant}
 use Rattle.model_base.specs.declared.deed.Need.{Need}
 use Rattle.model_base.specs.declared.deed.Cause.{Cause}
 use Rattle.model_base.specs.declared.deed.Cause.TheVariants.{Never, Taken}
 use Rattle.model_base.specs.declared.deed.Deed.{Deed}
 use Rattle.model_base.specs.declared.deed.Deed.TheVariants.{Granting, Revoking}
-use Rattle.model_base.specs.Privileges.{holds, option_of, place_of, IsProper, IsProperAfter}
+use Rattle.model_base.specs.Privileges.{deeds_below, holds, option_of, place_of, IsProper, IsProperAfter}
 use Rattle.model_base.specs.Outcomes.{cause, cause_after}
-use Rattle.model_base.specs.Laws.{GrowsAt}
-use Rattle.model_base.specs.Records.{grants_of, record_of, records, cut, deeds_below, holds_by, last_loss_by}
+use Rattle.model_base.specs.Laws.{AreGrantsOrRevocation, GrowsAt, IsGranting}
+use Rattle.model_base.specs.Records.{grants_of, record_of, records, cut, holds_by, last_loss_by}
 use Rattle.model_base.proofs.Replay.{by_cases}
 use Rattle.model_base.proofs.Places.{proper-above}
-use Rattle.model_base.proofs.Causes.{takes}
+use Rattle.model_base.proofs.Causes.{holds-granting, takes}
 use Rattle.model_base.proofs.Records.{holds_by-records}
-use Rattle.model_base.proofs.Recorded.{All-both, All-grants}
 use Rattle.model_base.proofs.Cuts.{deeds_below-whole, deeds_below-none, deeds_below-proper, records-below, deeds_below-grows}
 
 module _ (owners : List ℕ) where
@@ -30,47 +28,42 @@ module _ (owners : List ℕ) where
       ap (λ entries. holds_by owners entries user need) (sym (records-below owners place deeds proper))
       ∙ holds_by-records owners (deeds_below place deeds) user need (deeds_below-proper owners place deeds proper)
 
-  -- the grantor held the option by the first deeds, and those of the others that lie below the grant
-  abbrev held_when_made : List Deed → List Deed → Grant → Type 0
-  held_when_made start deeds grant = holds owners (start ++ deeds_below grant.place deeds) grant.grantor (option_of grant) ≡ true
+  -- the grantor held the option by those of the deeds that lie below the grant
+  abbrev held_when_made : List Deed → Grant → Type 0
+  held_when_made deeds grant = holds owners (deeds_below grant.place deeds) grant.grantor (option_of grant) ≡ true
 
-  -- what is held by the later deeds below a place is held by them after one more that lies below
-  held-later : (start deeds : List Deed) (deed : Deed) → All (λ next. place_of deed < place_of next) deeds
-      → All (held_when_made (start ++ deed ∷ []) deeds) (grants_of deeds) → All (held_when_made start (deed ∷ deeds)) (grants_of deeds)
-  held-later start deeds deed above held =
-      let Above : Grant → Type 0 = λ x. place_of deed < x.place in
-      All-weaker (λ x. Above x × held_when_made (start ++ deed ∷ []) deeds x) (held_when_made start (deed ∷ deeds))
-      (λ x both. rw (lt-ltb (place_of deed) x.place both.0) (rw append_assoc at both.1)) (grants_of deeds)
-      (All-both Above (held_when_made (start ++ deed ∷ []) deeds) (grants_of deeds) (All-grants (λ next. place_of deed < place_of next) deeds above) held)
-
-  -- the grantor of each grant held the option by the deeds before it
-  authorised-after : (start deeds : List Deed) → IsProperAfter owners start deeds → All (held_when_made start deeds) (grants_of deeds)
-  authorised-after start [] proper = All-nil (held_when_made start [])
+  -- the grantor of each of the later grants did
+  authorised-after : (start deeds : List Deed) → IsProperAfter owners start deeds → All (held_when_made (start ++ deeds)) (grants_of deeds)
+  authorised-after start [] proper = All-nil (held_when_made (start ++ []))
   authorised-after start (Granting grant ∷ deeds) proper =
-      let next = start ++ Granting grant ∷ [] in
-      let above = proper-above owners next deeds (Granting grant) (Contains-push start (Granting grant)) proper.1 in
+      let first : List Deed = Granting grant ∷ [] in
+      let above = proper-above owners (start ++ first) deeds (Granting grant) (Contains-push start (Granting grant)) proper.1 in
       let none : deeds_below grant.place (Granting grant ∷ deeds) ≡ [] =
       deeds_below-none grant.place (Granting grant ∷ deeds)
-      (All-cons (λ deed. grant.place ≤ place_of deed) (Granting grant) deeds (omega arith)
-      (All-weaker (λ deed. grant.place < place_of deed) (λ deed. grant.place ≤ place_of deed) (λ deed less. omega arith) deeds above)) in
-      let here : held_when_made start (Granting grant ∷ deeds) grant = ap (λ ds. holds owners (start ++ ds) grant.grantor (option_of grant)) none ∙ rw append-nil proper.0.1 in
-      All-cons (held_when_made start (Granting grant ∷ deeds)) grant (grants_of deeds) here (held-later start deeds (Granting grant) above (authorised-after next deeds proper.1))
+      (All-cons (λ deed. grant.place ≤ place_of deed) (Granting grant) deeds (omega arith) above) in
+      let low : deeds_below grant.place (start ++ Granting grant ∷ deeds) ≡ deeds_below grant.place start =
+      filter-append (λ deed. nat_lt (place_of deed) grant.place) start (Granting grant ∷ deeds)
+      ∙ ap (λ r. deeds_below grant.place start ++ r) none
+      ∙ append-nil (deeds_below grant.place start) in
+      let here : held_when_made (start ++ Granting grant ∷ deeds) grant = ap (λ ds. holds owners ds grant.grantor (option_of grant)) low ∙ proper.0.1 in
+      let rest : All (held_when_made (start ++ Granting grant ∷ deeds)) (grants_of deeds) =
+      subst (λ (ds : List Deed). All (held_when_made ds) (grants_of deeds)) (append_assoc start first deeds) (authorised-after (start ++ first) deeds proper.1) in
+      All-cons (held_when_made (start ++ Granting grant ∷ deeds)) grant (grants_of deeds) here rest
   authorised-after start (Revoking revocation ∷ deeds) proper =
-      let next = start ++ Revoking revocation ∷ [] in
-      let above = proper-above owners next deeds (Revoking revocation) (Contains-push start (Revoking revocation)) proper.1 in
-      held-later start deeds (Revoking revocation) above (authorised-after next deeds proper.1)
+      let first : List Deed = Revoking revocation ∷ [] in
+      subst (λ (ds : List Deed). All (held_when_made ds) (grants_of deeds)) (append_assoc start first deeds) (authorised-after (start ++ first) deeds proper.1)
 
   -- each record was authorised when it was made, by the deeds below its place
   pub records-authorised : (deeds : List Deed) → IsProper owners deeds
       → All (λ entry. holds owners (deeds_below entry.grant.place deeds) entry.grant.grantor (option_of entry.grant) ≡ true) (records owners deeds)
   records-authorised deeds proper =
-      All-map (λ entry. held_when_made [] deeds entry.grant) (record_of owners deeds) (grants_of deeds) (authorised-after [] deeds proper)
+      All-map (λ entry. held_when_made deeds entry.grant) (record_of owners deeds) (grants_of deeds) (authorised-after [] deeds proper)
 
   -- and by the records as they were there
   pub records-authorised_by : (deeds : List Deed) → IsProper owners deeds
       → All (λ entry. holds_by owners (cut entry.grant.place (records owners deeds)) entry.grant.grantor (option_of entry.grant) ≡ true) (records owners deeds)
   records-authorised_by deeds proper =
-      All-weaker (λ entry. held_when_made [] deeds entry.grant)
+      All-weaker (λ entry. held_when_made deeds entry.grant)
       (λ entry. holds_by owners (cut entry.grant.place (records owners deeds)) entry.grant.grantor (option_of entry.grant) ≡ true)
       (λ entry held. holds_by-cut deeds entry.grant.place entry.grant.grantor (option_of entry.grant) proper ∙ held) (records owners deeds)
       (records-authorised deeds proper)
@@ -91,18 +84,56 @@ module _ (owners : List ℕ) (user : ℕ) (need : Need) where
       ≡ (if takes owners user need deeds deed then Taken (place_of deed) else cause owners deeds user need)
   cause-snoc deeds deed = cause_after-snoc [] deeds deed Never
 
-  -- where the deeds grow by one at most, at a place, the cause is this place if the need was lost there
+  -- a grant takes nothing away
+  takes-none : (deeds : List Deed) (grant : Grant) → takes owners user need deeds (Granting grant) ≡ false
+  takes-none deeds grant =
+      by_cases (holds owners deeds user need)
+      (λ held. rw (held, holds-granting owners deeds grant user need held) refl)
+      (λ missing. rw missing refl)
+
+  -- so the cause after grants is that before them
+  cause-grants : (before made : List Deed) → All IsGranting made → cause owners (before ++ made) user need ≡ cause owners before user need
+  cause-grants before [] all = ap (λ (ds : List Deed). cause owners ds user need) (append-nil before)
+  cause-grants before (Granting grant ∷ made) all =
+      let first : List Deed = Granting grant ∷ [] in
+      ap (λ (ds : List Deed). cause owners ds user need) (sym (append_assoc before first made))
+      ∙ cause-grants (before ++ first) made (All-tail IsGranting (Granting grant) made all)
+      ∙ cause-snoc before (Granting grant)
+      ∙ ap (λ (b : Bool). if b then Taken grant.place else cause owners before user need) (takes-none before grant)
+  cause-grants before (Revoking revocation ∷ made) all = absurd (All-head IsGranting (Revoking revocation) made all)
+
+  -- and what is held stays held
+  held-grants : (before made : List Deed) → All IsGranting made → holds owners before user need ≡ true → holds owners (before ++ made) user need ≡ true
+  held-grants before [] all held = rw append-nil held
+  held-grants before (Granting grant ∷ made) all held =
+      let first : List Deed = Granting grant ∷ [] in
+      subst (λ (ds : List Deed). holds owners ds user need ≡ true) (append_assoc before first made)
+      (held-grants (before ++ first) made (All-tail IsGranting (Granting grant) made all) (holds-granting owners before grant user need held))
+  held-grants before (Revoking revocation ∷ made) all held = absurd (All-head IsGranting (Revoking revocation) made all)
+
+  -- the cause after what a place makes is this place, if the need was lost there
+  loss-made : (before made : List Deed) (place : ℕ) (found : Option ℕ) → All (λ deed. place_of deed ≡ place) made → AreGrantsOrRevocation made
+      → cause owners before user need ≡ option_map_or Taken found Never
+      → cause owners (before ++ made) user need
+      ≡ option_map_or Taken (if holds owners before user need && not (holds owners (before ++ made) user need) then Some place else found) Never
+  loss-made before made place found here (inl grants) is =
+      cause-grants before made grants
+      ∙ by_cases (holds owners before user need)
+      (λ held. rw (held, held-grants before made grants held) is)
+      (λ missing. rw missing is)
+  loss-made before made place found here (inr one) is =
+      let deed : Deed = Revoking one.0 in
+      let at : one.0.place ≡ place = All-head (λ d. place_of d ≡ place) deed [] (subst (All (λ d. place_of d ≡ place)) one.1 here) in
+      rw one.1 (cause-snoc before deed
+      ∙ by_cases (takes owners user need before deed)
+      (λ took. rw took (ap Taken at))
+      (λ left. rw left is))
+
   loss-step : (before after : List Deed) (place : ℕ) (found : Option ℕ) → GrowsAt place before after
       → cause owners before user need ≡ option_map_or Taken found Never
       → cause owners after user need
       ≡ option_map_or Taken (if holds owners before user need && not (holds owners after user need) then Some place else found) Never
-  loss-step before after place found (inl same) is =
-      rw same (by_cases (holds owners before user need) (λ held. rw held is) (λ missing. rw missing is))
-  loss-step before after place found (inr one) is =
-      rw one.1 (cause-snoc before one.0
-      ∙ by_cases (takes owners user need before one.0)
-      (λ took. rw took (ap Taken one.2))
-      (λ left. rw left is))
+  loss-step before after place found grown is = rw grown.1 (loss-made before grown.0 place found grown.2 grown.3 is)
 
   -- the cause by the deeds below a place is the last loss below it, by the records of all
   pub cause-records : (deeds : List Deed) (place : ℕ) → IsProper owners deeds

@@ -11,11 +11,11 @@ use Rattle.model_base.specs.declared.deed.Grant.{Grant}
 use Rattle.model_base.specs.declared.deed.Need.{Need}
 use Rattle.model_base.specs.declared.deed.Deed.{Deed}
 use Rattle.model_base.specs.declared.deed.Deed.TheVariants.{Granting, Revoking}
-use Rattle.model_base.specs.Privileges.{owns, reaches, gives, has, option_of, kept, IsProper, IsProperAfter}
+use Rattle.model_base.specs.Privileges.{deeds_below, owns, reaches, gives, has, option_of, kept, IsProper, IsProperAfter}
 use Rattle.model_base.specs.Records.{grants_of}
-use Rattle.model_base.proofs.Parts.{part-all}
+use Rattle.model_base.proofs.Parts.{part-all, part-part}
 use Rattle.model_base.proofs.Records.{grants-append}
-use Rattle.model_base.proofs.Recorded.{part-kept_grants}
+use Rattle.model_base.proofs.Recorded.{part-grants_below, part-kept_grants}
 use Rattle.model_base.proofs.Owners.{IsSameOwner, AreSameOwners, proper-owners}
 
 -- what is in a list is there with more after it
@@ -99,8 +99,9 @@ module _ (owners : List ℕ) where
   tables-after : (past deeds : List Deed) → IsProperAfter owners past deeds → All (IsOnTable owners) (grants_of past) → All (IsOnTable owners) (grants_of deeds)
   tables-after past [] proper on = All-nil (IsOnTable owners)
   tables-after past (Granting grant ∷ deeds) proper on =
-      let standing = part-all (IsOnTable owners) (part-kept_grants owners past) on in
-      let here : IsOnTable owners grant = has-table (kept owners past) grant.grantor (option_of grant) standing proper.0.1 in
+      let low = deeds_below grant.place past in
+      let standing = part-all (IsOnTable owners) (part-part (part-kept_grants owners low) (part-grants_below grant.place past)) on in
+      let here : IsOnTable owners grant = has-table (kept owners low) grant.grantor (option_of grant) standing proper.0.1 in
       let next : All (IsOnTable owners) (grants_of (past ++ Granting grant ∷ [])) =
       rw (grants-append past (Granting grant ∷ [])) (All-push (IsOnTable owners) (grants_of past) grant on here) in
       All-cons (IsOnTable owners) grant (grants_of deeds) here (tables-after (past ++ Granting grant ∷ []) deeds proper.1 next)

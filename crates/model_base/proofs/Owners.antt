@@ -13,13 +13,13 @@ use Rattle.model_base.specs.declared.deed.Need.{Need}
 use Rattle.model_base.specs.declared.deed.Deed.{Deed}
 use Rattle.model_base.specs.declared.deed.Deed.TheVariants.{Granting, Revoking}
 use Rattle.model_base.specs.Ranks.{rank}
-use Rattle.model_base.specs.Privileges.{owns, gives, has, option_of, erased, replayed, kept, holds, is_among, lost, ended_by, place_of, IsProper, IsProperAfter, names}
+use Rattle.model_base.specs.Privileges.{owns, gives, has, option_of, erased, replayed, kept, holds, is_among, lost, ended_by, place_of, deeds_below, IsProper, IsProperAfter, names}
 use Rattle.model_base.specs.Outcomes.{cause, cause_after}
 use Rattle.model_base.specs.Records.{grants_of, end_after, record_of, records, in_force, ended_by_records, holds_by, cut, last_loss_by}
 use Rattle.model_base.proofs.Replay.{by_cases}
 use Rattle.model_base.proofs.Parts.{part-all, part-beginning}
 use Rattle.model_base.proofs.Records.{grants-append}
-use Rattle.model_base.proofs.Recorded.{part-erased_grants}
+use Rattle.model_base.proofs.Recorded.{part-erased_grants, part-grants_below}
 
 module _ (first second : List ℕ) where
   -- both have the same owner of the table
@@ -133,7 +133,8 @@ module _ (first second : List ℕ) where
       let one = front-owners (past ++ Granting grant ∷ []) deeds next in
       let last : AreSameOwners (grants_of past ++ grant ∷ []) = rw (← grants-append past (Granting grant ∷ [])) one in
       let on : IsSameOwner grant.table = All-contains (λ x. IsSameOwner x.table) (grants_of past ++ grant ∷ []) grant last (Contains-push (grants_of past) grant) in
-      let same = holds-owners past grant.grantor (option_of grant) (front-owners past (Granting grant ∷ deeds) agree) on in
+      let low = part-all (λ x. IsSameOwner x.table) (part-grants_below grant.place past) (front-owners past (Granting grant ∷ deeds) agree) in
+      let same = holds-owners (deeds_below grant.place past) grant.grantor (option_of grant) low on in
       ((proper.0.0, sym same ∙ proper.0.1), proper_after-owners (past ++ Granting grant ∷ []) deeds next proper.1)
   proper_after-owners past (Revoking revocation ∷ deeds) agree proper =
       let next : AreSameOwners (grants_of ((past ++ Revoking revocation ∷ []) ++ deeds)) = rw append_assoc agree in

@@ -8,7 +8,7 @@ use Rattle.model_base.specs.declared.deed.Record.{Record}
 use Rattle.model_base.specs.declared.deed.Deed.{Deed}
 use Rattle.model_base.specs.declared.deed.Deed.TheVariants.{Granting, Revoking}
 use Rattle.model_base.specs.Ranks.{deed_number, rank}
-use Rattle.model_base.specs.Privileges.{revokes, erased, kept, IsProper, IsProperAfter}
+use Rattle.model_base.specs.Privileges.{deeds_below, revokes, erased, kept, IsProper, IsProperAfter}
 use Rattle.model_base.specs.Laws.{IsPart, IsRising, none, left_out, stays}
 use Rattle.model_base.specs.Records.{grants_of, record_of, records, recorded, in_force, covered, cut}
 use Rattle.model_base.proofs.Replay.{by_cases}
@@ -47,6 +47,16 @@ part-erased_grants (Granting grant ∷ deeds) =
     (λ named. rw named (left_out (part-erased_grants deeds)))
     (λ other. rw other (stays (part-erased_grants deeds)))
 part-erased_grants (Revoking revocation ∷ deeds) = part-erased_grants deeds
+
+-- so are those of the deeds below a place
+pub part-grants_below : (place : ℕ) (deeds : List Deed) → IsPart (grants_of (deeds_below place deeds)) (grants_of deeds)
+part-grants_below place [] = none
+part-grants_below place (Granting grant ∷ deeds) =
+    by_cases (nat_lt grant.place place)
+    (λ less. rw less (stays (part-grants_below place deeds)))
+    (λ more. rw more (left_out (part-grants_below place deeds)))
+part-grants_below place (Revoking revocation ∷ deeds) =
+    by_cases (nat_lt revocation.place place) (λ less. rw less (part-grants_below place deeds)) (λ more. rw more (part-grants_below place deeds))
 
 module _ (owners : List ℕ) where
   -- the grants in force are some of all

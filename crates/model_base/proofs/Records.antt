@@ -13,12 +13,12 @@ use Rattle.model_base.specs.declared.deed.Revocation.{Revocation}
 use Rattle.model_base.specs.declared.deed.Deed.{Deed}
 use Rattle.model_base.specs.declared.deed.Deed.TheVariants.{Granting, Revoking}
 use Rattle.model_base.specs.Ranks.{deed_number, rank}
-use Rattle.model_base.specs.Privileges.{has, holds, kept, is_among, lost, ended_by, place_of, MayFollow, IsProper, IsProperAfter}
+use Rattle.model_base.specs.Privileges.{has, holds, kept, is_among, lost, ended_by, MayFollow, IsProper, IsProperAfter}
 use Rattle.model_base.specs.Laws.{IsPart, IsRising, none, left_out, stays}
 use Rattle.model_base.specs.Records.{grants_of, end_after, record_of, records, in_force, holds_by, ended_at}
 use Rattle.model_base.proofs.Replay.{by_cases, kept-grant}
 use Rattle.model_base.proofs.Parts.{part-all, part-kept_revoke}
-use Rattle.model_base.proofs.Places.{none_among, number-apart, none_below, among-kept_grant, All-kept, IsRising-kept, proper-one}
+use Rattle.model_base.proofs.Places.{none_among, none_below, among-kept_grant, All-kept, IsRising-kept, held-past, proper-one}
 
 -- whether this place is among the places
 abbrev pub is_listed : ℕ → List ℕ → Bool
@@ -151,21 +151,20 @@ module _ (owners : List ℕ) where
   same_ends deeds grant [] = refl
   same_ends deeds grant (x ∷ grants) = rw (end-grant deeds grant (rank x), same_ends deeds grant grants) refl
 
-  -- a grant of a new place is recorded after the others, with no end
-  pub records-grant : (deeds : List Deed) (grant : Grant) → All (λ deed. place_of deed ≢ grant.place) deeds
+  -- a grant of a new rank is recorded after the others, with no end
+  pub records-grant : (deeds : List Deed) (grant : Grant) → All (λ deed. deed_number deed ≢ rank grant) deeds
       → records owners (deeds ++ Granting grant ∷ []) ≡ records owners deeds ++ record { grant = grant; end = None } ∷ []
-  records-grant deeds grant others =
-      let apart = All-weaker (λ deed. place_of deed ≢ grant.place) (λ deed. deed_number deed ≢ rank grant) (λ deed other. number-apart deed grant other) deeds others in
+  records-grant deeds grant apart =
       let own : end_after owners [] (deeds ++ Granting grant ∷ []) (rank grant) ≡ None =
       end-grant deeds grant (rank grant) ∙ end-none [] deeds (rank grant) (All-nil (λ deed. deed_number deed ≢ rank grant)) apart in
       rw (grants-append deeds (Granting grant ∷ []), map-append (record_of owners (deeds ++ Granting grant ∷ [])) (grants_of deeds) (grant ∷ []), same_ends deeds grant (grants_of deeds), own)
       refl
 
-  -- so is one whose place lies above those of all deeds
-  pub records-grant_above : (deeds : List Deed) (grant : Grant) → All (λ deed. place_of deed < grant.place) deeds
+  -- so is one whose rank lies above the numbers of all deeds
+  pub records-grant_above : (deeds : List Deed) (grant : Grant) → All (λ deed. deed_number deed < rank grant) deeds
       → records owners (deeds ++ Granting grant ∷ []) ≡ records owners deeds ++ record { grant = grant; end = None } ∷ []
   records-grant_above deeds grant below =
-      records-grant deeds grant (All-weaker (λ deed. place_of deed < grant.place) (λ deed. place_of deed ≢ grant.place) (λ deed less is. omega arith) deeds below)
+      records-grant deeds grant (All-weaker (λ deed. deed_number deed < rank grant) (λ deed. deed_number deed ≢ rank grant) (λ deed less is. omega arith) deeds below)
 
   -- a revocation ends a grant's record if it has no end and the grant is among those that it takes out of force
   new_end : (deeds : List Deed) (revocation : Revocation) (grant : Grant)
@@ -205,7 +204,7 @@ module _ (owners : List ℕ) where
   in_force-one : (past : List Deed) (deed : Deed) → IsProper owners past → MayFollow owners past deed → in_force (records owners past) ≡ kept owners past
       → in_force (records owners (past ++ deed ∷ [])) ≡ kept owners (past ++ deed ∷ [])
   in_force-one past (Granting grant) proper may same =
-      rw (records-grant_above past grant may.0, in_force-append (records owners past) (record { grant = grant; end = None } ∷ []), same, kept-grant owners past grant may.1)
+      rw (records-grant_above past grant may.0, in_force-append (records owners past) (record { grant = grant; end = None } ∷ []), same, kept-grant owners past grant (held-past owners past grant may))
       refl
   in_force-one past (Revoking revocation) proper may same =
       let before = kept owners past in

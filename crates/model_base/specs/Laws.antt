@@ -3,6 +3,8 @@ use Rattle.std.specs.Prelude.{◌≡◌, ◌⊎◌, ℕ, ◌<◌, Some, true, fa
 use Rattle.model_base.specs.declared.deed.Grant.{Grant}
 use Rattle.model_base.specs.declared.deed.Need.{Need}
 use Rattle.model_base.specs.declared.deed.Deed.{Deed}
+use Rattle.model_base.specs.declared.deed.Deed.TheVariants.{Granting, Revoking}
+use Rattle.model_base.specs.declared.deed.Revocation.{Revocation}
 use Rattle.model_base.specs.Privileges.{holds, place_of}
 use Rattle.model_base.specs.Ranks.{rank}
 
@@ -26,6 +28,16 @@ pub record IsLastLoss (owners : List ℕ) (deeds : List Deed) (user : ℕ) (need
   pub before : holds owners (take index deeds) user need ≡ true
   pub after : (n : ℕ) → index < n → holds owners (take n deeds) user need ≡ false
 
--- the deeds after the place are those before it, or one more, which has the place
+-- the deed is a grant
+abbrev pub IsGranting : Deed → Type 0
+IsGranting (Granting grant) = Unit {0}
+IsGranting (Revoking revocation) = ⊥
+
+-- the deeds are grants, if there are any, or one revocation
+abbrev pub AreGrantsOrRevocation : List Deed → Type 0
+AreGrantsOrRevocation deeds = All IsGranting deeds ⊎ ((revocation : Revocation) × (deeds ≡ Revoking revocation ∷ []))
+
+-- the deeds after the place are those before it, and then those that it makes, which have the place: grants, or one revocation
 abbrev pub GrowsAt : ℕ → List Deed → List Deed → Type 0
-GrowsAt place before after = (after ≡ before) ⊎ ((deed : Deed) × (after ≡ before ++ deed ∷ []) × (place_of deed ≡ place))
+GrowsAt place before after =
+    (made : List Deed) × (after ≡ before ++ made) × All (λ deed. place_of deed ≡ place) made × AreGrantsOrRevocation made

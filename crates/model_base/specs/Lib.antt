@@ -17,3 +17,4 @@ pub mod Growing
 pub mod OwnedTables
 pub mod Seeds
 pub mod NeedsLeft
+pub mod DeedsLeft

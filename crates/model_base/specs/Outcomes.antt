@@ -1,13 +1,16 @@
 -- What each place of a log results in, by a serial run: each statement in turn is checked, run, and may change who holds what. The order of
 -- the log is the order of the transactions, and a transaction's timestamp is its place: J. M. Faleiro and D. J. Abadi, "Rethinking
 -- Serializable Multiversion Concurrency Control", PVLDB 8 (2015), section 3.
-use Rattle.std.specs.Prelude.{ℕ, ◌+◌, ◌&&◌, not, true, false, Option, Some, None, List, [], ◌∷◌, ◌++◌, take, map, slice_get, if◌then◌else◌}
+use Rattle.std.specs.Prelude.{ℕ, ◌+◌, ◌&&◌, not, Bool, true, false, Option, Some, None, List, [], ◌∷◌, ◌++◌, take, map, slice_get, if◌then◌else◌}
 use Rattle.std.specs.List.{flat_map, find}
 use Rattle.std.specs.Option.{option_map_or, option_map}
 use Rattle.model_base.specs.declared.deed.Kind.{Kind}
 use Rattle.model_base.specs.declared.deed.Kind.TheVariants.{Read, Insert, Update, Delete}
 use Rattle.model_base.specs.declared.deed.Kinds.{Kinds}
-use Rattle.model_base.specs.declared.deed.Position.TheVariants.{First}
+use Rattle.model_base.specs.declared.deed.Position.{Position}
+use Rattle.model_base.specs.declared.deed.Position.TheVariants.{First, Second, Third, Fourth, Fifth, Sixth, Seventh, Eighth}
+use Rattle.model_base.specs.declared.deed.Grantee.{Grantee}
+use Rattle.model_base.specs.declared.deed.Grant.{Grant}
 use Rattle.model_base.specs.declared.deed.Need.{Need}
 use Rattle.model_base.specs.declared.deed.Cause.{Cause}
 use Rattle.model_base.specs.declared.deed.Cause.TheVariants.{Never, Taken}
@@ -49,9 +52,13 @@ need_of access kind = record { table = access.key.table; kind = kind; option = f
 abbrev pub needs_of_access : Access → List Need
 needs_of_access access = map (need_of access) (kinds_in access.kinds)
 
--- a grant needs its kind with the option, a revocation nothing
+-- a kind on a table, with the option
+abbrev pub option_on : ℕ → Kind → Need
+option_on table kind = record { table = table; kind = kind; option = true }
+
+-- a grant needs each of its kinds with the option, a revocation nothing
 abbrev pub needs_of_deed : DeedForm → List Need
-needs_of_deed (DeedForm.Grant kind table grantee option) = record { table = table; kind = kind; option = true } ∷ []
+needs_of_deed (DeedForm.Grant kinds table grantees option) = map (option_on table) (kinds_in kinds)
 needs_of_deed (DeedForm.Revoke kinds table grantees) = []
 
 -- what a statement's user must hold, in the order in which it is checked
@@ -60,18 +67,39 @@ needs (Form.Create table columns) = []
 needs (Form.Run accesses steps deed) = flat_map needs_of_access accesses ++ option_map_or needs_of_deed deed []
 needs (Form.Deed deed) = needs_of_deed deed
 
--- the deed of a user at a place
-abbrev pub deed_at : ℕ → ℕ → DeedForm → Deed
-deed_at place user (DeedForm.Grant kind table grantee option) =
-    Granting (record { place = place; grantor = user; grantee = grantee; position = First; kind = kind; table = table; option = option })
-deed_at place user (DeedForm.Revoke kinds table grantees) =
-    Revoking (record { place = place; grantor = user; grantees = grantees; kinds = kinds; table = table })
+-- the positions of grantees, in order
+abbrev pub positions : List Position
+positions = First ∷ Second ∷ Third ∷ Fourth ∷ Fifth ∷ Sixth ∷ Seventh ∷ Eighth ∷ []
 
--- the deed that a statement makes at a place, if its body completes
-abbrev pub deed_of : ℕ → ℕ → Form → Option Deed
-deed_of place user (Form.Create table columns) = None
-deed_of place user (Form.Run accesses steps deed) = option_map (deed_at place user) deed
-deed_of place user (Form.Deed deed) = Some (deed_at place user deed)
+-- the grant of a kind by a user at a place to the grantee of a position
+abbrev pub grant_to : ℕ → ℕ → Kind → ℕ → Bool → Position → Grantee → Grant
+grant_to place user kind table option position grantee =
+    record { place = place; grantor = user; grantee = grantee; position = position; kind = kind; table = table; option = option }
+
+-- the grants of one kind, to each grantee in order with the next of the positions, as long as there is one
+abbrev pub grants_of_kind : ℕ → ℕ → Kind → ℕ → Bool → List Position → List Grantee → List Grant
+grants_of_kind place user kind table option [] grantees = []
+grants_of_kind place user kind table option (position ∷ later) [] = []
+grants_of_kind place user kind table option (position ∷ later) (grantee ∷ grantees) =
+    grant_to place user kind table option position grantee ∷ grants_of_kind place user kind table option later grantees
+
+-- the grants of some kinds, by kind and then by grantee
+abbrev pub grants_at : ℕ → ℕ → ℕ → Bool → List Grantee → List Kind → List Grant
+grants_at place user table option grantees kinds =
+    flat_map (λ kind. grants_of_kind place user kind table option positions grantees) kinds
+
+-- the deeds of a user at a place: a grant of each kind to each grantee, or one revocation
+abbrev pub deeds_at : ℕ → ℕ → DeedForm → List Deed
+deeds_at place user (DeedForm.Grant kinds table grantees option) =
+    map Granting (grants_at place user table option grantees (kinds_in kinds))
+deeds_at place user (DeedForm.Revoke kinds table grantees) =
+    Revoking (record { place = place; grantor = user; grantees = grantees; kinds = kinds; table = table }) ∷ []
+
+-- the deeds that a statement makes at a place, if its body completes
+abbrev pub deeds_of : ℕ → ℕ → Form → List Deed
+deeds_of place user (Form.Create table columns) = []
+deeds_of place user (Form.Run accesses steps deed) = option_map_or (deeds_at place user) deed []
+deeds_of place user (Form.Deed deed) = deeds_at place user deed
 
 -- the last of the later deeds that took the need away, or what was found among those of the past
 abbrev pub cause_after : List ℕ → ℕ → Need → List Deed → List Deed → Cause → Cause
@@ -97,11 +125,11 @@ empty_world = record { rows = no_rows; deeds = [] }
 abbrev pub missing : List ℕ → World → ℕ → Form → Option Need
 missing owners world user form = find (λ need. not (holds owners world.deeds user need)) (needs form)
 
--- what a deed results in
-abbrev pub deed_done : List ℕ → World → Option Deed → DeedDone
-deed_done owners world None = DeedDone.None
-deed_done owners world (Some (Granting grant)) = DeedDone.Granted
-deed_done owners world (Some (Revoking revocation)) = DeedDone.Revoked (ended_by owners world.deeds revocation)
+-- what the deeds of a place result in, by the first of them: they are grants, or one revocation
+abbrev pub deed_done : List ℕ → World → List Deed → DeedDone
+deed_done owners world [] = DeedDone.None
+deed_done owners world (Granting grant ∷ deeds) = DeedDone.Granted
+deed_done owners world (Revoking revocation ∷ deeds) = DeedDone.Revoked (ended_by owners world.deeds revocation)
 
 -- what the body of a statement does to the rows; a deed by itself has an empty one
 abbrev pub body : Rows → Form → Ending
@@ -109,26 +137,25 @@ body rows (Form.Create table columns) = completed rows []
 body rows (Form.Run accesses steps deed) = meaning steps accesses rows
 body rows (Form.Deed deed) = completed rows []
 
--- the outcome of a body that ended so, with its deed
-abbrev pub ended : List ℕ → World → Option Deed → Ending → Outcome
-ended owners world deed (completed rows outputs) = Outcome.Done outputs (deed_done owners world deed)
-ended owners world deed (aborted step reason) = Outcome.Aborted step reason
-ended owners world deed (undeclared step) = Outcome.Undeclared step
+-- the outcome of a body that ended so, with its deeds
+abbrev pub ended : List ℕ → World → List Deed → Ending → Outcome
+ended owners world deeds (completed rows outputs) = Outcome.Done outputs (deed_done owners world deeds)
+ended owners world deeds (aborted step reason) = Outcome.Aborted step reason
+ended owners world deeds (undeclared step) = Outcome.Undeclared step
 
--- only a completed body changes rows and makes its deed
-abbrev pub changed : World → Option Deed → Ending → World
-changed world deed (completed rows outputs) =
-    record { rows = rows; deeds = world.deeds ++ option_map_or (λ made. made ∷ []) deed [] }
-changed world deed (aborted step reason) = world
-changed world deed (undeclared step) = world
+-- only a completed body changes rows and makes its deeds
+abbrev pub changed : World → List Deed → Ending → World
+changed world deeds (completed rows outputs) = record { rows = rows; deeds = world.deeds ++ deeds }
+changed world deeds (aborted step reason) = world
+changed world deeds (undeclared step) = world
 
 -- the first missing need denies; if all are held, the body runs
 abbrev pub judged : List ℕ → ℕ → World → Statement → Option Need → Outcome × World
 judged owners place world statement (Some need) =
     (Outcome.Denied need (cause owners world.deeds statement.user need), world)
 judged owners place world statement None = (
-  ended owners world (deed_of place statement.user statement.form) (body world.rows statement.form),
-  changed world (deed_of place statement.user statement.form) (body world.rows statement.form),
+  ended owners world (deeds_of place statement.user statement.form) (body world.rows statement.form),
+  changed world (deeds_of place statement.user statement.form) (body world.rows statement.form),
 )
 
 -- a table is created, and any other statement is judged by its user's privileges

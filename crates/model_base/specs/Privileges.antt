@@ -2,7 +2,7 @@
 -- From P. P. Griffiths and B. W. Wade, "An Authorization Mechanism for a Relational Database System",
 -- ACM Transactions on Database Systems 1 (1976). That each repeated grant is kept by itself, with its own
 -- time, is R. Fagin's correction, "On an Authorization Mechanism", in the same journal, 3 (1978).
-use Rattle.std.specs.Prelude.{◌==◌, ◌<◌, ◌&&◌, ◌||◌, not, ℕ, Bool, true, false, Option, Some, None, List, [], ◌∷◌, ◌++◌, slice_get, if◌then◌else◌, IsTrue}
+use Rattle.std.specs.Prelude.{◌==◌, ◌<◌, ◌&&◌, ◌||◌, not, nat_lt, ℕ, Bool, true, false, Option, Some, None, List, [], ◌∷◌, ◌++◌, filter, slice_get, if◌then◌else◌, IsTrue}
 use Rattle.std.specs.Prelude.{All}
 use Rattle.std.specs.List.{list_any}
 use Rattle.std.specs.Option.{option_map_or}
@@ -16,7 +16,7 @@ use Rattle.model_base.specs.declared.deed.Revocation.{Revocation}
 use Rattle.model_base.specs.declared.deed.Need.{Need}
 use Rattle.model_base.specs.declared.deed.Deed.{Deed}
 use Rattle.model_base.specs.declared.deed.Deed.TheVariants.{Granting, Revoking}
-use Rattle.model_base.specs.Ranks.{rank}
+use Rattle.model_base.specs.Ranks.{deed_number, rank}
 
 -- whether the kind is among these
 abbrev pub has_kind : Kinds → Kind → Bool
@@ -144,10 +144,16 @@ abbrev pub place_of : Deed → ℕ
 place_of (Granting grant) = grant.place
 place_of (Revoking revocation) = revocation.place
 
--- whether a deed may be made after the others: its place is above theirs, and a grantor holds the option
+-- the deeds made below a place
+abbrev pub deeds_below : ℕ → List Deed → List Deed
+deeds_below place deeds = filter (λ deed. nat_lt (place_of deed) place) deeds
+
+-- whether a deed may be made after the others: a grant has a rank above their numbers, so those of its place are grants before it in order,
+-- and its grantor holds the option by those below its place; a revocation has a place above theirs
 abbrev pub MayFollow : List ℕ → List Deed → Deed → Type 0
 MayFollow owners past (Granting grant) =
-    All (λ deed. place_of deed < grant.place) past × IsTrue (holds owners past grant.grantor (option_of grant))
+    All (λ deed. deed_number deed < rank grant) past
+    × IsTrue (holds owners (deeds_below grant.place past) grant.grantor (option_of grant))
 MayFollow owners past (Revoking revocation) = All (λ deed. place_of deed < revocation.place) past
 
 -- each of the deeds may be made after those before it

@@ -39,7 +39,7 @@ rank grant = rank_of grant.place grant.kind grant.position
 abbrev pub place_of_rank : ℕ → ℕ
 place_of_rank ranked = ranked / 32
 
--- the number of a deed: a grant's rank; of a revocation, what no grant of an earlier place reaches
+-- the number of a deed: a grant's rank; of a revocation, the last of its place, so that no grant of the place comes after it
 abbrev pub deed_number : Deed → ℕ
 deed_number (Granting grant) = rank grant
-deed_number (Revoking revocation) = revocation.place * 32
+deed_number (Revoking revocation) = revocation.place * 32 + 31

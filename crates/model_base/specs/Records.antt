@@ -75,10 +75,6 @@ cut place (entry ∷ entries) =
     then record { grant = entry.grant; end = end_below place entry.end } ∷ cut place entries
     else cut place entries
 
--- the deeds made below a place
-abbrev pub deeds_below : ℕ → List Deed → List Deed
-deeds_below place deeds = filter (λ deed. nat_lt (place_of deed) place) deeds
-
 -- the last place below this one at which the need was lost: by the records it was held there, and no longer at the next
 abbrev pub last_loss_by : List ℕ → List Record → ℕ → Need → ℕ → Option ℕ
 last_loss_by owners entries user need zero = None

@@ -25,7 +25,7 @@ declares_write table row statement = list_any (is_write_to table row) (accesses_
 
 -- the table of a deed, as its statement names it
 abbrev pub table_of : DeedForm → ℕ
-table_of (DeedForm.Grant kind table grantee option) = table
+table_of (DeedForm.Grant kinds table grantees option) = table
 table_of (DeedForm.Revoke kinds table grantees) = table
 
 -- the table of a statement's deed, if it has one

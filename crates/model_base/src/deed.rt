@@ -140,8 +140,27 @@ pub enum Position {
 }
 
 impl Position {
-    ghost use Rattle.std.specs.Prelude.{◌≡◌};
+    ghost use Rattle.std.specs.Prelude.{◌≡◌, ◌<◌, Some, slice_get};
+    ghost use Rattle.model_base.specs.Outcomes.{positions};
+    ghost use Rattle.model_base.specs.declared.limits.TheConstants.{MOST_GRANTEES};
     ghost use Rattle.model_base.specs.Ranks.{position_code};
+
+    /// The position of this index.
+    pub(crate) fn at(index: usize) -> Self
+        requires { index < MOST_GRANTEES }
+        ensures { slice_get positions index ≡ Some result }
+    {
+        match index {
+            0 => Position::First,
+            1 => Position::Second,
+            2 => Position::Third,
+            3 => Position::Fourth,
+            4 => Position::Fifth,
+            5 => Position::Sixth,
+            6 => Position::Seventh,
+            _ => Position::Eighth,
+        }
+    }
 
     /// The code of the position, from 0.
     fn code(self) -> u8

@@ -1,4 +1,4 @@
-//! The grantees of a revocation.
+//! The grantees of a deed.
 
 use crate::deed::Grantee;
 use crate::limits::MOST_GRANTEES;

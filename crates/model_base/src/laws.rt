@@ -1,12 +1,13 @@
 //! What holds of every list of deeds, of the grants in force after it, and of every log.
 
-ghost use Rattle.std.specs.Prelude.{◌==◌, ◌≡◌, ◌↔◌, ℕ, ◌+◌, ◌<◌, ◌≤◌, true, false, List, [], ◌∷◌, ◌++◌, All, Any, Contains, take, if◌then◌else◌};
+ghost use Rattle.std.specs.Prelude.{◌==◌, ◌≡◌, ◌↔◌, ℕ, ◌+◌, ◌<◌, ◌≤◌, true, false, None, List, [], ◌∷◌, ◌++◌, All, Any, Contains, take, if◌then◌else◌};
 ghost use Rattle.model_base.specs.Admitted.{IsAsked, IsDenial, IsPrivileged, WasAdmitted, WasDenied};
-ghost use Rattle.model_base.specs.Laws.{GrowsAt, IsLastLoss, IsPart, IsRising};
-ghost use Rattle.model_base.specs.Outcomes.{cause, deeds_before, needs, outcome, owners};
+ghost use Rattle.model_base.specs.Laws.{AreGrantsOrRevocation, GrowsAt, IsLastLoss, IsPart, IsRising};
+ghost use Rattle.model_base.specs.Outcomes.{World, cause, deeds_before, deeds_of, missing, needs, outcome, owners};
 ghost use Rattle.model_base.specs.Paths.{LeadsTo, path};
 ghost use Rattle.model_base.specs.Ranks.{deed_number, place_of_rank, rank};
-ghost use Rattle.model_base.specs.Privileges.{IsProper, gives, has, holds, is_among, kept, lends_to, option_of, owns, place_of, replayed};
+ghost use Rattle.model_base.specs.Privileges.{IsProper, IsProperAfter, MayFollow, gives, has, holds, is_among, kept, lends_to, option_of, owns, place_of, replayed};
+ghost use Rattle.model_base.specs.Records.{grants_of};
 ghost use Rattle.model_base.specs.declared.deed.Cause.{Cause};
 ghost use Rattle.model_base.specs.declared.deed.Cause.TheVariants.{Never, Taken};
 ghost use Rattle.model_base.specs.declared.deed.Deed.TheVariants.{Granting, Revoking};
@@ -16,6 +17,7 @@ ghost use Rattle.model_base.specs.declared.deed.Grantee.TheVariants.{Public, Use
 ghost use Rattle.model_base.specs.declared.deed.Need.{Need};
 ghost use Rattle.model_base.specs.declared.deed.Revocation.{Revocation};
 ghost use Rattle.model_base.specs.declared.outcome.Outcome.TheVariants.{Denied};
+ghost use Rattle.model_base.specs.declared.statement.Form.{Form};
 ghost use Rattle.model_base.specs.declared.statement.Statement.{Statement};
 
 /// Exactly who is admitted. A RUN or a deed of a log is run if its user holds each of its needs by the deeds before its
@@ -73,13 +75,16 @@ pub fn ended_grants_stay_ended()
         → is_among (rank grant) (kept owners past) ≡ false → is_among (rank grant) (kept owners (past ++ later)) ≡ false }
 {}
 
-/// A grant ends none: it joins those in force if its grantor has the option, and what was held stays held.
+/// A grant ends none: it joins those in force if its grantor has the option, and what was held stays held. So the grantor of one that may follow
+/// holds the option by all deeds before it, not only by those below its place.
 pub fn grants_end_none()
     ensures kept { (owners : List ℕ) (deeds : List Deed) (grant : Grant)
         → kept owners (deeds ++ Granting grant ∷ [])
         ≡ kept owners deeds ++ (if holds owners deeds grant.grantor (option_of grant) then grant ∷ [] else []) }
     ensures held { (owners : List ℕ) (deeds : List Deed) (grant : Grant) (user : ℕ) (need : Need)
         → holds owners deeds user need ≡ true → holds owners (deeds ++ Granting grant ∷ []) user need ≡ true }
+    ensures follow { (owners : List ℕ) (deeds : List Deed) (grant : Grant)
+        → MayFollow owners deeds (Granting grant) → holds owners deeds grant.grantor (option_of grant) ≡ true }
 {}
 
 /// Only a revocation takes a need away: the cause of a denial is `Never`, or names the place of a revocation of the deeds.
@@ -100,23 +105,35 @@ pub fn causes_are_last_losses()
         → (cause owners deeds user need ≡ Taken place) ↔ IsLastLoss owners deeds user need place }
 {}
 
-/// Each place of a log makes at most one deed, which has its place.
-pub fn places_make_one_deed_at_most()
+/// The deeds of a statement have its place: grants with rising ranks, or one revocation. If its user holds what it needs, they may be made after
+/// deeds of lower places.
+pub fn statements_make_deeds_in_order()
+    ensures placed { (place user : ℕ) (form : Form) → All (λ deed. place_of deed ≡ place) (deeds_of place user form) }
+    ensures one { (place user : ℕ) (form : Form) → AreGrantsOrRevocation (deeds_of place user form) }
+    ensures rise { (place user : ℕ) (form : Form) → IsRising (grants_of (deeds_of place user form)) }
+    ensures follow { (owners : List ℕ) (world : World) (place user : ℕ) (form : Form)
+        → All (λ deed. place_of deed < place) world.deeds → missing owners world user form ≡ None
+        → IsProperAfter owners world.deeds (deeds_of place user form) }
+{}
+
+/// Each place of a log makes grants, one revocation, or nothing. What it makes has its place.
+pub fn places_make_grants_or_one_revocation()
     ensures { (log : List Statement) (place : ℕ)
         → GrowsAt place (deeds_before log place) (deeds_before log (place + 1)) }
 {}
 
-/// The deeds before a place of a log are proper: their places rise, below this one, and each grantor held the option when
-/// it granted.
+/// The deeds before a place of a log are proper: their places rise, below this one, those of one place are grants in the order of their ranks, or
+/// one revocation, and each grantor held the option by the deeds of earlier places.
 pub fn deeds_before_are_proper()
     ensures proper { (log : List Statement) (place : ℕ) → IsProper (owners log) (deeds_before log place) }
     ensures below { (log : List Statement) (place : ℕ) → All (λ deed. place_of deed < place) (deeds_before log place) }
 {}
 
-/// The order of records: what is at a later place has a greater rank, of deeds a greater number; and a rank is that of one place, kind and
-/// position.
+/// The order of records: what is at a later place has a greater rank, of deeds a greater number, so what has a greater number isn't at an
+/// earlier place; and a rank is that of one place, kind and position.
 pub fn ranks_follow_places()
     ensures deeds { (deed next : Deed) → place_of deed < place_of next → deed_number deed < deed_number next }
+    ensures numbers { (deed next : Deed) → deed_number deed < deed_number next → place_of deed ≤ place_of next }
     ensures places { (grant other : Grant) → rank grant < rank other → grant.place ≤ other.place }
     ensures place { (grant : Grant) → place_of_rank (rank grant) ≡ grant.place }
     ensures one { (grant other : Grant) → rank grant ≡ rank other

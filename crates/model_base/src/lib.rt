@@ -10,6 +10,7 @@
 #![tactic(auto)]
 
 mod deed;
+mod deeds;
 mod grantees;
 mod growing_laws;
 mod hash_seed;
@@ -27,14 +28,16 @@ mod statement;
 pub use deed::{
     Cause, Deed, Grant, Grantee, Kind, Kinds, Need, Position, Record, RecordName, Revocation,
 };
+pub use deeds::Deeds;
 pub use grantees::Grantees;
 pub use growing_laws::earlier_places_stand;
 pub use hash_seed::HashSeed;
 pub use laws::{
     admitted_exactly_when_privileged, causes_are_last_losses, causes_are_revocations,
     deeds_before_are_proper, ended_grants_stay_ended, fewer_grants_keep_fewer, grants_end_none,
-    held_needs_have_paths, paths_take_the_earliest, places_make_one_deed_at_most,
+    held_needs_have_paths, paths_take_the_earliest, places_make_grants_or_one_revocation,
     public_is_every_user, ranks_follow_places, revocations_add_none,
+    statements_make_deeds_in_order,
 };
 pub use limits::{
     MOST_ACCESSES, MOST_BATCH_STATEMENTS, MOST_COLUMNS, MOST_GRANTEES, MOST_KEPT_BATCHES,

@@ -21,7 +21,7 @@ pub const MOST_VALUES: usize = MOST_COLUMNS;
 
 const _: () = prove!(MOST_OUTPUTS <= MOST_VALUES);
 
-/// Grantees of a revocation.
+/// Grantees of a deed, and so positions of a grant.
 pub const MOST_GRANTEES: usize = 8;
 
 /// Bytes of a user's or a table's name; a longer name is refused.

@@ -1,6 +1,6 @@
 //! The needs of a statement, one after another.
 
-ghost use Rattle.std.specs.Prelude.{◌≡◌, ◌++◌, ◌∷◌, [], MatchOption, option_to_list};
+ghost use Rattle.std.specs.Prelude.{◌≡◌, ◌++◌, ◌∷◌, [], MatchOption};
 ghost use Rattle.std.specs.Option.{option_map_or};
 ghost use Rattle.model_base.specs.Outcomes.{kinds_in, needs_of_deed};
 
@@ -10,7 +10,7 @@ use crate::statement::{Access, DeedForm, Form};
 use std::marker::Model;
 
 /// None of the four kinds.
-const NO_KIND: Kinds = Kinds {
+pub(crate) const NO_KIND: Kinds = Kinds {
     read: false,
     insert: false,
     update: false,
@@ -18,7 +18,7 @@ const NO_KIND: Kinds = Kinds {
 };
 
 /// Takes the first of some kinds in order out of them, if there is one.
-fn take_kind(kinds: &mut Kinds) -> Option<Kind>
+pub(crate) fn take_kind(kinds: &mut Kinds) -> Option<Kind>
     ensures { MatchOption result ((kinds_in kinds.old ≡ []) × (kinds_in kinds.new ≡ []))
         (λ kind. kinds_in kinds.old ≡ kind ∷ kinds_in kinds.new) }
 {
@@ -41,31 +41,70 @@ fn take_kind(kinds: &mut Kinds) -> Option<Kind>
     None
 }
 
-/// The need of a deed, if it has one: that of a grant is its kind with the option, and a revocation has none.
-fn need_of(deed: &DeedForm) -> Option<Need>
-    ensures { option_to_list result ≡ needs_of_deed deed.now }
-{
-    match *deed {
-        DeedForm::Grant { kind, table, .. } => Some(Need {
-            table,
-            kind,
-            option: true,
-        }),
-        DeedForm::Revoke { .. } => None,
+/// The needs of a deed that are left: some kinds on its table, with the option.
+#[derive(Drop)]
+struct OptionNeeds {
+    table: Table,
+    kinds: Kinds,
+}
+
+impl Model for OptionNeeds {
+    ghost use Rattle.std.specs.Prelude.{List, map};
+    ghost use Rattle.model_base.specs.declared.deed.Need.{Need};
+    ghost use Rattle.model_base.specs.Outcomes.{kinds_in, option_on};
+
+    ghost Value = { List Need };
+
+    ghost view = { λ left. map (option_on left.table) (kinds_in left.kinds) };
+}
+
+impl OptionNeeds {
+    /// No need.
+    fn none() -> Self
+        ensures { result ≡ [] }
+    {
+        OptionNeeds {
+            table: Table(0),
+            kinds: NO_KIND,
+        }
+    }
+
+    /// Those of a deed: a grant needs each of its kinds with the option, and a revocation nothing.
+    fn of(deed: &DeedForm) -> Self
+        ensures { result ≡ needs_of_deed deed.now }
+    {
+        match *deed {
+            DeedForm::Grant { kinds, table, .. } => OptionNeeds { table, kinds },
+            DeedForm::Revoke { .. } => OptionNeeds::none(),
+        }
+    }
+
+    /// Those of a RUN's deed, if it has one.
+    fn of_run(deed: &Option<DeedForm>) -> Self
+        ensures { result ≡ option_map_or needs_of_deed deed.now [] }
+    {
+        match deed {
+            Some(deed) => OptionNeeds::of(deed),
+            None => OptionNeeds::none(),
+        }
+    }
+
+    /// The first need that is left, if one is, which is then left no more.
+    fn next(&mut self) -> Option<Need>
+        ensures { MatchOption result ((self.old ≡ []) × (self.new ≡ [])) (λ need. self.old ≡ need ∷ self.new) }
+    {
+        match take_kind(&mut self.kinds) {
+            Some(kind) => Some(Need {
+                table: self.table,
+                kind,
+                option: true,
+            }),
+            None => None,
+        }
     }
 }
 
-/// The need of a RUN's deed, if it has one.
-fn last_need(deed: &Option<DeedForm>) -> Option<Need>
-    ensures { option_to_list result ≡ option_map_or needs_of_deed deed.now [] }
-{
-    match deed {
-        Some(deed) => need_of(deed),
-        None => None,
-    }
-}
-
-/// The needs of a statement that are left, in the order in which they are checked: those of its accesses, and then that of its deed.
+/// The needs of a statement that are left, in the order in which they are checked: those of its accesses, and then those of its deed.
 #[derive(Drop)]
 pub struct Needs<'a> {
     /// The table of the access whose needs are given, and its kinds that are left.
@@ -73,7 +112,7 @@ pub struct Needs<'a> {
     kinds: Kinds,
     /// The accesses after it.
     accesses: &'a [Access],
-    deed: Option<Need>,
+    deed: OptionNeeds,
 }
 
 impl<'a> Model for Needs<'a> {
@@ -90,9 +129,9 @@ impl<'a> Needs<'a> {
     ghost use Rattle.std.specs.List.{flat_map};
     ghost use Rattle.model_base.specs.Outcomes.{needs, needs_of_access};
 
-    /// The needs of some accesses, and after them that of a deed.
-    fn after(accesses: &'a [Access], deed: Option<Need>) -> Self
-        ensures { result ≡ flat_map needs_of_access accesses.now ++ option_to_list deed }
+    /// The needs of some accesses, and after them those of a deed.
+    fn after(accesses: &'a [Access], deed: OptionNeeds) -> Self
+        ensures { result ≡ flat_map needs_of_access accesses.now ++ deed }
     {
         Needs {
             table: Table(0),
@@ -107,11 +146,11 @@ impl<'a> Needs<'a> {
         ensures { result ≡ needs form.now }
     {
         match form {
-            Form::Create { .. } => Needs::after(&[], None),
+            Form::Create { .. } => Needs::after(&[], OptionNeeds::none()),
             Form::Run { accesses, deed, .. } => {
-                Needs::after(accesses.as_slice(), last_need(deed))
+                Needs::after(accesses.as_slice(), OptionNeeds::of_run(deed))
             }
-            Form::Deed(deed) => Needs::after(&[], need_of(deed)),
+            Form::Deed(deed) => Needs::after(&[], OptionNeeds::of(deed)),
         }
     }
 
@@ -128,7 +167,7 @@ impl<'a> Needs<'a> {
                 });
             }
             let Some((access, later)) = self.accesses.split_first() else {
-                return self.deed.take();
+                return self.deed.next();
             };
             self.table = access.key.table;
             self.kinds = access.kinds;

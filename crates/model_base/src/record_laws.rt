@@ -7,9 +7,9 @@ ghost use Rattle.std.specs.Option.{option_map_or};
 ghost use Rattle.model_base.specs.Laws.{IsPart, IsRising};
 ghost use Rattle.model_base.specs.Outcomes.{cause, deeds_before, owners};
 ghost use Rattle.model_base.specs.OwnedTables.{AreOnOwnedTables};
-ghost use Rattle.model_base.specs.Ranks.{rank};
-ghost use Rattle.model_base.specs.Privileges.{IsProper, concerns, ended_by, gives, holds, is_among, kept, option_of, owns, place_of, replayed};
-ghost use Rattle.model_base.specs.Records.{covered, cut, deeds_below, end_after, ended_at, ended_by_records, grants_of, holds_by, in_force, last_loss_by, recorded, records};
+ghost use Rattle.model_base.specs.Ranks.{deed_number, rank};
+ghost use Rattle.model_base.specs.Privileges.{IsProper, concerns, deeds_below, ended_by, gives, holds, is_among, kept, option_of, owns, place_of, replayed};
+ghost use Rattle.model_base.specs.Records.{covered, cut, end_after, ended_at, ended_by_records, grants_of, holds_by, in_force, last_loss_by, recorded, records};
 ghost use Rattle.model_base.specs.declared.deed.Cause.TheVariants.{Never, Taken};
 ghost use Rattle.model_base.specs.declared.deed.Deed.TheVariants.{Granting, Revoking};
 ghost use Rattle.model_base.specs.declared.deed.Deed.{Deed};
@@ -34,11 +34,11 @@ pub fn unended_records_are_in_force()
         ≡ (owns owners user need.table || list_any (λ entry. is_none entry.end && gives entry.grant user need) entries) }
 {}
 
-/// The records of one more deed: a grant, whose place no deed has, is appended to the others, with no end; a revocation
+/// The records of one more deed: a grant, whose rank is no deed's number, is appended to the others, with no end; a revocation
 /// ends, at its place, the records without an end of the grants that it takes out of force.
 pub fn deeds_change_records()
     ensures granting { (owners : List ℕ) (deeds : List Deed) (grant : Grant)
-        → All (λ deed. place_of deed ≢ grant.place) deeds
+        → All (λ deed. deed_number deed ≢ rank grant) deeds
         → records owners (deeds ++ Granting grant ∷ [])
         ≡ records owners deeds ++ record { grant = grant; end = None } ∷ [] }
     ensures revoking { (owners : List ℕ) (deeds : List Deed) (revocation : Revocation)

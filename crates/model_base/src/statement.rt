@@ -1,6 +1,7 @@
 //! The statements of a log.
 
-use crate::deed::{Deed, Grant, Grantee, Kind, Kinds, Position, Revocation};
+use crate::deed::{Kind, Kinds, Revocation};
+use crate::deeds::{Deeds, Grants};
 use crate::grantees::Grantees;
 use crate::limits::{MOST_COLUMNS, MOST_REGISTERS};
 use crate::list::Items;
@@ -194,13 +195,14 @@ pub enum Step {
     },
 }
 
-/// A grant or a revocation as a statement names it; its grantor is the statement's user.
+/// Grants or a revocation as a statement names them; their grantor is the statement's user. A grant of several kinds to several grantees makes
+/// one of each kind to each of them.
 #[derive(Clone, Copy, PartialEq, Eq, Debug)]
 pub enum DeedForm {
     Grant {
-        kind: Kind,
+        kinds: Kinds,
         table: Table,
-        grantee: Grantee,
+        grantees: Grantees,
         option: bool,
     },
     Revoke {
@@ -212,10 +214,11 @@ pub enum DeedForm {
 
 impl DeedForm {
     ghost use Rattle.std.specs.Prelude.{◌≡◌};
-    ghost use Rattle.model_base.specs.Outcomes.{deed_at};
+    ghost use Rattle.model_base.specs.DeedsLeft.{revocation_of};
+    ghost use Rattle.model_base.specs.Outcomes.{deeds_at};
     ghost use Rattle.model_base.specs.References.{table_of};
 
-    /// The table on which the deed is.
+    /// The table on which the deeds are.
     pub fn table(&self) -> Table
         ensures { result ≡ table_of self.now }
     {
@@ -224,30 +227,51 @@ impl DeedForm {
         }
     }
 
-    /// The deed of a user at a place.
-    pub fn at(&self, place: Place, user: User) -> Deed
-        ensures { result ≡ deed_at place user self.now }
+    /// The deeds of a user at a place.
+    pub fn deeds_at(&self, place: Place, user: User) -> Deeds
+        ensures { result ≡ deeds_at place user self.now }
     {
         match *self {
             DeedForm::Grant {
-                kind,
+                kinds,
                 table,
-                grantee,
+                grantees,
                 option,
-            } => Deed::Granting(Grant {
+            } => Deeds::granting(Grants {
                 place,
                 grantor: user,
-                grantee,
-                position: Position::First,
-                kind,
                 table,
                 option,
+                grantees,
+                kind: Kind::Read,
+                index: grantees.len(),
+                kinds,
             }),
             DeedForm::Revoke {
                 kinds,
                 table,
                 grantees,
-            } => Deed::Revoking(Revocation {
+            } => Deeds::revoking(Revocation {
+                place,
+                grantor: user,
+                grantees,
+                kinds,
+                table,
+            }),
+        }
+    }
+
+    /// The revocation of a user at a place, if it is one.
+    pub fn revocation_at(&self, place: Place, user: User) -> Option<Revocation>
+        ensures { result ≡ revocation_of (deeds_at place user self.now) }
+    {
+        match *self {
+            DeedForm::Grant { .. } => None,
+            DeedForm::Revoke {
+                kinds,
+                table,
+                grantees,
+            } => Some(Revocation {
                 place,
                 grantor: user,
                 grantees,
@@ -282,7 +306,8 @@ pub struct Statement {
 
 impl Statement {
     ghost use Rattle.std.specs.Prelude.{◌≡◌, option_to_list};
-    ghost use Rattle.model_base.specs.Outcomes.{deed_of};
+    ghost use Rattle.model_base.specs.DeedsLeft.{revocation_of};
+    ghost use Rattle.model_base.specs.Outcomes.{deeds_of};
     ghost use Rattle.model_base.specs.References.{deed_tables};
     ghost use Rattle.model_base.specs.Versions.{accesses_of};
 
@@ -296,7 +321,7 @@ impl Statement {
         }
     }
 
-    /// The table on which its deed is, if it has one.
+    /// The table on which its deeds are, if it has any.
     pub fn deed_table(&self) -> Option<Table>
         ensures { option_to_list result ≡ deed_tables self.now.form }
     {
@@ -310,16 +335,30 @@ impl Statement {
         }
     }
 
-    /// The deed that the statement makes at a place, if its body completes.
-    pub fn deed_at(&self, place: Place) -> Option<Deed>
-        ensures { result ≡ deed_of place self.now.user self.now.form }
+    /// The deeds that the statement makes at a place, if its body completes. It doesn't allocate.
+    pub fn deeds_at(&self, place: Place) -> Deeds
+        ensures { result ≡ deeds_of place self.now.user self.now.form }
     {
         match &self.form {
             Form::Run {
                 deed: Some(deed),
                 ..
             }
-            | Form::Deed(deed) => Some(deed.at(place, self.user)),
+            | Form::Deed(deed) => deed.deeds_at(place, self.user),
+            Form::Run { deed: None, .. } | Form::Create { .. } => Deeds::none(),
+        }
+    }
+
+    /// The revocation that the statement makes at a place, if its body completes and its deed is one.
+    pub fn revocation_at(&self, place: Place) -> Option<Revocation>
+        ensures { result ≡ revocation_of (deeds_of place self.now.user self.now.form) }
+    {
+        match &self.form {
+            Form::Run {
+                deed: Some(deed),
+                ..
+            }
+            | Form::Deed(deed) => deed.revocation_at(place, self.user),
             Form::Run { deed: None, .. } | Form::Create { .. } => None,
         }
     }

@@ -19,7 +19,7 @@ use Rattle.model_base.specs.declared.outcome.Reason.TheVariants.{NoRow, RowExist
 use Rattle.model_base.specs.declared.statement.Access.{Access}
 use Rattle.model_base.specs.declared.statement.DeedForm.{DeedForm}
 use Rattle.model_base.specs.declared.statement.Form.{Form}
-use Rattle.model_base.specs.Outcomes.{kind_if, kinds_in, need_of, needs, needs_of_access, needs_of_deed}
+use Rattle.model_base.specs.Outcomes.{kind_if, kinds_in, need_of, needs, needs_of_access, needs_of_deed, option_on}
 use Rattle.model_base.specs.Privileges.{has_kind, same_kind}
 use Rattle.model_base.specs.Versions.{accesses_of}
 use Rattle.own_words.specs.Words.{FitsColumns, FitsDetails, bits, cause_from, cause_word, deed_form, deed_told, denied_from, ranks_ended_by, ended_in, header, need_number, numbers_from, outcome_from, outputs_of, outputs_told, row_of, row_words, same_need, same_option, second_detail, signed}
@@ -164,14 +164,12 @@ kind_if_length : (kinds : Kinds) (kind : Kind) → length (kind_if kinds kind) �
 kind_if_length kinds kind =
     elim (has_kind kinds kind) as (λ b. length (cond b (kind ∷ []) []) ≤ 1) [ true ↦ omega arith | false ↦ omega arith ]
 
-access_needs_length : (access : Access) → length (needs_of_access access) ≤ 4
-access_needs_length access =
-    let kinds = access.kinds in
+kinds_in_length : (kinds : Kinds) → length (kinds_in kinds) ≤ 4
+kinds_in_length kinds =
     let delete = kind_if kinds Delete in
     let update = kind_if kinds Update ++ delete in
     omega (
       arith,
-      length-map (kinds_in kinds) (need_of access),
       length-append (kind_if kinds Read) (kind_if kinds Insert ++ update),
       length-append (kind_if kinds Insert) update,
       length-append (kind_if kinds Update) delete,
@@ -180,6 +178,9 @@ access_needs_length access =
       kind_if_length kinds Update,
       kind_if_length kinds Delete,
     )
+
+access_needs_length : (access : Access) → length (needs_of_access access) ≤ 4
+access_needs_length access = omega (arith, length-map (kinds_in access.kinds) (need_of access), kinds_in_length access.kinds)
 
 accesses_needs_length : (accesses : List Access) → length (flat_map needs_of_access accesses) ≤ 4 * length accesses
 accesses_needs_length [] = omega arith
@@ -191,12 +192,13 @@ accesses_needs_length (access ∷ accesses) =
       accesses_needs_length accesses,
     )
 
-deed_needs_length : (deed : DeedForm) → length (needs_of_deed deed) ≤ 1
-deed_needs_length (DeedForm.Grant kind table grantee option) = omega arith
+deed_needs_length : (deed : DeedForm) → length (needs_of_deed deed) ≤ 4
+deed_needs_length (DeedForm.Grant kinds table grantees option) =
+    omega (arith, length-map (kinds_in kinds) (option_on table), kinds_in_length kinds)
 deed_needs_length (DeedForm.Revoke kinds table grantees) = omega arith
 
--- a statement has at most four needs for each access, and one for its deed
-pub needs_length : (form : Form) → length (needs form) ≤ 4 * length (accesses_of form) + 1
+-- a statement has at most four needs for each access, and four for its deed
+pub needs_length : (form : Form) → length (needs form) ≤ 4 * length (accesses_of form) + 4
 needs_length (Form.Create table columns) = omega arith
 needs_length (Form.Run accesses steps None) =
     omega (arith, length-append (flat_map needs_of_access accesses) [], accesses_needs_length accesses)

@@ -9,6 +9,8 @@ use Rattle.std.specs.List.{position_or_len}
 use Rattle.model_base.specs.declared.limits.TheConstants.{MOST_OUTPUTS}
 use Rattle.model_base.specs.declared.deed.Cause.{Cause}
 use Rattle.model_base.specs.declared.deed.Cause.TheVariants.{Never, Taken}
+use Rattle.model_base.specs.declared.deed.Deed.{Deed}
+use Rattle.model_base.specs.declared.deed.Deed.TheVariants.{Granting, Revoking}
 use Rattle.model_base.specs.declared.deed.Need.{Need}
 use Rattle.model_base.specs.declared.outcome.DeedDone.{DeedDone}
 use Rattle.model_base.specs.declared.outcome.Outcome.{Outcome}
@@ -17,7 +19,7 @@ use Rattle.model_base.specs.declared.outcome.Reason.TheVariants.{NoRow, RowExist
 use Rattle.model_base.specs.declared.statement.DeedForm.{DeedForm}
 use Rattle.model_base.specs.declared.statement.Form.{Form}
 use Rattle.model_base.specs.declared.statement.Step.{Step}
-use Rattle.model_base.specs.Outcomes.{needs}
+use Rattle.model_base.specs.Outcomes.{deeds_at, needs}
 use Rattle.model_base.specs.Privileges.{same_kind}
 
 -- a whole number as the 64 bits of its two's complement
@@ -126,11 +128,16 @@ deed_form (Form.Create table columns) = None
 deed_form (Form.Run accesses steps deed) = deed
 deed_form (Form.Deed deed) = Some deed
 
--- what a deed results in, by the ranks of the records that its revocation ended
+-- what the deeds of a place result in, by the first of them and the ranks of the records that its revocation ended
+abbrev pub deeds_told : List ℕ → List Deed → DeedDone
+deeds_told ended [] = DeedDone.None
+deeds_told ended (Granting grant ∷ deeds) = DeedDone.Granted
+deeds_told ended (Revoking revocation ∷ deeds) = DeedDone.Revoked ended
+
+-- what a deed results in; of which place and user its deeds are, it is the same
 abbrev pub deed_told : List ℕ → Option DeedForm → DeedDone
 deed_told ended None = DeedDone.None
-deed_told ended (Some (DeedForm.Grant kind table grantee option)) = DeedDone.Granted
-deed_told ended (Some (DeedForm.Revoke kinds table grantees)) = DeedDone.Revoked ended
+deed_told ended (Some deed) = deeds_told ended (deeds_at 0 0 deed)
 
 -- a completed transaction: of the words after word 3 this many are outputs as that says, and at most `MOST_OUTPUTS`
 abbrev pub done_from : Form → List ℕ → List ℕ → Outcome

@@ -3,14 +3,14 @@
 ghost use Rattle.std.specs.Prelude.{◌≡◌, ◌≤◌, ◌-◌, drop, length, map, slice_get, slice_index, take};
 ghost use Rattle.std.specs.List.{flat_map};
 ghost use Rattle.model_base.specs.Outcomes.{kind_if, kinds_in, need_of, needs, needs_of_access, needs_of_deed};
-ghost use Rattle.own_words.specs.Words.{aborted_from, cause_from, deed_form, deed_told, denied_from, done_from, numbers_from, outcome_from, row_of, signed};
+ghost use Rattle.own_words.specs.Words.{aborted_from, cause_from, deed_form, deed_told, deeds_told, denied_from, done_from, numbers_from, outcome_from, row_of, signed};
 
 use crate::bits::value_of;
 use crate::coding::{ABORTED, CREATED, DENIED, DONE};
 use crate::numbering::need_at;
 use model_base::{
-    Cause, DeedDone, DeedForm, Form, Items, MOST_COLUMNS, MOST_OUTPUTS, MOST_VALUES, Outcome,
-    Reason, RecordName, Row, Values,
+    Cause, Deed, DeedDone, DeedForm, Deeds, Form, Items, MOST_COLUMNS, MOST_OUTPUTS, MOST_VALUES,
+    Outcome, Reason, RecordName, Row, User, Values,
 };
 
 /// The word of an index, or 0 past the last.
@@ -68,14 +68,24 @@ pub fn row_of(columns: u8, words: &[u64]) -> Option<Row>
     }
 }
 
-/// What a deed results in, by the records that its revocation ended.
+/// What the deeds of a place result in, by the first of them and the records that its revocation ended.
+fn deeds_told(ended: Items<RecordName>, mut deeds: Deeds) -> DeedDone
+    ensures { result ≡ deeds_told ended deeds }
+{
+    match deeds.next() {
+        None => DeedDone::None,
+        Some(Deed::Granting(_)) => DeedDone::Granted,
+        Some(Deed::Revoking(_)) => DeedDone::Revoked(ended),
+    }
+}
+
+/// What a deed results in; of which place and user its deeds are, it is the same.
 fn deed_told(ended: Items<RecordName>, deed: Option<DeedForm>) -> DeedDone
     ensures { result ≡ deed_told ended deed }
 {
     match deed {
         None => DeedDone::None,
-        Some(DeedForm::Grant { .. }) => DeedDone::Granted,
-        Some(DeedForm::Revoke { .. }) => DeedDone::Revoked(ended),
+        Some(form) => deeds_told(ended, form.deeds_at(0, User(0))),
     }
 }
 

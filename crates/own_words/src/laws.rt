@@ -24,13 +24,13 @@ pub fn rows_are_told()
 {}
 
 /// How many words there are: four and one for each output that a statement has room for, and for each version cell one and
-/// one for each column. A statement has at most four needs for each access and one for its deed, so their numbers are words.
+/// one for each column. A statement has at most four needs for each access and four for its deed, so their numbers are words.
 pub fn lengths()
     ensures header { (form : Form) (outcome : Outcome) → FitsForm form outcome
         → length (header form outcome) ≡ 4 + outputs_of form }
     ensures row { (columns : ℕ) (row : Option (List ℤ)) → FitsColumns columns row
         → length (row_words columns row) ≡ 1 + columns }
-    ensures needs { (form : Form) → length (needs form) ≤ 4 * length (accesses_of form) + 1 }
+    ensures needs { (form : Form) → length (needs form) ≤ 4 * length (accesses_of form) + 4 }
 {}
 
 /// Each whole number of 64 bits has one word, and each word is that of one such number. The detail of an outcome that fits its

@@ -13,7 +13,7 @@ use Rattle.model_base.specs.declared.deed.Need.{Need}
 use Rattle.model_base.specs.declared.statement.Access.{Access}
 use Rattle.model_base.specs.declared.statement.DeedForm.{DeedForm}
 use Rattle.model_base.specs.declared.statement.Form.{Form}
-use Rattle.model_base.specs.Outcomes.{kind_if, kinds_in, need_of, needs, needs_of_access, needs_of_deed}
+use Rattle.model_base.specs.Outcomes.{kind_if, kinds_in, need_of, needs, needs_of_access, needs_of_deed, option_on}
 use Rattle.model_base.specs.References.{deed_tables, each_once, table_of, tables_of}
 use Rattle.model_base.specs.Versions.{accesses_of}
 use Rattle.placing.specs.Tables.{has_need, with_number, with_numbers}
@@ -65,6 +65,10 @@ needed numbers number false false false false = refl
 tables-of-access : (access : Access) (kinds : List Kind) → map (λ (need : Need). need.table) (map (need_of access) kinds) ≡ map (λ _. access.key.table) kinds
 tables-of-access access [] = refl
 tables-of-access access (kind ∷ kinds) = ap (λ rest. access.key.table ∷ rest) (tables-of-access access kinds)
+
+tables-of-option : (table : ℕ) (kinds : List Kind) → map (λ (need : Need). need.table) (map (option_on table) kinds) ≡ map (λ _. table) kinds
+tables-of-option table [] = refl
+tables-of-option table (kind ∷ kinds) = ap (λ rest. table ∷ rest) (tables-of-option table kinds)
 
 -- the tables of the needs of an access and of later ones
 pub access_needs : (numbers : List ℕ) (access : Access) (later : List Access) → with_numbers numbers (map (λ (need : Need). need.table) (flat_map needs_of_access (access ∷ later))) ≡ with_numbers (cond (has_need access) (with_number numbers access.key.table) numbers) (map (λ (need : Need). need.table) (flat_map needs_of_access later))
@@ -132,8 +136,17 @@ once numbers = put_once [] numbers ∙ kept-all (each_once numbers)
 abbrev tables-needed : Form → List ℕ
 tables-needed form = map (λ (need : Need). need.table) (flat_map needs_of_access (accesses_of form))
 
+-- after some kinds on a table, the table is there at the latest by itself
+after-kinds : (numbers : List ℕ) (table : ℕ) (kinds : List Kind) → with_number (by_kinds numbers table kinds) table ≡ with_number numbers table
+after-kinds numbers table [] = refl
+after-kinds numbers table (kind ∷ kinds) =
+    ap (λ found. with_number found table) (repeated numbers table kinds) ∙ again numbers table
+
 deed-tables : (numbers : List ℕ) (deed : DeedForm) → with_numbers numbers (map (λ (need : Need). need.table) (needs_of_deed deed) ++ table_of deed ∷ []) ≡ with_number numbers (table_of deed)
-deed-tables numbers (DeedForm.Grant kind table grantee option) = again numbers table
+deed-tables numbers (DeedForm.Grant kinds table grantees option) =
+    ap (λ needed. with_numbers numbers (needed ++ table ∷ [])) (tables-of-option table (kinds_in kinds))
+    ∙ fold-append with_number numbers (map (λ _. table) (kinds_in kinds)) (table ∷ [])
+    ∙ after-kinds numbers table (kinds_in kinds)
 deed-tables numbers (DeedForm.Revoke kinds table grantees) = refl
 
 with_deed : (form : Form) → with_numbers (with_numbers [] (tables-needed form)) (deed_tables form) ≡ with_numbers [] (map (λ (need : Need). need.table) (needs form) ++ deed_tables form)

@@ -126,7 +126,7 @@ module _ (names later : Names) (begins : Begins names later) (each : length name
     where
       same : (one : RawDeed) → number_of names.tables (named_table_of one) ≡ number_of later.tables (named_table_of one)
           → numbered_grantee names.users (grantee_of one) ≡ numbered_grantee later.users (grantee_of one) → numbered_deed names one ≡ numbered_deed later one
-      same (RawDeed.Grant kind table grantee option) number party = λ i. DeedForm.Grant kind (number i) (party i) option
+      same (RawDeed.Grant kind table grantee option) number party = λ i. DeedForm.Grant (only kind) (number i) (party i ∷ []) option
       same (RawDeed.Revoke kind table grantee) number party = λ i. DeedForm.Revoke (only kind) (number i) (party i ∷ [])
 
   deed_in_later : (deed : Option RawDeed) → KnowsDeedIn names deed

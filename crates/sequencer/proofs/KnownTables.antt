@@ -7,7 +7,8 @@ use Rattle.std.proofs.lemmas.List.Elements.{All-append, All-cons, All-filter, Al
 use Rattle.model_base.specs.declared.deed.Need.{Need}
 use Rattle.model_base.specs.declared.statement.Access.{Access}
 use Rattle.model_base.specs.declared.statement.Form.{Form}
-use Rattle.model_base.specs.Outcomes.{kinds_in, need_of, needs, needs_of_access, needs_of_deed}
+use Rattle.model_base.specs.Outcomes.{kinds_in, need_of, needs, needs_of_access, needs_of_deed, option_on}
+use Rattle.model_base.specs.Privileges.{only}
 use Rattle.model_base.specs.References.{deed_tables, each_once, table_of, tables_of}
 use Rattle.model_base.specs.Versions.{accesses_of}
 use Rattle.log_text.specs.Statement.{Sentence}
@@ -87,7 +88,8 @@ module _ (names : Names) (users : List (List ℕ)) where
   deed-below (Some (RawDeed.Grant kind table grantee option)) e =
       let P : Need → Type 0 = λ need. need.table < count in
       let low = known-table names table e in
-      (All-cons P (record { table = number_of names.tables table; kind = kind; option = true }) [] low (All-nil P), one-below (number_of names.tables table) low)
+      let number = number_of names.tables table in
+      (All-map P (option_on number) (kinds_in (only kind)) (λ k d in_list. low), one-below number low)
   deed-below (Some (RawDeed.Revoke kind table grantee)) e =
       (All-nil (λ (need : Need). need.table < count), one-below (number_of names.tables table) (known-table names table e))
 

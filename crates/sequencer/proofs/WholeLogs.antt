@@ -1,23 +1,25 @@
 -- What holds of each log stays so where a statement is taken.
-use Rattle.std.proofs.Common.{◌≡◌, ℕ, ◌≤◌, List, [], ◌∷◌, ◌++◌, length, None, refl, ap, sym, ◌∙◌, subst, arith, inl, inr, length-append}
+use Rattle.std.proofs.Common.{◌≡◌, ℕ, ◌≤◌, List, [], ◌∷◌, ◌++◌, length, None, Some, refl, ap, sym, ◌∙◌, subst, arith, inl, inr, length-append}
 use Rattle.std.specs.Prelude.{All, OnOk, Result, Ok, Err, nat_le, ◌&&◌, not, slice_index_or}
 use Rattle.std.proofs.lemmas.Bool.{and_parts, cases_lt, leb-true}
 use Rattle.std.proofs.lemmas.Grind.{flat_map-append}
 use Rattle.std.proofs.lemmas.List.{append-nil, get_or_append_left, get_or_past}
 use Rattle.std.proofs.lemmas.List.Elements.{All-nil, All-push}
+use Rattle.model_base.specs.declared.deed.Kind.TheVariants.{Read, Insert, Update, Delete}
 use Rattle.model_base.specs.declared.statement.Form.{Form}
 use Rattle.model_base.specs.declared.statement.Statement.{Statement}
 use Rattle.model_base.specs.declared.statement.Step.{Step}
-use Rattle.model_base.specs.Outcomes.{creator, owners}
+use Rattle.model_base.specs.Outcomes.{creator, deeds_at, owners}
 use Rattle.body.specs.Shape.{StepFits, FormFits}
 use Rattle.log_text.specs.Statement.{IsInGrammar, Sentence}
+use Rattle.log_text.specs.declared.statement.RawDeed.{RawDeed}
 use Rattle.log_text.specs.declared.statement.RawForm.{RawForm}
 use Rattle.sequencer.specs.Names.{is_known, number_of, with_name}
-use Rattle.sequencer.specs.Catalog.{Names, no_names, numbered, numbered_form, with_form, with_statement}
+use Rattle.sequencer.specs.Catalog.{Names, no_names, numbered, numbered_deed, numbered_form, with_form, with_statement, with_user}
 use Rattle.sequencer.specs.Foretelling.{IsForetold, with_one_place}
 use Rattle.sequencer.specs.Log.{Accepted, empty_log, with_accepted}
 use Rattle.sequencer.specs.Refusal.{create_refusal, form_refusal, refusal, refuse_unless}
-use Rattle.sequencer.specs.Whole.{HasFilledRows, IsFilled, IsKept, IsAccepted, columns_by}
+use Rattle.sequencer.specs.Whole.{HasFilledRows, IsFilled, IsKept, IsAccepted, MakesDeeds, columns_by}
 use Rattle.sequencer.specs.declared.refused.Refused.{Refused}
 use Rattle.sequencer.proofs.Apart.{apart_accesses}
 use Rattle.sequencer.proofs.Bodies.{sound_body}
@@ -68,10 +70,25 @@ taken_stays names more longer statement filled taken = record {
   accesses = λ k d low. omega (arith, taken.accesses k d low, longer.tables);
   tables = λ k d low. omega (arith, taken.tables k d low, longer.tables);
   apart = taken.apart;
+  deeds = taken.deeds;
 }
 
 pub filled_rows : (names : Names) (sentence : Sentence) → IsInGrammar sentence → refusal names sentence ≡ None → HasFilledRows (numbered names sentence).form
 filled_rows names sentence h e = (sound_body names sentence h e).filled
+
+-- a deed is made of each that is named
+deed_made : (names : Names) (place user : ℕ) (deed : RawDeed) → length (deeds_at place user (numbered_deed names deed)) ≡ 1
+deed_made names place user (RawDeed.Grant Read table grantee option) = refl
+deed_made names place user (RawDeed.Grant Insert table grantee option) = refl
+deed_made names place user (RawDeed.Grant Update table grantee option) = refl
+deed_made names place user (RawDeed.Grant Delete table grantee option) = refl
+deed_made names place user (RawDeed.Revoke kind table grantee) = refl
+
+form_makes : (names : Names) (form : RawForm) → MakesDeeds (numbered_form names form)
+form_makes names (RawForm.Create table columns) = λ place user. omega arith
+form_makes names (RawForm.Run accesses steps None) = λ place user. omega arith
+form_makes names (RawForm.Run accesses steps (Some deed)) = λ place user. omega (arith, deed_made names place user deed)
+form_makes names (RawForm.Deed deed) = λ place user. omega (arith, deed_made names place user deed)
 
 -- a statement is taken by the names before it, and so by those after it
 pub taken_after : (names : Names) (sentence : Sentence) → IsInGrammar sentence → refusal names sentence ≡ None
@@ -87,6 +104,7 @@ taken_after names sentence h e =
       accesses = known.accesses;
       tables = known.tables;
       apart = apart_accesses names sentence e;
+      deeds = form_makes (with_user names sentence.user) sentence.form;
     })
 
 -- so it is with the answer that takes it

@@ -55,7 +55,7 @@ numbered_grantee users RawGrantee.Public = Grantee.Public
 -- a deed with its table and its grantee by number
 abbrev pub numbered_deed : Names → RawDeed → DeedForm
 numbered_deed names (RawDeed.Grant kind table grantee option) =
-    DeedForm.Grant kind (number_of names.tables table) (numbered_grantee names.users grantee) option
+    DeedForm.Grant (only kind) (number_of names.tables table) (numbered_grantee names.users grantee ∷ []) option
 numbered_deed names (RawDeed.Revoke kind table grantee) =
     DeedForm.Revoke (only kind) (number_of names.tables table) (numbered_grantee names.users grantee ∷ [])
 

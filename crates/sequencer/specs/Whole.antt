@@ -6,8 +6,8 @@ use Rattle.model_base.specs.declared.statement.Access.{Access}
 use Rattle.model_base.specs.declared.statement.Form.{Form}
 use Rattle.model_base.specs.declared.statement.Statement.{Statement}
 use Rattle.model_base.specs.declared.statement.Step.{Step}
-use Rattle.model_base.specs.Outcomes.{needs, owners}
-use Rattle.model_base.specs.References.{tables_of}
+use Rattle.model_base.specs.Outcomes.{deeds_of, needs, owners}
+use Rattle.model_base.specs.References.{deed_tables, tables_of}
 use Rattle.model_base.specs.Versions.{accesses_of}
 use Rattle.body.specs.Laws.{AreApart}
 use Rattle.body.specs.Premises.{IsRunnable}
@@ -20,8 +20,13 @@ use Rattle.sequencer.specs.Log.{Accepted}
 abbrev pub columns_by : Names → ℕ → ℕ
 columns_by names table = slice_index_or names.columns table 0
 
+-- a form that names a deed makes one at least, at any place and by any user
+abbrev pub MakesDeeds : Form → Type 0
+MakesDeeds form = (place user : ℕ) → length (deed_tables form) ≤ length (deeds_of place user form)
+
 -- what an accepted statement is: its body fits a window and has at most `MOST_STEPS` steps, its constants have 64 bits and its inserted
--- rows the columns of their tables, what it names is of known tables, and no two of its accesses name one row
+-- rows the columns of their tables, what it names is of known tables, no two of its accesses name one row, and a deed that it names
+-- is of a kind and to somebody
 pub record IsAccepted (names : Names) (statement : Statement) : Type 0 where
   pub runnable : IsRunnable statement
   pub steps : length (steps_of statement.form) ≤ MOST_STEPS
@@ -30,6 +35,7 @@ pub record IsAccepted (names : Names) (statement : Statement) : Type 0 where
   pub accesses : All (λ (access : Access). access.key.table < length names.tables) (accesses_of statement.form)
   pub tables : All (λ table. table < length names.tables) (tables_of statement.form)
   pub apart : AreApart (accesses_of statement.form)
+  pub deeds : MakesDeeds statement.form
 
 -- what holds of each log
 pub record IsWhole (log : Accepted) : Type 0 where

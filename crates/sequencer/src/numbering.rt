@@ -20,9 +20,9 @@ pub(crate) fn deed_form(deed: &RawDeed<'_>, table: Table, grantee: Grantee) -> D
 {
     match deed {
         RawDeed::Grant { kind, option, .. } => DeedForm::Grant {
-            kind: *kind,
+            kinds: Kinds::only(*kind),
             table,
-            grantee,
+            grantees: Grantees::of(grantee),
             option: *option,
         },
         RawDeed::Revoke { kind, .. } => DeedForm::Revoke {

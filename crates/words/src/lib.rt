@@ -24,7 +24,9 @@ mod table;
 mod words;
 mod written;
 
-pub use batch_data::{BatchData, MOST_REFERENCES_OF_A_PLACE, MOST_WORDS_OF_A_PLACE};
+pub use batch_data::{
+    BatchData, MOST_GRANTS_OF_A_PLACE, MOST_REFERENCES_OF_A_PLACE, MOST_WORDS_OF_A_PLACE,
+};
 pub use claims::{Claimed, DONE, FREE, HELD, Seen};
 pub use close::Closed;
 pub use knowledge::Knowledge;

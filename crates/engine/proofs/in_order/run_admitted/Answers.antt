@@ -1,7 +1,7 @@
-use Rattle.std.proofs.Common.{◌≡◌, ◌≤◌, ◌+◌, ℕ, true, Some, ap, sym, ◌∙◌, length, arith}
+use Rattle.std.proofs.Common.{◌≡◌, ◌≤◌, ◌+◌, ℕ, Some, refl, ap, sym, ◌∙◌, length, arith}
 use Rattle.std.proofs.lemmas.Option.{slice_get_within}
 use Rattle.model_base.specs.declared.outcome.Outcome.{Outcome}
-use Rattle.model_base.specs.Outcomes.{World, deed_done, owners, rows_before, world_before}
+use Rattle.model_base.specs.Outcomes.{World, deeds_of, rows_before}
 use Rattle.model_base.specs.Rows.{Rows}
 use Rattle.model_base.specs.Versions.{accesses_of}
 use Rattle.body.specs.declared.ending.BodyEnd.{BodyEnd}
@@ -13,20 +13,21 @@ use Rattle.engine.proofs.Stepping.{make_owners, make_table}
 use Rattle.filling.proofs.Told.{got}
 use Rattle.engine.proofs.in_order.run_admitted.Goals as goal
 
-pub make-requires-clause-next : goal.make-requires-clause-next
-make-requires-clause-next c =
+pub make_deeds-requires-clause-next : goal.make_deeds-requires-clause-next
+make_deeds-requires-clause-next c =
     let leads = ended-leads c.args.log.now.log.statements c.args.place c.args.statement.now c.requires.at c.requires.form c.requires.admitted
     c.args.state.now.chains c.mark-mark.ensures.within c.args.state.now.book c.requires.stands c.fill_window.new.window c.run.new.window
     c.fill_window.ensures.shows c.run.result BodyEnd.Completed c.in-Completed.is c.run.ensures.ends in
-    completed-deeds c.args.log.now.log.statements c.args.place c.args.statement.now c.requires.at _ c.run.new.window.outputs c.deed_at.result leads.1 c.deed_at.ensures
+    completed-deeds c.args.log.now.log.statements c.args.place c.args.statement.now c.requires.at _ c.run.new.window.outputs
+    (deeds_of c.args.place c.args.statement.now.user c.args.statement.now.form) leads.1 refl
 
-pub make-requires-clause-owners : goal.make-requires-clause-owners
-make-requires-clause-owners c =
+pub make_deeds-requires-clause-owners : goal.make_deeds-requires-clause-owners
+make_deeds-requires-clause-owners c =
     make_owners c.args.log.now.log.statements c.args.place c.args.statement.now c.requires.at c.args.state.now.book c.requires.stands.booked c.requires.known c.requires.form
 
-pub make-requires-clause-table : goal.make-requires-clause-table
-make-requires-clause-table c =
-    make_table c.args.log.now.log.statements c.args.place c.args.statement.now c.requires.at c.args.state.now.book c.requires.stands.booked c.requires.known true c.deed_at.result c.deed_at.ensures
+pub make_deeds-requires-clause-table : goal.make_deeds-requires-clause-table
+make_deeds-requires-clause-table c =
+    make_table c.args.log.now.log.statements c.args.place c.args.statement.now c.requires.at c.args.state.now.book c.requires.stands.booked c.requires.known
 
 pub pass-requires : goal.pass-requires
 pass-requires c =
@@ -44,8 +45,7 @@ returns-in_ok-deed-in-Completed-clause-came c =
     let leads = ended-leads c.args.log.now.log.statements c.args.place c.args.statement.now c.requires.at c.requires.form c.requires.admitted
     c.args.state.now.chains c.mark-mark.ensures.within c.args.state.now.book c.requires.stands c.fill_window.new.window c.run.new.window
     c.fill_window.ensures.shows c.run.result BodyEnd.Completed c.in-Completed.is c.run.ensures.ends in
-    let made = c.in_ok-deed-in-Completed.ensures.told ∙ ap (deed_done (owners log) (world_before log c.args.place)) c.deed_at.ensures in
-    leads.0 ∙ (λ i. Some (Outcome.Done (sym c.outputs-outputs.ensures i) (sym made i)))
+    leads.0 ∙ (λ i. Some (Outcome.Done (sym c.outputs-outputs.ensures i) (sym c.in_ok-deed-in-Completed.ensures.told i)))
 
 pub returns-in_ok-deed-in-Completed-clause-stands : goal.returns-in_ok-deed-in-Completed-clause-stands
 returns-in_ok-deed-in-Completed-clause-stands c =

@@ -1,5 +1,4 @@
 use Rattle.std.proofs.Common.{◌+◌, subst, sym, ◌∙◌}
-use Rattle.model_base.specs.declared.outcome.Outcome.{Outcome}
 use Rattle.model_base.specs.Outcomes.{deeds_before, owners}
 use Rattle.grants_base.specs.Book.{Entries}
 use Rattle.engine.specs.RunState.{IsRunState}

@@ -1,5 +1,5 @@
 use Rattle.std.proofs.lemmas.List.{length-append}
-use Rattle.std.proofs.Common.{◌≡◌, ◌+◌, ◌≤◌, ◌++◌, ◌∷◌, [], ℕ, List, ap, ◌∙◌, subst, arith, append_assoc, length}
+use Rattle.std.proofs.Common.{◌≡◌, ◌+◌, ◌++◌, ◌∷◌, [], ℕ, List, ap, ◌∙◌, subst, arith, append_assoc, length}
 use Rattle.model_base.specs.declared.outcome.Outcome.{Outcome}
 use Rattle.engine.specs.RunState.{IsRunState}
 use Rattle.filling.proofs.Ranges.{outcomes_more}

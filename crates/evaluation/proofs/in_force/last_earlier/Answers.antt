@@ -1,11 +1,6 @@
-use Rattle.std.proofs.Common.{◌≡◌, ◌+◌, ◌<◌, ◌≤◌, Option, Some, None, ℕ, length, refl, sym, ap, ◌∙◌, subst, arith, true, false}
-use Rattle.std.specs.Prelude.{nat_lt, slice_get}
-use Rattle.grants_base.specs.Force.{is_in_force}
-use Rattle.grants_base.specs.Index.{IsFirst, IsNext, is_to}
+use Rattle.std.proofs.Common.{◌≡◌, ◌+◌, Option, Some, ℕ, refl, sym, ap, ◌∙◌, subst, arith}
+use Rattle.grants_base.specs.Index.{IsFirst}
 use Rattle.grants_base.specs.View.{slot_at}
-use Rattle.bohm_core_base.specs.Batch.{batch_slots}
-use Rattle.log_batch.specs.Earlier.{earlier_count, records_before}
-use Rattle.log_batch.specs.Supplied.{batch_of, range_of}
 use Rattle.evaluation.specs.Seen.{seen_at, seen_view}
 use Rattle.evaluation.specs.Sought.{IsLastEnd, is_sought, slot_end}
 use Rattle.evaluation.specs.ReadSource.{Reader}

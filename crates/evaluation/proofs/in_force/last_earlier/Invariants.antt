@@ -1,12 +1,9 @@
-use Rattle.std.proofs.Common.{◌-◌, ◌≡◌, ◌≤◌, length}
-use Rattle.bohm_core_base.specs.Batch.{batch_slots}
+use Rattle.std.proofs.Common.{◌-◌, ◌≡◌}
 use Rattle.log_batch.specs.Earlier.{earlier_count}
 use Rattle.log_batch.specs.Supplied.{batch_of}
 use Rattle.evaluation.specs.Seen.{seen_at, seen_view}
 use Rattle.evaluation.specs.Sought.{IsLastEnd, is_sought}
-use Rattle.std.specs.Prelude.{nat_lt}
-use Rattle.log_batch.proofs.NoneBetween.{NoneBetween}
-use Rattle.evaluation.proofs.Steps.{early_in, force_in, looked_in}
+use Rattle.evaluation.proofs.Steps.{looked_in}
 use Rattle.evaluation.proofs.in_force.last_earlier.Given as goal
 
 -- the last end of the slots so far, and of all that had ended as the batch began

@@ -5,8 +5,6 @@ use Rattle.log_batch.specs.Supplied.{batch_of}
 use Rattle.evaluation.specs.Seen.{seen_at, seen_view}
 use Rattle.evaluation.specs.Sought.{IsLastEnd, is_sought}
 use Rattle.std.specs.Prelude.{nat_lt}
-use Rattle.log_batch.proofs.NoneBetween.{NoneBetween}
-use Rattle.evaluation.proofs.Steps.{early_in, force_in, looked_in}
 use Rattle.evaluation.proofs.in_force.last_own.Given as goal
 
 -- the last end of the slots so far

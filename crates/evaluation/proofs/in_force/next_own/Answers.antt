@@ -1,15 +1,9 @@
-use Rattle.std.proofs.Common.{◌≡◌, ◌+◌, ◌<◌, ◌≤◌, Option, Some, None, ℕ, length, sym, ap, ◌∙◌, subst, arith, true, false}
-use Rattle.std.specs.Prelude.{nat_lt, slice_get}
-use Rattle.grants_base.specs.Force.{is_in_force}
-use Rattle.grants_base.specs.Index.{IsFirst, IsNext, is_to}
-use Rattle.grants_base.specs.View.{slot_at}
+use Rattle.std.proofs.Common.{◌≡◌, Option, Some, ℕ, sym, ap, ◌∙◌, subst, arith, true, false}
+use Rattle.grants_base.specs.Index.{IsNext, is_to}
 use Rattle.bohm_core_base.specs.Batch.{batch_slots}
-use Rattle.log_batch.specs.Earlier.{earlier_count, records_before}
-use Rattle.log_batch.specs.Supplied.{batch_of, range_of}
-use Rattle.evaluation.specs.Seen.{seen_at, seen_view}
-use Rattle.evaluation.specs.Sought.{IsLastEnd, is_sought, slot_end}
+use Rattle.log_batch.specs.Supplied.{batch_of}
+use Rattle.evaluation.specs.Sought.{is_sought}
 use Rattle.evaluation.specs.ReadSource.{Reader}
-use Rattle.evaluation.proofs.InForce.{in-force-low}
 use Rattle.evaluation.proofs.Steps.{force_in, own-all, own-found, own-none, own-passed}
 use Rattle.evaluation.proofs.in_force.next_own.Goals as goal
 

@@ -2,11 +2,9 @@ use Rattle.std.proofs.Common.{◌-◌, ◌≡◌, ◌≤◌, length}
 use Rattle.bohm_core_base.specs.Batch.{batch_slots}
 use Rattle.log_batch.specs.Earlier.{earlier_count}
 use Rattle.log_batch.specs.Supplied.{batch_of}
-use Rattle.evaluation.specs.Seen.{seen_at, seen_view}
-use Rattle.evaluation.specs.Sought.{IsLastEnd, is_sought}
-use Rattle.std.specs.Prelude.{nat_lt}
+use Rattle.evaluation.specs.Sought.{is_sought}
 use Rattle.log_batch.proofs.NoneBetween.{NoneBetween}
-use Rattle.evaluation.proofs.Steps.{early_in, force_in, looked_in}
+use Rattle.evaluation.proofs.Steps.{force_in}
 use Rattle.evaluation.proofs.in_force.next_own.Given as goal
 
 -- no slot so far is such a one

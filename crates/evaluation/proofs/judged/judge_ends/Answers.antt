@@ -3,10 +3,10 @@ use Rattle.std.specs.Prelude.{All, IsSome, slice_get}
 use Rattle.std.proofs.lemmas.Result.{IfOk-weaker}
 use Rattle.model_base.specs.declared.deed.Deed.{Deed}
 use Rattle.model_base.specs.declared.statement.Statement.{Statement}
-use Rattle.model_base.specs.Outcomes.{deed_of, deeds_before, owners}
+use Rattle.model_base.specs.Outcomes.{deeds_before, deeds_of, owners}
 use Rattle.model_base.specs.References.{tables_of}
 use Rattle.grants_base.specs.View.{ShowsDeeds}
-use Rattle.evaluation.specs.Answering.{ended_by_deed}
+use Rattle.evaluation.specs.Answering.{ended_by_deeds}
 use Rattle.bohm_core_base.specs.Batch.{Batch}
 use Rattle.evaluation.specs.Seen.{seen_at, seen_view}
 use Rattle.evaluation.proofs.Comes.{deed-covered}
@@ -37,9 +37,9 @@ returns-clause-value g c statement at =
     let shows = shows_seen ranged c.statement-statement.ensures.of_log index (omega (arith, c.reader.ensures.within, c.reader.ensures.value, size)) in
     IfOk-weaker c.ended-names.result
     (λ (names : Vec ℕ Global). (users : List ℕ) (deeds : List Deed) → ShowsDeeds (seen_view (seen_at ranged index)) users deeds
-    → names.items ≡ ended_by_deed users deeds (deed_of place c.statement-statement.result.now.user c.statement-statement.result.now.form))
-    (λ (names : Vec ℕ Global). names.items ≡ ended_by_deed (owners log) (deeds_before log place) (deed_of place statement.user statement.form))
+    → names.items ≡ ended_by_deeds users deeds (deeds_of place c.statement-statement.result.now.user c.statement-statement.result.now.form))
+    (λ (names : Vec ℕ Global). names.items ≡ ended_by_deeds (owners log) (deeds_before log place) (deeds_of place statement.user statement.form))
     (λ names source.
     source (owners log) (deeds_before log place) shows
-    ∙ ap (λ (one : Statement). ended_by_deed (owners log) (deeds_before log place) (deed_of place one.user one.form)) same)
+    ∙ ap (λ (one : Statement). ended_by_deeds (owners log) (deeds_before log place) (deeds_of place one.user one.form)) same)
     c.ended-names.ensures.value

@@ -1,4 +1,4 @@
-use Rattle.model_base.specs.Records.{deeds_below}
+use Rattle.model_base.specs.Privileges.{deeds_below}
 use Rattle.grants_base.specs.Book.{view_of}
 use Rattle.grants_base.specs.View.{ShowsDeeds}
 use Rattle.explain.proofs.shown.denial_at.Goals as goal

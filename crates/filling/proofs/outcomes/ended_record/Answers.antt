@@ -1,4 +1,4 @@
-use Rattle.std.proofs.Common.{◌+◌, ◌==◌, Some, None, sym, ap, ◌∙◌, subst}
+use Rattle.std.proofs.Common.{◌+◌, ◌==◌, Some, None, ap, ◌∙◌, subst}
 use Rattle.log_batch.specs.Supplied.{LogRange, batch_of}
 use Rattle.filling.specs.Keys.{Key}
 use Rattle.words.specs.Layout.{listed_slot_at}

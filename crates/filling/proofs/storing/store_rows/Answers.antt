@@ -28,7 +28,7 @@ store_reference-requires-clause-number c =
     c.partition_count-partitions.ensures.value ∙ ap (λ (r : LogRange). r.partitions) (c.batch.ensures ∙ ap (λ (k : Key). k.batch) (sym c.requires.key)) in
     let into : c.partition_of-partition.result ≡ key_partition ranged.partitions access.key.table access.key.row =
     c.partition_of-partition.ensures.value ∙ ap (λ n. key_partition n access.key.table access.key.row) partitions in
-    let count = references-count ranged (front_in token.view) statement at.at in
+    let count = references-count ranged at.of_log (front_in token.view) statement at.at in
     omega arith
 
 pub store_reference-requires-clause-partition : goal.store_reference-requires-clause-partition
@@ -49,7 +49,7 @@ store_reference-requires-clause-partition c =
     c.partition_count-partitions.ensures.value ∙ ap (λ (r : LogRange). r.partitions) (c.batch.ensures ∙ ap (λ (k : Key). k.batch) (sym c.requires.key)) in
     let into : c.partition_of-partition.result ≡ key_partition ranged.partitions access.key.table access.key.row =
     c.partition_of-partition.ensures.value ∙ ap (λ n. key_partition n access.key.table access.key.row) partitions in
-    into ∙ sym (row-partition ranged (front_in token.view) statement at.at number access within here)
+    into ∙ sym (row-partition ranged at.of_log (front_in token.view) statement at.at number access within here)
 
 pub store_reference-requires-clause-right : goal.store_reference-requires-clause-right
 store_reference-requires-clause-right c = λ mine.

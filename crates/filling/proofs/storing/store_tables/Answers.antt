@@ -31,7 +31,7 @@ store_reference-requires-clause-number c =
     c.partition_count-partitions.ensures.value ∙ ap (λ (r : LogRange). r.partitions) (c.batch.ensures ∙ ap (λ (k : Key). k.batch) (sym c.requires.key)) in
     let into : c.partition_of_table-partition.result ≡ table_partition ranged.partitions table =
     c.partition_of_table-partition.ensures.value ∙ ap (λ n. table_partition n table) partitions in
-    let count = references-count ranged (front_in token.view) statement at.at in
+    let count = references-count ranged at.of_log (front_in token.view) statement at.at in
     let rows = ap (λ (list : List Access). length list) c.accesses-rows.ensures in
     omega arith
 
@@ -54,7 +54,7 @@ store_reference-requires-clause-partition c =
     let into : c.partition_of_table-partition.result ≡ table_partition ranged.partitions table =
     c.partition_of_table-partition.ensures.value ∙ ap (λ n. table_partition n table) partitions in
     into
-    ∙ sym (table-partition ranged (front_in token.view) statement at.at number table within here)
+    ∙ sym (table-partition ranged at.of_log (front_in token.view) statement at.at number table within here)
     ∙ ap (λ (list : List Access). partition_at (batch_of ranged) (front_in token.view) (length list + number)) (sym c.accesses-rows.ensures)
 
 pub store_reference-requires-clause-right : goal.store_reference-requires-clause-right

@@ -1,4 +1,4 @@
-use Rattle.std.proofs.Common.{◌≡◌, sym, ◌∙◌, arith, true, false}
+use Rattle.std.proofs.Common.{sym, ◌∙◌, arith}
 use Rattle.grants_base.specs.Force.{gives_by}
 use Rattle.grants_base.specs.Index.{is_to, passes_at}
 use Rattle.log_batch.specs.Earlier.{earlier_grants}

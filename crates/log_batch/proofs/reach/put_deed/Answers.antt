@@ -1,15 +1,21 @@
-use Rattle.std.proofs.Common.{ap, sym, ◌∙◌}
-use Rattle.std.specs.Prelude.{Option, Some}
-use Rattle.model_base.specs.declared.deed.Deed.{Deed}
-use Rattle.log_batch.specs.Supplied.{batch_of}
-use Rattle.log_batch.specs.Listing.{is_against, is_revoked}
-use Rattle.log_batch.proofs.Reaching.{seeds-whole}
+use Rattle.std.proofs.Common.{None, Some, ◌∙◌, sym}
+use Rattle.log_batch.specs.Supplied.{batch_of, range_of}
+use Rattle.log_batch.specs.Listing.{is_revoked}
+use Rattle.log_batch.proofs.Reaching.{revoked-told, seeds-same, seeds-whole}
+use Rattle.log_batch.proofs.Sound.{deeds_are_placed}
 use Rattle.log_batch.proofs.reach.put_deed.Goals as goal
+
+pub returns-in_default : goal.returns-in_default
+returns-in_default c =
+    let b = batch_of c.args.batch.now in
+    let one = (deeds_are_placed (range_of c.args.batch.now)).one c.args.index in
+    seeds-same b c.args.index c.args.revoked.now c.args.due.now.keys
+    (revoked-told (b.deeds c.args.index) one None (sym c.in_default.is ∙ c.requires.deed)) c.requires.seeds
 
 pub returns : goal.returns
 returns c =
     let b = batch_of c.args.batch.now in
-    let revocation = c.in-Some-Revoking.revocation in
-    let deed = sym c.requires.deed ∙ c.in-Some-Revoking.is ∙ ap Some c.in-Some-Revoking.field-0-is in
-    seeds-whole b c.args.index revocation c.put_revocation.new.revoked c.put_revocation.new.due.keys (λ grant. ap (λ (made : Option Deed). is_against made grant) deed)
+    let one = (deeds_are_placed (range_of c.args.batch.now)).one c.args.index in
+    seeds-whole b c.args.index c.in-Some.revocation c.put_revocation.new.revoked c.put_revocation.new.due.keys
+    (revoked-told (b.deeds c.args.index) one (Some c.in-Some.revocation) (sym c.in-Some.is ∙ c.requires.deed))
     (c.in_ok-put_revocation.ensures (is_revoked b c.args.index) c.requires.seeds)

@@ -13,6 +13,7 @@ lines-init c = record {
   feeds = feeds_started c.args.input.now c.args.out.now c.start.new.out c.args.self.now c.start.new.self c.start.new.step.used c.start.new.step.made
       (c.start.ensures.used ∙ c.requires.used) c.start.ensures.gives;
   settled = c.in_ok-start.ensures.settled;
+  keep = c.start.ensures.keep;
 }
 
 pub returns-in_err-take_lines-clause-feeds : goal.returns-in_err-take_lines-clause-feeds
@@ -35,4 +36,5 @@ lines-preserved c =
           c.lines.step.used c.take_lines.new.step.used c.lines.step.made c.take_lines.new.step.made c.in_ok-step.field-0 c.lines.invariant.feeds
           c.take_lines.ensures.takes c.take_lines.ensures.ended c.take_lines.ensures.made made.gives;
       settled = made.settled;
+      keep = c.make.ensures.keep ∙ c.take_lines.ensures.keep ∙ c.lines.invariant.keep;
     }

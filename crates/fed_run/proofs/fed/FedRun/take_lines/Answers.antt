@@ -10,6 +10,7 @@ lines-init c = record {
   made = refl;
   unsent = refl;
   ended = refl;
+  keep = refl;
 }
 
 pub lines-preserved : goal.lines-preserved
@@ -24,4 +25,5 @@ lines-preserved c =
       made = c.lines.invariant.made;
       unsent = c.take.ensures.unsent ∙ c.lines.invariant.unsent;
       ended = c.take.ensures.ended ∙ c.lines.invariant.ended;
+      keep = c.take.ensures.keep ∙ c.lines.invariant.keep;
     }

@@ -10,6 +10,7 @@ invariant-lines l = record {
   made : l.step.made ≡ l.initial.step.made;
   unsent : unsent l.self ≡ unsent l.initial.self;
   ended : l.self.is_ended ≡ l.initial.self.is_ended;
+  keep : l.self.order.keep ≡ l.initial.self.order.keep;
 }
 
 abbrev pub decreases-lines : goal.decreases-lines

@@ -20,7 +20,7 @@ word_of-requires c =
     let found = c.references_at-references.result.now in
     let number = subst (λ (k : Key). c.args.number < length (reference_words (batch_of k.batch) c.args.index)) (sym c.self.view_is) c.requires.number in
     let is : word_of ranged.first (get_or found c.args.number Base) ≡ reference_at (batch_of ranged) c.args.index c.args.number =
-    reference-is ranged c.args.index c.args.number found c.references_at-references.ensures number in
+    reference-is ranged c.first_place-first.ensures.of_log c.args.index c.args.number found c.references_at-references.ensures number in
     let most = reference-most (batch_of ranged) c.args.index c.args.number in
     let fits = c.ranges.index.fits in
     let small : word_of ranged.first (get_or found c.args.number Base) < 2 ^ 64 = omega arith in
@@ -34,5 +34,5 @@ returns c =
     c.word_of.ensures
     ∙ ap (λ reference. word_of c.first_place-first.result reference) c.reference_at.ensures
     ∙ ap (λ n. word_of n (get_or found c.args.number Base)) c.first_place-first.ensures.value
-    ∙ reference-is ranged c.args.index c.args.number found c.references_at-references.ensures number
+    ∙ reference-is ranged c.first_place-first.ensures.of_log c.args.index c.args.number found c.references_at-references.ensures number
     ∙ ap (λ (k : Key). reference_at (batch_of k.batch) c.args.index c.args.number) c.self.view_is

@@ -1,12 +1,10 @@
 use Rattle.std.proofs.Common.{ℕ, subst}
 use Rattle.std.specs.Prelude.{IfSome, slice_get}
 use Rattle.grants_base.specs.Book.{Entries, view_of}
-use Rattle.grants_base.specs.Force.{gives_by, gives_to, is_in_force}
-use Rattle.grants_base.specs.InForce.{IsNextInForce, ShowsNextInForce}
+use Rattle.grants_base.specs.Force.{gives_by, is_in_force}
 use Rattle.grants_base.specs.Index.{IsFirst}
 use Rattle.grants_base.specs.View.{slot_at}
 use Rattle.log_batch.specs.Earlier.{records_before}
-use Rattle.log_batch.specs.Referred.{is_found}
 use Rattle.log_batch.specs.Supplied.{LogRange, batch_of}
 use Rattle.log_batch.proofs.AtStart.{by-at-start}
 use Rattle.log_batch.proofs.batch.LogBatch.earlier_in_force_by.Goals as goal

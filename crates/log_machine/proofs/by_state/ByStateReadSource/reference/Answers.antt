@@ -21,5 +21,5 @@ returns-clause-value c =
     c.index_of.ensures
     ∙ ap (λ (reference : Reference). word_of c.first_place-first.result reference) c.reference_at.ensures
     ∙ ap (λ first. word_of first (get_or found c.args.number Base)) c.first_place-first.ensures.value
-    ∙ reference-is ranged c.self.inside.index c.args.number found c.references_at-references.ensures number
+    ∙ reference-is ranged c.first_place-first.ensures.of_log c.self.inside.index c.args.number found c.references_at-references.ensures number
     ∙ ap (λ (place : RangePlace). get_or (reference_words (batch_of place.ranged) place.index) c.args.number 0) c.self.view_is

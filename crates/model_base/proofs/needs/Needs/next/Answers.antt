@@ -12,6 +12,6 @@ accesses-preserved c =
 pub returns-in_default-split_first : goal.returns-in_default-split_first
 returns-in_default-split_first c =
     let now = c.accesses.self-inside in
-    needs_left-last now.table now.kinds c.take_kind.new.kinds now.accesses.now now.deed c.take.new.self c.take.result c.args.self.now
+    needs_left-last now.table now.kinds c.take_kind.new.kinds now.accesses.now now.deed c.next.new.self c.next.result c.args.self.now
     (c.accesses.invariant ∙ c.self.view_is) c.in_default.ensures.0 c.in_default.ensures.1 c.in_default-split_first.ensures.cases
-    c.take.ensures.value c.take.ensures.after
+    c.next.ensures

@@ -1,5 +1,5 @@
 use Rattle.model_base.proofs.Growth.{deeds_before-grows}
-use Rattle.model_base.proofs.laws.places_make_one_deed_at_most.Goals as goal
+use Rattle.model_base.proofs.laws.places_make_grants_or_one_revocation.Goals as goal
 
 pub returns : goal.returns
 returns c = deeds_before-grows
