@@ -1,6 +1,6 @@
 -- The deeds of a log grow by what each place makes, and are proper.
 use Rattle.std.proofs.Common.{◌≡◌, ℕ, zero, suc, ◌+◌, ◌<◌, ◌≤◌, List, [], ◌∷◌, ◌++◌, length, Option, Some, None, refl, sym, ◌∙◌, ap, arith, ◌⊎◌, inl, inr, add-one, subst}
-use Rattle.std.specs.Prelude.{All, take}
+use Rattle.std.specs.Prelude.{All, slice_get, take}
 use Rattle.std.proofs.Math.Seq.{take-nil}
 use Rattle.std.proofs.lemmas.List.{append-nil, length-take}
 use Rattle.std.proofs.lemmas.List.Elements.{All-nil, All-append, All-weaker}
@@ -16,15 +16,16 @@ use Rattle.model_base.proofs.Places.{proper-join}
 use Rattle.model_base.proofs.Cuts.{deeds_below-whole}
 use Rattle.model_base.proofs.Made.{deeds_of-one, deeds_of-placed, deeds_of-proper}
 
--- the beginning of a log grows by one statement, or is the whole
+-- the beginning of a log grows by the statement at its end, or is the whole
 pub take-next : {X : Type 0} (n : ℕ) (xs : List X)
-    → (take (suc n) xs ≡ take n xs) ⊎ ((x : X) × (take (suc n) xs ≡ take n xs ++ x ∷ []) × (length (take n xs) ≡ n))
+    → (take (suc n) xs ≡ take n xs)
+    ⊎ ((x : X) × (take (suc n) xs ≡ take n xs ++ x ∷ []) × (length (take n xs) ≡ n) × (slice_get xs n ≡ Some x))
 take-next n [] = inl (sym (take-nil n))
-take-next zero (x ∷ xs) = inr (x, refl, refl)
+take-next zero (x ∷ xs) = inr (x, refl, refl, refl)
 take-next (suc n) (x ∷ xs) =
     elim (take-next n xs) [
       | inl whole ↦ inl (ap (λ r. x ∷ r) whole)
-      | inr more ↦ inr (more.0, ap (λ r. x ∷ r) more.1, ap suc more.2)
+      | inr more ↦ inr (more.0, ap (λ r. x ∷ r) more.1, ap suc more.2, more.3)
     ]
 
 -- the deeds are proper, and their places lie below this one
@@ -134,24 +135,33 @@ deeds_before-stands log place =
           (deeds_before log place) stands.below;
     }
 
+-- before the next place is what this one makes of what is before it; past the log nothing changes
+pub world_before-next : (log : List Statement) (place : ℕ)
+    → (world_before log (place + 1) ≡ world_before log place)
+    ⊎ ((statement : Statement) × (slice_get log place ≡ Some statement)
+    × (world_before log (place + 1) ≡ (at_place (owners log) place (world_before log place) statement).1))
+world_before-next log place =
+    let after : List Statement → World = world_after (owners log) 0 empty_world in
+    let one : world_before log (place + 1) ≡ after (take (suc place) log) = ap (λ (n : ℕ). after (take n log)) (add-one place) in
+    elim (take-next place log) [
+      | inl whole ↦ inl (one ∙ ap after whole)
+      | inr more ↦
+          let long : length (take place log) ≡ place = more.2 in
+          let here : 0 + length (take place log) ≡ place = omega arith in
+          inr (
+            more.0,
+            more.3,
+            one ∙ ap after more.1 ∙ world_after-snoc (owners log) 0 empty_world (take place log) more.0
+                ∙ ap (λ (at : ℕ). (at_place (owners log) at (world_before log place) more.0).1) here,
+          )
+    ]
+
 -- one place more makes grants, or one revocation
 pub deeds_before-grows : (log : List Statement) (place : ℕ) → GrowsAt place (deeds_before log place) (deeds_before log (place + 1))
 deeds_before-grows log place =
-    elim (take-next place log) [
-      | inl whole ↦ grows-none place (deeds_before log place) (deeds_before log (place + 1))
-          (ap (λ (n : ℕ). (world_after (owners log) 0 empty_world (take n log)).deeds) (add-one place)
-          ∙ ap (λ (xs : List Statement). (world_after (owners log) 0 empty_world xs).deeds) whole)
-      | inr more ↦ grown more.0 more.1 more.2
+    elim (world_before-next log place) [
+      | inl same ↦ grows-none place (deeds_before log place) (deeds_before log (place + 1)) (ap (λ (world : World). world.deeds) same)
+      | inr next ↦
+          subst (λ (world : World). GrowsAt place (deeds_before log place) world.deeds) (sym next.2)
+          (next-at_place (owners log) place (world_before log place) next.0).grows
     ]
-  where
-    grown : (statement : Statement) → take (suc place) log ≡ take place log ++ statement ∷ [] → length (take place log) ≡ place
-        → GrowsAt place (deeds_before log place) (deeds_before log (place + 1))
-    grown statement one long =
-        let here : 0 + length (take place log) ≡ place = omega arith in
-        let next : world_before log (place + 1) ≡ (at_place (owners log) place (world_before log place) statement).1
-        = ap (λ (n : ℕ). world_after (owners log) 0 empty_world (take n log)) (add-one place)
-        ∙ ap (world_after (owners log) 0 empty_world) one
-        ∙ world_after-snoc (owners log) 0 empty_world (take place log) statement
-        ∙ ap (λ (at : ℕ). (at_place (owners log) at (world_before log place) statement).1) here in
-        subst (λ (world : World). GrowsAt place (deeds_before log place) world.deeds) (sym next)
-        (next-at_place (owners log) place (world_before log place) statement).grows

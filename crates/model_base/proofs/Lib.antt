@@ -1,4 +1,5 @@
 mod Padding
+pub mod Pushed
 pub mod Replay
 pub mod Parts
 pub mod Places
@@ -16,6 +17,7 @@ pub mod Made
 pub mod Growth
 pub mod Losses
 pub mod Logs
+pub mod Granted
 pub mod Owners
 pub mod MoreOwners
 pub mod Unended

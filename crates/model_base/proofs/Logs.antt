@@ -35,7 +35,7 @@ goes_on-grows place at first before after less on grown = (
 )
 
 -- the deeds before a later place go on from those before this one
-goes_on-before : (log : List Statement) (place more : ℕ) → GoesOn place (deeds_before log place) (deeds_before log (place + more))
+pub goes_on-before : (log : List Statement) (place more : ℕ) → GoesOn place (deeds_before log place) (deeds_before log (place + more))
 goes_on-before log place zero =
     let same : place + 0 ≡ place = omega arith in
     ([], ap (deeds_before log) same ∙ sym (append-nil (deeds_before log place)), All-nil (λ deed. place ≤ place_of deed))

@@ -1,16 +1,27 @@
 -- A rank is that of one place, kind and position, and orders by the place first.
-use Rattle.std.proofs.Common.{◌≡◌, ℕ, ◌<◌, ◌≤◌, ◌+◌, ◌*◌, ◌%◌, ◌&&◌, nat_eq, nat_lt, false, ap, refl, sym, ◌∙◌, arith, eq-eqb}
+use Rattle.std.proofs.Common.{◌≡◌, ℕ, ◌<◌, ◌≤◌, ◌+◌, ◌*◌, ◌/◌, ◌%◌, ◌&&◌, nat_eq, nat_lt, false, ap, refl, sym, ◌∙◌, arith, eq-eqb}
 use Rattle.std.specs.Prelude.{◌==◌}
 use Rattle.std.proofs.lemmas.Bool.{eqb-true, le-ltb, lt-ltb, ltb-false, ltb-true, ne_eqb}
 use Rattle.model_base.specs.declared.deed.RecordName.TheInside.{Inside}
 use Rattle.model_base.specs.declared.deed.Grant.{Grant}
-use Rattle.model_base.specs.Ranks.{kind_code, place_of_rank, position_code, rank, rank_of}
+use Rattle.model_base.specs.Ranks.{kind_code, place_of_rank, position_code, position_of_rank, rank, rank_of}
 use Rattle.model_base.proofs.Replay.{by_cases}
-use Rattle.model_base.specs.RecordNames.{few_kinds, few_positions, kind-back, kind_of_code, position-back, position_of_code}
+use Rattle.model_base.specs.RecordNames.{few_kinds, few_positions, kind-back, kind_of_code, kind_of_rank, position-back, position_of_code}
 
 pub rank-place : (grant : Grant) → place_of_rank (rank grant) ≡ grant.place
 unfolding rank_of
 rank-place grant = let kinds = few_kinds grant.kind in let positions = few_positions grant.position in omega arith
+
+pub rank-kind : (grant : Grant) → kind_of_rank (rank grant) ≡ grant.kind
+unfolding rank_of
+rank-kind grant =
+    let kinds = few_kinds grant.kind in let positions = few_positions grant.position in
+    let code : rank grant / 8 % 4 ≡ kind_code grant.kind = omega arith in
+    ap kind_of_code code ∙ kind-back grant.kind
+
+pub rank-position : (grant : Grant) → position_of_rank (rank grant) ≡ position_code grant.position
+unfolding rank_of
+rank-position grant = let kinds = few_kinds grant.kind in let positions = few_positions grant.position in omega arith
 
 pub rank-places : (grant other : Grant) → rank grant < rank other → grant.place ≤ other.place
 unfolding rank_of
@@ -74,6 +85,18 @@ number-at name ranked is = let kinds = few_kinds name.kind in let positions = fe
 pub place-at : (name : Inside) (ranked : ℕ) → rank_of name.place name.kind name.position ≡ ranked → place_of_rank ranked ≡ name.place
 unfolding rank_of
 place-at name ranked is = let kinds = few_kinds name.kind in let positions = few_positions name.position in omega arith
+
+pub kind-at : (name : Inside) (ranked : ℕ) → rank_of name.place name.kind name.position ≡ ranked → kind_of_rank ranked ≡ name.kind
+unfolding rank_of
+kind-at name ranked is =
+    let kinds = few_kinds name.kind in let positions = few_positions name.position in
+    let code : ranked / 8 % 4 ≡ kind_code name.kind = omega arith in
+    ap kind_of_code code ∙ kind-back name.kind
+
+pub position-at : (name : Inside) (ranked : ℕ) → rank_of name.place name.kind name.position ≡ ranked
+    → position_of_rank ranked ≡ position_code name.position
+unfolding rank_of
+position-at name ranked is = let kinds = few_kinds name.kind in let positions = few_positions name.position in omega arith
 
 -- records are in the order of their places, and those of one place in the order of their numbers there
 module _ (one other : Inside) (first second : ℕ) (is : rank_of one.place one.kind one.position ≡ first)

@@ -7,6 +7,7 @@ pub mod RecordNames
 pub mod Privileges
 pub mod Body
 pub mod Outcomes
+pub mod RecordGrantees
 pub mod Versions
 pub mod References
 pub mod Laws

@@ -1,6 +1,6 @@
 -- The order of the records of grants: by the place of their deed, at one place by kind, and of one kind by the position of the grantee in the
 -- deed. Each repeated grant is a record by itself: R. Fagin, "On an Authorization Mechanism", ACM Transactions on Database Systems 3 (1978).
-use Rattle.std.specs.Prelude.{◌+◌, ◌*◌, ◌/◌, ℕ}
+use Rattle.std.specs.Prelude.{◌+◌, ◌*◌, ◌/◌, ◌%◌, ℕ}
 use Rattle.model_base.specs.declared.deed.Kind.{Kind}
 use Rattle.model_base.specs.declared.deed.Kind.TheVariants.{Read, Insert, Update, Delete}
 use Rattle.model_base.specs.declared.deed.Position.{Position}
@@ -38,6 +38,10 @@ rank grant = rank_of grant.place grant.kind grant.position
 -- the place of the record of a rank
 abbrev pub place_of_rank : ℕ → ℕ
 place_of_rank ranked = ranked / 32
+
+-- the code of the position of the record of a rank
+abbrev pub position_of_rank : ℕ → ℕ
+position_of_rank ranked = ranked % 8
 
 -- the number of a deed: a grant's rank; of a revocation, the last of its place, so that no grant of the place comes after it
 abbrev pub deed_number : Deed → ℕ

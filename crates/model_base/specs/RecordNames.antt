@@ -15,6 +15,10 @@ kind_of_code (suc zero) = Insert
 kind_of_code (suc (suc zero)) = Update
 kind_of_code (suc (suc (suc _))) = Delete
 
+-- the kind of the record of a rank
+abbrev pub kind_of_rank : ℕ → Kind
+kind_of_rank ranked = kind_of_code (ranked / 8 % 4)
+
 -- the position of a code
 abbrev pub position_of_code : ℕ → Position
 position_of_code zero = First

@@ -163,7 +163,7 @@ impl Position {
     }
 
     /// The code of the position, from 0.
-    fn code(self) -> u8
+    pub(crate) fn code(self) -> u8
         ensures { result ≡ position_code self }
     {
         match self {

@@ -1,6 +1,6 @@
 //! The grantees of a deed.
 
-use crate::deed::Grantee;
+use crate::deed::{Grantee, Position};
 use crate::limits::MOST_GRANTEES;
 use crate::name::User;
 use std::fmt;
@@ -34,9 +34,10 @@ impl Model for Grantees {
 }
 
 impl Grantees {
-    ghost use Rattle.std.specs.Prelude.{◌≡◌, ◌<◌, ◌≤◌, ◌∷◌, [], Some, length, slice_get};
+    ghost use Rattle.std.specs.Prelude.{◌≡◌, ◌<◌, ◌≤◌, ◌∷◌, ◌++◌, [], Some, false, length, slice_get};
     ghost use Rattle.model_base.specs.Grantees.{AreDistinct};
     ghost use Rattle.model_base.specs.Privileges.{has_grantee};
+    ghost use Rattle.model_base.specs.Ranks.{position_code};
 
     /// The one grantee alone.
     pub fn of(grantee: Grantee) -> Self
@@ -77,6 +78,34 @@ impl Grantees {
         } else {
             Grantee::User(self.users[index])
         }
+    }
+
+    /// The grantee at this position, if there is one.
+    pub fn get(&self, position: Position) -> Option<Grantee>
+        ensures { result ≡ slice_get self.now (position_code position) }
+    {
+        let index = position.code() as usize;
+        if index < self.len() {
+            Some(self.at(index))
+        } else {
+            None
+        }
+    }
+
+    /// Appends the grantee.
+    pub fn push(&mut self, grantee: Grantee)
+        requires room { length self.old < MOST_GRANTEES }
+        requires is_new { has_grantee self.old grantee ≡ false }
+        ensures { self.new ≡ self.old ++ grantee ∷ [] }
+    {
+        let index = self.len;
+        if let Grantee::User(user) = grantee {
+            self.users[index as usize] = user;
+            if self.public == index {
+                self.public += 1;
+            }
+        }
+        self.len += 1;
     }
 
     /// Whether the grantee is one of these.

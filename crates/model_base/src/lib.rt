@@ -51,8 +51,8 @@ pub use outcome::{DeedDone, Outcome, Reason};
 pub use record_laws::{
     causes_are_losses_by_records, covered_records_tell, deeds_change_records,
     earlier_records_are_cut, ends_are_losses, ends_are_revocations, later_owners_change_nothing,
-    records_rise, records_tell_of_logs, records_tell_what_revocations_end, records_were_authorised,
-    unended_records_are_in_force,
+    records_name_grantees, records_rise, records_tell_of_logs, records_tell_what_revocations_end,
+    records_were_authorised, unended_records_are_in_force,
 };
 pub use reference::Reference;
 pub use row::{Key, Outputs, Row, Values};

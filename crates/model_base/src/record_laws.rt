@@ -1,14 +1,15 @@
 //! What holds of the records of grants with their ends: they say of every list of deeds, and of every log, what the deeds say, also those
 //! of some tables alone, and at every earlier place.
 
-ghost use Rattle.std.specs.Prelude.{◌≡◌, ◌≢◌, ◌↔◌, ℕ, ◌<◌, ◌≤◌, Bool, true, false, Some, None, is_none, ◌&&◌, ◌||◌, All, Contains, List, [], ◌∷◌, ◌++◌, length, filter, map};
+ghost use Rattle.std.specs.Prelude.{◌≡◌, ◌≢◌, ◌↔◌, ℕ, ◌<◌, ◌≤◌, Bool, true, false, Some, None, is_none, ◌&&◌, ◌||◌, All, Contains, List, ℤ, [], ◌∷◌, ◌++◌, length, filter, map};
 ghost use Rattle.std.specs.List.{list_any};
 ghost use Rattle.std.specs.Option.{option_map_or};
 ghost use Rattle.model_base.specs.Laws.{IsPart, IsRising};
-ghost use Rattle.model_base.specs.Outcomes.{cause, deeds_before, owners};
+ghost use Rattle.model_base.specs.Outcomes.{cause, deeds_before, outcome, owners};
 ghost use Rattle.model_base.specs.OwnedTables.{AreOnOwnedTables};
 ghost use Rattle.model_base.specs.Ranks.{deed_number, rank};
 ghost use Rattle.model_base.specs.Privileges.{IsProper, concerns, deeds_below, ended_by, gives, holds, is_among, kept, option_of, owns, place_of, replayed};
+ghost use Rattle.model_base.specs.RecordGrantees.{WereGranted, grantee_at};
 ghost use Rattle.model_base.specs.Records.{covered, cut, end_after, ended_at, ended_by_records, grants_of, holds_by, in_force, last_loss_by, recorded, records};
 ghost use Rattle.model_base.specs.declared.deed.Cause.TheVariants.{Never, Taken};
 ghost use Rattle.model_base.specs.declared.deed.Deed.TheVariants.{Granting, Revoking};
@@ -17,6 +18,8 @@ ghost use Rattle.model_base.specs.declared.deed.Grant.{Grant};
 ghost use Rattle.model_base.specs.declared.deed.Need.{Need};
 ghost use Rattle.model_base.specs.declared.deed.Record.{Record};
 ghost use Rattle.model_base.specs.declared.deed.Revocation.{Revocation};
+ghost use Rattle.model_base.specs.declared.outcome.DeedDone.TheVariants.{Revoked};
+ghost use Rattle.model_base.specs.declared.outcome.Outcome.TheVariants.{Done};
 ghost use Rattle.model_base.specs.declared.statement.Statement.{Statement};
 
 /// The grants of the records that have no end are those in force, so the records say who holds what: the table's owner, and whom one of the
@@ -208,4 +211,17 @@ pub fn records_tell_of_logs()
         → cause (owners log) (deeds_before log place) user need
         ≡ option_map_or Taken
         (last_loss_by (owners log) (covered covers (records (owners log) (deeds_before log later))) user need place) Never }
+{}
+
+/// A record is to the grantee that the deed of its place names at its position; and a revocation ends only records of grants that were made
+/// before its place.
+pub fn records_name_grantees()
+    ensures granted { (log : List Statement) (place : ℕ) (grant : Grant)
+        → Contains (deeds_before log place) (Granting grant) → grantee_at log (rank grant) ≡ Some grant.grantee }
+    ensures revoked { (log : List Statement) (place later : ℕ) (outputs : List ℤ) (ranks : List ℕ)
+        → outcome log place ≡ Some (Done outputs (Revoked ranks)) → place ≤ later → WereGranted log later ranks }
+    ensures kept { (log : List Statement) (place : ℕ) (ranks : List ℕ) (grants : List Grant)
+        → IsPart grants (kept (owners log) (deeds_before log place)) → ranks ≡ map rank grants → WereGranted log place ranks }
+    ensures later { (log : List Statement) (place later : ℕ) (ranks : List ℕ)
+        → place ≤ later → WereGranted log place ranks → WereGranted log later ranks }
 {}

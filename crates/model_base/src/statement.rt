@@ -1,6 +1,6 @@
 //! The statements of a log.
 
-use crate::deed::{Kind, Kinds, Revocation};
+use crate::deed::{Grantee, Kind, Kinds, Position, Revocation};
 use crate::deeds::{Deeds, Grants};
 use crate::grantees::Grantees;
 use crate::limits::{MOST_COLUMNS, MOST_REGISTERS};
@@ -216,6 +216,7 @@ impl DeedForm {
     ghost use Rattle.std.specs.Prelude.{◌≡◌};
     ghost use Rattle.model_base.specs.DeedsLeft.{revocation_of};
     ghost use Rattle.model_base.specs.Outcomes.{deeds_at};
+    ghost use Rattle.model_base.specs.RecordGrantees.{deed_grantees};
     ghost use Rattle.model_base.specs.References.{table_of};
 
     /// The table on which the deeds are.
@@ -224,6 +225,15 @@ impl DeedForm {
     {
         match self {
             DeedForm::Grant { table, .. } | DeedForm::Revoke { table, .. } => *table,
+        }
+    }
+
+    /// Its grantees.
+    fn grantees(&self) -> &Grantees
+        ensures { result.now ≡ deed_grantees self.now }
+    {
+        match self {
+            DeedForm::Grant { grantees, .. } | DeedForm::Revoke { grantees, .. } => grantees,
         }
     }
 
@@ -295,6 +305,26 @@ pub enum Form {
         deed: Option<DeedForm>,
     },
     Deed(DeedForm),
+}
+
+impl Form {
+    ghost use Rattle.std.specs.Prelude.{◌≡◌, slice_get};
+    ghost use Rattle.model_base.specs.Ranks.{position_code};
+    ghost use Rattle.model_base.specs.RecordGrantees.{grantees_in};
+
+    /// The grantee at a position of the form's deed, if there is one.
+    pub fn grantee(&self, position: Position) -> Option<Grantee>
+        ensures { result ≡ slice_get (grantees_in self.now) (position_code position) }
+    {
+        match self {
+            Form::Run {
+                deed: Some(deed),
+                ..
+            }
+            | Form::Deed(deed) => deed.grantees().get(position),
+            Form::Run { deed: None, .. } | Form::Create { .. } => None,
+        }
+    }
 }
 
 /// One statement of a log, whose users and tables are named by number.
