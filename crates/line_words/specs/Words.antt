@@ -14,6 +14,14 @@ words line = slice_split (λ b. b == 32) line
 abbrev pub words_from : ℕ → List ℕ → List (List ℕ)
 words_from start line = if nat_le start (length line) then words (drop start line) else []
 
+-- the pieces of a word between commas
+abbrev pub comma_pieces : List ℕ → List (List ℕ)
+comma_pieces word = slice_split (λ b. b == 44) word
+
+-- the pieces of a word from this index on, and none past its end
+abbrev pub pieces_from : ℕ → List ℕ → List (List ℕ)
+pieces_from start word = if nat_le start (length word) then comma_pieces (drop start word) else []
+
 -- a word, or the empty one if there is none
 abbrev pub first_word : List (List ℕ) → List ℕ
 first_word [] = []

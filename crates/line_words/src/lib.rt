@@ -12,6 +12,7 @@ mod access;
 mod fault;
 mod name;
 mod number;
+mod piece_list;
 mod step_name;
 mod word_list;
 
@@ -19,5 +20,6 @@ pub use access::{RawAccess, access_of};
 pub use fault::LineFault;
 pub use name::{Name, has_name_form};
 pub use number::{plain_value, whole_value};
+pub use piece_list::Pieces;
 pub use step_name::StepName;
 pub use word_list::Words;

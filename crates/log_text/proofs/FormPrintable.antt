@@ -11,18 +11,15 @@ use Rattle.log_text.specs.declared.statement.RawStep.TheVariants.{Const, Compute
 use Rattle.log_text.specs.declared.statement.RawForm.{RawForm}
 use Rattle.log_text.specs.declared.statement.RawForm.TheVariants.{Create, Run, Deed}
 use Rattle.log_text.specs.declared.statement.RawDeed.{RawDeed}
-use Rattle.log_text.specs.declared.statement.RawGrantee.{RawGrantee}
-use Rattle.log_text.specs.declared.statement.RawGrantee.TheVariants.{Named, Public}
 use Rattle.log_text.specs.declared.statement.RawDeed.TheVariants.{Grant, Revoke}
-use Rattle.model_base.specs.declared.deed.Kind.{Kind}
-use Rattle.model_base.specs.declared.deed.Kind.TheVariants as kind
 use Rattle.line_words.specs.StepWords.{operation_word}
 use Rattle.line_words.specs.Access.{access_word, letters, letter_if, IsAccess}
-use Rattle.log_text.specs.Statement.{body_words, deed_words, grantee_word, kind_word, last_deed, further_step, step_words, row_word, form_words, IsDeed, IsFormInGrammar, IsGrantee, IsLastDeed, IsStep, IsRowNumber, IsRegister}
+use Rattle.log_text.specs.Statement.{body_words, deed_words, kinds_word, last_deed, further_step, step_words, row_word, form_words, IsDeed, IsFormInGrammar, IsLastDeed, IsStep, IsRowNumber, IsRegister}
 use Rattle.line_words.specs.Words.{is_printable}
 use Rattle.model_base.specs.declared.deed.Kinds.{Kinds}
 use Rattle.line_words.specs.declared.access.RawAccess.{RawAccess}
 use Rattle.std.proofs.lemmas.Bool.{and_from}
+use Rattle.log_text.proofs.GranteeLists.{printable_grantees}
 use Rattle.line_words.proofs.Printable.{IsPrintable, printable_name, printable_decimal, printable_signed, printable_append}
 
 both : (xs ys : List (List ℕ)) → AllByRecursion IsPrintable xs → AllByRecursion IsPrintable ys → AllByRecursion IsPrintable (xs ++ ys)
@@ -86,20 +83,31 @@ steps : (ss : List RawStep) → AllByRecursion IsStep ss → AllByRecursion IsPr
 steps [] h = tt
 steps (s ∷ ss) h = (refl, both (step_words s) (flat_map further_step ss) (step s h.0) (steps ss h.1))
 
-kind_printable : (k : Kind) → IsPrintable (kind_word k)
-kind_printable kind.Read = refl
-kind_printable kind.Insert = refl
-kind_printable kind.Update = refl
-kind_printable kind.Delete = refl
+made_printable : (r i u d : Bool) → IsPrintable (kinds_word (record { read = r; insert = i; update = u; delete = d }))
+made_printable true true true true = refl
+made_printable true true true false = refl
+made_printable true true false true = refl
+made_printable true true false false = refl
+made_printable true false true true = refl
+made_printable true false true false = refl
+made_printable true false false true = refl
+made_printable true false false false = refl
+made_printable false true true true = refl
+made_printable false true true false = refl
+made_printable false true false true = refl
+made_printable false true false false = refl
+made_printable false false true true = refl
+made_printable false false true false = refl
+made_printable false false false true = refl
+made_printable false false false false = refl
 
-grantee_printable : (g : RawGrantee) → IsGrantee g → IsPrintable (grantee_word g)
-grantee_printable (Named name) h = printable_name name h
-grantee_printable Public h = refl
+kinds_printable : (k : Kinds) → IsPrintable (kinds_word k)
+kinds_printable k = made_printable k.read k.insert k.update k.delete
 
 deed : (d : RawDeed) → IsDeed d → AllByRecursion IsPrintable (deed_words d)
-deed (Grant k t g true) h = (refl, (kind_printable k, (printable_name t h.0, (grantee_printable g h.1, (refl, tt)))))
-deed (Grant k t g false) h = (refl, (kind_printable k, (printable_name t h.0, (grantee_printable g h.1, tt))))
-deed (Revoke k t g) h = (refl, (kind_printable k, (printable_name t h.0, (grantee_printable g h.1, tt))))
+deed (Grant k t g true) h = (refl, (kinds_printable k, (printable_name t h.1, (printable_grantees g h.2.2, (refl, tt)))))
+deed (Grant k t g false) h = (refl, (kinds_printable k, (printable_name t h.1, (printable_grantees g h.2.2, tt))))
+deed (Revoke k t g) h = (refl, (kinds_printable k, (printable_name t h.1, (printable_grantees g h.2.2, tt))))
 
 ending : (d : Option RawDeed) → IsLastDeed d → AllByRecursion IsPrintable (last_deed d)
 ending None h = tt

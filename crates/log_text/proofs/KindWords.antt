@@ -1,5 +1,5 @@
 -- The words that name kinds.
-use Rattle.std.proofs.Common.{◌≡◌, ℕ, ◌<◌, ◌≤◌, length, get_or, sym, ap, ◌∙◌, arith, Bool, true, false, cond, List, ◌⊎◌, inl, inr, Option, Some, None, refl, subst}
+use Rattle.std.proofs.Common.{◌≡◌, ℕ, ◌<◌, ◌≤◌, length, get_or, sym, ap, arith, Bool, true, false, cond, List, ◌⊎◌, inl, inr, Option, Some, None, refl, subst}
 use Rattle.std.specs.Prelude.{codes, bytes_eq}
 use Rattle.std.proofs.lemmas.Slice.Eq.{bytes_eq-Decides, text_from_reads}
 use Rattle.model_base.specs.declared.deed.Kind.{Kind}
@@ -41,10 +41,6 @@ kind_of_word Read = refl
 kind_of_word Insert = refl
 kind_of_word Update = refl
 kind_of_word Delete = refl
-
--- kinds have words of their own
-pub one_kind : (k l : Kind) → kind_word k ≡ kind_word l → k ≡ l
-one_kind k l e = let f : Some k ≡ Some l = sym (kind_of_word k) ∙ ap kind_named e ∙ kind_of_word l in cc
 
 -- the words of six letters, letter by letter
 pub named_insert : (w : List ℕ) → 6 ≤ length w → length w < 7 → get_or w 0 0 ≡ 73 → get_or w 1 0 ≡ 78 → get_or w 2 0 ≡ 83 → get_or w 3 0 ≡ 69 → get_or w 4 0 ≡ 82 → get_or w 5 0 ≡ 84 → Some Insert ≡ kind_named w

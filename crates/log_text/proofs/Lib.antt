@@ -14,6 +14,9 @@ pub mod Joined
 pub mod AccessFit
 pub mod Grammar
 pub mod TotalWords
-pub mod Grantees
+pub mod Parts
+pub mod KindLists
+pub mod GranteeLists
+pub mod TakenPieces
 pub mod TotalSteps
 pub mod Total

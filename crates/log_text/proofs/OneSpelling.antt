@@ -14,15 +14,15 @@ use Rattle.log_text.specs.declared.statement.RawForm.{RawForm}
 use Rattle.log_text.specs.declared.statement.RawForm.TheVariants.{Create, Run, Deed}
 use Rattle.log_text.specs.declared.statement.RawDeed.{RawDeed}
 use Rattle.log_text.specs.declared.statement.RawDeed.TheVariants.{Grant, Revoke}
-use Rattle.log_text.specs.Statement.{body_words, deed_words, grantee_word, kind_word, last_deed, option_words, step_words, form_words, IsDeed, IsFormInGrammar, IsLastDeed, IsStep, IsRegister}
+use Rattle.log_text.specs.Statement.{body_words, deed_words, last_deed, option_words, step_words, form_words, IsDeed, IsFormInGrammar, IsLastDeed, IsStep, IsRegister}
 use Rattle.line_words.specs.declared.step_name.StepName.{StepName}
 use Rattle.line_words.specs.declared.step_name.StepName.TheVariants as name
 use Rattle.model_base.specs.declared.statement.Operation.{Operation}
 use Rattle.log_text.proofs.Bars.{decimal_ne_bar, access_ne_bar, one_row}
 use Rattle.line_words.proofs.Whole.{one_whole}
 use Rattle.log_text.proofs.AccessFit.{one_access}
-use Rattle.log_text.proofs.Grantees.{one_grantee}
-use Rattle.log_text.proofs.KindWords.{one_kind}
+use Rattle.log_text.proofs.GranteeLists.{one_list}
+use Rattle.log_text.proofs.KindLists.{one_kinds}
 use Rattle.line_words.proofs.StepNames.{named_operation}
 use Rattle.log_text.proofs.Tails.{IsTail, body_is_tail, body_more, no_step, no_tail}
 
@@ -169,23 +169,18 @@ one_option false false e = refl
 
 one_deed : (d e : RawDeed) → IsDeed d → IsDeed e → deed_words d ≡ deed_words e → d ≡ e
 one_deed (Grant k t g o) (Grant l u h p) f j e =
-    let e1 : kind_word k ≡ kind_word l = cc in
-    let e2 : t ≡ u = cc in
-    let e3 : grantee_word g ≡ grantee_word h = cc in
-    let f3 = one_grantee g h f.1 j.1 e3 in
-    let e4 : option_words o ≡ option_words p = cc in
-    let f1 = one_kind k l e1 in
-    let f4 = one_option o p e4 in
-    cc
-one_deed (Grant k t g o) (Revoke l u h) f j e = absurd (apart (codes "GRANT") (codes "REVOKE") refl cc)
-one_deed (Revoke k t g) (Grant l u h p) f j e = absurd (apart (codes "REVOKE") (codes "GRANT") refl cc)
+    let w = three_words (behind e) in
+    let e1 = one_kinds k l f.0 j.0 w.0 in
+    let e3 = one_list g h f.2 j.2 w.2 in
+    let e4 = one_option o p w.3 in
+    ap (λ v. Grant v t g o) e1 ∙ ap (λ v. Grant l v g o) w.1 ∙ ap (λ v. Grant l u v o) e3 ∙ ap (Grant l u h) e4
+one_deed (Grant k t g o) (Revoke l u h) f j e = absurd (apart (codes "GRANT") (codes "REVOKE") refl (parts e).0)
+one_deed (Revoke k t g) (Grant l u h p) f j e = absurd (apart (codes "REVOKE") (codes "GRANT") refl (parts e).0)
 one_deed (Revoke k t g) (Revoke l u h) f j e =
-    let e1 : kind_word k ≡ kind_word l = cc in
-    let e2 : t ≡ u = cc in
-    let e3 : grantee_word g ≡ grantee_word h = cc in
-    let f3 = one_grantee g h f.1 j.1 e3 in
-    let f1 = one_kind k l e1 in
-    cc
+    let w = three_words (behind e) in
+    let e1 = one_kinds k l f.0 j.0 w.0 in
+    let e3 = one_list g h f.2 j.2 w.2 in
+    ap (λ v. Revoke v t g) e1 ∙ ap (λ v. Revoke l v g) w.1 ∙ ap (Revoke l u) e3
 
 -- a deed where a step stands
 deed_or_step : (d : Option RawDeed) (t : RawStep) (ws : List (List ℕ)) → last_deed d ≡ codes "|" ∷ (step_words t ++ ws) → ⊥

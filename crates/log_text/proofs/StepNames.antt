@@ -37,19 +37,19 @@ no_deed Skip = refl
 no_deed Out = refl
 
 -- where a step stands
-pub at_step : (w : List ℕ) (ws : List (List ℕ)) (n o : ℕ) → is_deed w ≡ false → fault_from (OfStep n o ∷ []) (w ∷ ws) ≡ or_else (step_fault (step_name w) n o) (fault_from (expected_in (step_name w) n o ++ []) ws)
-at_step w ws n o e = rw e refl
+pub at_step : (w : List ℕ) (ws : List (List ℕ)) (v n o : ℕ) → is_deed w ≡ false → fault_from (OfStep v n o ∷ []) (w ∷ ws) ≡ or_else (step_fault (step_name w) n o) (fault_from (expected_in (step_name w) v n o ++ []) ws)
+at_step w ws v n o e = rw e refl
 
 -- a step's word, and what is after it
-pub goes_on : (old mid left : List (List ℕ)) (s : StepName) (n o outs : ℕ) (more : Bool)
+pub goes_on : (old mid left : List (List ℕ)) (s : StepName) (v n o outs : ℕ) (more : Bool)
     → old ≡ step_word s ∷ mid → step_name (step_word s) ≡ Some s → step_fault (Some s) n o ≡ None → outs ≡ 0
-    → fault_from (expected_in (Some s) n o) mid ≡ fault_behind more (n + 1) o left
-    → fault_from (OfStep n o ∷ []) old ≡ fault_behind more (n + 1) (o + outs) left
-goes_on old mid left s n o outs more is named fits none rest =
+    → fault_from (expected_in (Some s) v n o) mid ≡ fault_behind more v (n + 1) o left
+    → fault_from (OfStep v n o ∷ []) old ≡ fault_behind more v (n + 1) (o + outs) left
+goes_on old mid left s v n o outs more is named fits none rest =
     let same : o ≡ o + outs = omega (arith, none) in
-    ap (fault_from (OfStep n o ∷ [])) is
-    ∙ at_step (step_word s) mid n o (no_deed s)
-    ∙ ap (λ t. or_else (step_fault t n o) (fault_from (expected_in t n o ++ []) mid)) named
-    ∙ ap (λ f. or_else f (fault_from (expected_in (Some s) n o ++ []) mid)) fits
-    ∙ ap (λ ps. fault_from ps mid) (append-nil (expected_in (Some s) n o))
-    ∙ rest ∙ ap (λ k. fault_behind more (n + 1) k left) same
+    ap (fault_from (OfStep v n o ∷ [])) is
+    ∙ at_step (step_word s) mid v n o (no_deed s)
+    ∙ ap (λ t. or_else (step_fault t n o) (fault_from (expected_in t v n o ++ []) mid)) named
+    ∙ ap (λ f. or_else f (fault_from (expected_in (Some s) v n o ++ []) mid)) fits
+    ∙ ap (λ ps. fault_from ps mid) (append-nil (expected_in (Some s) v n o))
+    ∙ rest ∙ ap (λ k. fault_behind more v (n + 1) k left) same

@@ -32,11 +32,11 @@ pub room_more : (len old new : ℕ) → old < 16 → old ≡ len → new ≡ len
 room_more len old new few is one = omega arith
 
 -- what is left has the fault of the whole
-pub fits_more : (whole : List (List ℕ)) (before left : List (List ℕ)) (word : List ℕ) (len old new : ℕ)
-    → fault_from (OfAccess ∷ OfNext 1 ∷ []) whole ≡ fault_from (OfNext len ∷ []) before → before ≡ word ∷ left → is_bar word ≡ false
+pub fits_more : (v : ℕ) (whole : List (List ℕ)) (before left : List (List ℕ)) (word : List ℕ) (len old new : ℕ)
+    → fault_from (OfAccess ∷ OfNext v 1 ∷ []) whole ≡ fault_from (OfNext v len ∷ []) before → before ≡ word ∷ left → is_bar word ≡ false
     → old < 16 → old ≡ len → new ≡ len + 1 → access_fault word ≡ None
-    → fault_from (OfAccess ∷ OfNext 1 ∷ []) whole ≡ fault_from (OfNext new ∷ []) left
-fits_more whole before left word len old new so next other few is one sound =
+    → fault_from (OfAccess ∷ OfNext v 1 ∷ []) whole ≡ fault_from (OfNext v new ∷ []) left
+fits_more v whole before left word len old new so next other few is one sound =
     let low : len < 16 = omega arith in
-    let goes : fault_from (OfNext len ∷ []) (word ∷ left) ≡ fault_from (OfNext (len + 1) ∷ []) left = rw (other, lt-ltb len 16 low, sound) refl in
-    so ∙ ap (fault_from (OfNext len ∷ [])) next ∙ goes ∙ ap (λ (n : ℕ). fault_from (OfNext n ∷ []) left) (sym one)
+    let goes : fault_from (OfNext v len ∷ []) (word ∷ left) ≡ fault_from (OfNext v (len + 1) ∷ []) left = rw (other, lt-ltb len 16 low, sound) refl in
+    so ∙ ap (fault_from (OfNext v len ∷ [])) next ∙ goes ∙ ap (λ (n : ℕ). fault_from (OfNext v n ∷ []) left) (sym one)

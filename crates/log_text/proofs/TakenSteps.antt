@@ -12,7 +12,7 @@ use Rattle.line_words.specs.Faults.{IsFault, or_else, unless}
 use Rattle.log_text.specs.Fault.{OfStep, expected_in, fault_from, step_fault}
 use Rattle.log_text.specs.Parsing.{TakesStep, fault_behind}
 use Rattle.line_words.specs.declared.fault.LineFault.{LineFault}
-use Rattle.line_words.specs.declared.fault.LineFault.TheVariants.{TooLong, NotAscii, Empty, UnknownWord, BadNumber, BadName, TooManySteps, TooManyAccesses, BadRegister, NoMemory}
+use Rattle.line_words.specs.declared.fault.LineFault.TheVariants.{TooLong, NotAscii, Empty, UnknownWord, BadNumber, BadName, TooManySteps, TooManyAccesses, BadRegister, TooManyGrantees, DuplicateGrantee, NoMemory}
 use Rattle.log_text.specs.declared.statement.RawStep.{RawStep}
 use Rattle.line_words.specs.declared.step_name.StepName.{StepName}
 use Rattle.line_words.specs.declared.step_name.StepName.TheVariants.{Const, Compute, Has, Load, Store, Insert, Delete, Check, Skip, Out}
@@ -58,6 +58,8 @@ is_fault BadName o e = e
 is_fault TooManySteps o e = e
 is_fault TooManyAccesses o e = e
 is_fault BadRegister o e = e
+is_fault TooManyGrantees o e = e
+is_fault DuplicateGrantee o e = e
 is_fault NoMemory o e = tt
 
 -- a step that makes this many outs leads from this many to this many
@@ -68,13 +70,13 @@ leads k o after s t old new (Err f) more took = tt
 leads k o after s t old new (Ok r) more took = (took.0, took.1, more ∙ ap (λ (m : ℕ). o + m) (sym took.2))
 
 module _ (s : StepName) (t : RawStep) (word : List ℕ) (old new : List (List ℕ)) (n o : ℕ) (result : Result Bool LineFault) (names : Names s word n o) where
-  behind : fault_from (OfStep n o ∷ []) (word ∷ old) ≡ fault_from (expected_in (Some s) n o) old
-  behind =
-      ap (λ (w : List ℕ). fault_from (OfStep n o ∷ []) (w ∷ old)) names.0
-      ∙ at_step (step_word s) old n o (no_deed s)
-      ∙ ap (λ (t : Option StepName). or_else (step_fault t n o) (fault_from (expected_in t n o ++ []) old)) names.1
-      ∙ ap (λ (f : Option LineFault). or_else f (fault_from (expected_in (Some s) n o ++ []) old)) names.2
-      ∙ ap (λ ps. fault_from ps old) (append-nil (expected_in (Some s) n o))
+  behind : (v : ℕ) → fault_from (OfStep v n o ∷ []) (word ∷ old) ≡ fault_from (expected_in (Some s) v n o) old
+  behind v =
+      ap (λ (w : List ℕ). fault_from (OfStep v n o ∷ []) (w ∷ old)) names.0
+      ∙ at_step (step_word s) old v n o (no_deed s)
+      ∙ ap (λ (t : Option StepName). or_else (step_fault t n o) (fault_from (expected_in t v n o ++ []) old)) names.1
+      ∙ ap (λ (f : Option LineFault). or_else f (fault_from (expected_in (Some s) v n o ++ []) old)) names.2
+      ∙ ap (λ ps. fault_from ps old) (append-nil (expected_in (Some s) v n o))
 
   -- the step was taken
   pub takes : (after : ℕ → ℕ) → after o ≤ 8 → IfOk result (λ r. TakesStep (step_word s ∷ old) t r new × IsStep t × (after o ≡ o + outs_of t))
@@ -93,25 +95,25 @@ module _ (s : StepName) (t : RawStep) (word : List ℕ) (old new : List (List �
 
   -- what is left has the fault of what is after the step
   pub fits : (after : ℕ → ℕ) → IfOk result (λ r. TakesStep (step_word s ∷ old) t r new × IsStep t × (after o ≡ o + outs_of t))
-      → IfOk result (λ r. (steps outs : ℕ) → fault_from (expected_in (Some s) steps outs) old ≡ fault_behind r (steps + 1) (after outs) new)
-      → IfOk result (λ r. fault_from (OfStep n o ∷ []) (word ∷ old) ≡ fault_behind r (n + 1) (o + outs_of t) new)
+      → IfOk result (λ r. (v steps outs : ℕ) → fault_from (expected_in (Some s) v steps outs) old ≡ fault_behind r v (steps + 1) (after outs) new)
+      → IfOk result (λ r. (v : ℕ) → fault_from (OfStep v n o ∷ []) (word ∷ old) ≡ fault_behind r v (n + 1) (o + outs_of t) new)
   fits after took fit = fits_if result took fit
     where
       fits_if : (found : Result Bool LineFault) → IfOk found (λ r. TakesStep (step_word s ∷ old) t r new × IsStep t × (after o ≡ o + outs_of t))
-          → IfOk found (λ r. (steps outs : ℕ) → fault_from (expected_in (Some s) steps outs) old ≡ fault_behind r (steps + 1) (after outs) new)
-          → IfOk found (λ r. fault_from (OfStep n o ∷ []) (word ∷ old) ≡ fault_behind r (n + 1) (o + outs_of t) new)
+          → IfOk found (λ r. (v steps outs : ℕ) → fault_from (expected_in (Some s) v steps outs) old ≡ fault_behind r v (steps + 1) (after outs) new)
+          → IfOk found (λ r. (v : ℕ) → fault_from (OfStep v n o ∷ []) (word ∷ old) ≡ fault_behind r v (n + 1) (o + outs_of t) new)
       fits_if (Err f) took fit = tt
-      fits_if (Ok r) took fit = behind ∙ fit n o ∙ ap (λ (m : ℕ). fault_behind r (n + 1) m new) took.2
+      fits_if (Ok r) took fit = λ v. behind v ∙ fit v n o ∙ ap (λ (m : ℕ). fault_behind r v (n + 1) m new) took.2
 
   -- a fault of what is after the word is one of the step
-  pub fails_so : IfErr result (λ f. (steps outs : ℕ) → fault_from (expected_in (Some s) steps outs) old ≡ Some f)
-      → IfErr result (λ f. IsFault f (fault_from (OfStep n o ∷ []) (word ∷ old)))
+  pub fails_so : IfErr result (λ f. (v steps outs : ℕ) → fault_from (expected_in (Some s) v steps outs) old ≡ Some f)
+      → IfErr result (λ f. (v : ℕ) → IsFault f (fault_from (OfStep v n o ∷ []) (word ∷ old)))
   fails_so failed = fails_if result failed
     where
-      fails_if : (found : Result Bool LineFault) → IfErr found (λ f. (steps outs : ℕ) → fault_from (expected_in (Some s) steps outs) old ≡ Some f)
-          → IfErr found (λ f. IsFault f (fault_from (OfStep n o ∷ []) (word ∷ old)))
+      fails_if : (found : Result Bool LineFault) → IfErr found (λ f. (v steps outs : ℕ) → fault_from (expected_in (Some s) v steps outs) old ≡ Some f)
+          → IfErr found (λ f. (v : ℕ) → IsFault f (fault_from (OfStep v n o ∷ []) (word ∷ old)))
       fails_if (Ok r) failed = tt
-      fails_if (Err f) failed = is_fault f _ (behind ∙ failed n o)
+      fails_if (Err f) failed = λ v. is_fault f _ (behind v ∙ failed v n o)
 
 -- one more step after a bar
 pub one_more : (all before left : List (List ℕ)) (found more : List RawStep) (s : RawStep) → codes "|" ∷ all ≡ flat_map further_step found ++ codes "|" ∷ before
@@ -137,11 +139,11 @@ each_more found more s each here is = subst (AllByRecursion IsStep) (sym is) (wi
     with_last (x ∷ xs) h = (h.0, with_last xs h.1)
 
 -- what is left has the fault of the whole
-pub fits_more : (all before after left : List (List ℕ)) (len old new outs count made : ℕ)
-    → fault_from (OfStep 0 0 ∷ []) all ≡ fault_from (OfStep len outs ∷ []) before → before ≡ after
-    → fault_from (OfStep old outs ∷ []) after ≡ fault_from (OfStep (old + 1) (outs + made) ∷ []) left
-    → old ≡ len → new ≡ len + 1 → count ≡ made → fault_from (OfStep 0 0 ∷ []) all ≡ fault_from (OfStep new (outs + count) ∷ []) left
-fits_more all before after left len old new outs count made so at fit is one more =
+pub fits_more : (v : ℕ) (all before after left : List (List ℕ)) (len old new outs count made : ℕ)
+    → fault_from (OfStep v 0 0 ∷ []) all ≡ fault_from (OfStep v len outs ∷ []) before → before ≡ after
+    → fault_from (OfStep v old outs ∷ []) after ≡ fault_from (OfStep v (old + 1) (outs + made) ∷ []) left
+    → old ≡ len → new ≡ len + 1 → count ≡ made → fault_from (OfStep v 0 0 ∷ []) all ≡ fault_from (OfStep v new (outs + count) ∷ []) left
+fits_more v all before after left len old new outs count made so at fit is one more =
     let next : old + 1 ≡ new = omega arith in
-    so ∙ ap (λ (n : ℕ). fault_from (OfStep n outs ∷ []) before) (sym is) ∙ ap (fault_from (OfStep old outs ∷ [])) at ∙ fit
-    ∙ ap (λ (n : ℕ). fault_from (OfStep n (outs + made) ∷ []) left) next ∙ ap (λ (m : ℕ). fault_from (OfStep new (outs + m) ∷ []) left) (sym more)
+    so ∙ ap (λ (n : ℕ). fault_from (OfStep v n outs ∷ []) before) (sym is) ∙ ap (fault_from (OfStep v old outs ∷ [])) at ∙ fit
+    ∙ ap (λ (n : ℕ). fault_from (OfStep v n (outs + made) ∷ []) left) next ∙ ap (λ (m : ℕ). fault_from (OfStep v new (outs + m) ∷ []) left) (sym more)

@@ -7,19 +7,17 @@ use Rattle.std.proofs.lemmas.Bool.{cases_Bool, cond-true, cond-false, eqb-true, 
 use Rattle.line_words.specs.Words.{plain, signed_of, is_name}
 use Rattle.line_words.specs.Access.{letter_if, letters, access_word, IsAccess, is_in_order, is_letters, before_colon, after_colon, access_fault}
 use Rattle.line_words.specs.Faults.{unless, or_else}
-use Rattle.log_text.specs.Fault.{kind_named, register_fault, row_fault}
-use Rattle.log_text.specs.Statement.{kind_word, row_word, IsRegister, IsRowNumber}
+use Rattle.log_text.specs.Fault.{register_fault, row_fault}
+use Rattle.log_text.specs.Statement.{row_word, IsRegister, IsRowNumber}
 use Rattle.line_words.specs.declared.fault.LineFault.{LineFault}
 use Rattle.line_words.specs.declared.fault.LineFault.TheVariants.{UnknownWord, BadNumber, BadName, BadRegister}
 use Rattle.line_words.specs.declared.access.RawAccess.{RawAccess}
-use Rattle.model_base.specs.declared.deed.Kind.{Kind}
 use Rattle.model_base.specs.declared.deed.Kinds.{Kinds}
 use Rattle.model_base.specs.declared.statement.RowName.{RowName}
 use Rattle.model_base.specs.declared.statement.RowName.TheVariants.{Number, Held}
 use Rattle.model_base.specs.Body.{fits_64_bits}
 use Rattle.line_words.proofs.Plain.{plain_some}
 use Rattle.line_words.proofs.Whole.{whole_some}
-use Rattle.log_text.proofs.KindWords.{named_kind}
 use Rattle.line_words.proofs.AccessLemmas.{order_nil, access_is}
 
 -- a word spells a value of this kind
@@ -73,11 +71,6 @@ row_spells (b ∷ bs) e = elim (cases_Bool (eqb b 114)) [
       let r = plain_spells (b ∷ bs) (unless_none (is_some (plain (b ∷ bs))) BadNumber f) in
       record { value = Number r.value; same = r.same; good = r.good }
 ]
-
-pub kind_spells : (w : List ℕ) → unless (is_some (kind_named w)) UnknownWord ≡ None → Spells Kind kind_word (λ k. Unit {0}) w
-kind_spells w e =
-    let s = some_of (kind_named w) (unless_none (is_some (kind_named w)) UnknownWord e) in
-    record { value = s.0; same = (named_kind w s.0 s.1).0; good = tt }
 
 -- the first letter, if it is there, and the others
 letter_first : (c : ℕ) (cs bs : List ℕ) → is_in_order (c ∷ cs) bs ≡ true → (b : Bool) × (rest : List ℕ) × (bs ≡ letter_if b c ++ rest) × (is_in_order cs rest ≡ true)

@@ -1,43 +1,46 @@
 -- Which fault a line has: of its words, the first that doesn't fit what is expected there decides.
 use Rattle.std.specs.Prelude.{ℕ, ◌+◌, Bool, not, true, false, ◌&&◌, ◌||◌, List, [], ◌∷◌, ◌++◌, length, nat_lt, ◌==◌, bytes_eq, is_some, if◌then◌else◌, Option, Some, None, codes}
-use Rattle.std.specs.List.{list_all}
+use Rattle.std.specs.List.{list_all, list_any}
 use Rattle.line_words.specs.Words.{words, plain, signed_of, is_name, is_printable}
 use Rattle.line_words.specs.StepWords.{step_name}
 use Rattle.line_words.specs.Faults.{unless, or_else}
 use Rattle.line_words.specs.Access.{access_fault}
 use Rattle.line_words.specs.declared.fault.LineFault.{LineFault}
-use Rattle.line_words.specs.declared.fault.LineFault.TheVariants.{TooLong, NotAscii, Empty, UnknownWord, BadNumber, BadName, TooManySteps, TooManyAccesses, BadRegister}
-use Rattle.model_base.specs.declared.limits.TheConstants.{MOST_ACCESSES, MOST_COLUMNS, MOST_OUTPUTS, MOST_REGISTERS, MOST_STEPS}
+use Rattle.line_words.specs.declared.fault.LineFault.TheVariants.{TooLong, NotAscii, Empty, UnknownWord, BadNumber, BadName, TooManySteps, TooManyAccesses, BadRegister, TooManyGrantees, DuplicateGrantee}
+use Rattle.model_base.specs.declared.limits.TheConstants.{MOST_ACCESSES, MOST_COLUMNS, MOST_GRANTEES, MOST_OUTPUTS, MOST_REGISTERS, MOST_STEPS}
 use Rattle.line_io.specs.declared.limits.TheConstants.{MOST_LINE_BYTES}
 use Rattle.model_base.specs.declared.deed.Kind.{Kind}
 use Rattle.model_base.specs.declared.deed.Kind.TheVariants as kind
+use Rattle.log_text.specs.declared.version.Version.{Version}
+use Rattle.log_text.specs.declared.version.Version.TheVariants.{One}
+use Rattle.log_text.specs.Versions.{parts_of, version_number}
 use Rattle.line_words.specs.declared.step_name.StepName.{StepName}
 use Rattle.line_words.specs.declared.step_name.StepName.TheVariants.{Const, Compute, Has, Load, Store, Insert, Delete, Check, Skip, Out}
 
--- what may come next in a line
+-- what may come next in a line; where a deed may come, in the grammar of which version
 pub data Expected : Type 0 where
   OfName : Expected
   OfPlain : Expected
   OfWhole : Expected
   OfRegister : Expected
   OfRow : Expected
-  OfKind : Expected
-  -- a name or PUBLIC; in a grant OPTION may be after a name
-  OfGrantee : (grants : Bool) → Expected
+  OfKinds : (version : ℕ) → Expected
+  -- names or PUBLIC; in a grant OPTION may be after names
+  OfGrantees : (version : ℕ) (grants : Bool) → Expected
   -- OPTION or the end
   OfOption : Expected
   -- CREATE, RUN, GRANT or REVOKE
-  OfForm : Expected
+  OfForm : (version : ℕ) → Expected
   -- the first access
   OfAccess : Expected
   -- a further access, when there are this many, or a bar or the end
-  OfNext : (accesses : ℕ) → Expected
+  OfNext : (version accesses : ℕ) → Expected
   -- a step's word, when there are this many steps and outs, or GRANT or REVOKE
-  OfStep : (steps outs : ℕ) → Expected
+  OfStep : (version steps outs : ℕ) → Expected
   -- a bar or the end
-  OfBar : (steps outs : ℕ) → Expected
+  OfBar : (version steps outs : ℕ) → Expected
   -- a further register of an INSERT, when there are this many, or a bar or the end
-  OfMore : (registers steps outs : ℕ) → Expected
+  OfMore : (version registers steps outs : ℕ) → Expected
 
 abbrev pub is_bar : List ℕ → Bool
 is_bar w = bytes_eq w (codes "|")
@@ -58,6 +61,28 @@ kind_named w =
     else if bytes_eq w (codes "DELETE") then Some kind.Delete
     else None
 
+-- the words of the kinds, in order
+abbrev pub kind_words : List (List ℕ)
+kind_words = codes "READ" ∷ codes "INSERT" ∷ codes "UPDATE" ∷ codes "DELETE" ∷ []
+
+-- the words stand among these, in their order
+abbrev pub stand_among : List (List ℕ) → List (List ℕ) → Bool
+stand_among [] [] = true
+stand_among [] (w ∷ ws) = false
+stand_among (c ∷ cs) [] = true
+stand_among (c ∷ cs) (w ∷ ws) = if bytes_eq w c then stand_among cs ws else stand_among cs (w ∷ ws)
+
+-- the fault of a grantee's word after these: it is one too many, is neither a name nor PUBLIC, or is one of them
+abbrev pub grantee_fault : List (List ℕ) → List ℕ → Option LineFault
+grantee_fault earlier w =
+    or_else (unless (nat_lt (length earlier) MOST_GRANTEES) TooManyGrantees)
+    (or_else (unless (is_name w || is_public w) BadName) (unless (not (list_any (bytes_eq w) earlier)) DuplicateGrantee))
+
+-- the grantees from left to right, after those before them
+abbrev pub grantees_fault : List (List ℕ) → List (List ℕ) → Option LineFault
+grantees_fault earlier [] = None
+grantees_fault earlier (w ∷ ws) = or_else (grantee_fault earlier w) (grantees_fault (earlier ++ w ∷ []) ws)
+
 -- a step too many, or an OUT too many
 abbrev pub step_fault : Option StepName → ℕ → ℕ → Option LineFault
 step_fault None steps outs = Some UnknownWord
@@ -65,29 +90,29 @@ step_fault (Some Out) steps outs = unless (nat_lt steps MOST_STEPS && nat_lt out
 step_fault (Some _) steps outs = unless (nat_lt steps MOST_STEPS) TooManySteps
 
 -- what follows the word of a step, when there are this many steps and outs before it
-abbrev pub expected_in : Option StepName → ℕ → ℕ → List Expected
-expected_in None steps outs = []
-expected_in (Some Const) steps outs = OfRegister ∷ OfWhole ∷ OfBar (steps + 1) outs ∷ []
-expected_in (Some (Compute operation)) steps outs = OfRegister ∷ OfRegister ∷ OfRegister ∷ OfBar (steps + 1) outs ∷ []
-expected_in (Some Has) steps outs = OfRegister ∷ OfName ∷ OfRow ∷ OfBar (steps + 1) outs ∷ []
-expected_in (Some Load) steps outs = OfRegister ∷ OfName ∷ OfRow ∷ OfPlain ∷ OfBar (steps + 1) outs ∷ []
-expected_in (Some Store) steps outs = OfName ∷ OfRow ∷ OfPlain ∷ OfRegister ∷ OfBar (steps + 1) outs ∷ []
-expected_in (Some Insert) steps outs = OfName ∷ OfRow ∷ OfRegister ∷ OfMore 1 (steps + 1) outs ∷ []
-expected_in (Some Delete) steps outs = OfName ∷ OfRow ∷ OfBar (steps + 1) outs ∷ []
-expected_in (Some Check) steps outs = OfRegister ∷ OfBar (steps + 1) outs ∷ []
-expected_in (Some Skip) steps outs = OfRegister ∷ OfPlain ∷ OfBar (steps + 1) outs ∷ []
-expected_in (Some Out) steps outs = OfRegister ∷ OfBar (steps + 1) (outs + 1) ∷ []
+abbrev pub expected_in : Option StepName → ℕ → ℕ → ℕ → List Expected
+expected_in None version steps outs = []
+expected_in (Some Const) version steps outs = OfRegister ∷ OfWhole ∷ OfBar version (steps + 1) outs ∷ []
+expected_in (Some (Compute operation)) version steps outs = OfRegister ∷ OfRegister ∷ OfRegister ∷ OfBar version (steps + 1) outs ∷ []
+expected_in (Some Has) version steps outs = OfRegister ∷ OfName ∷ OfRow ∷ OfBar version (steps + 1) outs ∷ []
+expected_in (Some Load) version steps outs = OfRegister ∷ OfName ∷ OfRow ∷ OfPlain ∷ OfBar version (steps + 1) outs ∷ []
+expected_in (Some Store) version steps outs = OfName ∷ OfRow ∷ OfPlain ∷ OfRegister ∷ OfBar version (steps + 1) outs ∷ []
+expected_in (Some Insert) version steps outs = OfName ∷ OfRow ∷ OfRegister ∷ OfMore version 1 (steps + 1) outs ∷ []
+expected_in (Some Delete) version steps outs = OfName ∷ OfRow ∷ OfBar version (steps + 1) outs ∷ []
+expected_in (Some Check) version steps outs = OfRegister ∷ OfBar version (steps + 1) outs ∷ []
+expected_in (Some Skip) version steps outs = OfRegister ∷ OfPlain ∷ OfBar version (steps + 1) outs ∷ []
+expected_in (Some Out) version steps outs = OfRegister ∷ OfBar version (steps + 1) (outs + 1) ∷ []
 
 -- what follows GRANT, and what REVOKE: nothing is after a deed
-abbrev pub expected_in_grant : List Expected
-expected_in_grant = OfKind ∷ OfName ∷ OfGrantee true ∷ []
+abbrev pub expected_in_grant : ℕ → List Expected
+expected_in_grant version = OfKinds version ∷ OfName ∷ OfGrantees version true ∷ []
 
-abbrev pub expected_in_revoke : List Expected
-expected_in_revoke = OfKind ∷ OfName ∷ OfGrantee false ∷ []
+abbrev pub expected_in_revoke : ℕ → List Expected
+expected_in_revoke version = OfKinds version ∷ OfName ∷ OfGrantees version false ∷ []
 
 -- what follows the word that begins a deed
-abbrev pub expected_in_deed : List ℕ → List Expected
-expected_in_deed w = if bytes_eq w (codes "GRANT") then expected_in_grant else expected_in_revoke
+abbrev pub expected_in_deed : ℕ → List ℕ → List Expected
+expected_in_deed version w = if bytes_eq w (codes "GRANT") then expected_in_grant version else expected_in_revoke version
 
 abbrev pub register_fault : Option ℕ → Option LineFault
 register_fault None = Some BadNumber
@@ -104,15 +129,16 @@ misfit OfPlain w = unless (is_some (plain w)) BadNumber
 misfit OfWhole w = unless (is_some (signed_of w)) BadNumber
 misfit OfRegister w = register_fault (plain w)
 misfit OfRow w = row_fault w
-misfit OfKind w = unless (is_some (kind_named w)) UnknownWord
-misfit (OfGrantee grants) w = unless (is_name w || is_public w) BadName
+misfit (OfKinds version) w = unless (stand_among kind_words (parts_of version w)) UnknownWord
+misfit (OfGrantees version grants) w = grantees_fault [] (parts_of version w)
 misfit OfOption w = unless (bytes_eq w (codes "OPTION")) UnknownWord
-misfit OfForm w = unless (bytes_eq w (codes "CREATE") || bytes_eq w (codes "RUN") || is_deed w) UnknownWord
+misfit (OfForm version) w = unless (bytes_eq w (codes "CREATE") || bytes_eq w (codes "RUN") || is_deed w) UnknownWord
 misfit OfAccess w = access_fault w
-misfit (OfNext accesses) w = if is_bar w then None else if nat_lt accesses MOST_ACCESSES then access_fault w else Some TooManyAccesses
-misfit (OfStep steps outs) w = if is_deed w then None else step_fault (step_name w) steps outs
-misfit (OfBar steps outs) w = unless (is_bar w) UnknownWord
-misfit (OfMore registers steps outs) w =
+misfit (OfNext version accesses) w =
+    if is_bar w then None else if nat_lt accesses MOST_ACCESSES then access_fault w else Some TooManyAccesses
+misfit (OfStep version steps outs) w = if is_deed w then None else step_fault (step_name w) steps outs
+misfit (OfBar version steps outs) w = unless (is_bar w) UnknownWord
+misfit (OfMore version registers steps outs) w =
     if is_bar w then None else if nat_lt registers MOST_COLUMNS then register_fault (plain w) else Some UnknownWord
 
 -- what a word that fits adds to what is expected
@@ -122,25 +148,28 @@ expected_behind OfPlain w = []
 expected_behind OfWhole w = []
 expected_behind OfRegister w = []
 expected_behind OfRow w = []
-expected_behind OfKind w = []
-expected_behind (OfGrantee grants) w = if grants && not (is_public w) then OfOption ∷ [] else []
+expected_behind (OfKinds version) w = []
+expected_behind (OfGrantees version grants) w =
+    if grants && not (list_any is_public (parts_of version w)) then OfOption ∷ [] else []
 expected_behind OfOption w = []
-expected_behind OfForm w =
+expected_behind (OfForm version) w =
     if bytes_eq w (codes "CREATE") then OfName ∷ OfPlain ∷ []
-    else if bytes_eq w (codes "RUN") then OfAccess ∷ OfNext 1 ∷ []
-    else expected_in_deed w
+    else if bytes_eq w (codes "RUN") then OfAccess ∷ OfNext version 1 ∷ []
+    else expected_in_deed version w
 expected_behind OfAccess w = []
-expected_behind (OfNext accesses) w = if is_bar w then OfStep 0 0 ∷ [] else OfNext (accesses + 1) ∷ []
-expected_behind (OfStep steps outs) w = if is_deed w then expected_in_deed w else expected_in (step_name w) steps outs
-expected_behind (OfBar steps outs) w = OfStep steps outs ∷ []
-expected_behind (OfMore registers steps outs) w = if is_bar w then OfStep steps outs ∷ [] else OfMore (registers + 1) steps outs ∷ []
+expected_behind (OfNext version accesses) w = if is_bar w then OfStep version 0 0 ∷ [] else OfNext version (accesses + 1) ∷ []
+expected_behind (OfStep version steps outs) w =
+    if is_deed w then expected_in_deed version w else expected_in (step_name w) version steps outs
+expected_behind (OfBar version steps outs) w = OfStep version steps outs ∷ []
+expected_behind (OfMore version registers steps outs) w =
+    if is_bar w then OfStep version steps outs ∷ [] else OfMore version (registers + 1) steps outs ∷ []
 
 -- the line may end in place of such a word
 abbrev pub may_end : Expected → Bool
 may_end OfOption = true
-may_end (OfNext accesses) = true
-may_end (OfBar steps outs) = true
-may_end (OfMore registers steps outs) = true
+may_end (OfNext version accesses) = true
+may_end (OfBar version steps outs) = true
+may_end (OfMore version registers steps outs) = true
 may_end p = false
 
 -- from left to right the first word that doesn't fit decides; a missing word counts as the empty one
@@ -151,16 +180,20 @@ fault_from (p ∷ ps) [] = if may_end p then None else misfit p []
 fault_from (p ∷ ps) (w ∷ ws) = or_else (misfit p w) (fault_from (expected_behind p w ++ ps) ws)
 
 -- the fault of the words of a line, if they have one
-abbrev pub words_fault : List ℕ → Option LineFault
-words_fault line = fault_from (OfName ∷ OfForm ∷ []) (words line)
+abbrev pub words_fault : Version → List ℕ → Option LineFault
+words_fault version line = fault_from (OfName ∷ OfForm (version_number version) ∷ []) (words line)
 
--- the fault of a line, if it has one
-abbrev pub line_fault : List ℕ → Option LineFault
-line_fault line =
+-- the fault of a line of a version, if it has one
+abbrev pub fault_in : Version → List ℕ → Option LineFault
+fault_in version line =
     if nat_lt MOST_LINE_BYTES (length line) then Some TooLong
     else if length line == 0 then Some Empty
-    else if list_all is_printable line then words_fault line
+    else if list_all is_printable line then words_fault version line
     else Some NotAscii
+
+-- the same of version 1
+abbrev pub line_fault : List ℕ → Option LineFault
+line_fault line = fault_in One line
 
 -- the fault of a line as a whole, whatever its words are: its length, or a byte that isn't printable
 abbrev pub whole_fault : List ℕ → Option LineFault

@@ -1,3 +1,5 @@
+pub mod Versions
+pub mod Grantees
 pub mod Statement
 pub mod Fault
 pub mod Parsing

@@ -1,11 +1,13 @@
 -- Statements as a line spells them, and which line reads as which.
-use Rattle.std.specs.Prelude.{◌≡◌, ℕ, ◌<◌, ◌≤◌, ◌^◌, ◌&&◌, not, Bool, true, false, Option, Some, None, List, [], ◌∷◌, ◌++◌, length, map, codes, if◌then◌else◌, IsTrue}
+use Rattle.std.specs.Prelude.{◌≡◌, ℕ, ◌<◌, ◌≤◌, ◌^◌, ◌&&◌, not, Bool, Option, Some, None, List, [], ◌∷◌, ◌++◌, length, map, codes, if◌then◌else◌, IsTrue}
 use Rattle.std.specs.Fmt.{decimal, signed_decimal}
-use Rattle.std.specs.List.{join_with_byte, flat_map, AllByRecursion, sum_by}
+use Rattle.std.specs.List.{join_with_byte, flat_map, list_any, AllByRecursion, sum_by}
 use Rattle.model_base.specs.declared.limits.TheConstants.{MOST_ACCESSES, MOST_COLUMNS, MOST_OUTPUTS, MOST_REGISTERS, MOST_STEPS}
 use Rattle.line_io.specs.declared.limits.TheConstants.{MOST_LINE_BYTES}
 use Rattle.model_base.specs.declared.deed.Kind.{Kind}
 use Rattle.model_base.specs.declared.deed.Kind.TheVariants as kind
+use Rattle.model_base.specs.declared.deed.Kinds.{Kinds}
+use Rattle.model_base.specs.Outcomes.{kinds_in}
 use Rattle.model_base.specs.declared.statement.RowName.{RowName}
 use Rattle.model_base.specs.declared.statement.RowName.TheVariants.{Number, Held}
 use Rattle.line_words.specs.StepWords.{operation_word}
@@ -13,12 +15,14 @@ use Rattle.line_words.specs.Words.{words, is_name}
 use Rattle.line_words.specs.Access.{access_word, IsAccess}
 use Rattle.log_text.specs.declared.statement.RawDeed.{RawDeed}
 use Rattle.log_text.specs.declared.statement.RawDeed.TheVariants.{Grant, Revoke}
-use Rattle.log_text.specs.declared.statement.RawGrantee.{RawGrantee}
-use Rattle.log_text.specs.declared.statement.RawGrantee.TheVariants.{Named, Public}
+use Rattle.log_text.specs.Grantees.{grantees_word, is_everyone, AreGrantees}
 use Rattle.log_text.specs.declared.statement.RawForm.{RawForm}
 use Rattle.log_text.specs.declared.statement.RawForm.TheVariants.{Create, Run, Deed}
 use Rattle.log_text.specs.declared.statement.RawStep.{RawStep}
 use Rattle.log_text.specs.declared.statement.RawStep.TheVariants.{Const, Compute, Has, Load, Store, Insert, Delete, Check, Skip, Out}
+use Rattle.log_text.specs.declared.version.Version.{Version}
+use Rattle.log_text.specs.declared.version.Version.TheVariants.{One}
+use Rattle.log_text.specs.Versions.{MayHaveParts, version_number}
 use Rattle.model_base.specs.Body.{fits_64_bits}
 
 -- a user, and what the user asks for
@@ -55,24 +59,19 @@ kind_word kind.Insert = codes "INSERT"
 kind_word kind.Update = codes "UPDATE"
 kind_word kind.Delete = codes "DELETE"
 
+-- kinds = kind {"," kind}, in order, each once at most
+abbrev pub kinds_word : Kinds → List ℕ
+kinds_word kinds = join_with_byte 44 (map kind_word (kinds_in kinds))
+
 -- [" OPTION"]
 abbrev pub option_words : Bool → List (List ℕ)
 option_words option = if option then codes "OPTION" ∷ [] else []
 
--- grantee = name | "PUBLIC"
-abbrev pub grantee_word : RawGrantee → List ℕ
-grantee_word (Named name) = name
-grantee_word Public = codes "PUBLIC"
-
--- whether it is PUBLIC
-abbrev pub is_everyone : RawGrantee → Bool
-is_everyone (Named name) = false
-is_everyone Public = true
-
--- "GRANT " kind " " name " " name [" OPTION"] | "GRANT " kind " " name " PUBLIC" | "REVOKE " kind " " name " " grantee
+-- "GRANT " kinds " " name " " grantees [" OPTION"] | "REVOKE " kinds " " name " " grantees
 abbrev pub deed_words : RawDeed → List (List ℕ)
-deed_words (Grant kind table grantee option) = codes "GRANT" ∷ kind_word kind ∷ table ∷ grantee_word grantee ∷ option_words option
-deed_words (Revoke kind table grantee) = codes "REVOKE" ∷ kind_word kind ∷ table ∷ grantee_word grantee ∷ []
+deed_words (Grant kinds table grantees option) =
+    codes "GRANT" ∷ kinds_word kinds ∷ table ∷ grantees_word grantees ∷ option_words option
+deed_words (Revoke kinds table grantees) = codes "REVOKE" ∷ kinds_word kinds ∷ table ∷ grantees_word grantees ∷ []
 
 -- [" | " deed]
 abbrev pub last_deed : Option RawDeed → List (List ℕ)
@@ -125,21 +124,28 @@ abbrev pub outs_of : RawStep → ℕ
 outs_of (Out of) = 1
 outs_of _ = 0
 
--- the name of a grantee is a name
-abbrev pub IsGrantee : RawGrantee → Type 0
-IsGrantee (Named name) = IsTrue (is_name name)
-IsGrantee Public = Unit {0}
-
--- the names of a deed are names, and PUBLIC has no option
+-- there is a kind, the names of a deed are names, and a list with PUBLIC has no option
 abbrev pub IsDeed : RawDeed → Type 0
-IsDeed (Grant kind table grantee option) =
-    IsTrue (is_name table) × IsGrantee grantee × IsTrue (not (option && is_everyone grantee))
-IsDeed (Revoke kind table grantee) = IsTrue (is_name table) × IsGrantee grantee
+IsDeed (Grant kinds table grantees option) =
+    (1 ≤ length (kinds_in kinds)) × IsTrue (is_name table) × AreGrantees grantees × IsTrue (not (option && list_any is_everyone grantees))
+IsDeed (Revoke kinds table grantees) = (1 ≤ length (kinds_in kinds)) × IsTrue (is_name table) × AreGrantees grantees
+
+-- without lists a deed has one kind and one grantee
+abbrev pub IsDeedOf : ℕ → RawDeed → Type 0
+IsDeedOf version (Grant kinds table grantees option) =
+    MayHaveParts version (length (kinds_in kinds)) × MayHaveParts version (length grantees)
+IsDeedOf version (Revoke kinds table grantees) =
+    MayHaveParts version (length (kinds_in kinds)) × MayHaveParts version (length grantees)
 
 -- those of the deed after the steps, if there is one
 abbrev pub IsLastDeed : Option RawDeed → Type 0
 IsLastDeed None = Unit {0}
 IsLastDeed (Some deed) = IsDeed deed
+
+-- those of the deed after the steps, if there is one
+abbrev pub IsLastDeedOf : ℕ → Option RawDeed → Type 0
+IsLastDeedOf version None = Unit {0}
+IsLastDeedOf version (Some deed) = IsDeedOf version deed
 
 -- a table with a number of columns below 2^32, or accesses and steps, some of them OUT, within their limits, and perhaps
 -- a deed, or a deed
@@ -149,13 +155,24 @@ IsFormInGrammar (Run accesses steps deed) = (1 ≤ length accesses) × (length a
     × (length steps ≤ MOST_STEPS) × (sum_by outs_of steps ≤ MOST_OUTPUTS) × AllByRecursion IsStep steps × IsLastDeed deed
 IsFormInGrammar (Deed deed) = IsDeed deed
 
--- the statement has a line of at most `MOST_LINE_BYTES`
+-- without lists its deed, if it has one, has none
+abbrev pub IsFormOf : ℕ → RawForm → Type 0
+IsFormOf version (Create table columns) = Unit {0}
+IsFormOf version (Run accesses steps deed) = IsLastDeedOf version deed
+IsFormOf version (Deed deed) = IsDeedOf version deed
+
+-- the statement has a line of at most `MOST_LINE_BYTES`, and is of some version
 pub record IsInGrammar (s : Sentence) : Type 0 where
   pub user : IsTrue (is_name s.user)
   pub form : IsFormInGrammar s.form
   pub short : length (spelling s) ≤ MOST_LINE_BYTES
 
--- the line's words are those of the statement
-pub record Reads (line : List ℕ) (s : Sentence) : Type 0 where
+-- the line's words are those of the statement, which is in the grammar and of the version
+pub record ReadsIn (version : Version) (line : List ℕ) (s : Sentence) : Type 0 where
   pub same : words line ≡ statement_words s
   pub grammar : IsInGrammar s
+  pub lists : IsFormOf (version_number version) s.form
+
+-- the same of version 1
+abbrev pub Reads : List ℕ → Sentence → Type 0
+Reads line s = ReadsIn One line s

@@ -1,9 +1,14 @@
 //! The words of the four kinds.
-ghost use Rattle.std.specs.Prelude.{◌≡◌};
+ghost use Rattle.std.specs.Prelude.{◌≡◌, ◌∷◌, [], map, false, true, MatchOption};
+ghost use Rattle.line_words.specs.Words.{comma_pieces};
+ghost use Rattle.model_base.specs.Outcomes.{kinds_in};
 ghost use Rattle.log_text.specs.Statement.{kind_word};
-ghost use Rattle.log_text.specs.Fault.{kind_named};
+ghost use Rattle.log_text.specs.Versions.{parts_of, version_number};
+ghost use Rattle.log_text.specs.Fault.{kind_named, kind_words, stand_among};
 
-use model_base::Kind;
+use crate::version::Version;
+use line_words::Pieces;
+use model_base::{Kind, Kinds};
 
 /// The word of a kind.
 pub fn kind_word(kind: Kind) -> &'static str
@@ -28,5 +33,50 @@ pub(crate) fn kind_of(word: &[u8]) -> Option<Kind>
         b"UPDATE" => Some(Kind::Update),
         b"DELETE" => Some(Kind::Delete),
         _ => None,
+    }
+}
+
+/// The kinds whose words the pieces of a word are, in order.
+fn listed_kinds(word: &[u8]) -> Option<Kinds>
+    ensures { MatchOption result (stand_among kind_words (comma_pieces word.now) ≡ false)
+        (λ k. (comma_pieces word.now ≡ map kind_word (kinds_in k)) × (stand_among kind_words (comma_pieces word.now) ≡ true)) }
+{
+    let mut left = Pieces::of(word);
+    let read = left.takes(b"READ");
+    let insert = left.takes(b"INSERT");
+    let update = left.takes(b"UPDATE");
+    let delete = left.takes(b"DELETE");
+    if !left.is_empty() {
+        return None;
+    }
+    Some(Kinds {
+        read,
+        insert,
+        update,
+        delete,
+    })
+}
+
+/// The one kind whose word a word is.
+#[tactic(auto, using(crate::proofs::KindLists::one_kind, crate::proofs::KindLists::no_kind))]
+fn one_kind(word: &[u8]) -> Option<Kinds>
+    ensures { MatchOption result (stand_among kind_words (word.now ∷ []) ≡ false)
+        (λ k. (word.now ∷ [] ≡ map kind_word (kinds_in k)) × (stand_among kind_words (word.now ∷ []) ≡ true)) }
+{
+    match kind_of(word) {
+        Some(kind) => Some(Kinds::only(kind)),
+        None => None,
+    }
+}
+
+/// The kinds that a word lists.
+pub(crate) fn kinds_of(version: Version, word: &[u8]) -> Option<Kinds>
+    ensures { MatchOption result (stand_among kind_words (parts_of (version_number version) word.now) ≡ false)
+        (λ k. (parts_of (version_number version) word.now ≡ map kind_word (kinds_in k))
+        × (stand_among kind_words (parts_of (version_number version) word.now) ≡ true)) }
+{
+    match version {
+        Version::One => one_kind(word),
+        Version::Two => listed_kinds(word),
     }
 }

@@ -5,8 +5,9 @@ mod computing;
 mod deeds;
 mod fields;
 mod form;
+mod granting;
 mod line;
 mod steps;
 mod touching;
 
-pub use line::{one_spelling, parse_line, read_into, read_line};
+pub use line::{one_spelling, parse_line, parse_line_in, read_into, read_line, reads_in_both};

@@ -1,17 +1,22 @@
 //! Statements printed as the lines that they were read from.
-ghost use Rattle.std.specs.Prelude.{◌≡◌, ◌++◌, ◌∷◌, [], ◌<◌, IfOk, OnOk, List, ℕ, string_bytes, codes, map};
+ghost use Rattle.std.specs.Prelude.{◌≡◌, ◌++◌, ◌||◌, ◌∷◌, [], ◌<◌, IfOk, OnOk, List, ℕ, string_bytes, codes, map};
 ghost use Rattle.std.specs.Fmt.{decimal};
 ghost use Rattle.std.specs.List.{flat_map};
+ghost use Rattle.model_base.specs.Outcomes.{kind_if};
+ghost use Rattle.model_base.specs.Privileges.{has_kind};
 ghost use Rattle.line_words.specs.StepWords.{operation_word};
+ghost use Rattle.line_words.specs.Words.{words};
 ghost use Rattle.line_words.specs.Access.{letters, letter_if, access_word};
-ghost use Rattle.log_text.specs.Statement.{spelling, deed_words, further_step, last_deed, row_word, Reads};
-ghost use Rattle.log_text.specs.Parsing.{spaced};
+ghost use Rattle.log_text.specs.Statement.{spelling, deed_words, further_step, kinds_word, last_deed, row_word, statement_words};
+ghost use Rattle.log_text.specs.Grantees.{grantees_word};
+ghost use Rattle.log_text.specs.Parsing.{kind_text, spaced};
 ghost use Rattle.log_text.specs.declared.statement.RawStep.{RawStep};
 
+use crate::grantees::RawGrantees;
 use crate::kind::kind_word;
 use crate::statement::{RawDeed, RawForm, RawStatement, RawStep};
 use line_words::{Name, RawAccess};
-use model_base::{Kinds, Operation, Register, RowName};
+use model_base::{Kind, Kinds, Operation, Register, RowName};
 use std::alloc::{AllocError, Global};
 
 /// Appends the row, as a step gives it.
@@ -241,38 +246,77 @@ fn push_steps(text: &mut String, steps: &[RawStep<'_>]) -> Result<(), AllocError
     Ok(())
 }
 
+/// Appends the kind and what is between it and the one before it, if the kind is one of these.
+fn push_kind(
+    text: &mut String,
+    kinds: Kinds,
+    kind: Kind,
+    is_later: bool,
+) -> Result<bool, AllocError>
+    ensures text { OnOk result (string_bytes text.new ≡ string_bytes text.old ++ kind_text is_later (kind_if kinds kind)) }
+    ensures later { IfOk result (λ later. later ≡ (is_later || has_kind kinds kind)) }
+{
+    if !kinds.contains(kind) {
+        return Ok(is_later);
+    }
+    if is_later {
+        text.push(',')?;
+    }
+    text.push_str(kind_word(kind))?;
+    Ok(true)
+}
+
+/// Appends the kinds, with commas between them.
+fn push_kinds(text: &mut String, kinds: Kinds) -> Result<(), AllocError>
+    ensures { OnOk result (string_bytes text.new ≡ string_bytes text.old ++ kinds_word kinds) }
+{
+    let later = push_kind(text, kinds, Kind::Read, false)?;
+    let later = push_kind(text, kinds, Kind::Insert, later)?;
+    let later = push_kind(text, kinds, Kind::Update, later)?;
+    push_kind(text, kinds, Kind::Delete, later)?;
+    Ok(())
+}
+
+/// Appends the kinds, a table and the grantees of a deed, each after a space.
+fn push_parties(
+    text: &mut String,
+    kinds: Kinds,
+    table: &Name<'_>,
+    grantees: &RawGrantees<'_>,
+) -> Result<(), AllocError>
+    ensures { OnOk result (string_bytes text.new
+        ≡ string_bytes text.old ++ spaced (kinds_word kinds ∷ table.now ∷ grantees_word grantees.now ∷ [])) }
+{
+    text.push(' ')?;
+    push_kinds(text, kinds)?;
+    write!(text, " {table} {}", grantees.word())?;
+    Ok(())
+}
+
 /// Appends a grant or a revocation, each word after a space.
 fn push_deed(text: &mut String, deed: &RawDeed<'_>) -> Result<(), AllocError>
     ensures { OnOk result (string_bytes text.new ≡ string_bytes text.old ++ spaced (deed_words deed.now)) }
 {
     match deed {
         RawDeed::Grant {
-            kind,
+            kinds,
             table,
-            grantee,
+            grantees,
             option,
         } => {
-            write!(
-                text,
-                " GRANT {} {table} {}",
-                kind_word(*kind),
-                grantee.word()
-            )?;
+            text.push_str(" GRANT")?;
+            push_parties(text, *kinds, table, grantees)?;
             if *option {
                 text.push_str(" OPTION")?;
             }
         }
         RawDeed::Revoke {
-            kind,
+            kinds,
             table,
-            grantee,
+            grantees,
         } => {
-            write!(
-                text,
-                " REVOKE {} {table} {}",
-                kind_word(*kind),
-                grantee.word()
-            )?;
+            text.push_str(" REVOKE")?;
+            push_parties(text, *kinds, table, grantees)?;
         }
     }
     Ok(())
@@ -322,8 +366,8 @@ fn deed_text(alloc: Global, user: &str, deed: &RawDeed<'_>) -> Result<String, Al
 pub fn print_statement(alloc: Global, statement: &RawStatement<'_>) -> Result<Vec<u8>, AllocError>
     // The line is the statement's words, joined by single spaces.
     ensures text { IfOk result (λ text. text.items ≡ spelling statement.now) }
-    // A line that reads as the statement is that line, byte for byte.
-    ensures back { IfOk result (λ text. (line : List ℕ) → Reads line statement.now → text.items ≡ line) }
+    // A line of which these are the words is that line, byte for byte.
+    ensures back { IfOk result (λ text. (line : List ℕ) → words line ≡ statement_words statement.now → text.items ≡ line) }
 {
     let user = statement.user();
     match statement.form() {

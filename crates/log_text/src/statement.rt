@@ -1,7 +1,8 @@
 //! Statements with names as text, as a line spells them.
 
+use crate::grantees::RawGrantees;
 use line_words::{Name, RawAccess};
-use model_base::{Items, Kind, Operation, Register, Registers, RowName};
+use model_base::{Items, Kinds, Operation, Register, Registers, RowName};
 use std::marker::Model;
 
 /// One step of a body, with its table's name.
@@ -56,42 +57,20 @@ pub enum RawStep<'a> {
     },
 }
 
-/// To whom a deed is: to the user of a name, or to PUBLIC.
-#[derive(Drop)]
-pub enum RawGrantee<'a> {
-    Named(Name<'a>),
-    Public,
-}
-
-impl<'a> RawGrantee<'a> {
-    ghost use Rattle.std.specs.Prelude.{◌≡◌};
-    ghost use Rattle.log_text.specs.Statement.{grantee_word};
-
-    /// Its word.
-    pub fn word(&self) -> &'a str
-        ensures { result.now ≡ grantee_word self.now }
-    {
-        match self {
-            RawGrantee::Named(name) => name.as_str(),
-            RawGrantee::Public => "PUBLIC",
-        }
-    }
-}
-
 /// A grant or a revocation. Its grantor is the statement's user.
 #[derive(Drop)]
 pub enum RawDeed<'a> {
-    /// With the option the grantee may grant further; PUBLIC never has it.
+    /// Of each kind to each grantee. With the option the grantees may grant further; a list with PUBLIC never has it.
     Grant {
-        kind: Kind,
+        kinds: Kinds,
         table: Name<'a>,
-        grantee: RawGrantee<'a>,
+        grantees: RawGrantees<'a>,
         option: bool,
     },
     Revoke {
-        kind: Kind,
+        kinds: Kinds,
         table: Name<'a>,
-        grantee: RawGrantee<'a>,
+        grantees: RawGrantees<'a>,
     },
 }
 

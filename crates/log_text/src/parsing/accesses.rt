@@ -1,5 +1,5 @@
 //! The accesses of a RUN.
-ghost use Rattle.std.specs.Prelude.{MatchBool, ◌≡◌, ◌∷◌, ◌++◌, ◌≤◌, [], vec_len, None, Some, IfOk, IfErr, codes, map};
+ghost use Rattle.std.specs.Prelude.{MatchBool, ◌≡◌, ◌∷◌, ◌++◌, ◌≤◌, [], vec_len, None, Some, ℕ, IfOk, IfErr, codes, map};
 ghost use Rattle.std.specs.List.{AllByRecursion};
 ghost use Rattle.line_words.specs.Words.{first_word};
 ghost use Rattle.line_words.specs.Access.{access_word, IsAccess};
@@ -45,8 +45,9 @@ pub(crate) fn accesses<'a>(
     ensures ok { IfOk result (λ more. MatchBool more (words.old ≡ map access_word found.new.items
         ++ codes "|" ∷ words.new) (words.old ≡ map access_word found.new.items)
         × (1 ≤ vec_len found.new) × (vec_len found.new ≤ MOST_ACCESSES) × AllByRecursion IsAccess found.new.items) }
-    ensures fits { IfOk result (λ more. fault_from (OfAccess ∷ OfNext 1 ∷ []) words.old ≡ fault_behind more 0 0 words.new) }
-    ensures fault { IfErr result (λ f. IsFault f (fault_from (OfAccess ∷ OfNext 1 ∷ []) words.old)) }
+    ensures fits { IfOk result (λ more. (version : ℕ)
+        → fault_from (OfAccess ∷ OfNext version 1 ∷ []) words.old ≡ fault_behind more version 0 0 words.new) }
+    ensures fault { IfErr result (λ f. (version : ℕ) → IsFault f (fault_from (OfAccess ∷ OfNext version 1 ∷ []) words.old)) }
 {
     let first = access(words, near_table(found))?;
     found.clear();

@@ -16,9 +16,10 @@ use model_base::Operation;
 pub(super) fn constant<'a>(words: &mut Words<'a>, step: &mut RawStep<'a>) -> Result<bool, LineFault>
     ensures ok { IfOk result (λ more. TakesStep (step_word Const ∷ words.old) step.new more words.new
         × IsStep step.new × (outs_of step.new ≡ 0)) }
-    ensures fits { IfOk result (λ more. (steps outs : ℕ)
-        → fault_from (expected_in (Some Const) steps outs) words.old ≡ fault_behind more (steps + 1) outs words.new) }
-    ensures fault { IfErr result (λ f. (steps outs : ℕ) → fault_from (expected_in (Some Const) steps outs) words.old ≡ Some f) }
+    ensures fits { IfOk result (λ more. (version steps outs : ℕ)
+        → fault_from (expected_in (Some Const) version steps outs) words.old ≡ fault_behind more version (steps + 1) outs words.new) }
+    ensures fault { IfErr result (λ f. (version steps outs : ℕ)
+        → fault_from (expected_in (Some Const) version steps outs) words.old ≡ Some f) }
 {
     let to = register(words)?;
     let value = whole_number(words)?;
@@ -35,10 +36,11 @@ pub(super) fn compute<'a>(
 ) -> Result<bool, LineFault>
     ensures ok { IfOk result (λ more. TakesStep (step_word (Compute operation) ∷ words.old) step.new more words.new
         × IsStep step.new × (outs_of step.new ≡ 0)) }
-    ensures fits { IfOk result (λ more. (steps outs : ℕ)
-        → fault_from (expected_in (Some (Compute operation)) steps outs) words.old ≡ fault_behind more (steps + 1) outs words.new) }
-    ensures fault { IfErr result (λ f. (steps outs : ℕ)
-        → fault_from (expected_in (Some (Compute operation)) steps outs) words.old ≡ Some f) }
+    ensures fits { IfOk result (λ more. (version steps outs : ℕ)
+        → fault_from (expected_in (Some (Compute operation)) version steps outs) words.old
+        ≡ fault_behind more version (steps + 1) outs words.new) }
+    ensures fault { IfErr result (λ f. (version steps outs : ℕ)
+        → fault_from (expected_in (Some (Compute operation)) version steps outs) words.old ≡ Some f) }
 {
     let to = register(words)?;
     let left = register(words)?;
@@ -57,9 +59,10 @@ pub(super) fn compute<'a>(
 pub(super) fn check<'a>(words: &mut Words<'a>, step: &mut RawStep<'a>) -> Result<bool, LineFault>
     ensures ok { IfOk result (λ more. TakesStep (step_word Check ∷ words.old) step.new more words.new
         × IsStep step.new × (outs_of step.new ≡ 0)) }
-    ensures fits { IfOk result (λ more. (steps outs : ℕ)
-        → fault_from (expected_in (Some Check) steps outs) words.old ≡ fault_behind more (steps + 1) outs words.new) }
-    ensures fault { IfErr result (λ f. (steps outs : ℕ) → fault_from (expected_in (Some Check) steps outs) words.old ≡ Some f) }
+    ensures fits { IfOk result (λ more. (version steps outs : ℕ)
+        → fault_from (expected_in (Some Check) version steps outs) words.old ≡ fault_behind more version (steps + 1) outs words.new) }
+    ensures fault { IfErr result (λ f. (version steps outs : ℕ)
+        → fault_from (expected_in (Some Check) version steps outs) words.old ≡ Some f) }
 {
     let of = register(words)?;
     *step = RawStep::Check { of };
@@ -71,9 +74,10 @@ pub(super) fn check<'a>(words: &mut Words<'a>, step: &mut RawStep<'a>) -> Result
 pub(super) fn skip<'a>(words: &mut Words<'a>, step: &mut RawStep<'a>) -> Result<bool, LineFault>
     ensures ok { IfOk result (λ more. TakesStep (step_word Skip ∷ words.old) step.new more words.new
         × IsStep step.new × (outs_of step.new ≡ 0)) }
-    ensures fits { IfOk result (λ more. (steps outs : ℕ)
-        → fault_from (expected_in (Some Skip) steps outs) words.old ≡ fault_behind more (steps + 1) outs words.new) }
-    ensures fault { IfErr result (λ f. (steps outs : ℕ) → fault_from (expected_in (Some Skip) steps outs) words.old ≡ Some f) }
+    ensures fits { IfOk result (λ more. (version steps outs : ℕ)
+        → fault_from (expected_in (Some Skip) version steps outs) words.old ≡ fault_behind more version (steps + 1) outs words.new) }
+    ensures fault { IfErr result (λ f. (version steps outs : ℕ)
+        → fault_from (expected_in (Some Skip) version steps outs) words.old ≡ Some f) }
 {
     let of = register(words)?;
     let steps = number(words)?;
@@ -86,9 +90,10 @@ pub(super) fn skip<'a>(words: &mut Words<'a>, step: &mut RawStep<'a>) -> Result<
 pub(super) fn out<'a>(words: &mut Words<'a>, step: &mut RawStep<'a>) -> Result<bool, LineFault>
     ensures ok { IfOk result (λ more. TakesStep (step_word Out ∷ words.old) step.new more words.new
         × IsStep step.new × (outs_of step.new ≡ 1)) }
-    ensures fits { IfOk result (λ more. (steps outs : ℕ)
-        → fault_from (expected_in (Some Out) steps outs) words.old ≡ fault_behind more (steps + 1) (outs + 1) words.new) }
-    ensures fault { IfErr result (λ f. (steps outs : ℕ) → fault_from (expected_in (Some Out) steps outs) words.old ≡ Some f) }
+    ensures fits { IfOk result (λ more. (version steps outs : ℕ)
+        → fault_from (expected_in (Some Out) version steps outs) words.old ≡ fault_behind more version (steps + 1) (outs + 1) words.new) }
+    ensures fault { IfErr result (λ f. (version steps outs : ℕ)
+        → fault_from (expected_in (Some Out) version steps outs) words.old ≡ Some f) }
 {
     let of = register(words)?;
     *step = RawStep::Out { of };

@@ -1,15 +1,13 @@
-//! What is in one place of a line: a name, a number, a register, a row, a kind, a bar.
+//! What is in one place of a line: a name, a number, a register, a row, a bar.
 ghost use Rattle.std.specs.Prelude.{MatchBool, ◌≡◌, ◌∷◌, ◌<◌, ◌^◌, [], Some, None, List, ℕ, IfOk, IfErr, IsTrue, OnOk, codes, true};
 ghost use Rattle.std.specs.Fmt.{decimal, signed_decimal};
 ghost use Rattle.line_words.specs.Words.{is_name, plain, signed_of, first_word};
-ghost use Rattle.log_text.specs.Statement.{grantee_word, kind_word, row_word, IsGrantee, IsRowNumber};
-ghost use Rattle.log_text.specs.Fault.{OfGrantee, OfName, OfPlain, OfWhole, OfRegister, OfRow, OfKind, OfBar, misfit, fault_from, register_fault};
+ghost use Rattle.log_text.specs.Statement.{row_word, IsRowNumber};
+ghost use Rattle.log_text.specs.Fault.{OfName, OfPlain, OfWhole, OfRegister, OfRow, OfBar, misfit, fault_from, register_fault};
 ghost use Rattle.model_base.specs.Body.{fits_64_bits};
 
-use crate::kind::kind_of;
-use crate::statement::RawGrantee;
 use line_words::{LineFault, Name, Words, plain_value, whole_value};
-use model_base::{Kind, MOST_REGISTERS, Register, RowName};
+use model_base::{MOST_REGISTERS, Register, RowName};
 
 /// Takes a name.
 #[inline(always)]
@@ -20,23 +18,6 @@ pub(crate) fn name<'a>(words: &mut Words<'a>) -> Result<Name<'a>, LineFault>
     match words.next_name() {
         Some(word) => Ok(Name::of(word)),
         None => Err(LineFault::BadName),
-    }
-}
-
-/// Takes a grantee: a name or PUBLIC.
-#[tactic(auto, using(crate::proofs::Grantees::grantee_fits))]
-#[inline(always)]
-pub(crate) fn grantee<'a>(words: &mut Words<'a>) -> Result<RawGrantee<'a>, LineFault>
-    ensures ok { IfOk result (λ g. (words.old ≡ grantee_word g ∷ words.new) × IsGrantee g
-        × (misfit (OfGrantee true) (grantee_word g) ≡ None)) }
-    ensures fault { IfErr result (λ f. misfit (OfGrantee true) (first_word words.old) ≡ Some f) }
-{
-    if let Some(name) = words.next_name() {
-        return Ok(RawGrantee::Named(Name::of(name)));
-    }
-    match words.next() {
-        Some(word) if word == b"PUBLIC".as_slice() => Ok(RawGrantee::Public),
-        _ => Err(LineFault::BadName),
     }
 }
 
@@ -157,23 +138,11 @@ pub(crate) fn row(words: &mut Words<'_>) -> Result<RowName, LineFault>
     Ok(RowName::Number(number))
 }
 
-/// Takes a kind.
-#[tactic(auto, using(crate::proofs::KindWords::named_kind))]
-pub(crate) fn kind(words: &mut Words<'_>) -> Result<Kind, LineFault>
-    ensures ok { IfOk result (λ k. (words.old ≡ kind_word k ∷ words.new) × (misfit OfKind (kind_word k) ≡ None)) }
-    ensures fault { IfErr result (λ f. misfit OfKind (first_word words.old) ≡ Some f) }
-{
-    match words.next() {
-        Some(word) => kind_of(word).ok_or(LineFault::UnknownWord),
-        None => Err(LineFault::UnknownWord),
-    }
-}
-
 /// Takes a bar, or finds the end.
 #[inline(always)]
 pub(crate) fn bar_or_end(words: &mut Words<'_>) -> Result<bool, LineFault>
     ensures ok { IfOk result (λ more. MatchBool more (words.old ≡ codes "|" ∷ words.new) (words.old ≡ [])) }
-    ensures fault { IfErr result (λ f. (steps outs : ℕ) → fault_from (OfBar steps outs ∷ []) words.old ≡ Some f) }
+    ensures fault { IfErr result (λ f. (version steps outs : ℕ) → fault_from (OfBar version steps outs ∷ []) words.old ≡ Some f) }
 {
     if words.next_bar() {
         return Ok(true);

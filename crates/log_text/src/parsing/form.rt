@@ -1,6 +1,7 @@
 //! What a statement asks for.
-ghost use Rattle.std.specs.Prelude.{◌≡◌, ◌≢◌, ◌∷◌, [], Some, IfOk, IfErr, MatchBool, OnOk, codes};
-ghost use Rattle.log_text.specs.Statement.{form_words, IsFormInGrammar};
+ghost use Rattle.std.specs.Prelude.{◌≡◌, ◌≢◌, ◌∷◌, [], Some, ℕ, IfOk, IfErr, MatchBool, OnOk, codes};
+ghost use Rattle.log_text.specs.Statement.{form_words, IsFormInGrammar, IsFormOf, IsLastDeedOf};
+ghost use Rattle.log_text.specs.Versions.{version_number};
 ghost use Rattle.line_words.specs.Faults.{IsFault};
 ghost use Rattle.line_words.specs.Words.{first_word};
 ghost use Rattle.log_text.specs.Fault.{OfName, OfPlain, OfForm, fault_from};
@@ -12,11 +13,13 @@ use super::fields::{end, name, number};
 use super::steps::steps;
 use crate::line_buffers::{LineBuffers, leave_none};
 use crate::statement::RawForm;
+use crate::version::Version;
 use line_words::{LineFault, Words};
 
 /// What is after CREATE.
 fn create<'a>(words: &mut Words<'a>) -> Result<RawForm<'a>, LineFault>
-    ensures ok { IfOk result (λ form. (codes "CREATE" ∷ words.old ≡ form_words form) × IsFormInGrammar form) }
+    ensures ok { IfOk result (λ form. (codes "CREATE" ∷ words.old ≡ form_words form) × IsFormInGrammar form × ((version : ℕ)
+        → IsFormOf version form)) }
     ensures fault { IfErr result (λ f. fault_from (OfName ∷ OfPlain ∷ []) words.old ≡ Some f) }
 {
     let table = name(words)?;
@@ -27,10 +30,15 @@ fn create<'a>(words: &mut Words<'a>) -> Result<RawForm<'a>, LineFault>
 
 /// What is after RUN. It goes into the room.
 #[inline(always)]
-pub(crate) fn run<'a>(words: &mut Words<'a>, room: &mut LineBuffers<'a>) -> Result<(), LineFault>
+pub(crate) fn run<'a>(
+    version: Version,
+    words: &mut Words<'a>,
+    room: &mut LineBuffers<'a>,
+) -> Result<(), LineFault>
     ensures ok { OnOk result ((codes "RUN" ∷ words.old ≡ form_words (Run room.new.accesses.items room.new.steps.items room.new.deed))
-        × IsFormInGrammar (Run room.new.accesses.items room.new.steps.items room.new.deed)) }
-    ensures fault { IfErr result (λ f. IsFault f (fault_from (OfForm ∷ []) (codes "RUN" ∷ words.old))) }
+        × IsFormInGrammar (Run room.new.accesses.items room.new.steps.items room.new.deed)
+        × IsLastDeedOf (version_number version) room.new.deed) }
+    ensures fault { IfErr result (λ f. IsFault f (fault_from (OfForm (version_number version) ∷ []) (codes "RUN" ∷ words.old))) }
     ensures user { room.new.user ≡ room.old.user }
     ensures other { room.new.other ≡ room.old.other }
 {
@@ -41,7 +49,7 @@ pub(crate) fn run<'a>(words: &mut Words<'a>, room: &mut LineBuffers<'a>) -> Resu
         return Ok(());
     }
     let near = &room.accesses[room.accesses.len() - 1].table;
-    steps(words, near, &mut room.steps, &mut room.deed)
+    steps(version, words, near, &mut room.steps, &mut room.deed)
 }
 
 /// Takes the word RUN, if it is the next word, in whatever form it is written; otherwise the words stay as they are.
@@ -69,10 +77,13 @@ pub(crate) fn takes_run(words: &mut Words<'_>) -> bool
 
 /// What is after the user, where it isn't a RUN.
 #[inline(never)]
-pub(crate) fn other_form<'a>(words: &mut Words<'a>) -> Result<RawForm<'a>, LineFault>
+pub(crate) fn other_form<'a>(
+    version: Version,
+    words: &mut Words<'a>,
+) -> Result<RawForm<'a>, LineFault>
     requires { first_word words.old ≢ codes "RUN" }
-    ensures ok { IfOk result (λ form. (words.old ≡ form_words form) × IsFormInGrammar form) }
-    ensures fault { IfErr result (λ f. fault_from (OfForm ∷ []) words.old ≡ Some f) }
+    ensures ok { IfOk result (λ form. (words.old ≡ form_words form) × IsFormInGrammar form × IsFormOf (version_number version) form) }
+    ensures fault { IfErr result (λ f. fault_from (OfForm (version_number version) ∷ []) words.old ≡ Some f) }
 {
     let Some(word) = words.next() else {
         return Err(LineFault::UnknownWord);
@@ -82,7 +93,7 @@ pub(crate) fn other_form<'a>(words: &mut Words<'a>) -> Result<RawForm<'a>, LineF
         return Ok(form);
     }
     if begins_deed(word) {
-        return Ok(RawForm::Deed(deed(word, words)?));
+        return Ok(RawForm::Deed(deed(version, word, words)?));
     }
     Err(LineFault::UnknownWord)
 }

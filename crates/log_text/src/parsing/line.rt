@@ -2,15 +2,16 @@
 ghost use Rattle.std.specs.Prelude.{◌≡◌, ◌≢◌, ◌<◌, ◌≤◌, ◌∷◌, List, ℕ, None, Some, MatchResult, IfOk, IfErr, IsTrue, OnOk, length};
 ghost use Rattle.std.specs.List.{list_all};
 ghost use Rattle.log_text.specs.LineBuffers.{sentence_of};
-ghost use Rattle.log_text.specs.Statement.{Sentence, Reads};
+ghost use Rattle.log_text.specs.Statement.{Sentence, Reads, ReadsIn};
 ghost use Rattle.line_words.specs.Faults.{IsFault};
-ghost use Rattle.log_text.specs.Fault.{OfName, line_fault, misfit, whole_fault, words_fault};
+ghost use Rattle.log_text.specs.Fault.{OfName, fault_in, line_fault, misfit, whole_fault, words_fault};
 ghost use Rattle.line_words.specs.Words.{first_word, is_name, is_printable};
 
 use super::fields::name;
 use super::form::{other_form, run, takes_run};
 use crate::line_buffers::{LineBuffers, leave_none, same_name};
 use crate::statement::RawStatement;
+use crate::version::Version;
 use line_io::MOST_LINE_BYTES;
 use line_words::{LineFault, Name, Words};
 use std::alloc::Global;
@@ -28,11 +29,11 @@ fn is_printable_text(line: &[u8]) -> bool
 
 /// The fault of a line whose words have this one: a byte that isn't printable counts before it.
 #[inline(never)]
-fn first_fault(line: &[u8], fault: LineFault) -> LineFault
+fn first_fault(version: Version, line: &[u8], fault: LineFault) -> LineFault
     requires short { length line.now ≤ MOST_LINE_BYTES }
     requires some { 0 < length line.now }
-    requires fault { IsFault fault (words_fault line.now) }
-    ensures fault { IsFault result (line_fault line.now) }
+    requires fault { IsFault fault (words_fault version line.now) }
+    ensures fault { IsFault result (fault_in version line.now) }
     ensures whole { (f : LineFault) → whole_fault line.now ≡ Some f → result ≡ f }
 {
     if is_printable_text(line) {
@@ -56,19 +57,24 @@ fn take_user<'a>(words: &mut Words<'a>, user: &mut Name<'a>) -> Result<(), LineF
     Ok(())
 }
 
-/// Reads a line, without its end of line, into the room: what is there then is the statement that the line reads as. Accesses and steps
+/// Reads a line of a version, without its end of line, into the room: what is there then is the statement that the line reads as. Accesses and steps
 /// take memory only where there isn't room enough. `NoMemory` comes only where the allocator refused. After an error nothing is known of
 /// what is in the room.
 #[tactic(auto, using(crate::proofs::Grammar::only_memory, crate::proofs::Grammar::found_fault))]
-pub fn read_into<'a>(line: &'a [u8], room: &mut LineBuffers<'a>) -> Result<(), LineFault>
+pub fn read_into<'a>(
+    version: Version,
+    line: &'a [u8],
+    room: &mut LineBuffers<'a>,
+) -> Result<(), LineFault>
     // What is in the room is what the line reads as.
-    ensures read { OnOk result (Reads line.now (sentence_of room.new)) }
+    ensures read { OnOk result (ReadsIn version line.now (sentence_of room.new)) }
     // A line that reads as a statement is read, unless memory runs out.
-    ensures only { (s : Sentence) → Reads line.now s → MatchResult result (λ _. sentence_of room.new ≡ s) (λ f. f ≡ LineFault.NoMemory) }
+    ensures only { (s : Sentence)
+        → ReadsIn version line.now s → MatchResult result (λ _. sentence_of room.new ≡ s) (λ f. f ≡ LineFault.NoMemory) }
     // Only a line with no fault is read.
-    ensures sound { OnOk result (line_fault line.now ≡ None) }
+    ensures sound { OnOk result (fault_in version line.now ≡ None) }
     // Any other fault is the first of the line's.
-    ensures fault { IfErr result (λ f. f ≢ LineFault.NoMemory → line_fault line.now ≡ Some f) }
+    ensures fault { IfErr result (λ f. f ≢ LineFault.NoMemory → fault_in version line.now ≡ Some f) }
     // A line that is too long or empty, or has a byte that isn't printable, is returned as such, and never as out of memory.
     ensures whole { (f : LineFault) → whole_fault line.now ≡ Some f → result ≡ Err f }
 {
@@ -81,47 +87,68 @@ pub fn read_into<'a>(line: &'a [u8], room: &mut LineBuffers<'a>) -> Result<(), L
     }
     let mut words = Words::of(line);
     if let Err(fault) = take_user(&mut words, &mut room.user) {
-        return Err(first_fault(line, fault));
+        return Err(first_fault(version, line, fault));
     }
     if takes_run(&mut words) {
         leave_none(&mut room.other);
-        return match run(&mut words, room) {
+        return match run(version, &mut words, room) {
             Ok(()) => Ok(()),
-            Err(fault) => Err(first_fault(line, fault)),
+            Err(fault) => Err(first_fault(version, line, fault)),
         };
     }
-    match other_form(&mut words) {
+    match other_form(version, &mut words) {
         Ok(form) => {
             room.other = Some(RawStatement::of(same_name(&room.user), form));
             Ok(())
         }
-        Err(fault) => Err(first_fault(line, fault)),
+        Err(fault) => Err(first_fault(version, line, fault)),
     }
 }
 
-/// The statement that a line, without its end of line, reads as, or the line's fault. Its accesses and steps take the room
+/// The statement that a line of a version, without its end of line, reads as, or the line's fault. Its accesses and steps take the room
 /// that is lent, and memory only where it isn't enough. `NoMemory` comes only where the allocator refused.
 pub fn read_line<'a>(
     alloc: Global,
+    version: Version,
     line: &'a [u8],
     room: &mut LineBuffers<'a>,
 ) -> Result<RawStatement<'a>, LineFault>
     // What is returned is what the line reads as.
-    ensures read { IfOk result (λ s. Reads line.now s) }
+    ensures read { IfOk result (λ s. ReadsIn version line.now s) }
     // A line that reads as a statement is returned as it, unless memory runs out.
-    ensures only { (s : Sentence) → Reads line.now s → MatchResult result (λ found. found ≡ s) (λ f. f ≡ LineFault.NoMemory) }
+    ensures only { (s : Sentence) → ReadsIn version line.now s → MatchResult result (λ found. found ≡ s) (λ f. f ≡ LineFault.NoMemory) }
     // Only a line with no fault is read.
-    ensures sound { OnOk result (line_fault line.now ≡ None) }
+    ensures sound { OnOk result (fault_in version line.now ≡ None) }
     // Any other fault is the first of the line's.
-    ensures fault { IfErr result (λ f. f ≢ LineFault.NoMemory → line_fault line.now ≡ Some f) }
+    ensures fault { IfErr result (λ f. f ≢ LineFault.NoMemory → fault_in version line.now ≡ Some f) }
     // A line that is too long or empty, or has a byte that isn't printable, is returned as such, and never as out of memory.
     ensures whole { (f : LineFault) → whole_fault line.now ≡ Some f → result ≡ Err f }
 {
-    read_into(line, room)?;
+    read_into(version, line, room)?;
     Ok(room.take(alloc))
 }
 
-/// The statement that a line reads as, or the line's fault, as `read_line` with room for nothing yet.
+/// The statement that a line of a version reads as, or the line's fault, as `read_line` with room for nothing yet.
+pub fn parse_line_in<'a>(
+    alloc: Global,
+    version: Version,
+    line: &'a [u8],
+) -> Result<RawStatement<'a>, LineFault>
+    // What is returned is what the line reads as.
+    ensures read { IfOk result (λ s. ReadsIn version line.now s) }
+    // A line that reads as a statement is returned as it, unless memory runs out.
+    ensures only { (s : Sentence) → ReadsIn version line.now s → MatchResult result (λ found. found ≡ s) (λ f. f ≡ LineFault.NoMemory) }
+    // Only a line with no fault is read.
+    ensures sound { OnOk result (fault_in version line.now ≡ None) }
+    // Any other fault is the first of the line's.
+    ensures fault { IfErr result (λ f. f ≢ LineFault.NoMemory → fault_in version line.now ≡ Some f) }
+    // A line that is too long or empty, or has a byte that isn't printable, is returned as such, and never as out of memory.
+    ensures whole { (f : LineFault) → whole_fault line.now ≡ Some f → result ≡ Err f }
+{
+    read_line(alloc, version, line, &mut LineBuffers::new(alloc))
+}
+
+/// The statement that a line of version 1 reads as, or the line's fault, as `parse_line_in`.
 pub fn parse_line<'a>(alloc: Global, line: &'a [u8]) -> Result<RawStatement<'a>, LineFault>
     // What is returned is what the line reads as.
     ensures read { IfOk result (λ s. Reads line.now s) }
@@ -134,12 +161,17 @@ pub fn parse_line<'a>(alloc: Global, line: &'a [u8]) -> Result<RawStatement<'a>,
     // A line that is too long or empty, or has a byte that isn't printable, is returned as such, and never as out of memory.
     ensures whole { (f : LineFault) → whole_fault line.now ≡ Some f → result ≡ Err f }
 {
-    read_line(alloc, line, &mut LineBuffers::new(alloc))
+    parse_line_in(alloc, Version::One, line)
 }
 
-/// No line reads as two statements, no two lines as one, and none with a fault as any.
-pub fn one_spelling()
-    ensures statement { (line : List ℕ) (s t : Sentence) → Reads line s → Reads line t → s ≡ t }
-    ensures line { (l m : List ℕ) (s : Sentence) → Reads l s → Reads m s → l ≡ m }
-    ensures fault { (line : List ℕ) (s : Sentence) → Reads line s → line_fault line ≡ None }
+/// No line of a version reads as two statements, no two lines as one, and none with a fault as any.
+pub fn one_spelling(version: Version)
+    ensures statement { (line : List ℕ) (s t : Sentence) → ReadsIn version line s → ReadsIn version line t → s ≡ t }
+    ensures line { (l m : List ℕ) (s : Sentence) → ReadsIn version l s → ReadsIn version m s → l ≡ m }
+    ensures fault { (line : List ℕ) (s : Sentence) → ReadsIn version line s → fault_in version line ≡ None }
+{}
+
+/// A line that reads as a statement in version 1 reads as it in version 2.
+pub fn reads_in_both()
+    ensures { (line : List ℕ) (s : Sentence) → ReadsIn Version.One line s → ReadsIn Version.Two line s }
 {}

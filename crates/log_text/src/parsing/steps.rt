@@ -1,17 +1,19 @@
 //! The steps of a RUN, and the deed after them.
 ghost use Rattle.std.specs.Prelude.{◌≡◌, ◌∷◌, ◌+◌, ◌≤◌, ◌<◌, ℕ, [], vec_len, Some, None, IfOk, IfErr, IfSome, MatchOption, OnOk, codes, true};
 ghost use Rattle.std.specs.List.{AllByRecursion, sum_by};
-ghost use Rattle.log_text.specs.Statement.{body_words, last_deed, IsLastDeed, IsStep, outs_of};
+ghost use Rattle.log_text.specs.Statement.{body_words, last_deed, IsLastDeed, IsLastDeedOf, IsStep, outs_of};
 ghost use Rattle.line_words.specs.StepWords.{step_name, step_word};
 ghost use Rattle.line_words.specs.Faults.{IsFault};
 ghost use Rattle.line_words.specs.Words.{first_word};
 ghost use Rattle.log_text.specs.Fault.{OfStep, expected_in, step_fault, fault_from};
+ghost use Rattle.log_text.specs.Versions.{version_number};
 ghost use Rattle.log_text.specs.Parsing.{TakesStep, fault_behind};
 
 use super::computing::{check, compute, constant, out, skip};
 use super::deeds::{begins_deed, deed};
 use super::touching::{delete, has, insert, load, store};
 use crate::statement::{RawDeed, RawStep};
+use crate::version::Version;
 use line_words::{LineFault, Name, StepName, Words};
 use model_base::{MOST_OUTPUTS, MOST_STEPS, Register};
 
@@ -62,8 +64,8 @@ fn one_more(name: StepName, steps: usize, outs: usize) -> Result<(), LineFault>
 fn computing<'a>(name: StepName, words: &mut Words<'a>) -> Option<RawStep<'a>>
     ensures step { MatchOption result (words.new ≡ words.old) (λ s. TakesStep (step_word name ∷ words.old) s true words.new
         × IsStep s × (outs_of s ≡ 0)) }
-    ensures fits { IfSome result (λ s. (steps outs : ℕ)
-        → fault_from (expected_in (Some name) steps outs) words.old ≡ fault_from (OfStep (steps + 1) outs ∷ []) words.new) }
+    ensures fits { IfSome result (λ s. (version steps outs : ℕ)
+        → fault_from (expected_in (Some name) version steps outs) words.old ≡ fault_from (OfStep version (steps + 1) outs ∷ []) words.new) }
 {
     let StepName::Compute(operation) = name else {
         return None;
@@ -92,9 +94,10 @@ fn step<'a>(
     requires fits { step_fault (Some name) steps outs ≡ None }
     ensures ok { IfOk result (λ more. TakesStep (step_word name ∷ words.old) found.new more words.new × IsStep found.new
         × (steps < MOST_STEPS) × (outs + outs_of found.new ≤ MOST_OUTPUTS)) }
-    ensures fits { IfOk result (λ more. fault_from (OfStep steps outs ∷ []) (step_word name ∷ words.old)
-        ≡ fault_behind more (steps + 1) (outs + outs_of found.new) words.new) }
-    ensures fault { IfErr result (λ f. IsFault f (fault_from (OfStep steps outs ∷ []) (step_word name ∷ words.old))) }
+    ensures fits { IfOk result (λ more. (version : ℕ) → fault_from (OfStep version steps outs ∷ []) (step_word name ∷ words.old)
+        ≡ fault_behind more version (steps + 1) (outs + outs_of found.new) words.new) }
+    ensures fault { IfErr result (λ f. (version : ℕ)
+        → IsFault f (fault_from (OfStep version steps outs ∷ []) (step_word name ∷ words.old))) }
 {
     match name {
         StepName::Const => constant(words, found),
@@ -112,10 +115,11 @@ fn step<'a>(
 
 /// Takes the deed with which a line ends, where no step begins.
 #[inline(never)]
-fn ending<'a>(words: &mut Words<'a>) -> Result<RawDeed<'a>, LineFault>
+fn ending<'a>(version: Version, words: &mut Words<'a>) -> Result<RawDeed<'a>, LineFault>
     requires { step_name (first_word words.old) ≡ None }
-    ensures ok { IfOk result (λ deed. (codes "|" ∷ words.old ≡ last_deed (Some deed)) × IsLastDeed (Some deed)) }
-    ensures fault { IfErr result (λ f. (steps outs : ℕ) → fault_from (OfStep steps outs ∷ []) words.old ≡ Some f) }
+    ensures ok { IfOk result (λ deed. (codes "|" ∷ words.old ≡ last_deed (Some deed)) × IsLastDeed (Some deed)
+        × IsLastDeedOf (version_number version) (Some deed)) }
+    ensures fault { IfErr result (λ f. (steps outs : ℕ) → fault_from (OfStep (version_number version) steps outs ∷ []) words.old ≡ Some f) }
 {
     let Some(word) = words.next() else {
         return Err(LineFault::UnknownWord);
@@ -123,7 +127,7 @@ fn ending<'a>(words: &mut Words<'a>) -> Result<RawDeed<'a>, LineFault>
     if !begins_deed(word) {
         return Err(LineFault::UnknownWord);
     }
-    deed(word, words)
+    deed(version, word, words)
 }
 
 /// How many outputs a step makes.
@@ -139,6 +143,7 @@ fn out_count(step: &RawStep<'_>) -> usize
 /// Takes the steps and the deed after the first bar, to the end of the line. The steps go where room is, and after an error some of them
 /// may be there. Most steps of a line are on one table: the near name is compared first.
 pub(crate) fn steps<'a>(
+    version: Version,
     words: &mut Words<'a>,
     near: &Name<'a>,
     found: &mut Vec<RawStep<'a>>,
@@ -147,8 +152,8 @@ pub(crate) fn steps<'a>(
     requires { deed.old ≡ None }
     ensures ok { OnOk result ((codes "|" ∷ words.old ≡ body_words found.new.items deed.new)
         × (vec_len found.new ≤ MOST_STEPS) × (sum_by outs_of found.new.items ≤ MOST_OUTPUTS)
-        × AllByRecursion IsStep found.new.items × IsLastDeed deed.new) }
-    ensures fault { IfErr result (λ f. IsFault f (fault_from (OfStep 0 0 ∷ []) words.old)) }
+        × AllByRecursion IsStep found.new.items × IsLastDeed deed.new × IsLastDeedOf (version_number version) deed.new) }
+    ensures fault { IfErr result (λ f. IsFault f (fault_from (OfStep (version_number version) 0 0 ∷ []) words.old)) }
 {
     // The steps are taken from a copy of the words, so that the place in the line is kept in a register.
     let mut left = words.same();
@@ -158,7 +163,7 @@ pub(crate) fn steps<'a>(
     'steps: loop {
         let Some(name) = next_name(&mut left) else {
             *words = left;
-            *deed = Some(ending(words)?);
+            *deed = Some(ending(version, words)?);
             return Ok(());
         };
         let place = found.len();

@@ -34,9 +34,10 @@ pub(super) fn has<'a>(
 ) -> Result<bool, LineFault>
     ensures ok { IfOk result (λ more. TakesStep (step_word Has ∷ words.old) step.new more words.new
         × IsStep step.new × (outs_of step.new ≡ 0)) }
-    ensures fits { IfOk result (λ more. (steps outs : ℕ)
-        → fault_from (expected_in (Some Has) steps outs) words.old ≡ fault_behind more (steps + 1) outs words.new) }
-    ensures fault { IfErr result (λ f. (steps outs : ℕ) → fault_from (expected_in (Some Has) steps outs) words.old ≡ Some f) }
+    ensures fits { IfOk result (λ more. (version steps outs : ℕ)
+        → fault_from (expected_in (Some Has) version steps outs) words.old ≡ fault_behind more version (steps + 1) outs words.new) }
+    ensures fault { IfErr result (λ f. (version steps outs : ℕ)
+        → fault_from (expected_in (Some Has) version steps outs) words.old ≡ Some f) }
 {
     let to = register(words)?;
     let table = table(words, near)?;
@@ -69,9 +70,10 @@ pub(super) fn load<'a>(
 ) -> Result<bool, LineFault>
     ensures ok { IfOk result (λ more. TakesStep (step_word Load ∷ words.old) step.new more words.new
         × IsStep step.new × (outs_of step.new ≡ 0)) }
-    ensures fits { IfOk result (λ more. (steps outs : ℕ)
-        → fault_from (expected_in (Some Load) steps outs) words.old ≡ fault_behind more (steps + 1) outs words.new) }
-    ensures fault { IfErr result (λ f. (steps outs : ℕ) → fault_from (expected_in (Some Load) steps outs) words.old ≡ Some f) }
+    ensures fits { IfOk result (λ more. (version steps outs : ℕ)
+        → fault_from (expected_in (Some Load) version steps outs) words.old ≡ fault_behind more version (steps + 1) outs words.new) }
+    ensures fault { IfErr result (λ f. (version steps outs : ℕ)
+        → fault_from (expected_in (Some Load) version steps outs) words.old ≡ Some f) }
 {
     let to = register(words)?;
     let (table, row, column) = cell(words, near)?;
@@ -93,9 +95,10 @@ pub(super) fn store<'a>(
 ) -> Result<bool, LineFault>
     ensures ok { IfOk result (λ more. TakesStep (step_word Store ∷ words.old) step.new more words.new
         × IsStep step.new × (outs_of step.new ≡ 0)) }
-    ensures fits { IfOk result (λ more. (steps outs : ℕ)
-        → fault_from (expected_in (Some Store) steps outs) words.old ≡ fault_behind more (steps + 1) outs words.new) }
-    ensures fault { IfErr result (λ f. (steps outs : ℕ) → fault_from (expected_in (Some Store) steps outs) words.old ≡ Some f) }
+    ensures fits { IfOk result (λ more. (version steps outs : ℕ)
+        → fault_from (expected_in (Some Store) version steps outs) words.old ≡ fault_behind more version (steps + 1) outs words.new) }
+    ensures fault { IfErr result (λ f. (version steps outs : ℕ)
+        → fault_from (expected_in (Some Store) version steps outs) words.old ≡ Some f) }
 {
     let (table, row, column) = cell(words, near)?;
     let from = register(words)?;
@@ -141,9 +144,10 @@ pub(super) fn insert<'a>(
 ) -> Result<bool, LineFault>
     ensures ok { IfOk result (λ more. TakesStep (step_word Insert ∷ words.old) step.new more words.new
         × IsStep step.new × (outs_of step.new ≡ 0)) }
-    ensures fits { IfOk result (λ more. (steps outs : ℕ)
-        → fault_from (expected_in (Some Insert) steps outs) words.old ≡ fault_behind more (steps + 1) outs words.new) }
-    ensures fault { IfErr result (λ f. (steps outs : ℕ) → fault_from (expected_in (Some Insert) steps outs) words.old ≡ Some f) }
+    ensures fits { IfOk result (λ more. (version steps outs : ℕ)
+        → fault_from (expected_in (Some Insert) version steps outs) words.old ≡ fault_behind more version (steps + 1) outs words.new) }
+    ensures fault { IfErr result (λ f. (version steps outs : ℕ)
+        → fault_from (expected_in (Some Insert) version steps outs) words.old ≡ Some f) }
 {
     let table = table(words, near)?;
     let row = row(words)?;
@@ -163,9 +167,10 @@ pub(super) fn delete<'a>(
 ) -> Result<bool, LineFault>
     ensures ok { IfOk result (λ more. TakesStep (step_word Delete ∷ words.old) step.new more words.new
         × IsStep step.new × (outs_of step.new ≡ 0)) }
-    ensures fits { IfOk result (λ more. (steps outs : ℕ)
-        → fault_from (expected_in (Some Delete) steps outs) words.old ≡ fault_behind more (steps + 1) outs words.new) }
-    ensures fault { IfErr result (λ f. (steps outs : ℕ) → fault_from (expected_in (Some Delete) steps outs) words.old ≡ Some f) }
+    ensures fits { IfOk result (λ more. (version steps outs : ℕ)
+        → fault_from (expected_in (Some Delete) version steps outs) words.old ≡ fault_behind more version (steps + 1) outs words.new) }
+    ensures fault { IfErr result (λ f. (version steps outs : ℕ)
+        → fault_from (expected_in (Some Delete) version steps outs) words.old ≡ Some f) }
 {
     let table = table(words, near)?;
     let row = row(words)?;

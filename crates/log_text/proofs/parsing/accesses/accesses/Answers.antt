@@ -23,7 +23,7 @@ accesses-preserved-in-Some c =
       room = room_more _ _ _ c.if-len-lt-MOST_ACCESSES.true c.len.ensures push.ensures.len;
       reserved = omega (arith, c.accesses.invariant.reserved, push.ensures.capacity);
       each = each_more now.items push.new.self.items a c.accesses.invariant.each is.1 push.ensures.items;
-      fits = fits_more c.args.words.now c.accesses.words c.next_access.new.self word _ _ _ c.accesses.invariant.fits next other c.if-len-lt-MOST_ACCESSES.true c.len.ensures push.ensures.len (access_fits a is.1);
+      fits = λ v. fits_more v c.args.words.now c.accesses.words c.next_access.new.self word _ _ _ (c.accesses.invariant.fits v) next other c.if-len-lt-MOST_ACCESSES.true c.len.ensures push.ensures.len (access_fits a is.1);
     }
 
 pub accesses-preserved : goal.accesses-preserved
@@ -47,5 +47,5 @@ accesses-preserved c =
       room = room_more _ _ _ few c.len-in-accesses.ensures pushed.len;
       reserved = omega (arith, c.accesses.invariant.reserved, pushed.capacity);
       each = each_more now.items more a c.accesses.invariant.each is.ok.1 pushed.items;
-      fits = fits_more c.args.words.now c.accesses.words c.next.new.self word _ _ _ c.accesses.invariant.fits next other few c.len-in-accesses.ensures pushed.len is.fits;
+      fits = λ v. fits_more v c.args.words.now c.accesses.words c.next.new.self word _ _ _ (c.accesses.invariant.fits v) next other few c.len-in-accesses.ensures pushed.len is.fits;
     }

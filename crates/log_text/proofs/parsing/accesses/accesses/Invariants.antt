@@ -1,4 +1,4 @@
-use Rattle.std.proofs.Common.{◌≡◌, ◌≤◌, vec_len, length, map, [], ◌∷◌, ◌++◌}
+use Rattle.std.proofs.Common.{◌≡◌, ℕ, ◌≤◌, vec_len, length, map, [], ◌∷◌, ◌++◌}
 use Rattle.std.specs.List.{AllByRecursion}
 use Rattle.std.specs.Vec.{vec_capacity}
 use Rattle.line_words.specs.Access.{access_word, IsAccess}
@@ -12,7 +12,7 @@ invariant-accesses l = record {
   room : vec_len l.found ≤ 16;
   reserved : 16 ≤ vec_capacity l.found;
   each : AllByRecursion IsAccess l.found.items;
-  fits : fault_from (OfAccess ∷ OfNext 1 ∷ []) l.fn.words ≡ fault_from (OfNext (vec_len l.found) ∷ []) l.words;
+  fits : (version : ℕ) → fault_from (OfAccess ∷ OfNext version 1 ∷ []) l.fn.words ≡ fault_from (OfNext version (vec_len l.found) ∷ []) l.words;
 }
 
 abbrev pub decreases-accesses : goal.decreases-accesses

@@ -4,7 +4,7 @@ use Rattle.log_text.proofs.parsing.line.one_spelling.Goals as goal
 
 pub returns : goal.returns
 returns c = record {
-  statement = one_statement;
-  line = λ l m s a b. line_is_spelling l s a ∙ sym (line_is_spelling m s b);
-  fault = no_fault;
+  statement = one_statement c.args.version;
+  line = λ l m s a b. line_is_spelling l s a.same ∙ sym (line_is_spelling m s b.same);
+  fault = no_fault c.args.version;
 }

@@ -16,7 +16,7 @@ steps-init c = rw (c.reserve.ensures.items, c.reserve.ensures.len, c.clear.ensur
   outputs = refl;
   few = omega arith;
   each = tt;
-  fits = ap (fault_from (OfStep 0 0 ∷ [])) (sym c.same-left.ensures);
+  fits = λ v. ap (fault_from (OfStep v 0 0 ∷ [])) (sym c.same-left.ensures);
 })
 
 pub push_reserved-requires : goal.push_reserved-requires
@@ -45,7 +45,8 @@ steps-preserved-in-Some-computing c =
     let before = c.steps.left in
     let after = c.next_name.new.words in
     let left = c.computing.new.words in
-    let fit = goes_on (step_word name ∷ after) after left name n outs 0 true refl (named_step name) free refl (c.in-Some-computing.ensures.fits n outs) in
+    let fit : (v : ℕ) → fault_from (OfStep v n outs ∷ []) (step_word name ∷ after) ≡ fault_from (OfStep v (n + 1) (outs + 0) ∷ []) left =
+    λ v. goes_on (step_word name ∷ after) after left name v n outs 0 true refl (named_step name) free refl (c.in-Some-computing.ensures.fits v n outs) in
     record {
       none = i.none;
       same = one_more c.args.words.now before left found more s i.same (c.in-Some.ensures ∙ taken.0) c.push_reserved.ensures.items;
@@ -54,7 +55,7 @@ steps-preserved-in-Some-computing c =
       outputs = sym none ∙ outs_more found more s outs 0 i.outputs (sym taken.2) c.push_reserved.ensures.items;
       few = i.few;
       each = each_more found more s i.each taken.1 c.push_reserved.ensures.items;
-      fits = fits_more c.args.words.now before (step_word name ∷ after) left (vec_len c.steps.found) n (vec_len c.push_reserved.new.self) outs 0 0
-          i.fits c.in-Some.ensures fit c.len-place.ensures c.push_reserved.ensures.len refl
-          ∙ ap (λ m. fault_from (OfStep (vec_len c.push_reserved.new.self) m ∷ []) left) none;
+      fits = λ v. fits_more v c.args.words.now before (step_word name ∷ after) left (vec_len c.steps.found) n (vec_len c.push_reserved.new.self) outs 0 0
+          (i.fits v) c.in-Some.ensures (fit v) c.len-place.ensures c.push_reserved.ensures.len refl
+          ∙ ap (λ m. fault_from (OfStep v (vec_len c.push_reserved.new.self) m ∷ []) left) none;
     }

@@ -1,4 +1,4 @@
-use Rattle.std.proofs.Common.{◌≡◌, ◌≤◌, ◌-◌, vec_len, [], ◌∷◌, ◌++◌}
+use Rattle.std.proofs.Common.{◌≡◌, ℕ, ◌≤◌, ◌-◌, vec_len, [], ◌∷◌, ◌++◌}
 use Rattle.std.specs.Prelude.{None, codes}
 use Rattle.std.specs.Vec.{vec_capacity}
 use Rattle.std.specs.List.{AllByRecursion, flat_map, sum_by}
@@ -15,7 +15,7 @@ invariant-steps l = record {
   outputs : l.outs ≡ sum_by outs_of l.found.items;
   few : l.outs ≤ 8;
   each : AllByRecursion IsStep l.found.items;
-  fits : fault_from (OfStep 0 0 ∷ []) l.fn.words ≡ fault_from (OfStep (vec_len l.found) l.outs ∷ []) l.left;
+  fits : (version : ℕ) → fault_from (OfStep version 0 0 ∷ []) l.fn.words ≡ fault_from (OfStep version (vec_len l.found) l.outs ∷ []) l.left;
 }
 
 abbrev pub decreases-steps : goal.decreases-steps

@@ -8,7 +8,7 @@ abbrev pub invariant-registers : goal.invariant-registers
 invariant-registers l = record {
   same : map decimal l.initial.registers ++ l.initial.words ≡ map decimal l.registers ++ l.words;
   insertable : AreInsertable l.registers;
-  fits : (steps outs : ℕ) → fault_from (OfMore (length l.initial.registers) steps outs ∷ []) l.initial.words ≡ fault_from (OfMore (length l.registers) steps outs ∷ []) l.words;
+  fits : (version steps outs : ℕ) → fault_from (OfMore version (length l.initial.registers) steps outs ∷ []) l.initial.words ≡ fault_from (OfMore version (length l.registers) steps outs ∷ []) l.words;
 }
 
 abbrev pub decreases-registers : goal.decreases-registers
