@@ -4,8 +4,8 @@ use Rattle.line_io.specs.Lines.{first_line, other_lines}
 use Rattle.line_io.specs.declared.limits.TheConstants.{KEPT_BYTES}
 use Rattle.line_words.specs.declared.fault.LineFault.{LineFault}
 use Rattle.model_base.specs.declared.statement.Statement.{Statement}
-use Rattle.log_text.specs.Fault.{line_fault}
-use Rattle.log_text.specs.Statement.{Reads, Sentence}
+use Rattle.log_text.specs.Fault.{fault_in}
+use Rattle.log_text.specs.Statement.{ReadsIn, Sentence}
 use Rattle.sequencer.specs.Catalog.{Names}
 use Rattle.sequencer.specs.Foretelling.{Foretells}
 use Rattle.read_ahead.specs.declared.ahead.Ahead.{Ahead}
@@ -22,12 +22,13 @@ pub record IsLineAt (bytes : List ℕ) (from count : ℕ) (line : List ℕ) : Ty
   pub first : (after : List ℕ) → line ≡ take KEPT_BYTES (first_line (drop from bytes ++ after))
   pub others : (after : List ℕ) → drop (from + count) bytes ++ after ≡ other_lines (drop from bytes ++ after)
 
--- what was found of a line by these names: as which statement each sentence is foretold that it reads as, or its fault
+-- what was found of a line by these names, in their version of the grammar: as which statement each sentence is foretold that it reads as,
+-- or its fault
 pub record IsFoundOf (names : Names) (line : List ℕ) (found : Found) : Type 0 where
-  pub sound : (statement : Statement) → found ≡ Found.Known statement → line_fault line ≡ None
-  pub known : (statement : Statement) (sentence : Sentence) → found ≡ Found.Known statement → Reads line sentence
+  pub sound : (statement : Statement) → found ≡ Found.Known statement → fault_in names.version line ≡ None
+  pub known : (statement : Statement) (sentence : Sentence) → found ≡ Found.Known statement → ReadsIn names.version line sentence
       → Foretells names sentence statement
-  pub faulty : (fault : LineFault) → found ≡ Found.Faulty fault → line_fault line ≡ Some fault
+  pub faulty : (fault : LineFault) → found ≡ Found.Faulty fault → fault_in names.version line ≡ Some fault
   pub told : found ≢ Found.Faulty LineFault.NoMemory
 
 -- a line of the bytes, and what was found of it

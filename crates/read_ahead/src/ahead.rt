@@ -1,7 +1,7 @@
 //! What was found of a line before its turn.
 
 ghost use Rattle.std.specs.Prelude.{◌≡◌, ◌≢◌, List, Some, ℕ};
-ghost use Rattle.log_text.specs.Fault.{line_fault};
+ghost use Rattle.log_text.specs.Fault.{fault_in};
 ghost use Rattle.sequencer.specs.Catalog.{Names};
 ghost use Rattle.read_ahead.specs.Ahead.{IsFoundOf};
 
@@ -55,7 +55,7 @@ pub struct Ahead {
 /// What a line's fault gives. Out of memory says nothing.
 fn found_faulty(fault: LineFault) -> Found
     ensures { (names : Names) (line : List ℕ)
-        → (fault ≢ LineFault.NoMemory → line_fault line ≡ Some fault) → IsFoundOf names line result }
+        → (fault ≢ LineFault.NoMemory → fault_in names.version line ≡ Some fault) → IsFoundOf names line result }
 {
     match fault {
         LineFault::NoMemory => Found::Unread,
@@ -63,7 +63,7 @@ fn found_faulty(fault: LineFault) -> Found
     }
 }
 
-/// Reads a line, and numbers its statement by the names of an earlier place.
+/// Reads a line in the version of the log, and numbers its statement by the names of an earlier place.
 pub(crate) fn found_of<'a>(
     catalog: &Catalog,
     line: &'a [u8],
@@ -71,7 +71,8 @@ pub(crate) fn found_of<'a>(
 ) -> Found
     ensures { IsFoundOf catalog.now line.now result }
 {
-    let statement = match read_line(buffers.alloc, line, &mut buffers.lines) {
+    let version = catalog.version();
+    let statement = match read_line(buffers.alloc, version, line, &mut buffers.lines) {
         Ok(statement) => statement,
         Err(fault) => return found_faulty(fault),
     };

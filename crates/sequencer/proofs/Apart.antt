@@ -16,8 +16,8 @@ use Rattle.body.specs.Laws.{AreApart, IsOther}
 use Rattle.log_text.specs.Statement.{Sentence}
 use Rattle.line_words.specs.declared.access.RawAccess.{RawAccess}
 use Rattle.log_text.specs.declared.statement.RawForm.{RawForm}
-use Rattle.sequencer.specs.Names.{is_known, number_of, with_name}
-use Rattle.sequencer.specs.Catalog.{Names, numbered, numbered_access, numbered_form}
+use Rattle.sequencer.specs.Names.{is_known, number_of}
+use Rattle.sequencer.specs.Catalog.{Names, deed_in, numbered, numbered_access, numbered_form, with_users}
 use Rattle.sequencer.specs.Refusal.{access_refusal, accesses_refusal, form_refusal, refusal, same_row, refuse_unless}
 use Rattle.sequencer.specs.declared.refused.Refused.{Refused}
 use Rattle.sequencer.proofs.Passed.{both_none, form_passes, known-below, passes}
@@ -27,7 +27,7 @@ name_at : (names : List (List ℕ)) (name : List ℕ) → number_of names name <
 name_at names name low = (bytes_eq-Decides name (get_or names (number_of names name) [])).0 (passes_at_first (bytes_eq name) names [] low)
 
 -- a known name and another with its number are one
-one_name : (names : List (List ℕ)) (name other : List ℕ) → is_known names name ≡ true → number_of names name ≡ number_of names other → name ≡ other
+pub one_name : (names : List (List ℕ)) (name other : List ℕ) → is_known names name ≡ true → number_of names name ≡ number_of names other → name ≡ other
 one_name names name other known same =
     let low : number_of names name < length names = known-below names name known in
     name_at names name low ∙ ap (λ (number : ℕ). get_or names number []) same
@@ -89,4 +89,4 @@ form_apart names users (RawForm.Run accesses steps deed) e =
 form_apart names users form e = tt
 
 pub apart_accesses : (names : Names) (sentence : Sentence) → refusal names sentence ≡ None → AreApart (accesses_of (numbered names sentence).form)
-apart_accesses names sentence e = form_apart names (with_name names.users sentence.user) sentence.form (form_passes names sentence e)
+apart_accesses names sentence e = form_apart names (with_users names sentence.user (deed_in sentence.form)).users sentence.form (form_passes names sentence e)

@@ -14,8 +14,8 @@ use Rattle.body.specs.Steps.{steps_of}
 use Rattle.log_text.specs.Statement.{IsFormInGrammar, IsInGrammar, IsStep, Sentence, outs_of}
 use Rattle.log_text.specs.declared.statement.RawForm.{RawForm}
 use Rattle.log_text.specs.declared.statement.RawStep.{RawStep}
-use Rattle.sequencer.specs.Names.{is_known, with_name}
-use Rattle.sequencer.specs.Catalog.{Names, numbered, numbered_access, numbered_form, numbered_step}
+use Rattle.sequencer.specs.Names.{is_known}
+use Rattle.sequencer.specs.Catalog.{Names, deed_in, numbered, numbered_access, numbered_form, numbered_step, with_users}
 use Rattle.sequencer.specs.Refusal.{accesses_refusal, columns_of, deed_refusal, form_refusal, or_refused, refusal, step_refusal, steps_refusal, refuse_unless}
 use Rattle.sequencer.specs.Whole.{HasFilledRows, IsFilled, columns_by}
 use Rattle.sequencer.specs.declared.refused.Refused.{Refused}
@@ -85,4 +85,4 @@ form_sound names users user form h e = record { runnable = tt; steps = omega ari
 pub sound_body : (names : Names) (sentence : Sentence) → IsInGrammar sentence → refusal names sentence ≡ None
     → HasSoundBody names (numbered names sentence).user (numbered names sentence).form
 sound_body names sentence h e =
-    form_sound names (with_name names.users sentence.user) (numbered names sentence).user sentence.form h.form (form_passes names sentence e)
+    form_sound names (with_users names sentence.user (deed_in sentence.form)).users (numbered names sentence).user sentence.form h.form (form_passes names sentence e)

@@ -1,6 +1,7 @@
 -- What is told of a sentence by the names of an earlier place holds at each later one.
-use Rattle.std.proofs.Common.{◌≡◌, ℕ, ◌+◌, ◌<◌, true, List, [], ◌∷◌, ◌++◌, length, map, take, drop, Option, Some, None, refl, ap, sym, ◌∙◌, subst, arith}
-use Rattle.std.specs.Prelude.{IfSome, OnSome, bytes_eq, nat_lt, slice_index_or}
+use Rattle.std.proofs.Common.{◌≡◌, ℕ, ◌+◌, ◌<◌, true, List, [], ◌∷◌, ◌++◌, length, map, drop, Option, Some, None, refl, ap, sym, ◌∙◌, subst, arith}
+use Rattle.std.specs.Prelude.{IfSome, OnSome, nat_lt, slice_index_or}
+use Rattle.std.specs.List.{AllByRecursion}
 use Rattle.std.specs.Option.{option_map}
 use Rattle.std.proofs.Math.Bool.{or-true}
 use Rattle.std.proofs.lemmas.Bool.{lt-ltb}
@@ -11,36 +12,19 @@ use Rattle.model_base.specs.declared.statement.DeedForm.{DeedForm}
 use Rattle.model_base.specs.declared.statement.Form.{Form}
 use Rattle.model_base.specs.declared.statement.Statement.{Statement}
 use Rattle.model_base.specs.declared.statement.Step.{Step}
-use Rattle.model_base.specs.Privileges.{only}
-use Rattle.model_base.proofs.Replay.{by_cases}
 use Rattle.log_text.specs.Statement.{Sentence}
+use Rattle.log_text.specs.declared.grantees.RawGrantee.{RawGrantee}
 use Rattle.line_words.specs.declared.access.RawAccess.{RawAccess}
 use Rattle.log_text.specs.declared.statement.RawDeed.{RawDeed}
 use Rattle.log_text.specs.declared.statement.RawForm.{RawForm}
-use Rattle.log_text.specs.declared.statement.RawGrantee.{RawGrantee}
 use Rattle.log_text.specs.declared.statement.RawStep.{RawStep}
 use Rattle.sequencer.specs.Names.{is_known, number_of, with_name}
-use Rattle.sequencer.specs.Catalog.{Names, deed_in, grantee_of, named_table_of, numbered_access, numbered_deed, numbered_form, numbered_grantee, numbered_step, with_form, with_grantee, with_named, with_statement}
+use Rattle.sequencer.specs.Catalog.{Names, deed_in, raw_grantees, named_table_of, numbered_access, numbered_deed, numbered_form, numbered_grantee, numbered_step, with_all_named, with_form, with_grantees, with_named, with_statement, with_users}
 use Rattle.sequencer.specs.Foretelling.{Begins, Foretells, Knows, KnowsDeed, KnowsDeedIn, KnowsForm, is_known_grantee, with_one_place}
-use Rattle.sequencer.specs.Refusal.{access_refusal, accesses_refusal, column_refusal, columns_of, form_refusal, grantee_refusal, known_refusal, name_refusal, named_refusal, refusal, step_refusal, steps_refusal, table_refusal, users_refusal}
+use Rattle.sequencer.specs.Refusal.{access_refusal, accesses_refusal, column_refusal, columns_of, form_refusal, grantees_refusal, known_refusal, name_refusal, named_refusal, named_refusals, refusal, step_refusal, steps_refusal, table_refusal, users_refusal}
 use Rattle.sequencer.specs.declared.refused.Refused.{Refused}
-use Rattle.sequencer.proofs.Beginnings.{behind}
+use Rattle.sequencer.proofs.Beginnings.{behind, known_later}
 use Rattle.sequencer.proofs.Passed.{both_none, known-below, passes}
-
--- a known name is known among more names, with its number
-known_before : (names more : List (List ℕ)) (name : List ℕ) → is_known names name ≡ true
-    → (is_known (names ++ more) name ≡ true) × (number_of (names ++ more) name ≡ number_of names name)
-known_before [] more name e = absurd (cc)
-known_before (x ∷ xs) more name e =
-    by_cases (bytes_eq name x)
-    (λ here. rw here (refl, refl))
-    (λ behind. let rest = known_before xs more name (rw behind at e) in rw (behind, rest.0, rest.1) (refl, refl))
-
-known_later : (names later : List (List ℕ)) (name : List ℕ) → take (length names) later ≡ names → is_known names name ≡ true
-    → (is_known later name ≡ true) × (number_of later name ≡ number_of names name)
-known_later names later name first known =
-    subst (λ (all : List (List ℕ)). (is_known all name ≡ true) × (number_of all name ≡ number_of names name)) (sym (behind names later first))
-    (known_before names (drop (length names) later) name known)
 
 -- a known table is known later, with its number and its columns
 record TableStays (names later : Names) (table : List ℕ) : Type 0 where
@@ -118,16 +102,26 @@ module _ (names later : Names) (begins : Begins names later) (each : length name
       let stays = known_later names.users later.users name begins.users known in (stays.0, ap (λ (n : ℕ). Grantee.User n) (sym stays.1))
   grantee_later RawGrantee.Public known = (refl, refl)
 
+  grantees_later : (grantees : List RawGrantee) → AllByRecursion (λ grantee. is_known_grantee names.users grantee ≡ true) grantees
+      → AllByRecursion (λ grantee. is_known_grantee later.users grantee ≡ true) grantees
+      × (map (numbered_grantee names.users) grantees ≡ map (numbered_grantee later.users) grantees)
+  grantees_later [] known = (tt, refl)
+  grantees_later (grantee ∷ grantees) known =
+      let first = grantee_later grantee known.0 in
+      let rest = grantees_later grantees known.1 in
+      ((first.0, rest.0), λ i. first.1 i ∷ rest.1 i)
+
   deed_later : (deed : RawDeed) → KnowsDeed names deed → KnowsDeed later deed × (numbered_deed names deed ≡ numbered_deed later deed)
   deed_later deed knows =
       let stays = table_stays (named_table_of deed) knows.table in
-      let party = grantee_later (grantee_of deed) knows.grantee in
-      (record { table = rw stays.known refl; grantee = party.0 }, same deed (sym stays.number) party.1)
+      let parties = grantees_later (raw_grantees deed) knows.grantees in
+      (record { table = rw stays.known refl; grantees = parties.0 }, same deed (sym stays.number) parties.1)
     where
       same : (one : RawDeed) → number_of names.tables (named_table_of one) ≡ number_of later.tables (named_table_of one)
-          → numbered_grantee names.users (grantee_of one) ≡ numbered_grantee later.users (grantee_of one) → numbered_deed names one ≡ numbered_deed later one
-      same (RawDeed.Grant kind table grantee option) number party = λ i. DeedForm.Grant (only kind) (number i) (party i ∷ []) option
-      same (RawDeed.Revoke kind table grantee) number party = λ i. DeedForm.Revoke (only kind) (number i) (party i ∷ [])
+          → map (numbered_grantee names.users) (raw_grantees one) ≡ map (numbered_grantee later.users) (raw_grantees one)
+          → numbered_deed names one ≡ numbered_deed later one
+      same (RawDeed.Grant kinds table grantees option) number parties = λ i. DeedForm.Grant kinds (number i) (parties i) option
+      same (RawDeed.Revoke kinds table grantees) number parties = λ i. DeedForm.Revoke kinds (number i) (parties i)
 
   deed_in_later : (deed : Option RawDeed) → KnowsDeedIn names deed
       → KnowsDeedIn later deed × (option_map (numbered_deed names) deed ≡ option_map (numbered_deed later) deed)
@@ -147,17 +141,25 @@ module _ (names later : Names) (begins : Begins names later) (each : length name
 user_known : (users : List (List ℕ)) (user : List ℕ) → is_known users user ≡ true → (with_name users user ≡ users) × (name_refusal users user ≡ None)
 user_known users user known = rw (known, or-true (nat_lt (length users) 65536)) (refl, refl)
 
-deed_known : (names : Names) (deed : Option RawDeed) → KnowsDeedIn names deed → (with_grantee names.users deed ≡ names.users) × (grantee_refusal names.users deed ≡ None)
+pub grantee_known : (users : List (List ℕ)) (grantee : RawGrantee) → is_known_grantee users grantee ≡ true
+    → (with_named users grantee ≡ users) × (named_refusal users grantee ≡ None)
+grantee_known users (RawGrantee.Named name) known = user_known users name known
+grantee_known users RawGrantee.Public known = (refl, refl)
+
+grantees_known : (users : List (List ℕ)) (grantees : List RawGrantee) → AllByRecursion (λ grantee. is_known_grantee users grantee ≡ true) grantees
+    → (with_all_named users grantees ≡ users) × (named_refusals users grantees ≡ None)
+grantees_known users [] known = (refl, refl)
+grantees_known users (grantee ∷ grantees) known =
+    let first = grantee_known users grantee known.0 in
+    let rest = grantees_known users grantees known.1 in
+    rw (first.0, first.1) rest
+
+deed_known : (names : Names) (deed : Option RawDeed) → KnowsDeedIn names deed → (with_grantees names.users deed ≡ names.users) × (grantees_refusal names.users deed ≡ None)
 deed_known names None knows = (refl, refl)
-deed_known names (Some deed) knows = by_grantee (grantee_of deed) knows.grantee
-  where
-    by_grantee : (grantee : RawGrantee) → is_known_grantee names.users grantee ≡ true
-        → (with_named names.users grantee ≡ names.users) × (named_refusal names.users grantee ≡ None)
-    by_grantee (RawGrantee.Named name) known = user_known names.users name known
-    by_grantee RawGrantee.Public known = (refl, refl)
+deed_known names (Some deed) knows = grantees_known names.users (raw_grantees deed) knows.grantees
 
 users_known : (names : Names) (user : List ℕ) (deed : Option RawDeed) → is_known names.users user ≡ true → KnowsDeedIn names deed
-    → (with_grantee (with_name names.users user) deed ≡ names.users) × (users_refusal names.users user deed ≡ None)
+    → ((with_users names user deed).users ≡ names.users) × (users_refusal names.users user deed ≡ None)
 users_known names user deed known knows = rw (known, or-true (nat_lt (length names.users) 65536)) (deed_known names deed knows)
 
 -- a form that is known passes, names no table, and its deed is known
@@ -198,7 +200,8 @@ foretells names sentence statement each knows is = λ later begins place.
     let user = known_later names.users later.users sentence.user begins.users knows.user in
     let form = form_later names later begins each sentence.form knows.form in
     let takes = takes_known later sentence (record { user = user.0; form = form.0 }) place in
-    let named : with_name later.users sentence.user ≡ later.users = (user_known later.users sentence.user user.0).0 in
+    let deed = (known_form later (number_of later.users sentence.user) sentence.form form.0).deed in
+    let named = (users_known later sentence.user (deed_in sentence.form) user.0 deed).0 in
     let With : List (List ℕ) → Statement = λ users. record {
       user = number_of later.users sentence.user;
       form = numbered_form (record later { users = users }) sentence.form;

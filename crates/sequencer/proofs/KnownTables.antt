@@ -1,5 +1,5 @@
 -- What a statement that the log takes names is of tables that are known.
-use Rattle.std.proofs.Common.{◌≡◌, ℕ, ◌<◌, ◌++◌, Bool, true, not, List, [], ◌∷◌, length, map, Option, Some, None}
+use Rattle.std.proofs.Common.{◌≡◌, ℕ, ◌<◌, ◌++◌, Bool, not, List, [], ◌∷◌, length, map, Option, Some, None}
 use Rattle.std.specs.Prelude.{All, ◌==◌, filter}
 use Rattle.std.specs.List.{flat_map}
 use Rattle.std.specs.Option.{option_map, option_map_or}
@@ -8,15 +8,14 @@ use Rattle.model_base.specs.declared.deed.Need.{Need}
 use Rattle.model_base.specs.declared.statement.Access.{Access}
 use Rattle.model_base.specs.declared.statement.Form.{Form}
 use Rattle.model_base.specs.Outcomes.{kinds_in, need_of, needs, needs_of_access, needs_of_deed, option_on}
-use Rattle.model_base.specs.Privileges.{only}
 use Rattle.model_base.specs.References.{deed_tables, each_once, table_of, tables_of}
 use Rattle.model_base.specs.Versions.{accesses_of}
 use Rattle.log_text.specs.Statement.{Sentence}
 use Rattle.line_words.specs.declared.access.RawAccess.{RawAccess}
 use Rattle.log_text.specs.declared.statement.RawDeed.{RawDeed}
 use Rattle.log_text.specs.declared.statement.RawForm.{RawForm}
-use Rattle.sequencer.specs.Names.{number_of, with_name}
-use Rattle.sequencer.specs.Catalog.{Names, numbered, numbered_access, numbered_deed, numbered_form}
+use Rattle.sequencer.specs.Names.{number_of}
+use Rattle.sequencer.specs.Catalog.{Names, deed_in, numbered, numbered_access, numbered_deed, numbered_form, with_users}
 use Rattle.sequencer.specs.Refusal.{access_refusal, accesses_refusal, deed_refusal, form_refusal, refusal, steps_refusal}
 use Rattle.sequencer.proofs.Passed.{both_none, form_passes, known-table}
 
@@ -85,12 +84,12 @@ module _ (names : Names) (users : List (List ℕ)) where
   deed-below : (deed : Option RawDeed) → deed_refusal names deed ≡ None → AreNeedsBelow count (option_map_or needs_of_deed (option_map (numbered_deed named) deed) [])
       × AreBelow count (option_map_or (λ made. table_of made ∷ []) (option_map (numbered_deed named) deed) [])
   deed-below None e = (All-nil (λ (need : Need). need.table < count), All-nil (λ table. table < count))
-  deed-below (Some (RawDeed.Grant kind table grantee option)) e =
+  deed-below (Some (RawDeed.Grant kinds table grantees option)) e =
       let P : Need → Type 0 = λ need. need.table < count in
       let low = known-table names table e in
       let number = number_of names.tables table in
-      (All-map P (option_on number) (kinds_in (only kind)) (λ k d in_list. low), one-below number low)
-  deed-below (Some (RawDeed.Revoke kind table grantee)) e =
+      (All-map P (option_on number) (kinds_in kinds) (λ k d in_list. low), one-below number low)
+  deed-below (Some (RawDeed.Revoke kinds table grantees)) e =
       (All-nil (λ (need : Need). need.table < count), one-below (number_of names.tables table) (known-table names table e))
 
   form_below : (form : RawForm) → form_refusal names form ≡ None → NamesBelow count (numbered_form named form)
@@ -107,4 +106,4 @@ module _ (names : Names) (users : List (List ℕ)) where
       names-below count (Form.Deed (numbered_deed named deed)) last.0 (All-nil (λ (access : Access). access.key.table < count)) last.1
 
 pub known_names : (names : Names) (sentence : Sentence) → refusal names sentence ≡ None → NamesBelow (length names.tables) (numbered names sentence).form
-known_names names sentence e = form_below names (with_name names.users sentence.user) sentence.form (form_passes names sentence e)
+known_names names sentence e = form_below names (with_users names sentence.user (deed_in sentence.form)).users sentence.form (form_passes names sentence e)

@@ -2,6 +2,7 @@
 use Rattle.std.proofs.Common.{◌≡◌, ℕ, ◌+◌, false, List, [], ◌∷◌, ◌++◌, take, slice_get, Some, refl, ap, ◌∙◌}
 use Rattle.std.proofs.lemmas.List.{take_more}
 use Rattle.std.proofs.lemmas.Option.{get_or_from_slice_get, slice_get_within}
+use Rattle.log_text.specs.declared.version.Version.{Version}
 use Rattle.sequencer.specs.Names.{is_known, with_name}
 use Rattle.sequencer.specs.Catalog.{Names}
 use Rattle.sequencer.specs.Foretelling.{with_tables_of}
@@ -23,8 +24,14 @@ pub learned_number : (numbers later new : List ℕ) (index number : ℕ) → num
 learned_number numbers later new index number first at pushed = rw (pushed, first, next_taken later index number at) refl
 
 -- the names with what was learned
-pub learned_table : (names later : Names) (count : ℕ) (users tables : List (List ℕ)) (owners columns : List ℕ) (places : ℕ)
-    → users ≡ names.users → tables ≡ take count later.tables → owners ≡ take count later.owners → columns ≡ take count later.columns → places ≡ names.places
-    → record { users = users; tables = tables; owners = owners; columns = columns; places = places } ≡ with_tables_of names later count
-learned_table names later count users tables owners columns places same_users same_tables same_owners same_columns same_places =
-    λ i. record { users = same_users i; tables = same_tables i; owners = same_owners i; columns = same_columns i; places = same_places i }
+pub learned_table : (names later : Names) (count : ℕ) (users tables : List (List ℕ)) (owners columns : List ℕ) (places : ℕ) (version : Version)
+    → users ≡ names.users → tables ≡ take count later.tables → owners ≡ take count later.owners → columns ≡ take count later.columns → places ≡ names.places → version ≡ names.version
+    → record { users = users; tables = tables; owners = owners; columns = columns; places = places; version = version } ≡ with_tables_of names later count
+learned_table names later count users tables owners columns places version same_users same_tables same_owners same_columns same_places same_version = λ i. record {
+  users = same_users i;
+  tables = same_tables i;
+  owners = same_owners i;
+  columns = same_columns i;
+  places = same_places i;
+  version = same_version i;
+}

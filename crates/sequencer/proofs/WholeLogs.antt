@@ -1,45 +1,64 @@
 -- What holds of each log stays so where a statement is taken.
-use Rattle.std.proofs.Common.{◌≡◌, ℕ, ◌≤◌, List, [], ◌∷◌, ◌++◌, length, None, Some, refl, ap, sym, ◌∙◌, subst, arith, inl, inr, length-append}
+use Rattle.std.proofs.Common.{◌≡◌, ℕ, ◌≤◌, Bool, true, List, [], ◌∷◌, ◌++◌, length, map, None, Some, refl, ap, sym, ◌∙◌, subst, arith, inl, inr, length-append}
+use Rattle.std.specs.List.{AllByRecursion}
 use Rattle.std.specs.Prelude.{All, OnOk, Result, Ok, Err, nat_le, ◌&&◌, not, slice_index_or}
 use Rattle.std.proofs.lemmas.Bool.{and_parts, cases_lt, leb-true}
 use Rattle.std.proofs.lemmas.Grind.{flat_map-append}
-use Rattle.std.proofs.lemmas.List.{append-nil, get_or_append_left, get_or_past}
-use Rattle.std.proofs.lemmas.List.Elements.{All-nil, All-push}
-use Rattle.model_base.specs.declared.deed.Kind.TheVariants.{Read, Insert, Update, Delete}
+use Rattle.std.proofs.lemmas.List.{append-nil, get_or_append_left, get_or_past, length-map}
+use Rattle.std.proofs.lemmas.List.Elements.{All-from_recursion, All-nil, All-push}
+use Rattle.model_base.specs.declared.deed.Deed.TheVariants.{Granting}
+use Rattle.model_base.specs.declared.deed.Grantee.{Grantee}
+use Rattle.model_base.specs.declared.deed.Kind.{Kind}
 use Rattle.model_base.specs.declared.statement.Form.{Form}
 use Rattle.model_base.specs.declared.statement.Statement.{Statement}
 use Rattle.model_base.specs.declared.statement.Step.{Step}
-use Rattle.model_base.specs.Outcomes.{creator, deeds_at, owners}
+use Rattle.model_base.specs.Outcomes.{creator, deeds_at, grants_at, kinds_in, owners}
+use Rattle.model_base.specs.RecordGrantees.{deed_grantees, grantees_in}
 use Rattle.body.specs.Shape.{StepFits, FormFits}
-use Rattle.log_text.specs.Statement.{IsInGrammar, Sentence}
+use Rattle.log_text.specs.Statement.{IsDeed, IsFormInGrammar, IsInGrammar, Sentence}
+use Rattle.log_text.specs.declared.grantees.RawGrantee.{RawGrantee}
 use Rattle.log_text.specs.declared.statement.RawDeed.{RawDeed}
 use Rattle.log_text.specs.declared.statement.RawForm.{RawForm}
+use Rattle.log_text.specs.declared.version.Version.{Version}
 use Rattle.sequencer.specs.Names.{is_known, number_of, with_name}
-use Rattle.sequencer.specs.Catalog.{Names, no_names, numbered, numbered_deed, numbered_form, with_form, with_statement, with_user}
-use Rattle.sequencer.specs.Foretelling.{IsForetold, with_one_place}
-use Rattle.sequencer.specs.Log.{Accepted, empty_log, with_accepted}
+use Rattle.sequencer.specs.Catalog.{Names, deed_in, no_names, numbered, numbered_deed, numbered_form, numbered_grantee, with_all_named, with_form, with_statement, with_users}
+use Rattle.sequencer.specs.Foretelling.{IsForetold, is_known_grantee, with_one_place}
+use Rattle.sequencer.specs.Log.{Accepted, empty_log, in_version, with_accepted}
 use Rattle.sequencer.specs.Refusal.{create_refusal, form_refusal, refusal, refuse_unless}
-use Rattle.sequencer.specs.Whole.{HasFilledRows, IsFilled, IsKept, IsAccepted, MakesDeeds, columns_by}
+use Rattle.sequencer.specs.Whole.{HasFilledRows, IsFilled, IsKept, IsAccepted, IsKnownTo, MakesDeeds, columns_by}
 use Rattle.sequencer.specs.declared.refused.Refused.{Refused}
 use Rattle.sequencer.proofs.Apart.{apart_accesses}
+use Rattle.sequencer.proofs.Beginnings.{users_longer}
 use Rattle.sequencer.proofs.Bodies.{sound_body}
 use Rattle.sequencer.proofs.KnownTables.{known_names}
-use Rattle.sequencer.proofs.Passed.{both_none, form_passes, passes}
+use Rattle.sequencer.proofs.Parties.{all_known}
+use Rattle.sequencer.proofs.Passed.{both_none, form_passes, known-below, passes}
 
--- the tables and their columns stay, and others may come after them
+-- the users and the tables with their columns stay, and others may come after them
 pub record IsLonger (names more : Names) : Type 0 where
+  pub users : length names.users ≤ length more.users
   pub tables : length names.tables ≤ length more.tables
   pub columns : (later : List ℕ) × (more.columns ≡ names.columns ++ later)
 
 longer_form : (names : Names) (user : ℕ) (form : RawForm) → IsLonger names (with_form names user form)
 longer_form names user (RawForm.Create table columns) =
-    record { tables = omega (arith, length-append names.tables (table ∷ [])); columns = (columns ∷ [], refl) }
-longer_form names user form = record { tables = omega arith; columns = ([], sym (append-nil names.columns)) }
+    record { users = omega arith; tables = omega (arith, length-append names.tables (table ∷ [])); columns = (columns ∷ [], refl) }
+longer_form names user form = record { users = omega arith; tables = omega arith; columns = ([], sym (append-nil names.columns)) }
 
+-- a statement's users, and its table, come last
 pub longer : (names : Names) (sentence : Sentence) → IsLonger names (with_statement names sentence)
 longer names sentence =
     let form = longer_form names (number_of names.users sentence.user) sentence.form in
-    record { tables = form.tables; columns = form.columns }
+    record { users = users_longer names sentence.user (deed_in sentence.form); tables = form.tables; columns = form.columns }
+
+longer_users : (names : Names) (sentence : Sentence) → IsLonger (with_users names sentence.user (deed_in sentence.form)) (with_statement names sentence)
+longer_users names sentence =
+    let form = longer_form names (number_of names.users sentence.user) sentence.form in
+    record { users = omega arith; tables = form.tables; columns = form.columns }
+
+-- nor does the version change them
+longer_version : (names : Names) (version : Version) → IsLonger names (record names { version = version })
+longer_version names version = record { users = omega arith; tables = omega arith; columns = ([], sym (append-nil names.columns)) }
 
 -- a row that has a column and fits its table fits it with more tables after it
 columns_stay : (columns later : List ℕ) (table width : ℕ) → 1 ≤ width → width ≡ slice_index_or columns table 0 → width ≡ slice_index_or (columns ++ later) table 0
@@ -60,7 +79,12 @@ form_stays names more longer (Form.Run accesses steps deed) filled fits =
     λ k d low. step_stays names more longer (slice_index_or steps k d) (filled k d low) (fits k d low)
 form_stays names more longer form filled fits = tt
 
--- what a statement is that was taken, it is with more tables
+-- a known grantee is known among more users
+known_stays : (users more : ℕ) → users ≤ more → (grantee : Grantee) → IsKnownTo users grantee → IsKnownTo more grantee
+known_stays users more longer (Grantee.User user) known = omega (arith, longer, known)
+known_stays users more longer Grantee.Public known = tt
+
+-- what a statement is that was taken, it is with more users and tables
 taken_stays : (names more : Names) → IsLonger names more → (statement : Statement) → HasFilledRows statement.form → IsAccepted names statement → IsAccepted more statement
 taken_stays names more longer statement filled taken = record {
   runnable = taken.runnable;
@@ -71,24 +95,62 @@ taken_stays names more longer statement filled taken = record {
   tables = λ k d low. omega (arith, taken.tables k d low, longer.tables);
   apart = taken.apart;
   deeds = taken.deeds;
+  grantees = λ k d low.
+      known_stays (length names.users) (length more.users) longer.users (slice_index_or (grantees_in statement.form) k d) (taken.grantees k d low);
 }
 
 pub filled_rows : (names : Names) (sentence : Sentence) → IsInGrammar sentence → refusal names sentence ≡ None → HasFilledRows (numbered names sentence).form
 filled_rows names sentence h e = (sound_body names sentence h e).filled
 
--- a deed is made of each that is named
-deed_made : (names : Names) (place user : ℕ) (deed : RawDeed) → length (deeds_at place user (numbered_deed names deed)) ≡ 1
-deed_made names place user (RawDeed.Grant Read table grantee option) = refl
-deed_made names place user (RawDeed.Grant Insert table grantee option) = refl
-deed_made names place user (RawDeed.Grant Update table grantee option) = refl
-deed_made names place user (RawDeed.Grant Delete table grantee option) = refl
-deed_made names place user (RawDeed.Revoke kind table grantee) = refl
+-- there is a grant of some kinds to some grantees
+grant_made : (place user table : ℕ) (option : Bool) (grantees : List Grantee) (kinds : List Kind) → 1 ≤ length grantees → 1 ≤ length kinds
+    → 1 ≤ length (grants_at place user table option grantees kinds)
+grant_made place user table option [] kinds some kind = absurd (omega (arith, some))
+grant_made place user table option (grantee ∷ grantees) [] some kind = absurd (omega (arith, kind))
+grant_made place user table option (grantee ∷ grantees) (first ∷ kinds) some kind = omega arith
 
-form_makes : (names : Names) (form : RawForm) → MakesDeeds (numbered_form names form)
-form_makes names (RawForm.Create table columns) = λ place user. omega arith
-form_makes names (RawForm.Run accesses steps None) = λ place user. omega arith
-form_makes names (RawForm.Run accesses steps (Some deed)) = λ place user. omega (arith, deed_made names place user deed)
-form_makes names (RawForm.Deed deed) = λ place user. omega (arith, deed_made names place user deed)
+-- a deed is made of each that is named
+deed_made : (names : Names) (place user : ℕ) (deed : RawDeed) → IsDeed deed → 1 ≤ length (deeds_at place user (numbered_deed names deed))
+deed_made names place user (RawDeed.Grant kinds table grantees option) h =
+    let number = number_of names.tables table in
+    let found = map (numbered_grantee names.users) grantees in
+    let some : 1 ≤ length found = omega (arith, h.2, length-map grantees (numbered_grantee names.users)) in
+    omega (arith, length-map (grants_at place user number option found (kinds_in kinds)) Granting, grant_made place user number option found (kinds_in kinds) some h.0)
+deed_made names place user (RawDeed.Revoke kinds table grantees) h = omega arith
+
+form_makes : (names : Names) (form : RawForm) → IsFormInGrammar form → MakesDeeds (numbered_form names form)
+form_makes names (RawForm.Create table columns) h = λ place user. omega arith
+form_makes names (RawForm.Run accesses steps None) h = λ place user. omega arith
+form_makes names (RawForm.Run accesses steps (Some deed)) h = λ place user. omega (arith, deed_made names place user deed h.6)
+form_makes names (RawForm.Deed deed) h = λ place user. omega (arith, deed_made names place user deed h)
+
+-- the grantees of a deed are known once they are named
+number_known : (users : List (List ℕ)) (grantee : RawGrantee) → is_known_grantee users grantee ≡ true → IsKnownTo (length users) (numbered_grantee users grantee)
+number_known users (RawGrantee.Named name) known = known-below users name known
+number_known users RawGrantee.Public known = tt
+
+numbers_known : (users : List (List ℕ)) (grantees : List RawGrantee) → AllByRecursion (λ grantee. is_known_grantee users grantee ≡ true) grantees
+    → AllByRecursion (IsKnownTo (length users)) (map (numbered_grantee users) grantees)
+numbers_known users [] known = tt
+numbers_known users (grantee ∷ grantees) known = (number_known users grantee known.0, numbers_known users grantees known.1)
+
+of_grantees : (users : List (List ℕ)) (grantees : List RawGrantee)
+    → All (IsKnownTo (length (with_all_named users grantees))) (map (numbered_grantee (with_all_named users grantees)) grantees)
+of_grantees users grantees =
+    let named = with_all_named users grantees in
+    All-from_recursion (IsKnownTo (length named)) (map (numbered_grantee named) grantees) (numbers_known named grantees (all_known users grantees))
+
+deed_known : (names : Names) (user : List ℕ) (deed : RawDeed)
+    → let named : Names = with_users names user (Some deed) in All (IsKnownTo (length named.users)) (deed_grantees (numbered_deed named deed))
+deed_known names user (RawDeed.Grant kinds table grantees option) = of_grantees (with_name names.users user) grantees
+deed_known names user (RawDeed.Revoke kinds table grantees) = of_grantees (with_name names.users user) grantees
+
+form_known : (names : Names) (user : List ℕ) (form : RawForm)
+    → let named : Names = with_users names user (deed_in form) in All (IsKnownTo (length named.users)) (grantees_in (numbered_form named form))
+form_known names user (RawForm.Create table columns) = All-nil (IsKnownTo (length (with_name names.users user)))
+form_known names user (RawForm.Run accesses steps None) = All-nil (IsKnownTo (length (with_name names.users user)))
+form_known names user (RawForm.Run accesses steps (Some deed)) = deed_known names user deed
+form_known names user (RawForm.Deed deed) = deed_known names user deed
 
 -- a statement is taken by the names before it, and so by those after it
 pub taken_after : (names : Names) (sentence : Sentence) → IsInGrammar sentence → refusal names sentence ≡ None
@@ -96,7 +158,8 @@ pub taken_after : (names : Names) (sentence : Sentence) → IsInGrammar sentence
 taken_after names sentence h e =
     let body = sound_body names sentence h e in
     let known = known_names names sentence e in
-    taken_stays names (with_statement names sentence) (longer names sentence) (numbered names sentence) body.filled (record {
+    let named = with_users names sentence.user (deed_in sentence.form) in
+    taken_stays named (with_statement names sentence) (longer_users names sentence) (numbered names sentence) body.filled (record {
       runnable = body.runnable;
       steps = body.steps;
       fits = body.fits;
@@ -104,7 +167,8 @@ taken_after names sentence h e =
       accesses = known.accesses;
       tables = known.tables;
       apart = apart_accesses names sentence e;
-      deeds = form_makes (with_user names sentence.user) sentence.form;
+      deeds = form_makes named sentence.form h.form;
+      grantees = form_known names sentence.user sentence.form;
     })
 
 -- so it is with the answer that takes it
@@ -154,7 +218,7 @@ kept_with log sentence kept e taken filled =
     let user : ℕ = number_of names.users sentence.user in
     let statement : Statement = numbered names sentence in
     let after : Names = with_statement names sentence in
-    let form = whole_form names (with_name names.users sentence.user) user sentence.form (form_passes names sentence e) whole.owned whole.columns whole.narrow in
+    let form = whole_form names (with_users names sentence.user (deed_in sentence.form)).users user sentence.form (form_passes names sentence e) whole.owned whole.columns whole.narrow in
     record {
       whole = record {
         places = omega (arith, whole.places, length-append log.statements (statement ∷ []));
@@ -203,3 +267,22 @@ kept_empty = record {
   };
   filled = All-nil (λ (statement : Statement). HasFilledRows statement.form);
 }
+
+-- nor does it matter of which version the next lines are
+pub kept_in_version : (log : Accepted) (version : Version) → IsKept log → IsKept (in_version version log)
+kept_in_version log version kept =
+    let whole = kept.whole in
+    let names : Names = log.names in
+    record {
+      whole = record {
+        places = whole.places;
+        owners = whole.owners;
+        owned = whole.owned;
+        columns = whole.columns;
+        narrow = whole.narrow;
+        taken = λ k d low.
+            taken_stays names (record names { version = version }) (longer_version names version) (slice_index_or log.statements k d) (kept.filled k d low)
+            (whole.taken k d low);
+      };
+      filled = kept.filled;
+    }

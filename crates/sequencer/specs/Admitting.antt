@@ -3,8 +3,7 @@ use Rattle.std.specs.Prelude.{◌≡◌, ◌≢◌, ◌++◌, ◌∷◌, [], ℕ
 use Rattle.log_text.specs.Statement.{Sentence}
 use Rattle.log_text.specs.declared.statement.RawDeed.{RawDeed}
 use Rattle.log_text.specs.declared.statement.RawForm.{RawForm}
-use Rattle.sequencer.specs.Names.{with_name}
-use Rattle.sequencer.specs.Catalog.{Names, with_grantee}
+use Rattle.sequencer.specs.Catalog.{Names}
 use Rattle.sequencer.specs.Refusal.{deed_refusal, or_refused, users_refusal}
 use Rattle.sequencer.specs.declared.raw_run.RawRun.{RawRun}
 use Rattle.sequencer.specs.declared.refused.Refused.{Refused}
@@ -26,10 +25,6 @@ run_sentence run = record { user = run.user.now; form = RawForm.Run run.accesses
 -- a user asks for a deed by itself
 abbrev pub deed_by : List ℕ → RawDeed → Sentence
 deed_by user deed = record { user = user; form = RawForm.Deed deed }
-
--- the names once the user of a statement is named, and then the grantee of its deed
-abbrev pub with_users : Names → List ℕ → Option RawDeed → Names
-with_users names user deed = record names { users = with_grantee (with_name names.users user) deed }
 
 -- the first test of a deed's table, and then of the users, that isn't passed
 abbrev pub entry_refusal : Names → List ℕ → Option RawDeed → Option Refused

@@ -1,13 +1,14 @@
 -- Statements that are numbered before their turn, by the names of an earlier place of the log.
 use Rattle.std.specs.Prelude.{◌≡◌, ◌+◌, ◌<◌, Bool, true, None, Option, Some, List, [], length, take, ℕ}
+use Rattle.std.specs.List.{AllByRecursion}
 use Rattle.model_base.specs.declared.limits.TheConstants.{MOST_PLACES}
 use Rattle.model_base.specs.declared.statement.Statement.{Statement}
 use Rattle.log_text.specs.Statement.{Sentence}
+use Rattle.log_text.specs.declared.grantees.RawGrantee.{RawGrantee}
 use Rattle.log_text.specs.declared.statement.RawDeed.{RawDeed}
 use Rattle.log_text.specs.declared.statement.RawForm.{RawForm}
-use Rattle.log_text.specs.declared.statement.RawGrantee.{RawGrantee}
 use Rattle.sequencer.specs.Names.{is_known}
-use Rattle.sequencer.specs.Catalog.{Names, grantee_of, numbered, with_statement}
+use Rattle.sequencer.specs.Catalog.{Names, raw_grantees, numbered, with_statement}
 use Rattle.sequencer.specs.Refusal.{accesses_refusal, deed_refusal, refusal, steps_refusal}
 
 -- the names of a later place begin with these: its first users are these, and so are its first tables with their owners and
@@ -47,10 +48,10 @@ abbrev pub is_known_grantee : List (List ℕ) → RawGrantee → Bool
 is_known_grantee users (RawGrantee.Named name) = is_known users name
 is_known_grantee users RawGrantee.Public = true
 
--- a deed is on a known table, and to or from PUBLIC or a known user
+-- a deed is on a known table, and each of its grantees is PUBLIC or a known user
 pub record KnowsDeed (names : Names) (deed : RawDeed) : Type 0 where
   pub table : deed_refusal names (Some deed) ≡ None
-  pub grantee : is_known_grantee names.users (grantee_of deed) ≡ true
+  pub grantees : AllByRecursion (λ grantee. is_known_grantee names.users grantee ≡ true) (raw_grantees deed)
 
 -- so is the deed of a RUN, if it has one
 abbrev pub KnowsDeedIn : Names → Option RawDeed → Type 0

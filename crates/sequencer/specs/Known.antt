@@ -15,6 +15,7 @@ names_of inside = record {
   owners = inside.owners.items;
   columns = inside.columns.items;
   places = inside.places;
+  version = inside.version;
 }
 
 -- each table has an owner and a number of columns, which is `MOST_COLUMNS` at most

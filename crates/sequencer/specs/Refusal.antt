@@ -1,15 +1,15 @@
 -- Which statement a log refuses, and why: the first test that it doesn't pass.
-use Rattle.std.specs.Prelude.{◌≡◌, ◌≢◌, ℕ, ◌==◌, ◌&&◌, ◌||◌, Bool, not, Result, MatchResult, Option, Some, None, List, [], ◌∷◌, ◌++◌, length, bytes_eq, nat_lt, nat_le, if◌then◌else◌, slice_index_or}
+use Rattle.std.specs.Prelude.{◌≡◌, ◌≢◌, ℕ, ◌==◌, ◌&&◌, ◌||◌, Bool, false, not, Result, MatchResult, Option, Some, None, List, [], ◌∷◌, ◌++◌, length, bytes_eq, nat_lt, nat_le, if◌then◌else◌, slice_index_or}
 use Rattle.std.specs.List.{list_any}
 use Rattle.model_base.specs.declared.limits.TheConstants.{MOST_COLUMNS, MOST_NAMES, MOST_PLACES}
 use Rattle.log_text.specs.Statement.{Sentence}
+use Rattle.log_text.specs.declared.grantees.RawGrantee.{RawGrantee}
 use Rattle.line_words.specs.declared.access.RawAccess.{RawAccess}
 use Rattle.log_text.specs.declared.statement.RawDeed.{RawDeed}
 use Rattle.log_text.specs.declared.statement.RawForm.{RawForm}
-use Rattle.log_text.specs.declared.statement.RawGrantee.{RawGrantee}
 use Rattle.log_text.specs.declared.statement.RawStep.{RawStep}
 use Rattle.sequencer.specs.Names.{is_known, number_of, with_name}
-use Rattle.sequencer.specs.Catalog.{Names, deed_in, grantee_of, named_table_of}
+use Rattle.sequencer.specs.Catalog.{Names, deed_in, raw_grantees, named_table_of, with_named}
 use Rattle.sequencer.specs.declared.refused.Refused.{Refused}
 use Rattle.sequencer.specs.declared.refused.Refused.TheVariants.{UnknownTable, TableExists, BadColumns, DuplicateAccess, BadColumnNumber, SkipPastEnd, LogFull, TooManyNames, NoMemory}
 
@@ -97,27 +97,33 @@ form_refusal names (RawForm.Deed deed) = deed_refusal names (Some deed)
 abbrev pub name_refusal : List (List ℕ) → List ℕ → Option Refused
 name_refusal names name = refuse_unless (nat_lt (length names) MOST_NAMES || is_known names name) TooManyNames
 
--- two names, of which the first is entered before the second
-abbrev pub two_refusal : List (List ℕ) → List ℕ → List ℕ → Option Refused
-two_refusal names first second = or_refused (name_refusal names first) (name_refusal (with_name names first) second)
-
 -- the name of a grantee; PUBLIC needs none
 abbrev pub named_refusal : List (List ℕ) → RawGrantee → Option Refused
 named_refusal users (RawGrantee.Named name) = name_refusal users name
 named_refusal users RawGrantee.Public = None
 
--- a user, and then a grantee
-abbrev pub parties_refusal : List (List ℕ) → List ℕ → RawGrantee → Option Refused
-parties_refusal users user grantee = or_refused (name_refusal users user) (named_refusal (with_name users user) grantee)
+-- whether the name of a grantee is neither this user's nor one of these; PUBLIC has no name
+abbrev pub is_new_beside : List (List ℕ) → List ℕ → RawGrantee → Bool
+is_new_beside users user (RawGrantee.Named name) = not (bytes_eq name user) && not (is_known users name)
+is_new_beside users user RawGrantee.Public = false
+
+-- the names of grantees, of which each is entered before the next
+abbrev pub named_refusals : List (List ℕ) → List RawGrantee → Option Refused
+named_refusals users [] = None
+named_refusals users (grantee ∷ grantees) = or_refused (named_refusal users grantee) (named_refusals (with_named users grantee) grantees)
+
+-- a user, and then grantees
+abbrev pub parties_refusal : List (List ℕ) → List ℕ → List RawGrantee → Option Refused
+parties_refusal users user grantees = or_refused (name_refusal users user) (named_refusals (with_name users user) grantees)
 
 -- a new grantee, where there are `MOST_NAMES` users already
-abbrev pub grantee_refusal : List (List ℕ) → Option RawDeed → Option Refused
-grantee_refusal users None = None
-grantee_refusal users (Some deed) = named_refusal users (grantee_of deed)
+abbrev pub grantees_refusal : List (List ℕ) → Option RawDeed → Option Refused
+grantees_refusal users None = None
+grantees_refusal users (Some deed) = named_refusals users (raw_grantees deed)
 
--- a new user comes before a new grantee
+-- a new user comes before new grantees
 abbrev pub users_refusal : List (List ℕ) → List ℕ → Option RawDeed → Option Refused
-users_refusal users user deed = or_refused (name_refusal users user) (grantee_refusal (with_name users user) deed)
+users_refusal users user deed = or_refused (name_refusal users user) (grantees_refusal (with_name users user) deed)
 
 -- a new table, where there are `MOST_NAMES` already
 abbrev pub table_refusal : Names → RawForm → Option Refused

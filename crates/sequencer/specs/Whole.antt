@@ -1,12 +1,15 @@
 -- What holds of each log: what its statements are, and the names after them.
 use Rattle.std.specs.Prelude.{◌≡◌, ℕ, ◌<◌, ◌≤◌, All, length, slice_index_or}
 use Rattle.model_base.specs.declared.limits.TheConstants.{MOST_COLUMNS, MOST_STEPS}
+use Rattle.model_base.specs.declared.deed.Grantee.{Grantee}
+use Rattle.model_base.specs.declared.deed.Grantee.TheVariants.{Public, User}
 use Rattle.model_base.specs.declared.deed.Need.{Need}
 use Rattle.model_base.specs.declared.statement.Access.{Access}
 use Rattle.model_base.specs.declared.statement.Form.{Form}
 use Rattle.model_base.specs.declared.statement.Statement.{Statement}
 use Rattle.model_base.specs.declared.statement.Step.{Step}
 use Rattle.model_base.specs.Outcomes.{deeds_of, needs, owners}
+use Rattle.model_base.specs.RecordGrantees.{grantees_in}
 use Rattle.model_base.specs.References.{deed_tables, tables_of}
 use Rattle.model_base.specs.Versions.{accesses_of}
 use Rattle.body.specs.Laws.{AreApart}
@@ -24,9 +27,14 @@ columns_by names table = slice_index_or names.columns table 0
 abbrev pub MakesDeeds : Form → Type 0
 MakesDeeds form = (place user : ℕ) → length (deed_tables form) ≤ length (deeds_of place user form)
 
+-- a grantee is PUBLIC or one of the first this many users
+abbrev pub IsKnownTo : ℕ → Grantee → Type 0
+IsKnownTo users (User user) = user < users
+IsKnownTo users Public = Unit {0}
+
 -- what an accepted statement is: its body fits a window and has at most `MOST_STEPS` steps, its constants have 64 bits and its inserted
--- rows the columns of their tables, what it names is of known tables, no two of its accesses name one row, and a deed that it names
--- is of a kind and to somebody
+-- rows the columns of their tables, what it names is of known tables, no two of its accesses name one row, a deed that it names
+-- is of a kind and to somebody, and its grantees are known users or PUBLIC
 pub record IsAccepted (names : Names) (statement : Statement) : Type 0 where
   pub runnable : IsRunnable statement
   pub steps : length (steps_of statement.form) ≤ MOST_STEPS
@@ -36,6 +44,7 @@ pub record IsAccepted (names : Names) (statement : Statement) : Type 0 where
   pub tables : All (λ table. table < length names.tables) (tables_of statement.form)
   pub apart : AreApart (accesses_of statement.form)
   pub deeds : MakesDeeds statement.form
+  pub grantees : All (IsKnownTo (length names.users)) (grantees_in statement.form)
 
 -- what holds of each log
 pub record IsWhole (log : Accepted) : Type 0 where

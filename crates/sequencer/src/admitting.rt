@@ -4,8 +4,8 @@ ghost use Rattle.std.specs.Prelude.{◌≡◌, ◌<◌, ◌++◌, ◌∷◌, [],
 ghost use Rattle.log_text.specs.LineBuffers.{sentence_of};
 ghost use Rattle.log_text.specs.Statement.{IsInGrammar};
 ghost use Rattle.sequencer.specs.Names.{number_of};
-ghost use Rattle.sequencer.specs.Catalog.{numbered, numbered_deed, with_statement, with_user};
-ghost use Rattle.sequencer.specs.Admitting.{create_by, deed_by, entry_refusal, run_sentence, with_users};
+ghost use Rattle.sequencer.specs.Catalog.{numbered, numbered_deed, with_statement, with_users};
+ghost use Rattle.sequencer.specs.Admitting.{create_by, deed_by, entry_refusal, run_sentence};
 ghost use Rattle.sequencer.specs.Known.{HasRoom};
 ghost use Rattle.sequencer.specs.Whole.{HasFilledRows, IsAccepted};
 ghost use Rattle.sequencer.specs.Refusal.{IsRefusal, refusal};
@@ -21,7 +21,7 @@ use model_base::{DeedForm, Form, MOST_PLACES, Statement, Table, User};
 use std::mem;
 
 impl Catalog {
-    /// Enters the user of a statement and then the grantee of its deed, and returns both by number. The deed's table has to be known. After
+    /// Enters the user of a statement and then the grantees of its deed, and returns them by number. The deed's table has to be known. After
     /// a refusal nothing has changed.
     #[tactic(auto, using(crate::proofs::RefusalLemmas::refusal_of_test))]
     fn enter_deed(
@@ -30,27 +30,27 @@ impl Catalog {
         deed: &RawDeed<'_>,
     ) -> Result<(User, DeedForm), Refused>
         ensures user { IfOk result (λ r. r.0 ≡ number_of self.old.users user.now) }
-        ensures deed { IfOk result (λ r. r.1 ≡ numbered_deed (with_user self.old user.now) deed.now) }
+        ensures deed { IfOk result (λ r. r.1 ≡ numbered_deed (with_users self.old user.now (Some deed.now)) deed.now) }
         ensures names { OnOk result (self.new ≡ with_users self.old user.now (Some deed.now)) }
         ensures passes { OnOk result (entry_refusal self.old user.now (Some deed.now) ≡ None) }
         ensures refused { IfErr result (λ r. IsRefusal r (entry_refusal self.old user.now (Some deed.now))) }
         ensures err { OnErr result (self.new ≡ self.old) }
     {
-        let (table, grantee) = names_in(deed);
+        let (table, grantees) = names_in(deed);
         let mut recent = self.recent;
         let table = self.known_table(&mut recent, table)?;
-        let (user, grantee) = self.users.enter_parties(user.as_str(), grantee)?;
-        Ok((User(user), deed_form(deed, table, grantee)))
+        let (user, grantees) = self.users.enter_parties(user.as_str(), grantees)?;
+        Ok((User(user), deed_form(deed, table, grantees)))
     }
 
-    /// Enters the user of a statement, and then the grantee of its deed where it has one, as `enter_deed`.
+    /// Enters the user of a statement, and then the grantees of its deed where it has one, as `enter_deed`.
     fn enter_users(
         &mut self,
         user: &Name<'_>,
         deed: &Option<RawDeed<'_>>,
     ) -> Result<(User, Option<DeedForm>), Refused>
         ensures user { IfOk result (λ r. r.0 ≡ number_of self.old.users user.now) }
-        ensures deed { IfOk result (λ r. r.1 ≡ option_map (numbered_deed (with_user self.old user.now)) deed.now) }
+        ensures deed { IfOk result (λ r. r.1 ≡ option_map (numbered_deed (with_users self.old user.now deed.now)) deed.now) }
         ensures names { OnOk result (self.new ≡ with_users self.old user.now deed.now) }
         ensures passes { OnOk result (entry_refusal self.old user.now deed.now ≡ None) }
         ensures refused { IfErr result (λ r. IsRefusal r (entry_refusal self.old user.now deed.now)) }

@@ -2,11 +2,13 @@
 
 use crate::names::NameTable;
 use crate::statement_buffers::StatementBuffers;
+use log_text::Version;
 use model_base::{HashSeed, MOST_COLUMNS, MOST_PLACES, Table, User};
 use std::alloc::Global;
 use std::marker::Model;
 
-/// The users and tables that the accepted statements name, and how many statements were accepted.
+/// The users and tables that the accepted statements name, how many statements were accepted, and the version of the grammar of the next
+/// lines.
 ///
 /// It holds names and what is known of tables, and no statement, so its memory does not grow with the log.
 #[derive(Drop)]
@@ -16,6 +18,7 @@ pub struct Catalog {
     pub(crate) owners: Vec<User>,
     pub(crate) columns: Vec<u8>,
     pub(crate) places: u64,
+    pub(crate) version: Version,
     /// The table that a statement named last. It says nothing of the names: it is only tried first.
     pub(crate) recent: Table,
     pub(crate) alloc: Global,
@@ -55,6 +58,7 @@ impl Catalog {
             owners: Vec::new(alloc),
             columns: Vec::new(alloc),
             places: 0,
+            version: Version::One,
             recent: Table(0),
             alloc,
         }
@@ -79,6 +83,20 @@ impl Catalog {
         ensures most { self.now.places ≤ MOST_PLACES }
     {
         self.places
+    }
+
+    /// The version of the grammar of the next lines, which is the first until `set_version`.
+    pub fn version(&self) -> Version
+        ensures { result ≡ self.now.version }
+    {
+        self.version
+    }
+
+    /// Sets the version of the grammar of the next lines.
+    pub fn set_version(&mut self, version: Version)
+        ensures { self.new ≡ record self.old { version = version } }
+    {
+        self.version = version;
     }
 
     /// The users' names. A user's number is its name's.

@@ -1,11 +1,12 @@
 //! How a statement is numbered before its turn, by the names of an earlier place.
 
-ghost use Rattle.std.specs.Prelude.{◌≡◌, ◌<◌, ◌+◌, IfSome, OnErr, OnOk, OnSome, length, true};
+ghost use Rattle.std.specs.Prelude.{◌≡◌, ◌<◌, ◌+◌, IfSome, OnErr, OnOk, OnSome, length, map, true};
 ghost use Rattle.sequencer.specs.Admitting.{deed_by, run_sentence};
 ghost use Rattle.sequencer.specs.Catalog.{numbered_deed, numbered_form, numbered_grantee};
 ghost use Rattle.sequencer.specs.Foretelling.{Begins, Foretells, Knows, KnowsDeed, KnowsDeedIn, is_known_grantee, with_one_place, with_tables_of};
 ghost use Rattle.sequencer.specs.Known.{HasRoom};
 ghost use Rattle.sequencer.specs.Names.{is_known, number_of};
+ghost use Rattle.std.specs.List.{AllByRecursion};
 ghost use Rattle.std.specs.Option.{option_map};
 
 use crate::catalog::Catalog;
@@ -13,8 +14,8 @@ use crate::numbering::deed_form;
 use crate::raw_run::RawRun;
 use crate::statement_buffers::StatementBuffers;
 use crate::testing::names_in;
-use log_text::{Name, RawDeed, RawForm, RawGrantee, RawStatement};
-use model_base::{DeedForm, Form, Grantee, MOST_PLACES, Statement, Table, User};
+use log_text::{Name, RawDeed, RawForm, RawGrantee, RawGrantees, RawStatement};
+use model_base::{DeedForm, Form, Grantee, Grantees, MOST_PLACES, Statement, Table, User};
 use std::alloc::AllocError;
 use std::mem;
 
@@ -50,17 +51,31 @@ impl Catalog {
         }
     }
 
-    /// A deed by number, if its table and its grantee are known.
+    /// Grantees by number, if each is known.
+    fn foretold_grantees(&self, grantees: &RawGrantees<'_>) -> Option<Grantees>
+        ensures numbers { IfSome result (λ gs. gs ≡ map (numbered_grantee self.now.users) grantees.now) }
+        ensures known { OnSome result (AllByRecursion (λ g. is_known_grantee self.now.users g ≡ true) grantees.now) }
+    {
+        let mut left = grantees.all();
+        let first = left.next().unwrap();
+        let mut found = Grantees::of(self.foretold_grantee(&first)?);
+        'grantees: while let Some(grantee) = left.next() {
+            found.push(self.foretold_grantee(&grantee)?);
+        }
+        Some(found)
+    }
+
+    /// A deed by number, if its table and its grantees are known.
     fn foretold_deed(&self, recent: &mut Recent, deed: &RawDeed<'_>) -> Option<DeedForm>
         ensures number { IfSome result (λ d. d ≡ numbered_deed self.now deed.now) }
         ensures knows { OnSome result (KnowsDeed self.now deed.now) }
     {
-        let (table, grantee) = names_in(deed);
+        let (table, grantees) = names_in(deed);
         let Ok(table) = self.known_table(&mut recent.table, table) else {
             return None;
         };
-        let grantee = self.foretold_grantee(grantee)?;
-        Some(deed_form(deed, table, grantee))
+        let grantees = self.foretold_grantees(grantees)?;
+        Some(deed_form(deed, table, grantees))
     }
 
     /// The deed of a RUN by number, where it has one, as `foretold_deed`.
@@ -204,12 +219,13 @@ impl Catalog {
     }
 
     /// Learns the users and the tables that a later catalog has beyond these. On `Err`, out of memory, the first of them
-    /// may be learned. The places stay what they are.
+    /// may be learned. The places and the version stay what they are.
     pub fn catch_up(&mut self, later: &Catalog) -> Result<(), AllocError>
         requires { Begins self.old later.now }
-        ensures ok { OnOk result (self.new ≡ record later.now { places = self.old.places }) }
+        ensures ok { OnOk result (self.new ≡ record later.now { places = self.old.places; version = self.old.version }) }
         ensures begins { Begins self.new later.now }
         ensures places { self.new.places ≡ self.old.places }
+        ensures version { self.new.version ≡ self.old.version }
     {
         self.users.catch_up(&later.users)?;
         for index in self.tables.len()..later.tables.len() {

@@ -2,7 +2,7 @@
 
 use crate::catalog::Catalog;
 use crate::refused::Refused;
-use log_text::RawStatement;
+use log_text::{RawStatement, Version};
 use model_base::{HashSeed, MOST_COLUMNS, MOST_PLACES, Place, Statement, Table, User};
 use std::alloc::Global;
 use std::marker::Model;
@@ -29,7 +29,7 @@ impl Log {
     ghost use Rattle.std.specs.Prelude.{◌≡◌, ◌<◌, ◌≤◌, None, Some, length, slice_get, All, IfOk, IfErr, OnOk, OnErr};
     ghost use Rattle.model_base.specs.Growing.{NeedsOwnTables};
     ghost use Rattle.sequencer.specs.Refusal.{IsRefusal, refusal};
-    ghost use Rattle.sequencer.specs.Log.{empty_log, with_accepted};
+    ghost use Rattle.sequencer.specs.Log.{empty_log, in_version, with_accepted};
     ghost use Rattle.sequencer.specs.Whole.{IsWhole};
 
     /// The log without statements. It doesn't allocate.
@@ -48,6 +48,23 @@ impl Log {
             catalog: Catalog::seeded(alloc, seed),
             statements: Vec::new(alloc),
         }
+    }
+
+    /// The log without statements, whose lines are of this version of the grammar. It doesn't allocate.
+    pub fn with(alloc: Global, version: Version) -> Self
+        ensures { result ≡ in_version version empty_log }
+    {
+        let mut log = Log::new(alloc);
+        log.set_version(version);
+        log
+    }
+
+    /// Sets the version of the grammar of the next lines.
+    #[tactic(auto, using(crate::proofs::WholeLogs::kept_in_version))]
+    pub fn set_version(&mut self, version: Version)
+        ensures { self.new ≡ in_version version self.old }
+    {
+        self.catalog.set_version(version);
     }
 
     /// Takes a statement as the next place, which is the length until then. The first test that it doesn't pass refuses it; one that passes

@@ -3,10 +3,10 @@
 ghost use Rattle.std.specs.Prelude.{◌<◌};
 
 use crate::refused::Refused;
-use crate::testing::test_two;
+use crate::testing::test_parties;
 use indexmap::IndexSet;
-use log_text::RawGrantee;
-use model_base::{Grantee, HashSeed, MOST_NAMES, User};
+use log_text::{RawGrantee, RawGrantees};
+use model_base::{Grantee, Grantees, HashSeed, MOST_NAMES, User};
 use std::alloc::{AllocError, Global};
 use std::marker::Model;
 
@@ -47,10 +47,10 @@ impl Model for NameTable {
 }
 
 impl NameTable {
-    ghost use Rattle.std.specs.Prelude.{◌≡◌, ◌<◌, ◌≤◌, ◌-◌, [], length, take, slice_get, Some, None, IfOk, IfErr, OnOk, OnErr, not, is_some, false};
+    ghost use Rattle.std.specs.Prelude.{◌≡◌, ◌<◌, ◌≤◌, ◌-◌, [], length, map, take, slice_get, Some, None, IfOk, IfErr, OnOk, OnErr, not, is_some, false, option_map};
     ghost use Rattle.sequencer.specs.Names.{is_known, known_number, number_of, with_name};
-    ghost use Rattle.sequencer.specs.Catalog.{numbered_grantee, with_named};
-    ghost use Rattle.sequencer.specs.Refusal.{IsRefusal, name_refusal, parties_refusal, two_refusal};
+    ghost use Rattle.sequencer.specs.Catalog.{numbered_grantee, with_all_named, with_named};
+    ghost use Rattle.sequencer.specs.Refusal.{IsRefusal, name_refusal, named_refusal, named_refusals, parties_refusal};
 
     /// The table without names. It doesn't allocate.
     pub fn new(alloc: Global) -> Self
@@ -115,6 +115,14 @@ impl NameTable {
         self.names.get_index(number as usize).unwrap().as_str()
     }
 
+    /// The name of this number, if there is one.
+    pub fn get(&self, number: u32) -> Option<&str>
+        ensures { option_map (λ name. name.now) result ≡ slice_get self.now number }
+    {
+        let name = self.names.get_index(number as usize)?;
+        Some(name.as_str())
+    }
+
     /// Enters a name that isn't there last, and returns its number. On `Err`, out of memory, nothing has changed.
     pub(crate) fn add(&mut self, name: &str) -> Result<u32, AllocError>
         requires room { length self.old < MOST_NAMES }
@@ -174,65 +182,83 @@ impl NameTable {
         Ok((number, true))
     }
 
-    /// The refusal of two names for which there is no memory.
+    /// The refusal of a user and of grantees for whom there is no memory.
+    #[cold]
     #[tactic(auto, using(crate::proofs::RefusalLemmas::refusal_of_test))]
-    fn refused(&self, first: &str, second: &str) -> Refused
-        ensures { IsRefusal result (two_refusal self.now first.now second.now) }
+    fn refused(&self, user: &str, grantees: &RawGrantees<'_>) -> Refused
+        ensures { IsRefusal result (parties_refusal self.now user.now grantees.now) }
     {
-        match test_two(self, first, second) {
+        match test_parties(self, user, grantees) {
             Ok(()) => Refused::NoMemory,
             Err(refused) => refused,
         }
     }
 
-    /// The numbers of two names, of which each is there already or is entered last, the first before the second. It
-    /// refuses as `enter`, and then nothing has changed.
-    pub(crate) fn enter_both(&mut self, first: &str, second: &str) -> Result<(u32, u32), Refused>
-        ensures first { IfOk result (λ r. r.0 ≡ number_of self.old first.now) }
-        ensures second { IfOk result (λ r. r.1 ≡ number_of (with_name self.old first.now) second.now) }
-        ensures entered { OnOk result (self.new ≡ with_name (with_name self.old first.now) second.now) }
-        ensures passes { OnOk result (two_refusal self.old first.now second.now ≡ None) }
-        ensures refused { IfErr result (λ r. IsRefusal r (two_refusal self.old first.now second.now)) }
-        ensures err { OnErr result (self.new ≡ self.old) }
-    {
-        let Ok((number, is_new)) = self.enter(first) else {
-            return Err(self.refused(first, second));
-        };
-        match self.enter(second) {
-            Ok((other, _)) => Ok((number, other)),
-            Err(refused) => {
-                if is_new {
-                    self.forget_last();
-                }
-                Err(refused)
-            }
-        }
-    }
-
-    /// The numbers of a user and of a grantee, of which each is there already or is entered last, the user before the
-    /// grantee. PUBLIC isn't entered. It refuses as `enter`, and then nothing has changed.
-    pub(crate) fn enter_parties(
-        &mut self,
-        user: &str,
-        grantee: &RawGrantee<'_>,
-    ) -> Result<(u32, Grantee), Refused>
-        ensures user { IfOk result (λ r. r.0 ≡ number_of self.old user.now) }
-        ensures grantee { IfOk result (λ r. r.1 ≡ numbered_grantee (with_name self.old user.now) grantee.now) }
-        ensures entered { OnOk result (self.new ≡ with_named (with_name self.old user.now) grantee.now) }
-        ensures passes { OnOk result (parties_refusal self.old user.now grantee.now ≡ None) }
-        ensures refused { IfErr result (λ r. IsRefusal r (parties_refusal self.old user.now grantee.now)) }
+    /// A grantee by its number, which is there already or is entered last. PUBLIC isn't entered. It refuses as `enter`, and then nothing has
+    /// changed.
+    fn enter_grantee(&mut self, grantee: &RawGrantee<'_>) -> Result<Grantee, Refused>
+        ensures grantee { IfOk result (λ g. g ≡ numbered_grantee self.old grantee.now) }
+        ensures entered { OnOk result (self.new ≡ with_named self.old grantee.now) }
+        ensures passes { OnOk result (named_refusal self.old grantee.now ≡ None) }
         ensures err { OnErr result (self.new ≡ self.old) }
     {
         match grantee {
             RawGrantee::Named(name) => {
-                let (number, grantee) = self.enter_both(user, name.as_str())?;
-                Ok((number, Grantee::User(User(grantee))))
+                let (number, _) = self.enter(name.as_str())?;
+                Ok(Grantee::User(User(number)))
             }
-            RawGrantee::Public => {
-                let (number, _) = self.enter(user)?;
-                Ok((number, Grantee::Public))
+            RawGrantee::Public => Ok(Grantee::Public),
+        }
+    }
+
+    /// Grantees by their numbers, from left to right, each as `enter_grantee`. After a refusal the first of them may be entered.
+    fn enter_grantees(&mut self, grantees: &RawGrantees<'_>) -> Result<Grantees, Refused>
+        ensures grantees { IfOk result (λ gs. gs ≡ map (numbered_grantee self.new) grantees.now) }
+        ensures entered { OnOk result (self.new ≡ with_all_named self.old grantees.now) }
+        ensures passes { OnOk result (named_refusals self.old grantees.now ≡ None) }
+        ensures begins { take (length self.old) self.new ≡ self.old }
+    {
+        let mut left = grantees.all();
+        let first = left.next().unwrap();
+        let mut found = Grantees::of(self.enter_grantee(&first)?);
+        'grantees: while let Some(grantee) = left.next() {
+            found.push(self.enter_grantee(&grantee)?);
+        }
+        Ok(found)
+    }
+
+    /// The numbers of a user and of grantees, of which each is there already or is entered last, the user before the
+    /// grantees. PUBLIC isn't entered. It refuses as `enter`, and then nothing has changed.
+    pub(crate) fn enter_parties(
+        &mut self,
+        user: &str,
+        grantees: &RawGrantees<'_>,
+    ) -> Result<(u32, Grantees), Refused>
+        ensures user { IfOk result (λ r. r.0 ≡ number_of self.old user.now) }
+        ensures grantees { IfOk result (λ r. r.1 ≡ map (numbered_grantee self.new) grantees.now) }
+        ensures entered { OnOk result (self.new ≡ with_all_named (with_name self.old user.now) grantees.now) }
+        ensures passes { OnOk result (parties_refusal self.old user.now grantees.now ≡ None) }
+        ensures refused { IfErr result (λ r. IsRefusal r (parties_refusal self.old user.now grantees.now)) }
+        ensures err { OnErr result (self.new ≡ self.old) }
+    {
+        let before = self.len();
+        let Ok((number, _)) = self.enter(user) else {
+            return Err(self.refused(user, grantees));
+        };
+        match self.enter_grantees(grantees) {
+            Ok(found) => Ok((number, found)),
+            Err(_) => {
+                self.forget_to(before);
+                Err(self.refused(user, grantees))
             }
         }
+    }
+
+    /// Takes out the names beyond the first this many.
+    fn forget_to(&mut self, len: usize)
+        ensures { self.new ≡ take len self.old }
+    {
+        self.names.truncate(len);
     }
 
     /// Takes the last name out, if there is one.

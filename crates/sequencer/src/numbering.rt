@@ -1,7 +1,7 @@
 //! Names become numbers, where they pass the tests.
 
 ghost use Rattle.std.specs.Prelude.{◌≡◌, ◌<◌, ◌≤◌, [], length, map, vec_capacity, vec_len};
-ghost use Rattle.sequencer.specs.Catalog.{Names, grantee_of, numbered_access, numbered_deed, numbered_grantee, numbered_step, named_table_of};
+ghost use Rattle.sequencer.specs.Catalog.{Names, raw_grantees, numbered_access, numbered_deed, numbered_grantee, numbered_step, named_table_of};
 ghost use Rattle.sequencer.specs.Names.{number_of};
 ghost use Rattle.sequencer.specs.Admitting.{Appends};
 ghost use Rattle.sequencer.specs.Refusal.{IsAnswerOf, access_refusal, accesses_refusal, step_refusal, steps_refusal};
@@ -10,25 +10,24 @@ use crate::catalog::Catalog;
 use crate::refused::Refused;
 use crate::testing::{is_repeated, test_skip};
 use log_text::{RawAccess, RawDeed, RawStep};
-use model_base::{Access, DeedForm, Grantee, Grantees, Items, Key, Kinds, Step, Table};
+use model_base::{Access, DeedForm, Grantees, Items, Key, Step, Table};
 
-/// The deed with its table and its grantee by number.
-pub(crate) fn deed_form(deed: &RawDeed<'_>, table: Table, grantee: Grantee) -> DeedForm
-    ensures { (names : Names)
-        → table ≡ number_of names.tables (named_table_of deed.now) → grantee ≡ numbered_grantee names.users (grantee_of deed.now)
-        → result ≡ numbered_deed names deed.now }
+/// The deed with its table and its grantees by number.
+pub(crate) fn deed_form(deed: &RawDeed<'_>, table: Table, grantees: Grantees) -> DeedForm
+    ensures { (names : Names) → table ≡ number_of names.tables (named_table_of deed.now)
+        → grantees ≡ map (numbered_grantee names.users) (raw_grantees deed.now) → result ≡ numbered_deed names deed.now }
 {
     match deed {
-        RawDeed::Grant { kind, option, .. } => DeedForm::Grant {
-            kinds: Kinds::only(*kind),
+        RawDeed::Grant { kinds, option, .. } => DeedForm::Grant {
+            kinds: *kinds,
             table,
-            grantees: Grantees::of(grantee),
+            grantees,
             option: *option,
         },
-        RawDeed::Revoke { kind, .. } => DeedForm::Revoke {
-            kinds: Kinds::only(*kind),
+        RawDeed::Revoke { kinds, .. } => DeedForm::Revoke {
+            kinds: *kinds,
             table,
-            grantees: Grantees::of(grantee),
+            grantees,
         },
     }
 }

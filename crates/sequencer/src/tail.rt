@@ -6,7 +6,7 @@ ghost use Rattle.log_text.specs.Statement.{IsInGrammar, Sentence};
 ghost use Rattle.model_base.specs.Growing.{NeedsOwnTables};
 ghost use Rattle.sequencer.specs.Foretelling.{IsForetold};
 ghost use Rattle.sequencer.specs.Refusal.{IsRefusal, refusal};
-ghost use Rattle.sequencer.specs.Log.{empty_log, with_accepted};
+ghost use Rattle.sequencer.specs.Log.{empty_log, in_version, with_accepted};
 ghost use Rattle.sequencer.specs.Whole.{IsWhole};
 
 use crate::catalog::Catalog;
@@ -14,7 +14,7 @@ use crate::forgetting::forget_first;
 use crate::past::Past;
 use crate::refused::Refused;
 use crate::statement_buffers::StatementBuffers;
-use log_text::{LineBuffers, RawForm, RawStatement};
+use log_text::{LineBuffers, RawForm, RawStatement, Version};
 use model_base::{Form, HashSeed, MOST_COLUMNS, MOST_PLACES, Place, Statement, Table, User};
 use std::alloc::{AllocError, Global};
 use std::marker::Model;
@@ -106,6 +106,14 @@ impl LogTail {
             kept: Vec::new(alloc),
             spare: Vec::new(alloc),
         }
+    }
+
+    /// Sets the version of the grammar of the next lines.
+    #[tactic(auto, using(crate::proofs::WholeLogs::kept_in_version))]
+    pub fn set_version(&mut self, version: Version)
+        ensures { self.new ≡ record self.old { log = in_version version self.old.log } }
+    {
+        self.catalog.set_version(version);
     }
 
     /// Takes a statement as the next place, which is the length until then. The first test that it doesn't pass refuses

@@ -4,13 +4,15 @@ ghost use Rattle.std.specs.Prelude.{◌≡◌, ◌<◌, [], length, nat_le, None
 ghost use Rattle.std.specs.List.{list_any};
 ghost use Rattle.log_text.specs.LineBuffers.{sentence_of};
 ghost use Rattle.sequencer.specs.Names.{is_known, number_of};
-ghost use Rattle.sequencer.specs.Catalog.{deed_in, grantee_of, named_table_of};
-ghost use Rattle.sequencer.specs.Refusal.{IsAnswer, IsAnswerOf, IsRefusal, accesses_refusal, column_refusal, create_refusal, deed_refusal, form_refusal, name_refusal, or_refused, parties_refusal, refusal, same_row, step_refusal, steps_refusal, table_refusal, two_refusal, refuse_unless, users_refusal, width_refusal};
+ghost use Rattle.sequencer.specs.Catalog.{deed_in, raw_grantees, named_table_of};
+ghost use Rattle.sequencer.specs.Refusal.{IsAnswer, IsAnswerOf, IsRefusal, accesses_refusal, column_refusal, create_refusal, deed_refusal, form_refusal, is_new_beside, name_refusal, or_refused, parties_refusal, refusal, same_row, step_refusal, steps_refusal, table_refusal, refuse_unless, users_refusal, width_refusal};
 
 use crate::catalog::Catalog;
 use crate::names::NameTable;
 use crate::refused::Refused;
-use log_text::{LineBuffers, Name, RawAccess, RawDeed, RawForm, RawGrantee, RawStatement, RawStep};
+use log_text::{
+    LineBuffers, Name, RawAccess, RawDeed, RawForm, RawGrantee, RawGrantees, RawStatement, RawStep,
+};
 use model_base::{MOST_COLUMNS, MOST_NAMES, MOST_PLACES, Table};
 
 /// Whether the two accesses are to one row.
@@ -38,50 +40,54 @@ pub(crate) fn test_name(names: &NameTable, name: &str) -> Result<(), Refused>
     Err(Refused::TooManyNames)
 }
 
-/// Two new names have to find room, the first before the second.
-#[tactic(auto, using(crate::proofs::TwoNames::two_of_known, crate::proofs::TwoNames::two_of_same, crate::proofs::TwoNames::two_of_new))]
-pub(crate) fn test_two(names: &NameTable, first: &str, second: &str) -> Result<(), Refused>
-    ensures { IsAnswer result (two_refusal names.now first.now second.now) }
+/// Whether the name of a grantee is neither the user's nor one of these. PUBLIC has no name.
+fn is_new(users: &NameTable, user: &str, grantee: &RawGrantee<'_>) -> bool
+    ensures { result ≡ is_new_beside users.now user.now grantee.now }
 {
-    test_name(names, first)?;
-    if names.find(first).is_some() {
-        return test_name(names, second);
-    }
-    if second == first {
-        return Ok(());
-    }
-    if names.len() + 1 < MOST_NAMES {
-        return Ok(());
-    }
-    match names.find(second) {
-        Some(_) => Ok(()),
-        None => Err(Refused::TooManyNames),
+    match grantee {
+        RawGrantee::Named(name) => name.as_str() != user && users.find(name.as_str()).is_none(),
+        RawGrantee::Public => false,
     }
 }
 
-/// A new user and a new grantee have to find room, the user before the grantee. PUBLIC is no user.
+/// A new user and new grantees have to find room, the user before the grantees. PUBLIC is no user.
 pub(crate) fn test_parties(
     users: &NameTable,
     user: &str,
-    grantee: &RawGrantee<'_>,
+    grantees: &RawGrantees<'_>,
 ) -> Result<(), Refused>
-    ensures { IsAnswer result (parties_refusal users.now user.now grantee.now) }
+    ensures { IsAnswer result (parties_refusal users.now user.now grantees.now) }
 {
-    match grantee {
-        RawGrantee::Named(name) => test_two(users, user, name.as_str()),
-        RawGrantee::Public => test_name(users, user),
+    test_name(users, user)?;
+    let mut count = users.len() + usize::from(users.find(user).is_none());
+    let mut left = grantees.all();
+    'grantees: while let Some(grantee) = left.next() {
+        if is_new(users, user, &grantee) {
+            if count >= MOST_NAMES {
+                return Err(Refused::TooManyNames);
+            }
+            count += 1;
+        }
     }
+    Ok(())
 }
 
-/// The table and the grantee that a deed names.
-pub(crate) fn names_in<'a, 'l>(deed: &'l RawDeed<'a>) -> (&'l Name<'a>, &'l RawGrantee<'a>)
+/// The table and the grantees that a deed names.
+pub(crate) fn names_in<'a, 'l>(deed: &'l RawDeed<'a>) -> (&'l Name<'a>, &'l RawGrantees<'a>)
     ensures table { result.0.now ≡ named_table_of deed.now }
-    ensures grantee { result.1.now ≡ grantee_of deed.now }
+    ensures grantees { result.1.now ≡ raw_grantees deed.now }
 {
     match deed {
-        RawDeed::Grant { table, grantee, .. } | RawDeed::Revoke { table, grantee, .. } => {
-            (table, grantee)
+        RawDeed::Grant {
+            table,
+            grantees,
+            ..
         }
+        | RawDeed::Revoke {
+            table,
+            grantees,
+            ..
+        } => { (table, grantees) }
     }
 }
 
@@ -241,7 +247,7 @@ impl Catalog {
         }
     }
 
-    /// The names of a new user, and of a new grantee where there is a deed, have to find room.
+    /// The names of a new user, and of new grantees where there is a deed, have to find room.
     fn test_users(&self, user: &str, deed: &Option<RawDeed<'_>>) -> Result<(), Refused>
         ensures { IsAnswer result (users_refusal self.now.users user.now deed.now) }
     {
@@ -251,7 +257,7 @@ impl Catalog {
         }
     }
 
-    /// The names of a new user, of a new grantee and of a new table have to find room.
+    /// The names of a new user, of new grantees and of a new table have to find room.
     fn test_names(&self, user: &str, form: &RawForm<'_>) -> Result<(), Refused>
         ensures { IsAnswer result (or_refused (users_refusal self.now.users user.now (deed_in form.now))
             (table_refusal self.now form.now)) }

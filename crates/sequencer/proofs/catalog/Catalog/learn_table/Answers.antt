@@ -13,7 +13,7 @@ returns-clause-ok c =
     let seen : c.later.inside.tables ≡ later.tables = ap (λ (names : Names). names.tables) c.later.view_is in
     let name : List ℕ = c.new_name.result.now in
     learned_table c.args.self.now later _ c.self.inside.users c.add.new.self c.push_reserved.new.self.items c.push_reserved-2.new.self.items
-    c.self.inside.places (ap (λ (names : Names). names.users) is)
+    c.self.inside.places c.self.inside.version (ap (λ (names : Names). names.users) is)
     (learned_name c.self.inside.tables later.tables c.add.new.self table name (ap (λ (names : Names). names.tables) first)
     (subst (λ (tables : List (List ℕ)). slice_get tables table ≡ Some name) seen (rw c.table.view_is at c.new_name.ensures.name))
     (subst (λ (tables : List (List ℕ)). is_known (take table tables) name ≡ false) seen (rw c.table.view_is at c.new_name.ensures.is_new))
@@ -24,4 +24,4 @@ returns-clause-ok c =
     (learned_number c.self.inside.columns.items later.columns c.push_reserved-2.new.self.items table c.columns.result
     (ap (λ (names : Names). names.columns) first) c.columns.ensures.value
     (c.push_reserved-2.ensures.items ∙ ap (λ (numbers : List ℕ). numbers ++ c.columns.result ∷ []) c.reserve-2.ensures.items))
-    (ap (λ (names : Names). names.places) is)
+    (ap (λ (names : Names). names.places) is) (ap (λ (names : Names). names.version) is)
